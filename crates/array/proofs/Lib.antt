@@ -1,0 +1,3 @@
+pub mod RowBytes
+pub mod DeviceLaws
+pub mod Answered

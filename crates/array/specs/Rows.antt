@@ -1,0 +1,46 @@
+-- Rows as the members hold them, and as they lie in memory.
+use Rattle.std.specs.Prelude.{◌≡◌, ℕ, ◌+◌, ◌*◌, ◌<◌, ◌≤◌, ◌⊎◌, Result, IfErr, ◌&&◌, ◌==◌, if◌then◌else◌, List, length, take, drop, Some}
+use Rattle.md_base.specs.declared.places.Shape.{Shape}
+use Rattle.md_base.specs.Search.{tabulate}
+use Rattle.md_base.specs.Sectors.{Sector}
+use Rattle.bank.specs.Tape.{Contents, contents}
+use Rattle.bank.specs.Given.{Given, IsFaulted, NeverFalls}
+use Rattle.bank.specs.declared.bank.Operation.{Operation}
+use Rattle.layout.specs.Layout.{place, row_roles}
+use Rattle.parity.specs.Parity.{AreEquationsMet}
+
+-- what the slots hold now
+abbrev pub present : Given → List Operation → Contents
+present given tape = contents given.start tape (length tape)
+
+-- a role's sector in bytes that lie role after role
+abbrev pub row_sector : List ℕ → ℕ → Sector
+row_sector bytes role = take 512 (drop (512 * role) bytes)
+
+-- the contents with one sector written
+abbrev pub with_sector : Contents → ℕ → ℕ → Sector → Contents
+with_sector c slot at sector s k = if (slot == s) && (at == k) then sector else c s k
+
+-- A row of the members holds the list: each of its sectors that has a place there, and parity that fits. The role's member is the slot of
+-- the same number, and its rows begin at the offset.
+pub record HoldsRow (shape : Shape) (offset : ℕ) (c : Contents) (list : ℕ → Sector) (row : ℕ) : Type 0 where
+  pub sectors : (role x : ℕ) → role < shape.disks → place shape x ≡ record { role = role; row = row } → c role (offset + row) ≡ list x
+  pub parity : AreEquationsMet (row_roles shape row) (tabulate shape.disks (λ role. Some (c role (offset + row))))
+
+-- the members are the slots below the disk count, and each has sectors up to this end
+pub record AreMembers (given : Given) (disks end : ℕ) : Type 0 where
+  pub known : disks ≤ given.slots
+  pub within : (slot : ℕ) → slot < disks → end ≤ given.sectors slot
+
+-- where a call over the members gave up, the member that it names has failed in it
+pub record HasLost {T : Type 0} (disks : ℕ) (before after : ℕ → ℕ) (result : Result T ℕ) : Type 0 where
+  pub never_falls : NeverFalls before after
+  pub lost : IfErr result (λ slot. (slot < disks) × IsFaulted slot before after)
+
+-- the sector of the list that stands there is one of those from this place on, so many
+abbrev pub IsAmong : Shape → ℕ → ℕ → ℕ → ℕ → Type 0
+IsAmong shape first count role row = (x : ℕ) × (place shape x ≡ record { role = role; row = row }) × (first ≤ x) × (x < first + count)
+
+-- none of them stands there
+abbrev pub IsOther : Shape → ℕ → ℕ → ℕ → ℕ → Type 0
+IsOther shape first count role row = (x : ℕ) → place shape x ≡ record { role = role; row = row } → (x < first) ⊎ (first + count ≤ x)

@@ -1,0 +1,8 @@
+//! An array over a bank: its flat list of sectors, its parity and its history.
+#![tactic(auto)]
+
+mod device;
+mod rows;
+
+pub use device::{read_into, write_from};
+pub use rows::{change_row, read_row};
