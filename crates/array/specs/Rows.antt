@@ -37,10 +37,10 @@ pub record HasLost {T : Type 0} (disks : ℕ) (before after : ℕ → ℕ) (resu
   pub never_falls : NeverFalls before after
   pub lost : IfErr result (λ slot. (slot < disks) × IsFaulted slot before after)
 
--- the sector of the list that stands there is one of those from this place on, so many
-abbrev pub IsAmong : Shape → ℕ → ℕ → ℕ → ℕ → Type 0
-IsAmong shape first count role row = (x : ℕ) × (place shape x ≡ record { role = role; row = row }) × (first ≤ x) × (x < first + count)
-
--- none of them stands there
+-- none of the so many sectors of the list from this place on stands there
 abbrev pub IsOther : Shape → ℕ → ℕ → ℕ → ℕ → Type 0
 IsOther shape first count role row = (x : ℕ) → place shape x ≡ record { role = role; row = row } → (x < first) ⊎ (first + count ≤ x)
+
+-- another sector of the list stands there
+abbrev pub HasOther : Shape → ℕ → ℕ → ℕ → ℕ → Type 0
+HasOther shape first count role row = (x : ℕ) × (place shape x ≡ record { role = role; row = row }) × ((x < first) ⊎ (first + count ≤ x))

@@ -5,4 +5,4 @@ mod device;
 mod rows;
 
 pub use device::{read_into, write_from};
-pub use rows::{change_row, read_row};
+pub use rows::{change_row, read_row, write_row};

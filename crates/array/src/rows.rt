@@ -1,13 +1,14 @@
 //! Rows of the members, read and written role after role.
 
-ghost use Rattle.std.specs.Prelude.{◌≡◌, ◌≢◌, ◌+◌, ◌-◌, ◌*◌, ◌/◌, ◌^◌, ◌<◌, ◌≤◌, ℕ, length, OnOk, IsTrue};
+ghost use Rattle.std.specs.Prelude.{◌≡◌, ◌≢◌, ◌+◌, ◌-◌, ◌*◌, ◌/◌, ◌^◌, ◌<◌, ◌≤◌, ◌⊎◌, ℕ, length, OnOk, OnErr, IsTrue};
+ghost use Rattle.bank.specs.Given.{IsFaulted, NeverFalls};
 ghost use Rattle.md_base.specs.Sectors.{IsWhole};
 ghost use Rattle.md_base.specs.Shapes.{is_valid_shape};
 ghost use Rattle.layout.specs.Layout.{place};
-ghost use Rattle.array.specs.Rows.{present, row_sector, AreMembers, HasLost, IsOther};
+ghost use Rattle.array.specs.Rows.{present, row_sector, AreMembers, HasLost, IsOther, HasOther};
 
-use crate::device::read_into;
-use bank::Bank;
+use crate::device::{read_into, write_from};
+use bank::{Bank, BankFault};
 use layout::at;
 use md_base::Shape;
 
@@ -74,4 +75,83 @@ pub fn change_row(shape: &Shape, row: u64, first: u64, from: &[u8], bytes: &mut 
     for role in 0..shape.disks {
         change_role(shape, row, role, first, from, bytes);
     }
+}
+
+// Whether a write of so many sectors from `first` on leaves this role of a row: it holds data that isn't among them.
+fn is_left(shape: &Shape, row: u64, role: u32, first: u64, count: u64) -> bool
+    requires shape { IsTrue (is_valid_shape shape.now) }
+    requires row { row < 2 ^ 53 }
+    requires role { role < shape.now.disks }
+    requires short { first + count < 2 ^ 63 }
+    ensures { IsTrue result → HasOther shape.now first count role row }
+{
+    match at(shape, role, row) {
+        Some(x) => x < first || first + count <= x,
+        None => false,
+    }
+}
+
+// Writes a role's sector of a row, unless the write leaves it.
+fn write_role<B: Bank>(
+    bank: &mut B,
+    shape: &Shape,
+    offset: u64,
+    row: u64,
+    role: u32,
+    first: u64,
+    count: u64,
+    bytes: &[u8],
+) -> Result<(), BankFault>
+    requires shape { IsTrue (is_valid_shape shape.now) }
+    requires row { row < 2 ^ 53 }
+    requires role { role < shape.now.disks }
+    requires short { first + count < 2 ^ 63 }
+    requires offset { offset < 2 ^ 63 }
+    requires members { AreMembers (B.given bank.old) shape.now.disks (offset + row + 1) }
+    requires size { length bytes.now ≡ 512 * shape.now.disks }
+    requires stands { B.tells → HasOther shape.now first count role row → present (B.given bank.old) (B.tape bank.old) role (offset + row) ≡ row_sector bytes.now role }
+    ensures here { OnOk result (B.tells → present (B.given bank.new) (B.tape bank.new) role (offset + row) ≡ row_sector bytes.now role) }
+    ensures others { OnOk result (B.tells → (s k : ℕ) → (s ≢ role) ⊎ (k ≢ offset + row) → present (B.given bank.new) (B.tape bank.new) s k ≡ present (B.given bank.old) (B.tape bank.old) s k) }
+    ensures grows { B.tells → length (B.tape bank.old) ≤ length (B.tape bank.new) }
+    ensures given { B.given bank.new ≡ B.given bank.old }
+    ensures never_falls { NeverFalls (B.faults_of bank.old) (B.faults_of bank.new) }
+    ensures cause { OnErr result (IsFaulted role (B.faults_of bank.old) (B.faults_of bank.new)) }
+{
+    if is_left(shape, row, role, first, count) {
+        return Ok(());
+    }
+    write_from(bank, role, offset + row, bytes, role as usize)
+}
+
+/// Writes the roles of a row that a write of so many sectors from `first` on changes, and its parity. An Err is the
+/// slot that failed.
+pub fn write_row<B: Bank>(
+    bank: &mut B,
+    shape: &Shape,
+    offset: u64,
+    row: u64,
+    first: u64,
+    count: u64,
+    bytes: &[u8],
+) -> Result<(), u32>
+    requires shape { IsTrue (is_valid_shape shape.now) }
+    requires row { row < 2 ^ 53 }
+    requires short { first + count < 2 ^ 63 }
+    requires offset { offset < 2 ^ 63 }
+    requires members { AreMembers (B.given bank.old) shape.now.disks (offset + row + 1) }
+    requires size { length bytes.now ≡ 512 * shape.now.disks }
+    requires stands { B.tells → (role : ℕ) → role < shape.now.disks → HasOther shape.now first count role row → present (B.given bank.old) (B.tape bank.old) role (offset + row) ≡ row_sector bytes.now role }
+    ensures row { OnOk result (B.tells → (role : ℕ) → role < shape.now.disks → present (B.given bank.new) (B.tape bank.new) role (offset + row) ≡ row_sector bytes.now role) }
+    ensures others { OnOk result (B.tells → (s k : ℕ) → k ≢ offset + row → present (B.given bank.new) (B.tape bank.new) s k ≡ present (B.given bank.old) (B.tape bank.old) s k) }
+    ensures grows { B.tells → length (B.tape bank.old) ≤ length (B.tape bank.new) }
+    ensures given { B.given bank.new ≡ B.given bank.old }
+    ensures cause { HasLost shape.now.disks (B.faults_of bank.old) (B.faults_of bank.new) result }
+{
+    for role in 0..shape.disks {
+        match write_role(bank, shape, offset, row, role, first, count, bytes) {
+            Err(_) => return Err(role),
+            Ok(()) => {}
+        }
+    }
+    Ok(())
 }
