@@ -35,3 +35,7 @@ member_place_later {slot = slot} at members same is_member below = subst (λ (g 
 
 pub members_fewer : {given : Given} {disks end : ℕ} (less : ℕ) → AreMembers given disks end → less ≤ end → AreMembers given disks less
 members_fewer less members le = record { known = members.known; within = λ slot lt. omega (arith, members.within slot lt, le) }
+
+-- the same bank holds the same
+pub present-same : {given given' : Given} {old new : List Operation} (s k : ℕ) → given' ≡ given → new ≡ old → present given' new s k ≡ present given old s k
+present-same {given' = given'} {old = old} s k same is = ap (λ (l : List Operation). present given' l s k) is ∙ ap (λ (g : Given). present g old s k) same

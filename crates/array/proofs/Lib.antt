@@ -1,3 +1,4 @@
 pub mod RowBytes
 pub mod DeviceLaws
 pub mod Answered
+pub mod Elements

@@ -44,3 +44,11 @@ IsOther shape first count role row = (x : ℕ) → place shape x ≡ record { ro
 -- another sector of the list stands there
 abbrev pub HasOther : Shape → ℕ → ℕ → ℕ → ℕ → Type 0
 HasOther shape first count role row = (x : ℕ) × (place shape x ≡ record { role = role; row = row }) × ((x < first) ⊎ (first + count ≤ x))
+
+-- the sector of a role in the i-th of many rows, each of which has room for 16 sectors
+abbrev pub buffered : List ℕ → ℕ → ℕ → Sector
+buffered bytes i role = row_sector bytes (16 * i + role)
+
+-- one of the so many sectors from this place on has its place on the row
+abbrev pub IsTouched : Shape → ℕ → ℕ → ℕ → Type 0
+IsTouched shape first count row = (x : ℕ) × (first ≤ x) × (x < first + count) × ((place shape x).row ≡ row)
