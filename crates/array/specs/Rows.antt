@@ -1,5 +1,5 @@
 -- Rows as the members hold them, and as they lie in memory.
-use Rattle.std.specs.Prelude.{◌≡◌, ℕ, ◌+◌, ◌*◌, ◌<◌, ◌≤◌, ◌⊎◌, Result, IfErr, ◌&&◌, ◌==◌, if◌then◌else◌, List, length, take, drop, Some}
+use Rattle.std.specs.Prelude.{◌≡◌, ℕ, ◌+◌, ◌-◌, ◌*◌, ◌/◌, Contains, ◌<◌, ◌≤◌, ◌⊎◌, Result, IfErr, ◌&&◌, ◌==◌, if◌then◌else◌, List, length, take, drop, Some}
 use Rattle.md_base.specs.declared.places.Shape.{Shape}
 use Rattle.md_base.specs.Search.{tabulate}
 use Rattle.md_base.specs.Sectors.{Sector}
@@ -52,3 +52,16 @@ buffered bytes i role = row_sector bytes (16 * i + role)
 -- one of the so many sectors from this place on has its place on the row
 abbrev pub IsTouched : Shape → ℕ → ℕ → ℕ → Type 0
 IsTouched shape first count row = (x : ℕ) × (first ≤ x) × (x < first + count) × ((place shape x).row ≡ row)
+
+-- A write of these sectors, which begin at a place of the list, was done on a row: they have their places on it, its other sectors are as
+-- they were, and its parity fits.
+pub record IsRowWritten (shape : Shape) (offset first : ℕ) (from : List ℕ) (before after : Contents) (row : ℕ) : Type 0 where
+  pub changed : (role x : ℕ) → role < shape.disks → place shape x ≡ record { role = role; row = row } → first ≤ x → x < first + length from / 512
+      → after role (offset + row) ≡ row_sector from (x - first)
+  pub kept : (role : ℕ) → role < shape.disks → HasOther shape first (length from / 512) role row → after role (offset + row) ≡ before role (offset + row)
+  pub parity : AreEquationsMet (row_roles shape row) (tabulate shape.disks (λ role. Some (after role (offset + row))))
+
+-- the same on each of these rows, and nothing on the others
+pub record AreRowsWritten (shape : Shape) (offset first : ℕ) (from : List ℕ) (rows : List ℕ) (before after : Contents) : Type 0 where
+  pub done : (row : ℕ) → Contains rows row → IsRowWritten shape offset first from before after row
+  pub others : (role row : ℕ) → (Contains rows row → ⊥) → after role (offset + row) ≡ before role (offset + row)
