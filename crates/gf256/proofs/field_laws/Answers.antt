@@ -1,0 +1,5 @@
+use Rattle.gf256.proofs.FieldLaws.{is_field}
+use Rattle.gf256.proofs.field_laws.Goals as goal
+
+pub returns : goal.returns
+returns c = is_field
