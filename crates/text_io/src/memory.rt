@@ -177,3 +177,57 @@ impl Sink for MemorySink {
         Ok(())
     }
 }
+
+#[cfg(test)]
+mod tests {
+    use super::*;
+    use std::test::Fail;
+
+    // What one pull moves into a buffer of three bytes.
+    fn pulled<S: Source>(source: &mut S, into: &mut [u8; 3]) -> Option<usize> {
+        *into = *b"...";
+        source.pull(into).ok()
+    }
+
+    #[test]
+    fn pulls_that_are_listed_fail(rt: HostRuntime) -> Result<(), Fail> {
+        let bytes = b"abcde".to_vec(rt.alloc())?;
+        let mut source = MemorySource::new(bytes, vec![in rt.alloc(); 1, 4]?);
+        let mut into = [0; 3];
+        let expected = [
+            (Some(3), *b"abc"),
+            (None, *b"..."),
+            (Some(2), *b"de."),
+            (Some(0), *b"..."),
+            (None, *b"..."),
+            (Some(0), *b"..."),
+        ];
+        for (count, front) in expected {
+            assert_eq!(rt; pulled(&mut source, &mut into), count);
+            assert_eq!(rt; into, front);
+        }
+        assert_eq!(rt; source.faults(), 2);
+        Ok(())
+    }
+
+    fn pushes<K: Sink>(sink: &mut K, piece: &[u8]) -> bool {
+        sink.push(piece).is_ok()
+    }
+
+    #[test]
+    fn pushes_that_are_listed_or_do_not_fit_fail(rt: HostRuntime) -> Result<(), Fail> {
+        let alloc = rt.alloc();
+        let mut sink = MemorySink::new(alloc, 4, vec![in alloc; 1]?)?;
+        assert!(rt; pushes(&mut sink, b"ab"));
+        assert!(rt; !pushes(&mut sink, b"c"));
+        assert_eq!(rt; sink.bytes(), b"ab".as_slice());
+        assert!(rt; !pushes(&mut sink, b"cde"));
+        assert_eq!(rt; sink.bytes(), b"abcd".as_slice());
+        assert!(rt; pushes(&mut sink, b""));
+        assert!(rt; !pushes(&mut sink, b"e"));
+        assert_eq!(rt; sink.bytes(), b"abcd".as_slice());
+        assert_eq!(rt; sink.faults(), 3);
+        assert!(rt; MemorySink::new(alloc, u64::MAX, Vec::new(alloc)).is_err());
+        Ok(())
+    }
+}
