@@ -128,7 +128,7 @@ impl MemorySink {
     pub fn bytes(&self) -> &[u8]
         ensures { result.now ≡ taken_by self.now }
     {
-        &self.bytes
+        self.bytes.as_slice()
     }
 }
 
