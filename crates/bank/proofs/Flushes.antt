@@ -52,3 +52,18 @@ noted_step tape m s marks (Flush t) is known was = elim (cases_eq s t) [
       let mark : slice_index (slice_set marks t (m + 1)) s ≡ slice_index marks s = get_or-set_other marks t s (m + 1) 0 other in
       subst (λ (n : ℕ). IsLastFlush tape (m + 1) s n) (sym mark) (last_flush-other tape m s (slice_index marks s) (Flush t) is (λ e. other cc) was)
 ]
+
+-- there is always one
+pub last_flush-some : (tape : List Operation) (s m : ℕ) → m ≤ length tape → (f : ℕ) × IsLastFlush tape m s f
+last_flush-some tape s zero le = (0, last_flush-none tape s)
+last_flush-some tape s (suc m) le =
+    let next : m + 1 ≡ suc m = omega arith in
+    subst (λ (n : ℕ). (f : ℕ) × IsLastFlush tape n s f) next
+    (after (get_or tape m (Flush 0)) (slice_get-get_or tape m (Flush 0) (omega arith)) (last_flush-some tape s m (omega arith)))
+  where
+    after : (op : Operation) → slice_get tape m ≡ Some op → (f : ℕ) × IsLastFlush tape m s f → (f : ℕ) × IsLastFlush tape (m + 1) s f
+    after (Write t j w) is was = (was.0, last_flush-other tape m s was.0 (Write t j w) is (λ e. cc) was.1)
+    after (Flush t) is was = elim (cases_eq t s) [
+      | inl same ↦ (m + 1, last_flush-here tape m s (is ∙ ap (λ (n : ℕ). Some (Flush n)) same))
+      | inr other ↦ (was.0, last_flush-other tape m s was.0 (Flush t) is (λ e. other cc) was.1)
+    ]

@@ -72,9 +72,10 @@ widest-before d ops s k v held = kept-by_writes s k (d s k) ops v held
 pub widest-writes : (d : ℕ → ℕ → List Sector) (ops : List Operation) → AreWritesWithin (widest d ops) ops
 widest-writes d [] = tt
 widest-writes d (Flush t ∷ ops) = widest-writes d ops
-widest-writes d (Write t j w ∷ ops) =
-    (kept-by_writes t j (choices_after t j (Write t j w) (d t j)) ops w (subst (λ (l : List Sector). IsIn l w) (sym (choices_after-write_here t j w (d t j))) (inl refl)),
-    widest-writes (run d (Write t j w ∷ [])) ops)
+widest-writes d (Write t j w ∷ ops) = (
+  kept-by_writes t j (choices_after t j (Write t j w) (d t j)) ops w (subst (λ (l : List Sector). IsIn l w) (sym (choices_after-write_here t j w (d t j))) (inl refl)),
+  widest-writes (run d (Write t j w ∷ [])) ops,
+)
 
 -- a stretch's own values bound what a stop may leave at each mark of it
 pub widest-marks : {T E : Type 0} {tells : Type 0} {r : Result T E} (start : Contents) {old new ops : List Operation}

@@ -18,12 +18,19 @@ module _ (s at : ℕ) (w v : Sector) (before : List Sector) where
 
 -- the statement before each of the four operations, and after the last
 along : (at : ℕ) (w : Sector) (d : ℕ → ℕ → List Sector) → Along (EachIsOldOrNew at w d) d (Write 0 at w ∷ Flush 0 ∷ Write 1 at w ∷ Flush 1 ∷ [])
-along at w d =
-    (λ c drawn. record { first = inr (drawn 0 at); second = inr (drawn 1 at); one_whole = inr (drawn 1 at) },
-    (λ c drawn. record { first = written 0 at w (c 0 at) (d 0 at) (drawn 0 at); second = inr (drawn 1 at); one_whole = inr (drawn 1 at) },
-    (λ c drawn. record { first = inl (new c (drawn 0 at)); second = inr (drawn 1 at); one_whole = inr (drawn 1 at) },
-    (λ c drawn. record { first = inl (new c (drawn 0 at)); second = written 1 at w (c 1 at) (d 1 at) (drawn 1 at); one_whole = inl (new c (drawn 0 at)) },
-    (λ c drawn. record { first = inl (new c (drawn 0 at)); second = inl (flushed 1 at w (c 1 at) (d 1 at) (drawn 1 at)); one_whole = inl (new c (drawn 0 at)) })))))
+along at w d = (
+  λ c drawn. record { first = inr (drawn 0 at); second = inr (drawn 1 at); one_whole = inr (drawn 1 at) },
+  (
+    λ c drawn. record { first = written 0 at w (c 0 at) (d 0 at) (drawn 0 at); second = inr (drawn 1 at); one_whole = inr (drawn 1 at) },
+    (
+      λ c drawn. record { first = inl (new c (drawn 0 at)); second = inr (drawn 1 at); one_whole = inr (drawn 1 at) },
+      (
+        λ c drawn. record { first = inl (new c (drawn 0 at)); second = written 1 at w (c 1 at) (d 1 at) (drawn 1 at); one_whole = inl (new c (drawn 0 at)) },
+        (λ c drawn. record { first = inl (new c (drawn 0 at)); second = inl (flushed 1 at w (c 1 at) (d 1 at) (drawn 1 at)); one_whole = inl (new c (drawn 0 at)) }),
+      ),
+    ),
+  ),
+)
   where
     new : (c : Contents) → IsIn (take 1 (choices_after 0 at (Write 0 at w) (d 0 at))) (c 0 at) → c 0 at ≡ w
     new c held = flushed 0 at w (c 0 at) (d 0 at) held
