@@ -1,12 +1,12 @@
 -- The steps of all windows in one sum, as the code computes it.
-use Rattle.std.proofs.Common.{◌≡◌, ℕ, zero, suc, ◌+◌, ◌-◌, ◌*◌, ◌/◌, ◌^◌, ◌<◌, ◌≤◌, Bool, true, false, cond, refl, sym, ap, subst, ◌∙◌, arith}
+use Rattle.std.proofs.Common.{◌≡◌, ℕ, suc, ◌+◌, ◌-◌, ◌*◌, ◌/◌, ◌^◌, ◌<◌, ◌≤◌, Bool, true, false, cond, refl, sym, ap, ◌∙◌, arith}
 use Rattle.std.specs.Prelude.{sum_by}
 use Rattle.std.specs.Int.{div_ceil}
 use Rattle.std.proofs.Math.Nat.{mul-le-mul_left}
 use Rattle.md_base.specs.declared.places.Shape.{Shape}
 use Rattle.md_base.specs.Shapes.{stripe_sectors}
 use Rattle.geometry.specs.Geometry.{AreInForce, unit, list_end, ceiling, windows, next_windows, window_steps, zeroed_stripes}
-use Rattle.geometry.proofs.Divisions.{ceiling-div_ceil, ceiling_bounds, ceiling_le, ceiling_zero, quotient}
+use Rattle.geometry.proofs.Divisions.{ceiling-div_ceil, ceiling_le, quotient}
 use Rattle.geometry.proofs.Tilings.{forward_sum, backward_sum, forward_total}
 use Rattle.geometry.proofs.Valid.{bounded, bounded_pair}
 

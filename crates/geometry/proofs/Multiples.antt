@@ -4,10 +4,10 @@ use Rattle.std.specs.Prelude.{MatchOption, unwrap_or}
 use Rattle.std.specs.Option.{option_or}
 use Rattle.std.specs.Int.{IsGcd, ◌∣◌}
 use Rattle.std.proofs.lemmas.Bool.{cases_lt, cases_eq, eqb-true, eq-eqb, both_ways}
-use Rattle.std.proofs.Math.Nat.{dvd-mul_right, dvd-mul_left, dvd_antisymm, mul-dvd-mul_right, mul-dvd-mul_left, dvd_of_mul-dvd-mul_left, mul-div_cancel', div-mul_cancel, dvd-mod_iff, dvd_of_mod-eq-zero, mod-lt, eq_of_mul-eq-mul_left, mul_comm, mul_assoc, mul-pos, mul-le-mul_left, pos_of_dvd_of_pos}
+use Rattle.std.proofs.Math.Nat.{dvd-mul_right, dvd-mul_left, dvd_antisymm, mul-dvd-mul_right, dvd_of_mul-dvd-mul_left, mul-div_cancel', div-mul_cancel, dvd-mod_iff, dvd_of_mod-eq-zero, mod-lt, eq_of_mul-eq-mul_left, mul_comm, mul_assoc, mul-pos, mul-le-mul_left, pos_of_dvd_of_pos}
 use Rattle.md_base.specs.Search.{least_below}
 use Rattle.md_base.specs.Shapes.{is_multiple}
-use Rattle.geometry.specs.Geometry.{common_multiple}
+use Rattle.geometry.specs.Geometry.{common_multiple, IsLeastCommonMultiple}
 
 -- ---- the least number that passes
 
@@ -19,8 +19,8 @@ Searched n test o =
 none_more : (n : ℕ) (test : ℕ → Bool) → ((i : ℕ) → i < n → test i ≡ false) → test n ≡ false → (i : ℕ) → i < suc n → test i ≡ false
 none_more n test before here i lt =
     elim (cases_eq i n) [
-      inl e ↦ subst (λ (k : ℕ). test k ≡ false) (sym e) here
-    | inr ne ↦ before i (omega arith)
+      | inl e ↦ subst (λ (k : ℕ). test k ≡ false) (sym e) here
+      | inr ne ↦ before i (omega arith)
     ]
 
 here_more : (n : ℕ) (test : ℕ → Bool) (b : Bool) → test n ≡ b → ((i : ℕ) → i < n → test i ≡ false) → Searched (suc n) test (cond b (Some n) None)
@@ -38,12 +38,6 @@ searched (suc n) test = one_more n test (least_below n test) (searched n test)
 
 -- ---- the least common multiple
 
-pub record IsLeastCommon (a b l : ℕ) : Type 0 where
-  pub positive : 0 < l
-  pub first : a ∣ l
-  pub second : b ∣ l
-  pub least : (m : ℕ) → 0 < m → a ∣ m → b ∣ m → l ≤ m
-
 multiple_tells : (n k : ℕ) → is_multiple n k ≡ true → k ∣ n
 multiple_tells n k e = subst (λ (x : ℕ). k ∣ x) (eqb-true _ _ e) (dvd-mul_left k (n / k))
 
@@ -58,18 +52,18 @@ no_lesser : (a b k m : ℕ) → 0 < a → ((i : ℕ) → i < k → common_test a
 no_lesser a b k m pa before pm am bm =
     let e : a * (m / a) ≡ m = mul-div_cancel' a am in
     elim (cases_lt k (m / a)) [
-      inl lt ↦ (let le : a * (k + 1) ≤ a * (m / a) = mul-le-mul_left a (omega arith) in omega (arith, le, e))
-    | inr ge ↦ elim (cases_eq (m / a) 0) [
-        inl z ↦ (let flat : a * (m / a) ≡ a * 0 = ap (λ (x : ℕ). a * x) z in absurd (omega (arith, flat, e)))
-      | inr nz ↦ (
-          let back : m / a - 1 + 1 ≡ m / a = omega arith in
-          let whole : a * (m / a - 1 + 1) ≡ m = ap (λ (x : ℕ). a * x) back ∙ e in
-          let passes : common_test a b (m / a - 1) ≡ true = multiple_from _ b (subst (λ (x : ℕ). b ∣ x) (sym whole) bm) in
-          absurd (both_ways _ (before (m / a - 1) (omega arith)) passes))
+      | inl lt ↦ (let le : a * (k + 1) ≤ a * (m / a) = mul-le-mul_left a (omega arith) in omega (arith, le, e))
+      | inr ge ↦ elim (cases_eq (m / a) 0) [
+        | inl z ↦ (let flat : a * (m / a) ≡ a * 0 = ap (λ (x : ℕ). a * x) z in absurd (omega (arith, flat, e)))
+        | inr nz ↦ (
+            let back : m / a - 1 + 1 ≡ m / a = omega arith in
+            let whole : a * (m / a - 1 + 1) ≡ m = ap (λ (x : ℕ). a * x) back ∙ e in
+            let passes : common_test a b (m / a - 1) ≡ true = multiple_from _ b (subst (λ (x : ℕ). b ∣ x) (sym whole) bm) in
+            absurd (both_ways _ (before (m / a - 1) (omega arith)) passes))
       ]
     ]
 
-from_search : (a b : ℕ) (o : Option ℕ) → 0 < a → 0 < b → Searched b (common_test a b) o → IsLeastCommon a b (a * (unwrap_or o 0 + 1))
+from_search : (a b : ℕ) (o : Option ℕ) → 0 < a → 0 < b → Searched b (common_test a b) o → IsLeastCommonMultiple a b (a * (unwrap_or o 0 + 1))
 from_search a b (Some k) pa pb (below, here, before) = record {
   positive = (let le : a * 1 ≤ a * (k + 1) = mul-le-mul_left a (omega arith) in omega (arith, le));
   first = dvd-mul_right a (k + 1);
@@ -81,27 +75,27 @@ from_search a b None pa pb none =
     let passes : common_test a b (b - 1) ≡ true = multiple_from _ b (subst (λ (x : ℕ). b ∣ a * x) (sym back) (dvd-mul_left b a)) in
     absurd (both_ways _ (none (b - 1) (omega arith)) passes)
 
-pub least_common : (a b : ℕ) → 0 < a → 0 < b → IsLeastCommon a b (common_multiple a b)
+pub least_common : (a b : ℕ) → 0 < a → 0 < b → IsLeastCommonMultiple a b (common_multiple a b)
 least_common a b pa pb = from_search a b _ pa pb (searched b (common_test a b))
 
 -- ---- by the greatest common divisor
 
 -- each common multiple is a multiple of the least
-common_is_multiple : (a b l m : ℕ) → IsLeastCommon a b l → a ∣ m → b ∣ m → l ∣ m
+common_is_multiple : (a b l m : ℕ) → IsLeastCommonMultiple a b l → a ∣ m → b ∣ m → l ∣ m
 common_is_multiple a b l m c am bm =
     elim (cases_eq (m % l) 0) [
-      inl z ↦ dvd_of_mod-eq-zero l z
-    | inr nz ↦ (
-        let less : m % l < l = mod-lt m c.positive in
-        let le : l ≤ m % l = c.least (m % l) (omega arith) ((dvd-mod_iff a c.first).1 am) ((dvd-mod_iff b c.second).1 bm) in
-        absurd (omega (arith, less, le)))
+      | inl z ↦ dvd_of_mod-eq-zero l z
+      | inr nz ↦ (
+          let less : m % l < l = mod-lt m c.positive in
+          let le : l ≤ m % l = c.least (m % l) (omega arith) ((dvd-mod_iff a c.first).1 am) ((dvd-mod_iff b c.second).1 bm) in
+          absurd (omega (arith, less, le)))
     ]
 
 regroup : (g a b : ℕ) → a * (g * b) ≡ (g * a) * b
 regroup g a b = omega arith
 
 -- a divisor of a and b that the least common multiple leaves of their product: as great as any other
-cofactor : (a b g l : ℕ) → 0 < a → 0 < b → IsGcd a b g → IsLeastCommon a b l → (q : ℕ) × (l * q ≡ a * b) × (q ∣ g)
+cofactor : (a b g l : ℕ) → 0 < a → 0 < b → IsGcd a b g → IsLeastCommonMultiple a b l → (q : ℕ) × (l * q ≡ a * b) × (q ∣ g)
 cofactor a b g l pa pb gcd c =
     let q = a * b / l in
     let el : l * q ≡ a * b = mul-div_cancel' l (common_is_multiple a b l (a * b) c (dvd-mul_right a b) (dvd-mul_left b a)) in
@@ -110,15 +104,15 @@ cofactor a b g l pa pb gcd c =
     (q, el, gcd.2 q (dvd_of_mul-dvd-mul_left {k = b} q {n = a} pb by_b) (dvd_of_mul-dvd-mul_left {k = a} q {n = b} pa by_a))
 
 -- the product over the greatest common divisor is a common multiple
-common_by_divisor : (a b g l : ℕ) → IsGcd a b g → IsLeastCommon a b l → l ∣ a / g * b
+common_by_divisor : (a b g l : ℕ) → IsGcd a b g → IsLeastCommonMultiple a b l → l ∣ a / g * b
 common_by_divisor a b g l gcd c =
     let ea : g * (a / g) ≡ a = mul-div_cancel' g gcd.0 in
     let eb : g * (b / g) ≡ b = mul-div_cancel' g gcd.1 in
     let turned : a / g * b ≡ a * (b / g) =
-        ap (λ (x : ℕ). a / g * x) (sym eb) ∙ regroup g (a / g) (b / g) ∙ ap (λ (x : ℕ). x * (b / g)) ea in
+    ap (λ (x : ℕ). a / g * x) (sym eb) ∙ regroup g (a / g) (b / g) ∙ ap (λ (x : ℕ). x * (b / g)) ea in
     common_is_multiple a b l (a / g * b) c (subst (λ (x : ℕ). a ∣ x) (sym turned) (dvd-mul_right a (b / g))) (dvd-mul_left b (a / g))
 
-pub by_divisor : (a b g l : ℕ) → 0 < a → 0 < b → IsGcd a b g → IsLeastCommon a b l → a / g * b ≡ l
+pub by_divisor : (a b g l : ℕ) → 0 < a → 0 < b → IsGcd a b g → IsLeastCommonMultiple a b l → a / g * b ≡ l
 by_divisor a b g l pa pb gcd c =
     let ea : g * (a / g) ≡ a = mul-div_cancel' g gcd.0 in
     let pg : 0 < g = pos_of_dvd_of_pos gcd.0 pa in
@@ -132,5 +126,5 @@ by_divisor a b g l pa pb gcd c =
     eq_of_mul-eq-mul_left g pg _ _ (whole ∙ sym found.1 ∙ ap (λ (x : ℕ). l * x) same ∙ mul_comm l g)
 
 -- the least common multiple is at most the product
-pub at_most_product : (a b l : ℕ) → 0 < a → 0 < b → IsLeastCommon a b l → l ≤ a * b
+pub at_most_product : (a b l : ℕ) → 0 < a → 0 < b → IsLeastCommonMultiple a b l → l ≤ a * b
 at_most_product a b l pa pb c = c.least (a * b) (mul-pos pa pb) (dvd-mul_right a b) (dvd-mul_left b a)

@@ -1,7 +1,7 @@
 -- The rows that a span touches.
-use Rattle.std.proofs.Common.{◌≡◌, ℕ, ◌+◌, ◌-◌, ◌*◌, ◌/◌, ◌%◌, ◌^◌, ◌<◌, ◌≤◌, Bool, true, false, min, max, refl, sym, ap, subst, ◌∙◌, inl, inr, arith}
-use Rattle.std.specs.Prelude.{IsTrue}
-use Rattle.std.proofs.lemmas.Bool.{cases_lt, ltb-false}
+use Rattle.std.proofs.Common.{◌≡◌, ℕ, ◌+◌, ◌*◌, ◌/◌, ◌%◌, ◌^◌, ◌<◌, ◌≤◌, Bool, true, false, min, max, ap, subst, inl, inr, arith}
+use Rattle.std.specs.Prelude.{IsTrue, ◌↔◌}
+use Rattle.std.proofs.lemmas.Bool.{cases_lt, ltb-false, ltb-true, lt-ltb}
 use Rattle.std.proofs.Math.Nat.{mul-le-mul_left, mul-le-mul_right, div-div-eq-div-mul, mod-lt}
 use Rattle.md_base.specs.declared.places.Shape.{Shape}
 use Rattle.md_base.specs.declared.places.Span.{Span}
@@ -16,8 +16,8 @@ stripe_inside x hi s p lt =
     let q = quotient x s p in
     let b = ceiling_bounds hi s p in
     elim (cases_lt (x / s) (ceiling hi s)) [
-      inl less ↦ less
-    | inr ge ↦ (let le : ceiling hi s * s ≤ x / s * s = mul-le-mul_right s ge in absurd (omega (arith, le, q.0, b.0, lt)))
+      | inl less ↦ less
+      | inr ge ↦ (let le : ceiling hi s * s ≤ x / s * s = mul-le-mul_right s ge in absurd (omega (arith, le, q.0, b.0, lt)))
     ]
 
 pub rows_hold : (shape : Shape) (span : Span) (x : ℕ) → IsTrue (is_valid_shape shape) → IsIn x span → IsIn (row_at shape x) (rows shape span.lo span.hi)
@@ -60,3 +60,15 @@ short_rows shape lo hi valid le short =
     let q = quotient lo s ps in
     let c = ceiling_bounds hi s ps in
     (omega (arith, down, q.0, le, short), omega (arith, up, c.1, short, b.most_stripe))
+
+-- spans meet exactly where a number lies in both; the greater of their starts does, if any
+meeting : (a b : Span) → IsTrue (meets a b) ↔ ((row : ℕ) × IsIn row a × IsIn row b)
+meeting a b = (
+  λ e. (let lt = ltb-true (max a.lo b.lo) (min a.hi b.hi) e in (max a.lo b.lo, (omega arith, omega (arith, lt)), (omega arith, omega (arith, lt)))),
+  λ (row, (la, ha), (lb, hb)). lt-ltb (max a.lo b.lo) (min a.hi b.hi) (omega (arith, la, ha, lb, hb)),
+)
+
+pub critical_shared : (old new : Shape) (size : ℕ) (back : Bool) (span : Span)
+    → let live = live_sectors old new size back span in IsTrue (is_critical old new size back span) ↔ ((row : ℕ) × IsIn row (rows new span.lo span.hi) × IsIn row (rows old live.lo live.hi))
+critical_shared old new size true span = meeting (rows new span.lo span.hi) (rows old 0 span.hi)
+critical_shared old new size false span = meeting (rows new span.lo span.hi) (rows old span.lo (list_end old new size))

@@ -1,14 +1,14 @@
 -- The windows of a reshape, one after another: they tile the way, and their steps add up.
-use Rattle.std.proofs.Common.{◌≡◌, ℕ, zero, suc, ◌+◌, ◌-◌, ◌*◌, ◌/◌, ◌<◌, ◌≤◌, Bool, true, false, cond, min, List, [], ◌∷◌, Option, Some, None, refl, sym, ap, subst, ◌∙◌, inl, inr, arith}
+use Rattle.std.proofs.Common.{◌≡◌, ℕ, zero, suc, ◌+◌, ◌-◌, ◌*◌, ◌/◌, ◌<◌, ◌≤◌, Bool, true, false, cond, min, [], ◌∷◌, Option, Some, None, refl, sym, ap, subst, ◌∙◌, arith}
 use Rattle.std.specs.Prelude.{sum_by}
 use Rattle.std.specs.Option.{option_map_or}
-use Rattle.std.proofs.lemmas.Bool.{cases_lt, lt-leb, le-leb, ne_eqb, eq-eqb}
+use Rattle.std.proofs.lemmas.Bool.{lt-leb, ne_eqb}
 use Rattle.std.proofs.lemmas.List.Sums.{sum_by-cons}
 use Rattle.md_base.specs.declared.places.Shape.{Shape}
 use Rattle.md_base.specs.declared.places.Span.{Span}
 use Rattle.md_base.specs.Shapes.{stripe_sectors}
-use Rattle.geometry.specs.Geometry.{unit, list_end, ceiling, window, next_windows, window_steps, stripes, beyond, begun, Tile, IsWindowAt}
-use Rattle.geometry.proofs.Divisions.{ceiling_bounds, ceiling_less, ceiling_zero, ceiling_grows, floor_le_ceiling, floor_shifts, ceiling_shifts, floor_of_multiple, ceiling_of_multiple, quotient_is}
+use Rattle.geometry.specs.Geometry.{unit, list_end, ceiling, window, next_windows, window_steps, beyond, begun, Tile, IsWindowAt}
+use Rattle.geometry.proofs.Divisions.{ceiling_less, ceiling_zero, ceiling_grows, floor_le_ceiling, floor_shifts, ceiling_shifts, floor_of_multiple, ceiling_of_multiple, quotient_is}
 
 -- the window at a position with something ahead
 abbrev pub forward_window : Shape → Shape → ℕ → ℕ → Span
@@ -42,7 +42,7 @@ backward_list old new size n p pu e =
     ap (λ (o : Option Span). option_map_or (λ (span : Span). span ∷ next_windows old new size true n (beyond true span)) o []) (window_behind old new size p n pu e)
 
 -- what is left behind a window
-rest_ahead : (p u e n : ℕ) → 0 < u → ceiling (e - p) u ≡ suc n → (p < e) × (p < min (p + u) e) × (min (p + u) e ≤ e) × (ceiling (e - min (p + u) e) u ≡ n)
+pub rest_ahead : (p u e n : ℕ) → 0 < u → ceiling (e - p) u ≡ suc n → (p < e) × (p < min (p + u) e) × (min (p + u) e ≤ e) × (ceiling (e - min (p + u) e) u ≡ n)
 rest_ahead p u e n pu c =
     let b = ceiling_less (e - p) u n pu c in
     let lt : p < e = omega (arith, b.0) in

@@ -1,5 +1,5 @@
 -- What the limits of shapes and sizes give.
-use Rattle.std.proofs.Common.{◌≡◌, ℕ, ◌+◌, ◌-◌, ◌*◌, ◌/◌, ◌^◌, ◌<◌, ◌≤◌, Bool, true, false, ◌&&◌, ◌||◌, min, refl, sym, ap, ◌∙◌, arith}
+use Rattle.std.proofs.Common.{◌≡◌, ℕ, ◌*◌, ◌/◌, ◌^◌, ◌<◌, ◌≤◌, true, min, sym, ap, ◌∙◌, arith}
 use Rattle.std.specs.Prelude.{IsTrue}
 use Rattle.std.proofs.lemmas.Bool.{and_parts, leb-true, eqb-true}
 use Rattle.std.proofs.lemmas.Bool.Decides.{nat_tests}
@@ -8,9 +8,9 @@ use Rattle.std.proofs.lemmas.Nat.{mul-le}
 use Rattle.md_base.specs.declared.places.Shape.{Shape}
 use Rattle.md_base.specs.Shapes.{data_disks, stripe_sectors, tolerance, is_valid_shape, is_chunk, is_disk_count}
 use Rattle.std.specs.Int.{IsGcd}
-use Rattle.geometry.specs.Geometry.{AreInForce, list_end, is_size, unit, common_multiple, ceiling}
+use Rattle.geometry.specs.Geometry.{AreInForce, list_end, is_size, unit, common_multiple, ceiling, IsLeastCommonMultiple}
 use Rattle.geometry.proofs.Divisions.{ceiling_le}
-use Rattle.geometry.proofs.Multiples.{IsLeastCommon, least_common, by_divisor, at_most_product}
+use Rattle.geometry.proofs.Multiples.{least_common, by_divisor, at_most_product}
 
 -- what the limits give of a shape's stripe
 pub record IsBounded (shape : Shape) : Type 0 where
@@ -41,7 +41,7 @@ bounded shape valid =
     record { some_data = d.0; most_data = d.1; enough = d.2; some_chunk = c.0; most_chunk = c.1; some_stripe = s.0; most_stripe = s.1 }
 
 -- the unit of two valid shapes
-pub the_unit : (old new : Shape) → IsTrue (is_valid_shape old) → IsTrue (is_valid_shape new) → IsLeastCommon (stripe_sectors old) (stripe_sectors new) (unit old new)
+pub the_unit : (old new : Shape) → IsTrue (is_valid_shape old) → IsTrue (is_valid_shape new) → IsLeastCommonMultiple (stripe_sectors old) (stripe_sectors new) (unit old new)
 the_unit old new v w =
     let o = bounded old v in
     let n = bounded new w in

@@ -1,14 +1,17 @@
 //! The limits of a shape and of a member's size, each in one place.
 
-ghost use Rattle.std.specs.Prelude.{◌≡◌, ◌<◌};
+ghost use Rattle.std.specs.Prelude.{◌≡◌, ◌<◌, ◌↔◌, IsTrue};
 ghost use Rattle.md_base.specs.Shapes.{is_level, is_layout, is_chunk, is_disk_count, is_multiple, is_valid_shape};
-ghost use Rattle.geometry.specs.Geometry.{is_size};
+ghost use Rattle.geometry.specs.Geometry.{is_size, AreInForce};
 
 use md_base::Shape;
 
 pub const MOST_DISKS: u32 = 16;
+
 pub const LEAST_CHUNK: u32 = 8;
+
 pub const MOST_CHUNK: u32 = 1024;
+
 pub const MOST_ROWS: u64 = 0x1_0000_0000_0000;
 
 /// Level 5 or 6.
@@ -63,4 +66,14 @@ pub fn is_size(size: u64, chunk: u32) -> bool
     ensures { result ≡ is_size size chunk }
 {
     size >= 1 && size <= MOST_ROWS && is_multiple(size, chunk)
+}
+
+/// Whether two shapes over members of this size can be those of a reshape.
+pub fn are_in_force(old: &Shape, new: &Shape, size: u64) -> bool
+    ensures { IsTrue result ↔ AreInForce old.now new.now size }
+{
+    is_valid_shape(old)
+        && is_valid_shape(new)
+        && is_size(size, old.chunk)
+        && is_size(size, new.chunk)
 }

@@ -1,9 +1,9 @@
 //! The steps that a reshape has left.
 
 ghost use Rattle.std.specs.Prelude.{◌≡◌, ◌≤◌, ◌^◌, true, false, sum_by};
-ghost use Rattle.geometry.specs.Geometry.{AreInForce, list_end, windows, window_steps, zeroed_stripes, steps_of};
+ghost use Rattle.geometry.specs.Geometry.{AreInForce, list_end, windows, window_steps, zeroed_stripes, steps_of, reshape_steps};
 
-use crate::shapes::{list_end, stripe_sectors};
+use crate::shapes::{data_disks, list_end, stripe_sectors};
 use crate::units::unit;
 use md_base::Shape;
 
@@ -11,7 +11,8 @@ use md_base::Shape;
 pub fn steps_of(old: &Shape, new: &Shape, size: u64, back: bool, position: u64) -> u64
     requires in_force { AreInForce old.now new.now size }
     requires within { position ≤ list_end old.now new.now size }
-    ensures { result ≡ steps_of old.now new.now size back position }
+    ensures value { result ≡ steps_of old.now new.now size back position }
+    ensures short { result ≤ 2 ^ 57 }
 {
     let moved = if back {
         backward_steps(old, new, size, position)
@@ -19,6 +20,17 @@ pub fn steps_of(old: &Shape, new: &Shape, size: u64, back: bool, position: u64) 
         forward_steps(old, new, size, position)
     };
     moved + zeroed_stripes(old, new, size, back) + 1
+}
+
+/// The steps of a whole reshape, its start among them. It goes backward where the new shape has fewer data disks.
+pub fn reshape_steps(old: &Shape, new: &Shape, size: u64) -> u64
+    requires { AreInForce old.now new.now size }
+    ensures value { result ≡ reshape_steps old.now new.now size }
+    ensures short { result ≤ 2 ^ 58 }
+{
+    let back = data_disks(new) < data_disks(old);
+    let position = if back { list_end(old, new, size) } else { 0 };
+    1 + steps_of(old, new, size, back, position)
 }
 
 /// Backward, windows meet on units only, where no stripe is cut: so the stripes are those below the position.

@@ -2,8 +2,8 @@
 
 ghost use Rattle.std.specs.Prelude.{◌≡◌, ◌^◌, ◌<◌, IsTrue};
 ghost use Rattle.std.specs.Int.{IsGcd};
-ghost use Rattle.md_base.specs.Shapes.{is_valid_shape};
-ghost use Rattle.geometry.specs.Geometry.{unit};
+ghost use Rattle.md_base.specs.Shapes.{stripe_sectors, is_valid_shape};
+ghost use Rattle.geometry.specs.Geometry.{unit, IsLeastCommonMultiple};
 
 use crate::shapes::stripe_sectors;
 use md_base::Shape;
@@ -13,7 +13,7 @@ pub fn unit(old: &Shape, new: &Shape) -> u64
     requires old_valid { IsTrue (is_valid_shape old.now) }
     requires new_valid { IsTrue (is_valid_shape new.now) }
     ensures value { result ≡ unit old.now new.now }
-    ensures positive { 0 < result }
+    ensures least { IsLeastCommonMultiple (stripe_sectors old.now) (stripe_sectors new.now) result }
     ensures short { result < 2 ^ 32 }
 {
     let old_stripe = stripe_sectors(old);

@@ -2,7 +2,7 @@
 
 ghost use Rattle.std.specs.Prelude.{◌≡◌, ◌≤◌, ◌<◌, ◌^◌, ◌↔◌, IsTrue, IsNone, IfSome};
 ghost use Rattle.md_base.specs.Shapes.{is_valid_shape, stripe_sectors};
-ghost use Rattle.geometry.specs.Geometry.{AreInForce, IsWindowAt, unit, list_end, goal_of, side, window, ceiling, rows, meets, is_critical};
+ghost use Rattle.geometry.specs.Geometry.{AreInForce, IsWindowAt, unit, list_end, final_position, side, window, ceiling, rows, meets, is_critical};
 
 use crate::shapes::{list_end, stripe_sectors};
 use crate::units::unit;
@@ -21,7 +21,7 @@ pub fn window(old: &Shape, new: &Shape, size: u64, back: bool, position: u64) ->
     requires in_force { AreInForce old.now new.now size }
     requires within { position ≤ list_end old.now new.now size }
     ensures value { result ≡ window old.now new.now size back position }
-    ensures last { IsNone result ↔ (position ≡ goal_of old.now new.now size back) }
+    ensures last { IsNone result ↔ (position ≡ final_position old.now new.now size back) }
     ensures next { IfSome result (IsWindowAt old.now new.now size back position) }
 {
     let unit = unit(old, new);

@@ -1,5 +1,4 @@
-use Rattle.std.proofs.Common.{◌≡◌, ℕ, ◌*◌, ap, arith}
-use Rattle.geometry.specs.Geometry.{list_end}
+use Rattle.std.proofs.Common.{arith}
 use Rattle.geometry.proofs.Valid.{bounded_pair, same_list_end}
 use Rattle.geometry.proofs.shapes.list_end.Goals as goal
 

@@ -2,7 +2,7 @@ use Rattle.std.proofs.Common.{◌≡◌, ℕ, ◌*◌, ◌/◌, ap, ◌∙◌, a
 use Rattle.md_base.specs.declared.places.Shape.{Shape}
 use Rattle.md_base.specs.declared.places.Span.{Span}
 use Rattle.md_base.specs.Shapes.{stripe_sectors}
-use Rattle.geometry.specs.Geometry.{rows, ceiling}
+use Rattle.geometry.specs.Geometry.{ceiling}
 use Rattle.geometry.proofs.ClosedForms.{rounded_up}
 use Rattle.geometry.proofs.Rows.{short_rows}
 use Rattle.geometry.proofs.windows.rows.Goals as goal
