@@ -1,0 +1,5 @@
+use Rattle.geometry.proofs.Rows.{critical_shared}
+use Rattle.geometry.proofs.laws.critical_is_shared.Goals as goal
+
+pub returns : goal.returns
+returns c = critical_shared
