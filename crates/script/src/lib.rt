@@ -2,5 +2,6 @@
 #![tactic(auto)]
 
 pub mod reply;
+pub mod seeds;
 
-pub use reply::push_created;
+pub use reply::{push_created, push_event, push_refusal};
