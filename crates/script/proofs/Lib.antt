@@ -1,0 +1,3 @@
+pub mod SectorBytes
+pub mod SeedLaws
+pub mod RunLaws

@@ -1,0 +1,3 @@
+pub mod Seeds
+pub mod Texts
+pub mod Looks

@@ -1,0 +1,285 @@
+//! The text of a reply.
+
+ghost use Rattle.std.specs.Prelude.{◌≡◌, ℕ, ◌+◌, ◌<◌, ◌≤◌, [], ◌∷◌, ◌++◌, length, drop, map, slice_index_or, OnOk, codes, decimal};
+ghost use Rattle.script.specs.Looks.{kind_seen};
+ghost use Rattle.script.specs.Texts.{busy_word, created_text, ending_text, event_text, field_word, is_same, kind_of, kind_text, kinds, refusal_text, refused, run_text, runs, runs_text, Hex};
+
+use crate::seeds::seed_contents;
+use flat_history::Event;
+use md_base::{BusyKind, Refusal, Sectors, ShapeField};
+use std::alloc::AllocError;
+
+/// Appends `created`.
+pub fn push_created(text: &mut Vec<u8>) -> Result<(), AllocError>
+    ensures { OnOk result (text.new.items ≡ text.old.items ++ created_text) }
+{
+    text.extend_from_slice(b"created")
+}
+
+/// Appends the reply of a call whose last entry has this event, without the newline.
+/// Events that are no reply of a line append nothing.
+pub fn push_event(text: &mut Vec<u8>, event: &Event) -> Result<(), AllocError>
+    ensures { OnOk result (text.new.items ≡ text.old.items ++ event_text event.now) }
+{
+    match event {
+        Event::Read { at, body } => push_read(text, *at, body),
+        Event::Wrote { at, body } => push_wrote(text, *at, body),
+        Event::Flushed => text.extend_from_slice(b"flushed"),
+        Event::Added { slot } => push_counted(text, "added ", u64::from(*slot)),
+        Event::Failed { role } => push_counted(text, "failed ", u64::from(*role)),
+        Event::Visible { count, .. } => push_counted(text, "visible ", *count),
+        Event::Planned { left, .. } => push_counted(text, "planned ", *left),
+        Event::Stepped { done, left, ended } => push_stepped(text, *done, *left, ended),
+        Event::Stopped => text.extend_from_slice(b"stopped"),
+        Event::Halted => text.extend_from_slice(b"halted"),
+        Event::Refused { refusal } => push_refusal(text, refusal),
+        _ => Ok(()),
+    }
+}
+
+/// Appends `refused NUMBER NAME VALUES`.
+pub fn push_refusal(text: &mut Vec<u8>, refusal: &Refusal) -> Result<(), AllocError>
+    ensures { OnOk result (text.new.items ≡ text.old.items ++ refusal_text refusal.now) }
+{
+    match *refusal {
+        Refusal::PastEnd(visible) => push_refused(text, 1, "PastEnd", &[visible]),
+        Refusal::TooManyMissing(count, tolerance) => {
+            push_refused(text, 2, "TooManyMissing", &[count, tolerance])
+        }
+        Refusal::NotResynced(role) => push_refused(text, 3, "NotResynced", &[u64::from(role)]),
+        Refusal::BackupFault => push_refused(text, 4, "BackupFault", &[]),
+        Refusal::NoSuchRole(role) => push_refused(text, 5, "NoSuchRole", &[u64::from(role)]),
+        Refusal::SlotTaken(slot) => push_refused(text, 6, "SlotTaken", &[u64::from(slot)]),
+        Refusal::SlotTooSmall(have, want) => push_refused(text, 7, "SlotTooSmall", &[have, want]),
+        Refusal::PastSize(size) => push_refused(text, 8, "PastSize", &[size]),
+        Refusal::SlotFault(slot) => push_refused(text, 9, "SlotFault", &[u64::from(slot)]),
+        Refusal::Busy(kind) => push_worded(text, 10, "Busy", busy_name(kind)),
+        Refusal::Degraded(role) => push_refused(text, 11, "Degraded", &[u64::from(role)]),
+        Refusal::SameShape => push_refused(text, 12, "SameShape", &[]),
+        Refusal::BadShape(field) => push_worded(text, 13, "BadShape", field_name(field)),
+        Refusal::SizeNotMultiple(size, chunk) => {
+            push_refused(text, 14, "SizeNotMultiple", &[size, chunk])
+        }
+        Refusal::NeedSpares(have, want) => push_refused(text, 15, "NeedSpares", &[have, want]),
+        Refusal::NeedBackup => push_refused(text, 16, "NeedBackup", &[]),
+        Refusal::BackupTooSmall(have, want) => {
+            push_refused(text, 17, "BackupTooSmall", &[have, want])
+        }
+        Refusal::ArraySizeFirst(visible, least) => {
+            push_refused(text, 18, "ArraySizeFirst", &[visible, least])
+        }
+        Refusal::Nothing => push_refused(text, 19, "Nothing", &[]),
+        Refusal::NoSuperblock => push_refused(text, 20, "NoSuperblock", &[]),
+        Refusal::Unsupported(bits) => push_refused(text, 21, "Unsupported", &[bits]),
+        Refusal::BadField(offset) => push_refused(text, 22, "BadField", &[offset]),
+        Refusal::TwoHolders(device) => push_refused(text, 23, "TwoHolders", &[u64::from(device)]),
+        Refusal::MembersMissing(count, tolerance) => {
+            push_refused(text, 24, "MembersMissing", &[count, tolerance])
+        }
+        Refusal::DirtyDegraded(role) => push_refused(text, 25, "DirtyDegraded", &[u64::from(role)]),
+        Refusal::PositionNotOnUnit(position, unit) => {
+            push_refused(text, 26, "PositionNotOnUnit", &[position, unit])
+        }
+        Refusal::BackupAbsent => push_refused(text, 27, "BackupAbsent", &[]),
+        Refusal::NotRunning => push_refused(text, 28, "NotRunning", &[]),
+        Refusal::Running => push_refused(text, 29, "Running", &[]),
+        Refusal::NoSuchSlot(slot) => push_refused(text, 30, "NoSuchSlot", &[u64::from(slot)]),
+        Refusal::UuidInUse(slot) => push_refused(text, 31, "UuidInUse", &[u64::from(slot)]),
+    }
+}
+
+fn push_number(text: &mut Vec<u8>, number: u64) -> Result<(), AllocError>
+    ensures { OnOk result (text.new.items ≡ text.old.items ++ decimal number) }
+{
+    let mut buffer = itoa::Buffer::new();
+    text.extend_from_slice(buffer.format(number).as_bytes())
+}
+
+// A word or two and a number.
+fn push_counted(text: &mut Vec<u8>, words: &str, count: u64) -> Result<(), AllocError>
+    ensures { OnOk result (text.new.items ≡ text.old.items ++ words.now ++ decimal count) }
+{
+    text.extend_from_slice(words.as_bytes())?;
+    push_number(text, count)
+}
+
+fn push_refused(
+    text: &mut Vec<u8>,
+    number: u64,
+    name: &str,
+    values: &[u64],
+) -> Result<(), AllocError>
+    ensures { OnOk result
+        (text.new.items ≡ text.old.items ++ refused number name.now (map decimal values.now)) }
+{
+    push_counted(text, "refused ", number)?;
+    text.push(b' ')?;
+    text.extend_from_slice(name.as_bytes())?;
+    for value in values {
+        push_counted(text, " ", *value)?;
+    }
+    Ok(())
+}
+
+fn push_worded(text: &mut Vec<u8>, number: u64, name: &str, word: &str) -> Result<(), AllocError>
+    ensures { OnOk result
+        (text.new.items ≡ text.old.items ++ refused number name.now (word.now ∷ [])) }
+{
+    push_refused(text, number, name, &[])?;
+    text.push(b' ')?;
+    text.extend_from_slice(word.as_bytes())
+}
+
+fn busy_name(kind: BusyKind) -> &'static str
+    ensures { result.now ≡ busy_word kind }
+{
+    match kind {
+        BusyKind::Reshape => "reshape",
+        BusyKind::Resync => "resync",
+        BusyKind::Rebuild => "rebuild",
+        BusyKind::Plan => "plan",
+    }
+}
+
+fn field_name(field: ShapeField) -> &'static str
+    ensures { result.now ≡ field_word field }
+{
+    match field {
+        ShapeField::Level => "level",
+        ShapeField::Layout => "layout",
+        ShapeField::Chunk => "chunk",
+        ShapeField::Disks => "disks",
+        ShapeField::Size => "size",
+        ShapeField::Offset => "offset",
+    }
+}
+
+fn push_wrote(text: &mut Vec<u8>, at: u64, body: &Sectors) -> Result<(), AllocError>
+    ensures { OnOk result (text.new.items ≡ text.old.items
+        ++ (codes "wrote " ++ decimal at ++ codes " " ++ decimal (length body.now))) }
+{
+    push_counted(text, "wrote ", at)?;
+    push_counted(text, " ", body.count() as u64)
+}
+
+fn push_stepped(
+    text: &mut Vec<u8>,
+    done: u64,
+    left: u64,
+    ended: &Option<Refusal>,
+) -> Result<(), AllocError>
+    ensures { OnOk result (text.new.items ≡ text.old.items
+        ++ (codes "stepped " ++ decimal done ++ codes " left " ++ decimal left ++ ending_text ended.now)) }
+{
+    push_counted(text, "stepped ", done)?;
+    push_counted(text, " left ", left)?;
+    match ended {
+        Some(refusal) => {
+            text.push(b' ')?;
+            push_refusal(text, refusal)
+        }
+        None => Ok(()),
+    }
+}
+
+fn push_read(text: &mut Vec<u8>, at: u64, body: &Sectors) -> Result<(), AllocError>
+    ensures { OnOk result (text.new.items ≡ text.old.items
+        ++ (codes "read " ++ decimal at ++ codes " " ++ decimal (length body.now) ++ codes ":" ++ runs_text at body.now)) }
+{
+    push_counted(text, "read ", at)?;
+    push_counted(text, " ", body.count() as u64)?;
+    text.push(b':')?;
+    let (sectors, _) = body.as_bytes().as_chunks::<512>();
+    push_runs(text, at, sectors)
+}
+
+// The kind of a sector; a sector that is shown by its bytes stays where it is.
+#[derive(Clone, Copy)]
+enum Look {
+    Zero,
+    Seed(u32),
+    Hex,
+}
+
+fn look_at(x: u64, sector: &[u8; 512]) -> Look
+    ensures { kind_seen result sector.now ≡ kind_of x sector.now }
+{
+    if *sector == [0; 512] {
+        return Look::Zero;
+    }
+    let seed = u32::from_le_bytes([sector[0], sector[1], sector[2], sector[3]]);
+    if *sector == seed_contents(seed, x) {
+        Look::Seed(seed)
+    } else {
+        Look::Hex
+    }
+}
+
+fn are_same(look: Look, sector: &[u8; 512], other: Look, next: &[u8; 512]) -> bool
+    ensures { result ≡ is_same (kind_seen look sector.now) (kind_seen other next.now) }
+{
+    match (look, other) {
+        (Look::Zero, Look::Zero) => true,
+        (Look::Seed(seed), Look::Seed(another)) => seed == another,
+        (Look::Hex, Look::Hex) => *sector == *next,
+        _ => false,
+    }
+}
+
+// How many sectors of the first one's kind stand at the front, and that kind.
+fn first_run(x: u64, sectors: &[[u8; 512]]) -> (Look, usize)
+    requires { 0 < length sectors.now }
+    ensures within { result.1 ≤ length sectors.now }
+    ensures some { 0 < result.1 }
+    ensures run { runs (kinds x sectors.now)
+        ≡ (kind_seen result.0 (slice_index_or sectors.now 0 []), result.1) ∷ runs (kinds (x + result.1) (drop result.1 sectors.now)) }
+{
+    let first = &sectors[0];
+    let look = look_at(x, first);
+    for i in 1..sectors.len() {
+        let next = &sectors[i];
+        if !are_same(look, first, look_at(x.wrapping_add(i as u64), next), next) {
+            return (look, i);
+        }
+    }
+    (look, sectors.len())
+}
+
+fn push_run(
+    text: &mut Vec<u8>,
+    look: Look,
+    sector: &[u8; 512],
+    count: u64,
+) -> Result<(), AllocError>
+    ensures { OnOk result
+        (text.new.items ≡ text.old.items ++ run_text (kind_seen look sector.now, count)) }
+{
+    text.push(b' ')?;
+    match look {
+        Look::Zero => text.extend_from_slice(b"zero")?,
+        Look::Seed(seed) => push_counted(text, "seed ", u64::from(seed))?,
+        Look::Hex => push_hex(text, sector)?,
+    }
+    push_counted(text, " x", count)
+}
+
+fn push_hex(text: &mut Vec<u8>, sector: &[u8; 512]) -> Result<(), AllocError>
+    ensures { OnOk result (text.new.items ≡ text.old.items ++ kind_text (Hex sector.now)) }
+{
+    text.extend_from_slice(b"hex ")?;
+    let digits = hex::encode(*text.allocator(), sector.as_slice())?;
+    text.extend_from_slice(digits.as_bytes())
+}
+
+fn push_runs(text: &mut Vec<u8>, at: u64, sectors: &[[u8; 512]]) -> Result<(), AllocError>
+    ensures { OnOk result (text.new.items ≡ text.old.items ++ runs_text at sectors.now) }
+{
+    let mut start = 0;
+    while start < sectors.len() {
+        let rest = &sectors[start..];
+        let (look, count) = first_run(at.wrapping_add(start as u64), rest);
+        push_run(text, look, &rest[0], count as u64)?;
+        start += count;
+    }
+    Ok(())
+}
