@@ -11,6 +11,9 @@ use Rattle.layout.specs.Layout.{place, row_roles, IsParity}
 use Rattle.layout.proofs.Places.{place-apart, place-only}
 use Rattle.parity.specs.Exponents.{is_data, is_this_q}
 use Rattle.parity.specs.Parity.{AreEquationsMet}
+use Rattle.parity.specs.Rows.{IsRowRoles, sector_of}
+use Rattle.std.specs.Prelude.{IfSome}
+use Rattle.layout.proofs.Limits.{limited}
 use Rattle.array.specs.Rows.{row_sector, HasOther, IsOther, IsRowWritten}
 
 data_by : (p : ℕ) (q : Option ℕ) (role : ℕ) → role ≢ p → q ≢ Some role → (not (role == p) && not (is_this_q q role)) ≡ true
@@ -50,3 +53,7 @@ written-later {shape = shape} {offset = offset} {after = after} {row = row} late
   kept = λ role lt other. same role lt ∙ was.kept role lt other;
   parity = parity-same shape row (λ role. after role (offset + row)) (λ role. later role (offset + row)) (λ role lt. sym (same role lt)) was.parity;
 }
+
+-- the two spellings of a role's sector
+pub sector_of-is : (bytes : List ℕ) (role : ℕ) → sector_of bytes role ≡ row_sector bytes role
+sector_of-is bytes role = let n : 512 * role + 512 - 512 * role ≡ 512 = omega arith in ap (λ (m : ℕ). take m (drop (512 * role) bytes)) n

@@ -7,4 +7,4 @@ mod rows;
 
 pub use buffers::{ROW_BYTES, read_rows, touched_rows};
 pub use device::{read_into, write_from};
-pub use rows::{change_row, read_row, write_row};
+pub use rows::{change_row, read_row, rewrite_row, write_row};

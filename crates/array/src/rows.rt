@@ -5,12 +5,13 @@ ghost use Rattle.bank.specs.Given.{IsFaulted, NeverFalls};
 ghost use Rattle.md_base.specs.Sectors.{IsWhole};
 ghost use Rattle.md_base.specs.Shapes.{is_valid_shape};
 ghost use Rattle.layout.specs.Layout.{place};
-ghost use Rattle.array.specs.Rows.{present, row_sector, AreMembers, HasLost, IsOther, HasOther};
+ghost use Rattle.array.specs.Rows.{present, row_sector, AreMembers, HasLost, IsOther, HasOther, IsRowWritten};
 
 use crate::device::{read_into, write_from};
 use bank::{Bank, BankFault};
-use layout::at;
+use layout::{at, row_of};
 use md_base::Shape;
+use parity::syndromes;
 
 /// Reads the sectors that stand at `at` on the first `disks` slots. An Err is the slot that failed.
 pub fn read_row<B: Bank>(bank: &mut B, disks: u32, at: u64, row: &mut [u8]) -> Result<(), u32>
@@ -154,4 +155,36 @@ pub fn write_row<B: Bank>(
         }
     }
     Ok(())
+}
+
+/// Puts the sectors of `from` that have their places on a row into it, with its parity. `bytes` holds the row as it
+/// stands. An Err is the slot that failed.
+pub fn rewrite_row<B: Bank>(
+    bank: &mut B,
+    shape: &Shape,
+    offset: u64,
+    row: u64,
+    first: u64,
+    from: &[u8],
+    bytes: &mut [u8],
+) -> Result<(), u32>
+    requires shape { IsTrue (is_valid_shape shape.now) }
+    requires row { row < 2 ^ 53 }
+    requires offset { offset < 2 ^ 63 }
+    requires whole { IsWhole from.now }
+    requires short { first + length from.now / 512 < 2 ^ 63 }
+    requires members { AreMembers (B.given bank.old) shape.now.disks (offset + row + 1) }
+    requires size { length bytes.old ≡ 512 * shape.now.disks }
+    requires stands { B.tells → (role : ℕ) → role < shape.now.disks → HasOther shape.now first (length from.now / 512) role row
+        → present (B.given bank.old) (B.tape bank.old) role (offset + row) ≡ row_sector bytes.old role }
+    ensures written { OnOk result (B.tells → IsRowWritten shape.now offset first from.now
+        (present (B.given bank.old) (B.tape bank.old)) (present (B.given bank.new) (B.tape bank.new)) row) }
+    ensures others { OnOk result (B.tells → (s k : ℕ) → k ≢ offset + row → present (B.given bank.new) (B.tape bank.new) s k ≡ present (B.given bank.old) (B.tape bank.old) s k) }
+    ensures grows { B.tells → length (B.tape bank.old) ≤ length (B.tape bank.new) }
+    ensures given { B.given bank.new ≡ B.given bank.old }
+    ensures cause { HasLost shape.now.disks (B.faults_of bank.old) (B.faults_of bank.new) result }
+{
+    change_row(shape, row, first, from, bytes);
+    syndromes(bytes, &row_of(shape, row));
+    write_row(bank, shape, offset, row, first, (from.len() / 512) as u64, bytes)
 }
