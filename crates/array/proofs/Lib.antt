@@ -3,3 +3,7 @@ pub mod DeviceLaws
 pub mod Answered
 pub mod Elements
 pub mod RowParity
+pub mod PlainLaws
+pub mod NowLaws
+pub mod HoldLaws
+pub mod RecordLaws

@@ -1,0 +1,81 @@
+-- What an array keeps, over plain data.
+use Rattle.std.specs.Prelude.{◌≡◌, ◌⊎◌, ℕ, ◌+◌, ◌*◌, ◌^◌, ◌<◌, ◌≤◌, ◌++◌, ◌==◌, List, [], ◌∷◌, length, replicate, Option, Some, None, Result, Ok, Err, MatchOption, IsTrue, ⊤}
+use Rattle.std.specs.List.{list_any}
+use Rattle.md_base.specs.declared.places.Shape.{Shape}
+use Rattle.md_base.specs.declared.answers.Who.{Who}
+use Rattle.md_base.specs.declared.answers.Fault.{Fault}
+use Rattle.md_base.specs.declared.answers.Fault.TheVariants.{Refused as IsRefusedWith, NoMemory}
+use Rattle.md_base.specs.declared.answers.Refusal.{Refusal}
+use Rattle.md_base.specs.declared.answers.Refusal.TheVariants.{TooManyMissing}
+use Rattle.md_base.specs.Shapes.{is_valid_shape, is_multiple, data_disks}
+use Rattle.md_base.specs.Sectors.{Sector, zero_sector}
+use Rattle.bank.specs.Given.{Given, IsFaulted}
+use Rattle.bank.specs.declared.bank.Operation.{Operation}
+use Rattle.flat_history.specs.declared.events.Entry.{Entry}
+use Rattle.flat_history.specs.declared.events.Event.{Event}
+use Rattle.flat_history.specs.declared.events.Event.TheVariants.{Refused}
+use Rattle.flat_history.specs.declared.events.Request.{Request}
+use Rattle.flat_history.specs.Flat.{now, length_of, limit_of}
+use Rattle.flat_history.specs.Transfers.{last_end_from}
+use Rattle.flat_history.specs.Plain.{Opening, IsPlainLegal, PlainFits, loses_role, entries_of}
+use Rattle.array.specs.Rows.{present, AreMembers, HoldsRow}
+
+-- the flat list of an array that was just made: zeros
+abbrev pub zero_list : Shape → ℕ → List Sector
+zero_list shape size = replicate (data_disks shape * size) zero_sector
+
+abbrev pub opening_of : Shape → ℕ → ℕ → Opening
+opening_of shape size first = record { list = zero_list shape size; first = first }
+
+-- the numbers that never change fit together
+pub record IsPlaced (given : Given) (shape : Shape) (size offset : ℕ) : Type 0 where
+  pub valid : IsTrue (is_valid_shape shape)
+  pub multiple : IsTrue (is_multiple size shape.chunk)
+  pub short : size ≤ 2 ^ 48
+  pub near : offset ≤ 2 ^ 48
+  pub members : AreMembers given shape.disks (offset + size)
+
+-- what is kept of the history
+pub record IsRecorded (tells : Type 0) (opening : Opening) (ops : ℕ) (entries : List Entry) (lost : Option ℕ) : Type 0 where
+  pub legal : tells → IsPlainLegal opening ops entries
+  pub ended : tells → last_end_from opening.first entries ≤ ops
+  pub sized : length_of (length opening.list) entries ≡ length opening.list
+  pub unlimited : limit_of entries ≡ None
+  pub told : MatchOption lost ⊤ (λ role. (role < 32) × IsTrue (list_any (λ e. loses_role role e.event) entries))
+
+-- every row holds the list while no member is lost
+abbrev pub Holds : Shape → ℕ → ℕ → Given → List Operation → List Sector → List Entry → Type 0
+Holds shape size offset given tape list entries = (row : ℕ) → row < size → HoldsRow shape offset (present given tape) (now list entries) row
+
+pub record IsKept (tells : Type 0) (given : Given) (tape : List Operation) (first : ℕ) (entries : List Entry) (shape : Shape) (size offset : ℕ) (lost : Option ℕ) : Type 0 where
+  pub placed : IsPlaced given shape size offset
+  pub recorded : IsRecorded tells (opening_of shape size first) (length tape) entries lost
+  pub holds : tells → lost ≡ None → Holds shape size offset given tape (zero_list shape size) entries
+
+-- A call was answered by this event, which fits its request and stands behind the other entries of the call.
+pub record IsReplied (opening : Opening) (request : Request) (who : Who) (old new : List Entry) (event : Event) : Type 0 where
+  pub inner : List Event
+  pub end : ℕ
+  pub is : new ≡ old ++ entries_of who end (inner ++ event ∷ [])
+  pub fits : PlainFits opening (old ++ entries_of who end inner) (record { caller = who.caller; number = who.number; end = end; event = event }) request
+
+-- too many are missing where a member was lost before, or is lost in this call, in which its slot has failed
+abbrev pub IsLostNow : Option ℕ → Option ℕ → (ℕ → ℕ) → (ℕ → ℕ) → Type 0
+IsLostNow None after before now = MatchOption after ⊥ (λ role. IsFaulted role before now)
+IsLostNow (Some role) after before now = after ≡ Some role
+
+abbrev pub IsRefusedBy : Option ℕ → Option ℕ → (ℕ → ℕ) → (ℕ → ℕ) → Refusal → Type 0
+IsRefusedBy lost after before now (TooManyMissing count tolerance) = IsLostNow lost after before now
+IsRefusedBy lost after before now refusal = after ≡ lost
+
+-- no member is lost at an Ok; at a refusal one is exactly where it says so
+abbrev pub IsCausedBy : {T : Type 0} → Option ℕ → Option ℕ → (ℕ → ℕ) → (ℕ → ℕ) → Result T Fault → Type 0
+IsCausedBy lost after before now (Ok x) = (lost ≡ None) × (after ≡ None)
+IsCausedBy lost after before now (Err (IsRefusedWith refusal)) = IsRefusedBy lost after before now refusal
+IsCausedBy lost after before now (Err NoMemory) = after ≡ lost
+
+-- the reply of a read or write by its answer, with the event of an Ok
+abbrev pub IsAnswered : {T : Type 0} → Opening → Request → Who → List Entry → List Entry → Event → Result T Fault → Type 0
+IsAnswered opening request who old new event (Ok x) = IsReplied opening request who old new event
+IsAnswered opening request who old new event (Err (IsRefusedWith refusal)) = IsReplied opening request who old new (Refused refusal)
+IsAnswered opening request who old new event (Err NoMemory) = new ≡ old
