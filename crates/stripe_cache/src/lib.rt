@@ -8,3 +8,6 @@ mod key;
 
 pub use cache::Cache;
 pub use cached::{Cached, Kept};
+
+#[cfg(test)]
+mod tests;
