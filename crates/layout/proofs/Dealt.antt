@@ -1,5 +1,5 @@
 -- How a layout deals the data of one stripe round n disks, with k parity disks from p on.
-use Rattle.std.proofs.Common.{◌≡◌, ◌≢◌, ℕ, zero, suc, ◌+◌, ◌-◌, ◌%◌, ◌<◌, ◌≤◌, ◌⊎◌, inl, inr, Bool, true, false, nat_lt, nat_le, if◌then◌else◌, refl, sym, ◌∙◌, ap, subst, arith}
+use Rattle.std.proofs.Common.{◌≡◌, ◌≢◌, ℕ, ◌+◌, ◌-◌, ◌%◌, ◌<◌, ◌≤◌, ◌⊎◌, inl, inr, Bool, nat_lt, nat_le, if◌then◌else◌, sym, ◌∙◌, ap, arith}
 use Rattle.std.proofs.lemmas.Bool.{cases_lt}
 use Rattle.std.proofs.lemmas.Bool.Decides.{nat_tests}
 use Rattle.std.proofs.Math.Nat.{mod-eq_of_lt, mod-eq-sub-mod}
@@ -14,6 +14,7 @@ mod-round n a h = elim (cases_lt a n) [ inl less ↦ mod-eq_of_lt less ∙ below
   where
     below : a < n → a ≡ round n a
     below less = grind (arith, nat_tests)
+
     above : n ≤ a → a - n ≡ round n a
     above more = grind (arith, nat_tests)
 

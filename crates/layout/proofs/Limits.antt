@@ -1,8 +1,8 @@
 -- The limits that a valid shape keeps, as facts.
-use Rattle.std.proofs.Common.{◌≡◌, ℕ, ◌+◌, ◌-◌, ◌<◌, ◌≤◌, ◌⊎◌, inl, inr, Bool, true, false, ◌&&◌, ◌||◌, nat_le, ◌==◌, if◌then◌else◌, refl, arith}
+use Rattle.std.proofs.Common.{◌≡◌, ℕ, ◌≤◌, ◌⊎◌, Bool, true, ◌&&◌, nat_le, arith}
 use Rattle.std.proofs.lemmas.Bool.Decides.{nat_tests}
 use Rattle.md_base.specs.declared.places.Shape.{Shape}
-use Rattle.md_base.specs.Shapes.{is_valid_shape, is_level, is_layout, is_chunk, is_disk_count, data_disks, tolerance}
+use Rattle.md_base.specs.Shapes.{is_valid_shape, is_level, is_layout, is_chunk, is_disk_count}
 
 pub record IsLimited (shape : Shape) : Type 0 where
   pub level : (shape.level ≡ 5) ⊎ (shape.level ≡ 6)
@@ -33,13 +33,18 @@ limited shape valid =
   where
     level_fact : (level : ℕ) → is_level level ≡ true → (level ≡ 5) ⊎ (level ≡ 6)
     level_fact level h = grind (arith, nat_tests)
+
     layout_fact : (level layout : ℕ) → is_layout level layout ≡ true → (layout ≤ 5) ⊎ (level ≡ 6) × (16 ≤ layout) × (layout ≤ 20)
     layout_fact level layout h = grind (arith, nat_tests)
+
     le_fact : (a b : ℕ) → nat_le a b ≡ true → a ≤ b
     le_fact a b h = grind (arith, nat_tests)
+
     least_fact : (level disks : ℕ) → is_disk_count level disks ≡ true → 2 ≤ disks
     least_fact level disks h = grind (arith, nat_tests)
+
     least_6_fact : (level disks : ℕ) → is_disk_count level disks ≡ true → level ≡ 6 → 4 ≤ disks
     least_6_fact level disks h six = grind (arith, nat_tests)
+
     most_fact : (level disks : ℕ) → is_disk_count level disks ≡ true → disks ≤ 16
     most_fact level disks h = grind (arith, nat_tests)

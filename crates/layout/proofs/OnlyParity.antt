@@ -1,17 +1,16 @@
 -- Roles that never have data.
-use Rattle.std.proofs.Common.{◌≡◌, ◌≢◌, ℕ, zero, suc, ◌+◌, ◌-◌, ◌*◌, ◌/◌, ◌%◌, ◌<◌, ◌≤◌, ◌⊎◌, inl, inr, Bool, true, false, ◌&&◌, ◌||◌, ◌==◌, not, if◌then◌else◌, nat_lt, ◌↔◌, Option, Some, None, refl, sym, ◌∙◌, ap, subst, arith, eq-eqb}
+use Rattle.std.proofs.Common.{◌≡◌, ◌≢◌, ℕ, zero, suc, ◌+◌, ◌-◌, ◌%◌, ◌<◌, ◌≤◌, ◌⊎◌, inl, inr, Bool, true, false, ◌||◌, ◌==◌, not, if◌then◌else◌, ◌↔◌, Some, None, refl, sym, ◌∙◌, ap, subst, arith, eq-eqb}
 use Rattle.std.specs.Bool.{IsTrue}
 use Rattle.std.proofs.lemmas.Bool.{cases_eq, cases_lt}
 use Rattle.std.proofs.lemmas.Bool.Decides.{nat_tests}
-use Rattle.std.proofs.Math.Nat.{zero-mod, mod-eq_of_lt}
+use Rattle.std.proofs.Math.Nat.{mod-eq_of_lt}
 use Rattle.md_base.specs.declared.places.Shape.{Shape}
 use Rattle.md_base.specs.Shapes.{is_valid_shape, data_disks}
 use Rattle.md_base.specs.Search.{any_below}
 use Rattle.layout.specs.Fixed.{HasFixedParity}
-use Rattle.layout.specs.Layout.{is_left, is_right, p_role, stripe_p, stripe_q, stripe_data, stripe_of, data_index, place, IsParity, has_data, is_parity_only}
-use Rattle.layout.proofs.Limits.{IsLimited, limited}
+use Rattle.layout.specs.Layout.{is_left, is_right, p_role, stripe_p, stripe_data, stripe_of, data_index, place, IsParity, has_data, is_parity_only}
 use Rattle.layout.proofs.Dealt.{round, mod-round}
-use Rattle.layout.proofs.Stripes.{IsRing, ring, IsRingOf, ring_of-data, ring_of-parities, ring_of-p, ring_of-last_q, ring_of-next_q, ring_disks, ring_layout, ring_parities, stripe_p-ring, QCases, no_q, last_q, next_q, q_cases, stripe_roles, stripe_data-not_parity, stripe_p-below_ring, data_on, some_parity}
+use Rattle.layout.proofs.Stripes.{IsRing, ring, IsRingOf, ring_of-parities, ring_of-next_q, ring_disks, ring_layout, ring_parities, stripe_p-ring, no_q, last_q, next_q, q_cases, stripe_roles, stripe_data-not_parity, stripe_p-below_ring, data_on}
 use Rattle.layout.proofs.Places.{data_index-below, place-sector, sector_at, chunk_some}
 
 -- the ring's numbers
@@ -51,19 +50,19 @@ later l n d k r sizes free now then' = grind (arith, nat_tests)
 
 at_parity-or_not : (l n d k r t : ℕ) → AtParity l n d k r t ⊎ ¬ AtParity l n d k r t
 at_parity-or_not l n d k r t = elim (cases_eq r (p_turn l n d t)) [
-    inl p ↦ inl (inl p)
-    | inr not_p ↦ elim (cases_eq k 2) [
-        inl two ↦ elim (cases_eq r (round n (p_turn l n d t + 1))) [ inl q ↦ inl (inr (two, q)) | inr not_q ↦ inr (λ h. elim h [ inl p ↦ not_p p | inr q ↦ not_q q.1 ]) ]
-        | inr not_two ↦ inr (λ h. elim h [ inl p ↦ not_p p | inr q ↦ not_two q.0 ])
-      ]
+  | inl p ↦ inl (inl p)
+  | inr not_p ↦ elim (cases_eq k 2) [
+    | inl two ↦ elim (cases_eq r (round n (p_turn l n d t + 1))) [ inl q ↦ inl (inr (two, q)) | inr not_q ↦ inr (λ h. elim h [ inl p ↦ not_p p | inr q ↦ not_q q.1 ]) ]
+    | inr not_two ↦ inr (λ h. elim h [ inl p ↦ not_p p | inr q ↦ not_two q.0 ])
   ]
+]
 
 -- some stripe has neither P nor Q at r
 free_turn : (l n d k r : ℕ) → IsSized l n d k → ¬ HasFixedParity l n k r → (t : ℕ) × (t < n) × (¬ AtParity l n d k r t)
 free_turn l n d k r sizes free = elim (at_parity-or_not l n d k r 0) [
-    inl now ↦ (k, omega (arith, sizes.sum, sizes.has_data), later l n d k r sizes free now)
-    | inr not_now ↦ (0, omega (arith, sizes.sum, sizes.has_data), not_now)
-  ]
+  | inl now ↦ (k, omega (arith, sizes.sum, sizes.has_data), later l n d k r sizes free now)
+  | inr not_now ↦ (0, omega (arith, sizes.sum, sizes.has_data), not_now)
+]
 
 some_same : (a b : ℕ) → Some a ≡ Some b → a ≡ b
 some_same a b e = cc
@@ -84,35 +83,35 @@ module _ (shape : Shape) (valid : is_valid_shape shape ≡ true) where
 
   at_parity : (s r t : ℕ) → s % ring_disks shape ≡ t → AtParity (ring_layout shape) (ring_disks shape) (data_disks shape) (ring_parities shape) r t → IsParity (stripe_roles shape s) r
   at_parity s r t turn h = elim h [
-      inl p ↦ inl (p ∙ sym (p_there s t turn))
-      | inr q ↦ inr (ring_of-next_q shape valid (ring_layout shape) (ring_disks shape) (ring_parities shape) (stripe_p shape s)
-          (record { layout = refl; disks = refl; sum = (ring shape valid).sum }) s q.0 refl
-          ∙ ap (λ q. Some q) (q_there s t turn ∙ sym q.1))
-    ]
+    | inl p ↦ inl (p ∙ sym (p_there s t turn))
+    | inr q ↦ inr (ring_of-next_q shape valid (ring_layout shape) (ring_disks shape) (ring_parities shape) (stripe_p shape s)
+        (record { layout = refl; disks = refl; sum = (ring shape valid).sum }) s q.0 refl
+        ∙ ap (λ q. Some q) (q_there s t turn ∙ sym q.1))
+  ]
 
   not_at_parity : (s r t : ℕ) → s % ring_disks shape ≡ t → r < ring_disks shape
       → ¬ AtParity (ring_layout shape) (ring_disks shape) (data_disks shape) (ring_parities shape) r t → ¬ IsParity (stripe_roles shape s) r
   not_at_parity s r t turn below free h = elim h [
-      inl p ↦ free (inl (p ∙ p_there s t turn))
-      | inr q ↦ elim (q_cases shape valid s) [
-          no_q five one is ↦ none_some r (sym is ∙ q)
-          | last_q six one is ↦ let e : ring_disks shape ≡ r = some_same _ _ (sym is ∙ q) in omega (arith, e, below)
-          | next_q six two is ↦ free (inr (two, some_same _ _ (sym q ∙ is) ∙ q_there s t turn))
-        ]
+    | inl p ↦ free (inl (p ∙ p_there s t turn))
+    | inr q ↦ elim (q_cases shape valid s) [
+      | no_q five one is ↦ none_some r (sym is ∙ q)
+      | last_q six one is ↦ let e : ring_disks shape ≡ r = some_same _ _ (sym is ∙ q) in omega (arith, e, below)
+      | next_q six two is ↦ free (inr (two, some_same _ _ (sym q ∙ is) ∙ q_there s t turn))
     ]
+  ]
 
   fixed_is_parity : (r : ℕ) → r < shape.disks → HasFixedParity (ring_layout shape) (ring_disks shape) (ring_parities shape) r → (s : ℕ) → IsParity (stripe_roles shape s) r
   fixed_is_parity r below fixed s = elim (cases_lt r (ring_disks shape)) [
-      inl less ↦ at_parity s r (s % ring_disks shape) refl
-          (fixed_in (ring_layout shape) (ring_disks shape) (data_disks shape) (ring_parities shape) r (s % ring_disks shape) (sized shape valid) less fixed)
-      | inr more ↦ elim (q_cases shape valid s) [
-          no_q five one is ↦ let e : ring_disks shape ≡ shape.disks = (ring shape valid).five five in absurd (omega (arith, e, more, below))
-          | last_q six one is ↦
-              let e : ring_disks shape + 1 ≡ shape.disks = ((ring shape valid).one one six).0 in
-              inr (is ∙ ap (λ q. Some q) (omega (arith, e, more, below)))
-          | next_q six two is ↦ let e : ring_disks shape ≡ shape.disks = ((ring shape valid).two two).1 in absurd (omega (arith, e, more, below))
-        ]
+    | inl less ↦ at_parity s r (s % ring_disks shape) refl
+        (fixed_in (ring_layout shape) (ring_disks shape) (data_disks shape) (ring_parities shape) r (s % ring_disks shape) (sized shape valid) less fixed)
+    | inr more ↦ elim (q_cases shape valid s) [
+      | no_q five one is ↦ let e : ring_disks shape ≡ shape.disks = (ring shape valid).five five in absurd (omega (arith, e, more, below))
+      | last_q six one is ↦
+          let e : ring_disks shape + 1 ≡ shape.disks = ((ring shape valid).one one six).0 in
+          inr (is ∙ ap (λ q. Some q) (omega (arith, e, more, below)))
+      | next_q six two is ↦ let e : ring_disks shape ≡ shape.disks = ((ring shape valid).two two).1 in absurd (omega (arith, e, more, below))
     ]
+  ]
 
   -- a role that keeps no parity has data within as many stripes as there are disks
   unfixed_has_data : (r : ℕ) → r < shape.disks → ¬ HasFixedParity (ring_layout shape) (ring_disks shape) (ring_parities shape) r
@@ -120,9 +119,11 @@ module _ (shape : Shape) (valid : is_valid_shape shape ≡ true) where
   unfixed_has_data r below free =
       let in_ring : r < ring_disks shape = omega (arith, not_behind) in
       let turn : (t : ℕ) × (t < ring_disks shape) × (¬ AtParity (ring_layout shape) (ring_disks shape) (data_disks shape) (ring_parities shape) r t) =
-          free_turn (ring_layout shape) (ring_disks shape) (data_disks shape) (ring_parities shape) r (sized shape valid) free in
-      (turn.0, omega (arith, turn.1, (ring shape valid).few),
-       data_on shape valid turn.0 r below (not_at_parity turn.0 r turn.0 (mod-eq_of_lt turn.1) in_ring turn.2))
+      free_turn (ring_layout shape) (ring_disks shape) (data_disks shape) (ring_parities shape) r (sized shape valid) free in (
+        turn.0,
+        omega (arith, turn.1, (ring shape valid).few),
+        data_on shape valid turn.0 r below (not_at_parity turn.0 r turn.0 (mod-eq_of_lt turn.1) in_ring turn.2),
+      )
     where
       not_behind : ring_disks shape ≤ r → ⊥
       not_behind h = free (inr (inr h))
@@ -131,12 +132,13 @@ any_below-some : (n : ℕ) (test : ℕ → Bool) (k : ℕ) → k < n → test k 
 unfolding any_below
 any_below-some zero test k h passes = absurd (omega (arith, h))
 any_below-some (suc n) test k h passes = elim (cases_lt k n) [
-    inl less ↦ left (any_below n test) (test n) (any_below-some n test k less passes)
-    | inr more ↦ let e : k ≡ n = omega (arith, h, more) in right (any_below n test) (test n) (subst (λ k. test k ≡ true) e passes)
-  ]
+  | inl less ↦ left (any_below n test) (test n) (any_below-some n test k less passes)
+  | inr more ↦ let e : k ≡ n = omega (arith, h, more) in right (any_below n test) (test n) (subst (λ k. test k ≡ true) e passes)
+]
   where
     left : (a b : Bool) → a ≡ true → (a || b) ≡ true
     left a b e = rw e refl
+
     right : (a b : Bool) → b ≡ true → (a || b) ≡ true
     right true b e = refl
     right false b e = e
@@ -182,7 +184,7 @@ parity_only-is shape valid l n k r ring below true fixed =
     sym (ap (λ b. not b) (has_data-none shape valid r (fixed_is_parity shape valid r below (moved shape l n k r ring (fixed.0 refl)))))
 parity_only-is shape valid l n k r ring below false fixed =
     let found : (s : ℕ) × (s < shape.disks) × ((i : ℕ) × (i < data_disks shape) × (stripe_data shape s i ≡ r)) =
-        unfixed_has_data shape valid r below (λ h. absurd_false (fixed.1 (moved_back shape l n k r ring h))) in
+    unfixed_has_data shape valid r below (λ h. absurd_false (fixed.1 (moved_back shape l n k r ring h))) in
     sym (ap (λ b. not b) (has_data-some shape r found.0 found.2.0 found.1 found.2.1 found.2.2))
   where
     absurd_false : IsTrue false → ⊥
@@ -190,15 +192,15 @@ parity_only-is shape valid l n k r ring below false fixed =
 
 fixed_or_not : (l n k r : ℕ) → HasFixedParity l n k r ⊎ ¬ HasFixedParity l n k r
 fixed_or_not l n k r = elim (cases_lt r n) [
-    inr behind ↦ inl (inr (inr behind))
-    | inl less ↦ elim (cases_eq l 4) [
-        inl first ↦ elim (cases_lt r k) [ inl h ↦ inl (inl (first, h)) | inr h ↦ inr (λ fixed. grind arith) ]
-        | inr not_first ↦ elim (cases_eq l 5) [
-            inl last ↦ elim (cases_lt r (n - k)) [ inl h ↦ inr (λ fixed. grind arith) | inr h ↦ inl (inr (inl (last, h))) ]
-            | inr not_last ↦ inr (λ fixed. grind arith)
-          ]
-      ]
+  | inr behind ↦ inl (inr (inr behind))
+  | inl less ↦ elim (cases_eq l 4) [
+    | inl first ↦ elim (cases_lt r k) [ inl h ↦ inl (inl (first, h)) | inr h ↦ inr (λ fixed. grind arith) ]
+    | inr not_first ↦ elim (cases_eq l 5) [
+      | inl last ↦ elim (cases_lt r (n - k)) [ inl h ↦ inr (λ fixed. grind arith) | inr h ↦ inl (inr (inl (last, h))) ]
+      | inr not_last ↦ inr (λ fixed. grind arith)
+    ]
   ]
+]
 
 -- a role keeps parity exactly where no sector is placed on it
 pub parity_only-all : (shape : Shape) → is_valid_shape shape ≡ true → (r : ℕ) → r < shape.disks
@@ -206,13 +208,18 @@ pub parity_only-all : (shape : Shape) → is_valid_shape shape ≡ true → (r :
 parity_only-all shape valid r below = elim (fixed_or_not (ring_layout shape) (ring_disks shape) (ring_parities shape) r) [ inl fixed ↦ kept fixed | inr free ↦ moving free ]
   where
     kept : HasFixedParity (ring_layout shape) (ring_disks shape) (ring_parities shape) r → (is_parity_only shape r ≡ true) ↔ ((x : ℕ) → (place shape x).role ≢ r)
-    kept fixed = (λ only x same. stripe_data-not_parity shape valid (stripe_of shape x) (data_index shape x) (data_index-below shape valid x)
-        (subst (λ r. IsParity (stripe_roles shape (stripe_of shape x)) r) (sym same) (fixed_is_parity shape valid r below fixed (stripe_of shape x))),
-        λ none. ap (λ b. not b) (has_data-none shape valid r (fixed_is_parity shape valid r below fixed)))
+    kept fixed = (
+      λ only x same. stripe_data-not_parity shape valid (stripe_of shape x) (data_index shape x) (data_index-below shape valid x)
+          (subst (λ r. IsParity (stripe_roles shape (stripe_of shape x)) r) (sym same) (fixed_is_parity shape valid r below fixed (stripe_of shape x))),
+      λ none. ap (λ b. not b) (has_data-none shape valid r (fixed_is_parity shape valid r below fixed)),
+    )
+
     not_both : (b : Bool) → b ≡ true → not b ≡ true → ⊥
     not_both b e f = cc
+
     moving : ¬ HasFixedParity (ring_layout shape) (ring_disks shape) (ring_parities shape) r → (is_parity_only shape r ≡ true) ↔ ((x : ℕ) → (place shape x).role ≢ r)
     moving free =
-        let found : (s : ℕ) × (s < shape.disks) × ((i : ℕ) × (i < data_disks shape) × (stripe_data shape s i ≡ r)) = unfixed_has_data shape valid r below free in
-        (λ only. absurd (not_both (has_data shape r) (has_data-some shape r found.0 found.2.0 found.1 found.2.1 found.2.2) only),
-         λ none. absurd (none (sector_at shape found.0 found.2.0 0) (ap (λ p. p.role) (place-sector shape found.0 found.2.0 0 found.2.1 (chunk_some shape valid)) ∙ found.2.2)))
+        let found : (s : ℕ) × (s < shape.disks) × ((i : ℕ) × (i < data_disks shape) × (stripe_data shape s i ≡ r)) = unfixed_has_data shape valid r below free in (
+          λ only. absurd (not_both (has_data shape r) (has_data-some shape r found.0 found.2.0 found.1 found.2.1 found.2.2) only),
+          λ none. absurd (none (sector_at shape found.0 found.2.0 0) (ap (λ p. p.role) (place-sector shape found.0 found.2.0 0 found.2.1 (chunk_some shape valid)) ∙ found.2.2)),
+        )

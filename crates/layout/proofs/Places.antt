@@ -1,5 +1,6 @@
 -- Sectors and their places: one place for each sector, and a sector for each place without parity.
-use Rattle.std.proofs.Common.{◌≡◌, ◌≢◌, ℕ, ◌+◌, ◌-◌, ◌*◌, ◌^◌, ◌/◌, ◌%◌, ◌<◌, ◌≤◌, ◌⊎◌, inl, inr, Bool, true, false, ◌==◌, Option, Some, None, refl, sym, ◌∙◌, ap, ap₂, subst, arith}
+use Rattle.std.proofs.Common.{◌≡◌, ◌≢◌, ℕ, ◌+◌, ◌*◌, ◌^◌, ◌/◌, ◌%◌, ◌<◌, ◌≤◌, ◌⊎◌, inl, inr, true, Option, Some, None, refl, sym, ◌∙◌, ap, subst, arith}
+use Rattle.std.proofs.lemmas.Bool.{cases_eq}
 use Rattle.std.proofs.lemmas.Bool.Decides.{nat_tests}
 use Rattle.std.proofs.Math.Nat.{div-mul-le_self, mod-le}
 use Rattle.std.proofs.lemmas.Nat.{mul-le, mod_below, div-mul-add, mod-mul-add, div-add-mod', same_from_place, mul-add-lt, div_below}
@@ -9,7 +10,7 @@ use Rattle.md_base.specs.declared.places.RowRoles.{RowRoles}
 use Rattle.md_base.specs.Shapes.{is_valid_shape, is_multiple, data_disks}
 use Rattle.layout.specs.Layout.{stripe_p, stripe_q, stripe_data, row_roles, stripe_of, data_index, place, IsParity, StandsAt}
 use Rattle.layout.proofs.Limits.{IsLimited, limited}
-use Rattle.layout.proofs.Stripes.{IsRing, ring, stripe_roles, stripe_data-below, stripe_data-only, stripe_data-not_parity, data_on}
+use Rattle.layout.proofs.Stripes.{ring, stripe_roles, stripe_data-below, stripe_data-only, stripe_data-not_parity, data_on, stripe_p-below, stripe_q-apart, stripe_q-some, stripe_q-none}
 
 pub chunk_some : (shape : Shape) → is_valid_shape shape ≡ true → 0 < shape.chunk
 chunk_some shape valid = let limits : IsLimited shape = limited shape valid in omega (arith, limits.chunk.0)
@@ -67,16 +68,16 @@ row_below x c d m hc hd h =
     turned : d * (m * c) ≡ m * d * c
     turned = omega arith
 
+whole_size : (n c : ℕ) → is_multiple n c ≡ true → n / c * c ≡ n
+whole_size n c h = grind (arith, nat_tests)
+
 pub place-row_below : (shape : Shape) → is_valid_shape shape ≡ true → (x size : ℕ) → is_multiple size shape.chunk ≡ true → x < data_disks shape * size
     → (place shape x).row < size
 place-row_below shape valid x size whole h =
     let e : size / shape.chunk * shape.chunk ≡ size = whole_size size shape.chunk whole in
     subst (λ n. (place shape x).row < n) e
     (row_below x shape.chunk (data_disks shape) (size / shape.chunk) (chunk_some shape valid) (data_some shape valid)
-     (subst (λ n. x < data_disks shape * n) (sym e) h))
-  where
-    whole_size : (n c : ℕ) → is_multiple n c ≡ true → n / c * c ≡ n
-    whole_size n c h = grind (arith, nat_tests)
+    (subst (λ n. x < data_disks shape * n) (sym e) h))
 
 place_role : (p q : Place) → p ≡ q → p.role ≡ q.role
 place_role p q e = ap (λ p. p.role) e
@@ -88,11 +89,11 @@ place_row p q e = ap (λ p. p.row) e
 pub place-only : (shape : Shape) → is_valid_shape shape ≡ true → (x y : ℕ) → place shape x ≡ place shape y → x ≡ y
 place-only shape valid x y same =
     let rows : (stripe_of shape x ≡ stripe_of shape y) × (x % shape.chunk ≡ y % shape.chunk) =
-        same_from_place (stripe_of shape x) (x % shape.chunk) (stripe_of shape y) (y % shape.chunk) shape.chunk
-        (mod_below x shape.chunk (chunk_some shape valid)) (mod_below y shape.chunk (chunk_some shape valid)) (place_row _ _ same) in
+    same_from_place (stripe_of shape x) (x % shape.chunk) (stripe_of shape y) (y % shape.chunk) shape.chunk
+    (mod_below x shape.chunk (chunk_some shape valid)) (mod_below y shape.chunk (chunk_some shape valid)) (place_row _ _ same) in
     let index : data_index shape x ≡ data_index shape y =
-        stripe_data-only shape valid (stripe_of shape x) (data_index shape x) (data_index shape y) (data_index-below shape valid x) (data_index-below shape valid y)
-        (place_role _ _ same ∙ ap (λ s. stripe_data shape s (data_index shape y)) (sym rows.0)) in
+    stripe_data-only shape valid (stripe_of shape x) (data_index shape x) (data_index shape y) (data_index-below shape valid x) (data_index-below shape valid y)
+    (place_role _ _ same ∙ ap (λ s. stripe_data shape s (data_index shape y)) (sym rows.0)) in
     sym (sector_at-parts shape x) ∙ from_parts (stripe_of shape x) (stripe_of shape y) (data_index shape x) (data_index shape y) (x % shape.chunk) (y % shape.chunk) rows.0 index rows.1
     ∙ sector_at-parts shape y
   where
@@ -103,10 +104,11 @@ place-only shape valid x y same =
 pub place-from : (shape : Shape) → is_valid_shape shape ≡ true → (r row : ℕ) → r < shape.disks → ¬ IsParity (row_roles shape row) r
     → (x : ℕ) × (place shape x ≡ record { role = r; row = row })
 place-from shape valid r row h no_parity =
-    let found : (i : ℕ) × (i < data_disks shape) × (stripe_data shape (row / shape.chunk) i ≡ r) = data_on shape valid (row / shape.chunk) r h no_parity in
-    (sector_at shape (row / shape.chunk) found.0 (row % shape.chunk),
-     place-sector shape (row / shape.chunk) found.0 (row % shape.chunk) found.1 (mod_below row shape.chunk (chunk_some shape valid))
-     ∙ as_place _ r _ row found.2 (div-add-mod' row shape.chunk))
+    let found : (i : ℕ) × (i < data_disks shape) × (stripe_data shape (row / shape.chunk) i ≡ r) = data_on shape valid (row / shape.chunk) r h no_parity in (
+      sector_at shape (row / shape.chunk) found.0 (row % shape.chunk),
+      place-sector shape (row / shape.chunk) found.0 (row % shape.chunk) found.1 (mod_below row shape.chunk (chunk_some shape valid))
+          ∙ as_place _ r _ row found.2 (div-add-mod' row shape.chunk),
+    )
   where
     as_place : (a b m n : ℕ) → a ≡ b → m ≡ n → (let p : Place = record { role = a; row = m } in p) ≡ record { role = b; row = n }
     as_place a b m n e f = cc
@@ -114,8 +116,10 @@ place-from shape valid r row h no_parity =
 -- no sector stands on parity
 pub place-apart : (shape : Shape) → is_valid_shape shape ≡ true → (r row : ℕ) → IsParity (row_roles shape row) r → (x : ℕ) → place shape x ≢ record { role = r; row = row }
 place-apart shape valid r row parity x same = place-not_parity shape valid x
-    (elim parity [ inl p ↦ inl (place_role _ _ same ∙ p ∙ ap (λ n. stripe_p shape (n / shape.chunk)) (sym (place_row _ _ same)))
-    | inr q ↦ inr (ap (λ n. stripe_q shape (n / shape.chunk)) (place_row _ _ same) ∙ q ∙ ap (λ r. Some r) (sym (place_role _ _ same))) ])
+    (elim parity [
+      | inl p ↦ inl (place_role _ _ same ∙ p ∙ ap (λ n. stripe_p shape (n / shape.chunk)) (sym (place_row _ _ same)))
+      | inr q ↦ inr (ap (λ n. stripe_q shape (n / shape.chunk)) (place_row _ _ same) ∙ q ∙ ap (λ r. Some r) (sym (place_role _ _ same)))
+    ])
 
 -- one thing stands at a place
 pub StandsAt-only : (shape : Shape) → is_valid_shape shape ≡ true → (r row : ℕ) (found other : Option ℕ) → StandsAt shape r row found → StandsAt shape r row other → found ≡ other
@@ -133,3 +137,63 @@ sector-fits row c d i hr hc hd hi =
     let rest : row % c ≤ row = mod-le row c in
     let same : (row / c * d + i) * c ≡ row / c * c * d + i * c = omega arith in
     omega (arith, whole, rows, chunks, rest, same)
+
+-- two sectors on one role in one row are one
+pub place-only_in_row : (shape : Shape) → is_valid_shape shape ≡ true → (x y : ℕ) → (place shape x).role ≡ (place shape y).role → (place shape x).row ≡ (place shape y).row → x ≡ y
+place-only_in_row shape valid x y roles rows = place-only shape valid x y (same _ _ _ _ roles rows)
+  where
+    same : (a b m n : ℕ) → a ≡ b → m ≡ n → (let p : Place = record { role = a; row = m } in p) ≡ record { role = b; row = n }
+    same a b m n e f = cc
+
+-- different sectors have different places
+pub place-different : (shape : Shape) → is_valid_shape shape ≡ true → (x y : ℕ) → x ≢ y → place shape x ≢ place shape y
+place-different shape valid x y different same = different (place-only shape valid x y same)
+
+-- the sectors in rows below the size are the first ones
+first_sector : (s i o c d m : ℕ) → i < d → o < c → s * c + o < m * c → (s * d + i) * c + o < d * (m * c)
+first_sector s i o c d m hi ho h =
+    let stripes : (s * c + o) / c < m = div_below (s * c + o) c m (omega arith) h in
+    let stripe : s < m = subst (λ a. a < m) (div-mul-add s c o ho) stripes in
+    let chunks : s * d + i < d * m = mul-add-lt s d i m stripe hi in
+    let sectors : (s * d + i) * c + o < c * (d * m) = mul-add-lt (s * d + i) c o (d * m) chunks ho in
+    omega (arith, sectors)
+
+pub place-sector_below : (shape : Shape) → is_valid_shape shape ≡ true → (x size : ℕ) → is_multiple size shape.chunk ≡ true → (place shape x).row < size
+    → x < data_disks shape * size
+place-sector_below shape valid x size whole h =
+    let e : size / shape.chunk * shape.chunk ≡ size = whole_size size shape.chunk whole in
+    subst (λ n. x < data_disks shape * n) e
+    (subst (λ y. y < data_disks shape * (size / shape.chunk * shape.chunk)) (sector_at-parts shape x)
+    (first_sector (stripe_of shape x) (data_index shape x) (x % shape.chunk) shape.chunk (data_disks shape) (size / shape.chunk)
+    (data_index-below shape valid x) (mod_below x shape.chunk (chunk_some shape valid)) (subst (λ n. (place shape x).row < n) (sym e) h)))
+
+-- each role of a row has parity or a sector
+pub parity-or_sector : (shape : Shape) → is_valid_shape shape ≡ true → (r row : ℕ) → r < shape.disks
+    → IsParity (row_roles shape row) r ⊎ ((x : ℕ) × (place shape x ≡ record { role = r; row = row }))
+parity-or_sector shape valid r row h = elim (parity-or_not (row_roles shape row) r) [ inl there ↦ inl there | inr absent ↦ inr (place-from shape valid r row h absent) ]
+  where
+    q_or_not : (q : Option ℕ) (r : ℕ) → (q ≡ Some r) ⊎ (q ≡ Some r → ⊥)
+    q_or_not None r = inr (λ h. absurd (cc))
+    q_or_not (Some q) r = elim (cases_eq q r) [ inl e ↦ inl (ap (λ q. Some q) e) | inr ne ↦ inr (λ h. ne (inner q r h)) ]
+      where
+        inner : (a b : ℕ) → Some a ≡ Some b → a ≡ b
+        inner a b h = cc
+
+    parity-or_not : (roles : RowRoles) (r : ℕ) → IsParity roles r ⊎ ¬ IsParity roles r
+    parity-or_not roles r = elim (cases_eq r roles.p) [
+      | inl p ↦ inl (inl p)
+      | inr not_p ↦ elim (q_or_not roles.q r) [ inl q ↦ inl (inr q) | inr not_q ↦ inr (λ h. elim h [ inl p ↦ not_p p | inr q ↦ not_q q ]) ]
+    ]
+
+-- the parity roles of each row
+pub row_roles-p_below : (shape : Shape) → is_valid_shape shape ≡ true → (row : ℕ) → (row_roles shape row).p < shape.disks
+row_roles-p_below shape valid row = stripe_p-below shape valid (row / shape.chunk)
+
+pub row_roles-q_apart : (shape : Shape) → is_valid_shape shape ≡ true → (row q : ℕ) → (row_roles shape row).q ≡ Some q → (q < shape.disks) × (q ≢ (row_roles shape row).p)
+row_roles-q_apart shape valid row q e = stripe_q-apart shape valid (row / shape.chunk) q e
+
+pub row_roles-q_some : (shape : Shape) → is_valid_shape shape ≡ true → (row : ℕ) → shape.level ≡ 6 → (q : ℕ) × ((row_roles shape row).q ≡ Some q)
+row_roles-q_some shape valid row six = stripe_q-some shape valid (row / shape.chunk) six
+
+pub row_roles-q_none : (shape : Shape) (row : ℕ) → shape.level ≡ 5 → (row_roles shape row).q ≡ None
+row_roles-q_none shape row five = stripe_q-none shape (row / shape.chunk) five

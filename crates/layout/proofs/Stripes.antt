@@ -1,5 +1,5 @@
 -- One stripe of a valid shape: its parity roles, and one data for each other role.
-use Rattle.std.proofs.Common.{◌≡◌, ◌≢◌, ℕ, ◌+◌, ◌-◌, ◌%◌, ◌<◌, ◌≤◌, ◌⊎◌, inl, inr, Bool, true, false, nat_lt, nat_le, ◌==◌, ◌&&◌, if◌then◌else◌, Option, Some, None, refl, sym, ◌∙◌, ap, subst, arith}
+use Rattle.std.proofs.Common.{◌≡◌, ◌≢◌, ℕ, ◌+◌, ◌-◌, ◌%◌, ◌<◌, ◌≤◌, ◌⊎◌, inl, inr, Bool, true, false, ◌==◌, if◌then◌else◌, Option, Some, None, refl, sym, ◌∙◌, ap, arith}
 use Rattle.std.proofs.lemmas.Bool.Decides.{nat_tests}
 use Rattle.std.proofs.lemmas.Nat.{mod_below}
 use Rattle.md_base.specs.declared.places.Shape.{Shape}
@@ -57,6 +57,7 @@ stripe_data-ring shape valid s i = by_case (is_six_over_five shape) shape.layout
   where
     one_parity : (shape : Shape) → IsLimited shape → is_six_over_five shape ≡ true → shape.disks - 1 - data_disks shape ≡ 1
     one_parity shape limits six = grind (arith, nat_tests)
+
     by_case : (b : Bool) (l n d p i : ℕ) → (b ≡ true → n - 1 - d ≡ 1)
         → (if b then data_role (l - 16) (n - 1) 1 p i else data_role l n (n - d) p i) ≡ data_role (if b then l - 16 else l) (if b then n - 1 else n) ((if b then n - 1 else n) - d) p i
     by_case true l n d p i one = ap (λ k. data_role (l - 16) (n - 1) k p i) (sym (one refl))
@@ -113,7 +114,7 @@ pub data QCases (shape : Shape) (s : ℕ) : Type 0 where
 pub q_cases : (shape : Shape) → is_valid_shape shape ≡ true → (s : ℕ) → QCases shape s
 q_cases shape valid s = let r : IsRing shape = ring shape valid in
     elim r.parities [
-      inl one ↦ elim (limited shape valid).level [ inl five ↦ no_q five one (q_five shape (stripe_p shape s) five) | inr six ↦ last_q six one (q_one shape (stripe_p shape s) r one six) ]
+      | inl one ↦ elim (limited shape valid).level [ inl five ↦ no_q five one (q_five shape (stripe_p shape s) five) | inr six ↦ last_q six one (q_one shape (stripe_p shape s) r one six) ]
       | inr two ↦ next_q (r.two two).0 two (q_two shape (stripe_p shape s) r two)
     ]
 
@@ -151,15 +152,15 @@ stripe_data-not_p shape valid s i h same =
 
 pub stripe_data-not_q : (shape : Shape) → is_valid_shape shape ≡ true → (s i : ℕ) → i < data_disks shape → stripe_q shape s ≢ Some (stripe_data shape s i)
 stripe_data-not_q shape valid s i h same = elim (q_cases shape valid s) [
-    no_q five one is ↦ none_some _ (sym is ∙ same)
-    | last_q six one is ↦
-        let below : stripe_data shape s i < ring_disks shape = stripe_data-below_ring shape valid s i h in
-        let e : ring_disks shape ≡ stripe_data shape s i = some_same _ _ (sym is ∙ same) in
-        omega (arith, below, e)
-    | next_q six two is ↦ on_two (ring_layout shape) (ring_disks shape) (ring_parities shape) (stripe_p shape s) i (stripe_data shape s i)
-        two (stripe_p-below_ring shape valid s) (data_index-fits shape valid i h) (stripe_data-ring shape valid s i)
-        (some_same _ _ (sym is ∙ same))
-  ]
+  | no_q five one is ↦ none_some _ (sym is ∙ same)
+  | last_q six one is ↦
+      let below : stripe_data shape s i < ring_disks shape = stripe_data-below_ring shape valid s i h in
+      let e : ring_disks shape ≡ stripe_data shape s i = some_same _ _ (sym is ∙ same) in
+      omega (arith, below, e)
+  | next_q six two is ↦ on_two (ring_layout shape) (ring_disks shape) (ring_parities shape) (stripe_p shape s) i (stripe_data shape s i)
+      two (stripe_p-below_ring shape valid s) (data_index-fits shape valid i h) (stripe_data-ring shape valid s i)
+      (some_same _ _ (sym is ∙ same))
+]
   where
     on_two : (l n k p i r : ℕ) → k ≡ 2 → p < n → i + k < n → r ≡ data_role l n k p i → (p + 1) % n ≡ r → ⊥
     on_two l n k p i r two below fits e q =
@@ -175,7 +176,7 @@ pub free_role : (shape : Shape) → is_valid_shape shape ≡ true → (s r : ℕ
 free_role shape valid s r h no_parity = let rg : IsRing shape = ring shape valid in record {
   p_below = stripe_p-below_ring shape valid s;
   below = elim (q_cases shape valid s) [
-    no_q five one is ↦ let e : ring_disks shape ≡ shape.disks = rg.five five in omega (arith, e, h)
+    | no_q five one is ↦ let e : ring_disks shape ≡ shape.disks = rg.five five in omega (arith, e, h)
     | last_q six one is ↦
         let e : ring_disks shape + 1 ≡ shape.disks = (rg.one one six).0 in
         let apart : r ≢ ring_disks shape = λ same. no_parity (inr (is ∙ ap (λ q. Some q) (sym same))) in
@@ -195,9 +196,11 @@ data_on shape valid s r h no_parity =
     let rg : IsRing shape = ring shape valid in
     let free : IsFree (ring_disks shape) (ring_parities shape) (stripe_p shape s) r = free_role shape valid s r h no_parity in
     let fits : index (is_symmetric (ring_layout shape)) (ring_disks shape) (ring_parities shape) (stripe_p shape s) r + ring_parities shape < ring_disks shape =
-        index_fits (is_symmetric (ring_layout shape)) (ring_disks shape) (ring_parities shape) (stripe_p shape s) r free in
-    (index (is_symmetric (ring_layout shape)) (ring_disks shape) (ring_parities shape) (stripe_p shape s) r, omega (arith, fits, rg.sum),
-     stripe_data-ring shape valid s _ ∙ data_role-index (ring_layout shape) (ring_disks shape) (ring_parities shape) (stripe_p shape s) r free)
+    index_fits (is_symmetric (ring_layout shape)) (ring_disks shape) (ring_parities shape) (stripe_p shape s) r free in (
+      index (is_symmetric (ring_layout shape)) (ring_disks shape) (ring_parities shape) (stripe_p shape s) r,
+      omega (arith, fits, rg.sum),
+      stripe_data-ring shape valid s _ ∙ data_role-index (ring_layout shape) (ring_disks shape) (ring_parities shape) (stripe_p shape s) r free,
+    )
 
 -- P and Q are roles of the shape, and apart
 pub stripe_p-below : (shape : Shape) → is_valid_shape shape ≡ true → (s : ℕ) → stripe_p shape s < shape.disks
@@ -211,7 +214,7 @@ stripe_q-apart shape valid s q same =
     let r : IsRing shape = ring shape valid in
     let below : stripe_p shape s < ring_disks shape = stripe_p-below_ring shape valid s in
     elim (q_cases shape valid s) [
-      no_q five one is ↦ absurd (none_some _ (sym is ∙ same))
+      | no_q five one is ↦ absurd (none_some _ (sym is ∙ same))
       | last_q six one is ↦
           let e : ring_disks shape + 1 ≡ shape.disks = (r.one one six).0 in
           let f : ring_disks shape ≡ q = some_same _ _ (sym is ∙ same) in
@@ -225,10 +228,10 @@ stripe_q-apart shape valid s q same =
 
 pub stripe_q-some : (shape : Shape) → is_valid_shape shape ≡ true → (s : ℕ) → shape.level ≡ 6 → (q : ℕ) × (stripe_q shape s ≡ Some q)
 stripe_q-some shape valid s six = elim (q_cases shape valid s) [
-    no_q five one is ↦ absurd (omega (arith, six, five))
-    | last_q six' one is ↦ (_, is)
-    | next_q six' two is ↦ (_, is)
-  ]
+  | no_q five one is ↦ absurd (omega (arith, six, five))
+  | last_q six' one is ↦ (_, is)
+  | next_q six' two is ↦ (_, is)
+]
 
 pub stripe_q-none : (shape : Shape) (s : ℕ) → shape.level ≡ 5 → stripe_q shape s ≡ None
 stripe_q-none shape s five = q_five shape (stripe_p shape s) five
@@ -263,10 +266,10 @@ ring_of-data_role shape valid l n k r s i =
 -- Q as the ring tells it
 pub ring_of-last_q : (shape : Shape) → is_valid_shape shape ≡ true → (l n k : ℕ) → IsRingOf shape l n k → (s : ℕ) → n < shape.disks → stripe_q shape s ≡ Some n
 ring_of-last_q shape valid l n k r s less = let rg : IsRing shape = ring shape valid in elim (q_cases shape valid s) [
-    no_q five one is ↦ let e : ring_disks shape ≡ shape.disks = rg.five five in absurd (omega (arith, e, less, r.disks))
-    | last_q six one is ↦ is ∙ ap (λ n. Some n) (sym r.disks)
-    | next_q six two is ↦ let e : ring_disks shape ≡ shape.disks = (rg.two two).1 in absurd (omega (arith, e, less, r.disks))
-  ]
+  | no_q five one is ↦ let e : ring_disks shape ≡ shape.disks = rg.five five in absurd (omega (arith, e, less, r.disks))
+  | last_q six one is ↦ is ∙ ap (λ n. Some n) (sym r.disks)
+  | next_q six two is ↦ let e : ring_disks shape ≡ shape.disks = (rg.two two).1 in absurd (omega (arith, e, less, r.disks))
+]
 
 pub ring_of-next_q : (shape : Shape) → is_valid_shape shape ≡ true → (l n k p : ℕ) → IsRingOf shape l n k → (s : ℕ) → k ≡ 2 → p ≡ stripe_p shape s
     → stripe_q shape s ≡ Some ((p + 1) % n)
@@ -276,7 +279,7 @@ ring_of-next_q shape valid l n k p r s two p_is =
 
 pub ring_of-no_q : (shape : Shape) → is_valid_shape shape ≡ true → (l n k : ℕ) → IsRingOf shape l n k → (s : ℕ) → shape.disks ≤ n → k ≢ 2 → stripe_q shape s ≡ None
 ring_of-no_q shape valid l n k r s most not_two = let rg : IsRing shape = ring shape valid in elim (q_cases shape valid s) [
-    no_q five one is ↦ is
-    | last_q six one is ↦ let e : ring_disks shape + 1 ≡ shape.disks = (rg.one one six).0 in absurd (omega (arith, e, most, r.disks))
-    | next_q six two is ↦ absurd (not_two (ring_of-parities shape l n k r ∙ two))
-  ]
+  | no_q five one is ↦ is
+  | last_q six one is ↦ let e : ring_disks shape + 1 ≡ shape.disks = (rg.one one six).0 in absurd (omega (arith, e, most, r.disks))
+  | next_q six two is ↦ absurd (not_two (ring_of-parities shape l n k r ∙ two))
+]

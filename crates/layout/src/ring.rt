@@ -30,9 +30,21 @@ impl Ring {
         ensures data_disks { result.disks ≡ data_disks shape.now + result.parities }
     {
         match shape.level {
-            6 if shape.layout >= 16 => Ring { layout: shape.layout - 16, disks: shape.disks - 1, parities: 1 },
-            6 => Ring { layout: shape.layout, disks: shape.disks, parities: 2 },
-            _ => Ring { layout: shape.layout, disks: shape.disks, parities: 1 },
+            6 if shape.layout >= 16 => Ring {
+                layout: shape.layout - 16,
+                disks: shape.disks - 1,
+                parities: 1,
+            },
+            6 => Ring {
+                layout: shape.layout,
+                disks: shape.disks,
+                parities: 2,
+            },
+            _ => Ring {
+                layout: shape.layout,
+                disks: shape.disks,
+                parities: 1,
+            },
         }
     }
 
@@ -94,7 +106,11 @@ impl Ring {
         if self.disks < behind {
             role - (behind - self.disks)
         } else if role < p {
-            if self.is_symmetric() { role + (self.disks - behind) } else { role }
+            if self.is_symmetric() {
+                role + (self.disks - behind)
+            } else {
+                role
+            }
         } else if self.is_symmetric() {
             role - behind
         } else {

@@ -1,14 +1,14 @@
-use Rattle.std.proofs.Common.{rules, ◌≡◌, ◌≢◌, ℕ, ◌+◌, ◌-◌, ◌*◌, ◌/◌, ◌%◌, ◌^◌, ◌<◌, ◌≤◌, ◌⊎◌, inl, inr, Option, Some, None, nat_eq, true, refl, sym, subst, ap, ◌∙◌, arith}
+use Rattle.std.proofs.Common.{◌≡◌, ℕ, ◌+◌, ◌-◌, ◌*◌, ◌/◌, ◌%◌, ◌^◌, ◌<◌, ◌≤◌, inl, inr, Option, Some, None, nat_eq, true, sym, subst, ap, ◌∙◌, arith}
 use Rattle.std.specs.Option.{option_eq}
 use Rattle.std.proofs.lemmas.Bool.Decides.{nat_tests}
 use Rattle.std.proofs.lemmas.Nat.{mod_below, div-add-mod'}
 use Rattle.md_base.specs.declared.places.Shape.{Shape}
 use Rattle.md_base.specs.declared.places.Place.{Place}
 use Rattle.md_base.specs.Shapes.{is_valid_shape, data_disks}
-use Rattle.layout.specs.Layout.{p_role, data_role, stripe_p, stripe_data, row_roles, IsParity, place}
+use Rattle.layout.specs.Layout.{data_role, stripe_p, stripe_data, row_roles, IsParity, place}
 use Rattle.layout.proofs.Limits.{IsLimited, limited}
 use Rattle.layout.proofs.Stripes.{IsRingOf, ring_of-data, ring_of-data_role}
-use Rattle.layout.proofs.Places.{chunk_some, sector_at, place-sector, place-only, place-apart, sector-fits}
+use Rattle.layout.proofs.Places.{chunk_some, place-sector, place-only, place-apart, sector-fits}
 use Rattle.layout.proofs.at.Goals as goal
 use Rattle.layout.proofs.at.Goals.{then-role-roles-via-then-role-roles, then-role-roles-via-else-role-roles+then-eq}
 
@@ -22,9 +22,9 @@ equal (Some a) r h = ap (λ a. Some a) (same a r h)
 module _ (c : goal.Joined-then-role-roles) where
   parity : IsParity (row_roles c.args.shape.now c.args.row) c.args.role
   parity = elim c.then-role-roles.branch [
-      then-role-roles-via-then-role-roles w ↦ inl (w.if-role-roles.true ∙ ap (λ r. r.p) c.row_of-roles.ensures.roles)
-      | then-role-roles-via-else-role-roles+then-eq w ↦ inr (sym (ap (λ r. r.q) c.row_of-roles.ensures.roles) ∙ equal _ _ (sym w.eq.ensures ∙ w.if-eq.true))
-    ]
+    | then-role-roles-via-then-role-roles w ↦ inl (w.if-role-roles.true ∙ ap (λ r. r.p) c.row_of-roles.ensures.roles)
+    | then-role-roles-via-else-role-roles+then-eq w ↦ inr (sym (ap (λ r. r.q) c.row_of-roles.ensures.roles) ∙ equal _ _ (sym w.eq.ensures ∙ w.if-eq.true))
+  ]
 
 pub returns-then-role-roles-clause-stands : goal.returns-then-role-roles-clause-stands
 returns-then-role-roles-clause-stands c x same = place-apart c.args.shape.now c.requires.shape c.args.role c.args.row (parity c) x same
@@ -40,7 +40,7 @@ placed shape valid row role l n k d p i ring d_is below p_is role_is =
     let d_there : d ≡ data_disks shape = d_is ∙ ring_of-data shape l n k ring in
     let fits : i < data_disks shape = subst (λ d. i < d) (ring_of-data shape l n k ring) below in
     let role_there : stripe_data shape (row / shape.chunk) i ≡ role =
-        sym (ring_of-data_role shape valid l n k ring (row / shape.chunk) i) ∙ ap (λ p. data_role l n k p i) (sym p_is) ∙ role_is in
+    sym (ring_of-data_role shape valid l n k ring (row / shape.chunk) i) ∙ ap (λ p. data_role l n k p i) (sym p_is) ∙ role_is in
     ap (λ d. place shape ((row / shape.chunk * d + i) * shape.chunk + row % shape.chunk)) d_there
     ∙ place-sector shape (row / shape.chunk) i (row % shape.chunk) fits (mod_below row shape.chunk (chunk_some shape valid))
     ∙ as_place _ role _ row role_there (div-add-mod' row shape.chunk)

@@ -1,5 +1,3 @@
-use Rattle.std.proofs.Common.{◌≡◌, ◌↔◌, true, subst, sym}
-use Rattle.layout.specs.Layout.{is_parity_only}
 use Rattle.layout.proofs.OnlyParity.{parity_only-is, parity_only-all}
 use Rattle.layout.proofs.parity_only.Goals as goal
 

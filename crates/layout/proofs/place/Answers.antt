@@ -17,9 +17,9 @@ placed shape valid x l n k d p role ring data_is p_is role_is =
     let index : x / shape.chunk % d ≡ data_index shape x = ap (λ d. x / shape.chunk % d) d_is in
     let p_there : p ≡ stripe_p shape (stripe_of shape x) = p_is ∙ ring_of-p shape l n k ring _ ∙ ap (λ s. stripe_p shape s) stripe in
     let role_there : role ≡ stripe_data shape (stripe_of shape x) (data_index shape x) =
-        role_is ∙ ap (λ p. data_role l n k p (x / shape.chunk % d)) p_there
-        ∙ ap (λ i. data_role l n k (stripe_p shape (stripe_of shape x)) i) index
-        ∙ ring_of-data_role shape valid l n k ring (stripe_of shape x) (data_index shape x) in
+    role_is ∙ ap (λ p. data_role l n k p (x / shape.chunk % d)) p_there
+    ∙ ap (λ i. data_role l n k (stripe_p shape (stripe_of shape x)) i) index
+    ∙ ring_of-data_role shape valid l n k ring (stripe_of shape x) (data_index shape x) in
     joined role _ _ _ role_there stripe
   where
     joined : (a b s t : ℕ) → a ≡ b → s ≡ t → (let q : Place = record { role = a; row = s * shape.chunk + x % shape.chunk } in q) ≡ record { role = b; row = t * shape.chunk + x % shape.chunk }

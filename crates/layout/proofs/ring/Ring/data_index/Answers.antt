@@ -1,4 +1,4 @@
-use Rattle.std.proofs.Common.{◌≡◌, ℕ, ◌+◌, ◌-◌, ◌<◌, ◌≤◌, arith, sym}
+use Rattle.std.proofs.Common.{◌≡◌, ℕ, ◌+◌, ◌-◌, ◌≤◌, arith}
 use Rattle.std.proofs.lemmas.Bool.Decides.{nat_tests}
 use Rattle.layout.specs.Layout.{data_role, is_symmetric}
 use Rattle.layout.proofs.Dealt.{IsFree, free, index, data_role-index, behind_parity}
@@ -16,8 +16,8 @@ overflow_sub-result-then-is_symmetric-2 c =
 pub overflow_sub-result-else-is_symmetric-2 : goal.overflow_sub-result-else-is_symmetric-2
 overflow_sub-result-else-is_symmetric-2 c =
     let h : c.args.p + c.args.self.now.parities ≤ c.args.role =
-        behind_parity _ _ _ _ (free c.args.self.now.some c.args.self.now.one_or_two c.args.self.now.has_data c.requires.p c.requires.role c.requires.not_p c.requires.not_q)
-        c.if-self-behind.false c.if-role-p.false in
+    behind_parity _ _ _ _ (free c.args.self.now.some c.args.self.now.one_or_two c.args.self.now.has_data c.requires.p c.requires.role c.requires.not_p c.requires.not_q)
+    c.if-self-behind.false c.if-role-p.false in
     omega (arith, h)
 
 pub returns-then-self-behind-clause-role : goal.returns-then-self-behind-clause-role

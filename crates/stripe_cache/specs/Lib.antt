@@ -1,0 +1,4 @@
+pub mod HeldRow
+pub mod Rows
+pub mod View
+pub mod Kept

@@ -1,0 +1,20 @@
+//! A row of a cache.
+
+use md_base::{Sectors, Side};
+
+/// One row, its sectors role after role, with the set of its changed roles: role r by the bit r.
+#[derive(Drop)]
+pub struct Cached {
+    pub side: Side,
+    pub row: u64,
+    pub body: Sectors,
+    pub changed: u32,
+}
+
+/// What became of a row that was to be kept: it is here, it is here and this delayed row has left, or it is not.
+#[derive(Drop)]
+pub enum Kept {
+    Here,
+    Evicted(Cached),
+    NoMemory,
+}
