@@ -7,3 +7,4 @@ pub mod PlainLaws
 pub mod NowLaws
 pub mod HoldLaws
 pub mod RecordLaws
+pub mod ZeroLaws
