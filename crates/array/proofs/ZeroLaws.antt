@@ -19,7 +19,7 @@ use Rattle.parity.specs.Rows.{whole_row}
 use Rattle.parity.proofs.Contents.{whole-good}
 use Rattle.flat_history.specs.Flat.{now, values_of}
 use Rattle.array.specs.Kept.{zero_list}
-use Rattle.array.specs.Rows.{HoldsRow}
+use Rattle.array.specs.Rows.{HoldsRow, row_sector}
 use Rattle.array.proofs.RowParity.{parity-same}
 
 zero_term : (b : Bool) (w : ℕ) → bit_xor (cond b (product w 0) 0) 0 ≡ 0
@@ -95,3 +95,7 @@ holds-zero shape size offset row c valid whole lt zeros = record {
       zeros role is ∙ sym (now-zero (data_disks shape * size) x (place-sector_below shape valid x size whole (subst (λ p. p.row < size) (sym placed) lt)));
   parity = parity-same shape row (λ role. zero_sector) (λ role. c role (offset + row)) (λ role is. sym (zeros role is)) (zero_good shape row valid);
 }
+
+pub row_sector-zeros : row_sector (replicate 512 0) 0 ≡ zero_sector
+unfolding zero_sector
+row_sector-zeros = refl

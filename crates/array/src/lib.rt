@@ -6,9 +6,11 @@ mod calls;
 mod device;
 mod lists;
 mod rows;
+mod zeros;
 
 pub use buffers::{ROW_BYTES, read_rows, touched_rows, write_rows};
 pub use calls::{check_number, enter, enter_loss, enter_torn};
-pub use device::{read_into, write_from};
+pub use device::{flush_slot, read_into, write_from};
 pub use lists::read_list;
 pub use rows::{change_row, read_row, rewrite_row, write_row};
+pub use zeros::zero_members;
