@@ -8,3 +8,5 @@ pub mod NowLaws
 pub mod HoldLaws
 pub mod RecordLaws
 pub mod ZeroLaws
+pub mod ReplyLaws
+pub mod ReadyLaws

@@ -1,12 +1,12 @@
 -- What an array keeps, over plain data.
-use Rattle.std.specs.Prelude.{◌≡◌, ◌⊎◌, ℕ, ◌+◌, ◌*◌, ◌^◌, ◌<◌, ◌≤◌, ◌++◌, ◌==◌, List, [], ◌∷◌, length, replicate, Option, Some, None, Result, Ok, Err, MatchOption, IsTrue, ⊤}
+use Rattle.std.specs.Prelude.{◌≡◌, ◌⊎◌, ℕ, ◌+◌, ◌-◌, ◌*◌, ◌^◌, ◌<◌, ◌≤◌, ◌++◌, ◌==◌, List, [], ◌∷◌, length, replicate, Option, Some, None, Result, Ok, Err, MatchOption, IsSome, IsTrue, ⊤}
 use Rattle.std.specs.List.{list_any}
 use Rattle.md_base.specs.declared.places.Shape.{Shape}
 use Rattle.md_base.specs.declared.answers.Who.{Who}
 use Rattle.md_base.specs.declared.answers.Fault.{Fault}
 use Rattle.md_base.specs.declared.answers.Fault.TheVariants.{Refused as IsRefusedWith, NoMemory}
 use Rattle.md_base.specs.declared.answers.Refusal.{Refusal}
-use Rattle.md_base.specs.declared.answers.Refusal.TheVariants.{TooManyMissing}
+use Rattle.md_base.specs.declared.answers.Refusal.TheVariants.{PastEnd, TooManyMissing, SlotFault}
 use Rattle.md_base.specs.Shapes.{is_valid_shape, is_multiple, data_disks}
 use Rattle.md_base.specs.Sectors.{Sector, zero_sector}
 use Rattle.bank.specs.Given.{Given, IsFaulted}
@@ -18,6 +18,8 @@ use Rattle.flat_history.specs.declared.events.Request.{Request}
 use Rattle.flat_history.specs.Flat.{now, length_of, limit_of}
 use Rattle.flat_history.specs.Transfers.{last_end_from}
 use Rattle.flat_history.specs.Plain.{Opening, IsPlainLegal, PlainFits, loses_role, entries_of}
+use Rattle.array.specs.Parts.{Parts}
+use Rattle.array.specs.declared.spec.CreateSpec.{CreateSpec}
 use Rattle.array.specs.Rows.{present, AreMembers, HoldsRow}
 
 -- the flat list of an array that was just made: zeros
@@ -79,3 +81,44 @@ abbrev pub IsAnswered : {T : Type 0} → Opening → Request → Who → List En
 IsAnswered opening request who old new event (Ok x) = IsReplied opening request who old new event
 IsAnswered opening request who old new event (Err (IsRefusedWith refusal)) = IsReplied opening request who old new (Refused refusal)
 IsAnswered opening request who old new event (Err NoMemory) = new ≡ old
+
+-- what an array keeps besides: room for the entry of its end, and buffers for the rows of one call
+pub record IsReady (tells : Type 0) (given : Given) (tape : List Operation) (first : ℕ) (entries : List Entry) (shape : Shape) (size offset : ℕ) (lost : Option ℕ) (room rows buffer : ℕ) : Type 0 where
+  pub kept : IsKept tells given tape first entries shape size offset lost
+  pub room_left : 1 ≤ room
+  pub rows_fit : 128 ≤ rows
+  pub buffer_fits : 1048576 ≤ buffer
+
+-- a read or write up to `to` is refused past the visible size, or else where a member was lost
+abbrev pub IsRefusalOf : ℕ → ℕ → Option ℕ → Option Refusal → Type 0
+IsRefusalOf visible to lost None = (to ≤ visible) × (lost ≡ None)
+IsRefusalOf visible to lost (Some (PastEnd told)) = (told ≡ visible) × (visible < to)
+IsRefusalOf visible to lost (Some (TooManyMissing count tolerance)) = (count ≡ 1) × (tolerance ≡ 0) × (to ≤ visible) × IsSome lost
+IsRefusalOf visible to lost (Some refusal) = ⊥
+
+-- what no call changes
+pub record IsSameArray {B : Type 0} (old new : Parts B) : Type 0 where
+  pub uuid : new.uuid ≡ old.uuid
+  pub given : new.given ≡ old.given
+  pub first : new.first ≡ old.first
+  pub shape : new.shape ≡ old.shape
+  pub size : new.size ≡ old.size
+  pub offset : new.offset ≡ old.offset
+
+-- an array that was just made, where the tape has so many operations
+pub record IsMade {B : Type 0} (tells : Type 0) (ops slots : ℕ) (spec : CreateSpec) (made : Parts B) : Type 0 where
+  pub entries : made.entries ≡ []
+  pub first : tells → made.first ≡ ops
+  pub last : made.last ≡ made.first
+  pub given : made.given ≡ 2 ^ slots - 1
+  pub uuid : made.uuid ≡ spec.uuid
+  pub shape : made.shape ≡ spec.shape
+  pub size : made.size ≡ spec.size
+  pub offset : made.offset ≡ spec.offset
+  pub lost : made.lost ≡ None
+
+-- why no array was made: a member failed, or memory was short
+abbrev pub IsNotMadeFor : (ℕ → ℕ) → (ℕ → ℕ) → Fault → Type 0
+IsNotMadeFor before now (IsRefusedWith (SlotFault slot)) = IsFaulted slot before now
+IsNotMadeFor before now (IsRefusedWith refusal) = ⊥
+IsNotMadeFor before now NoMemory = ⊤

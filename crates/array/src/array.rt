@@ -1,0 +1,222 @@
+//! An array that is read and written, and keeps its history.
+
+ghost use Rattle.std.specs.Prelude.{◌≡◌, ◌≢◌, ◌⊎◌, ◌++◌, [], ◌∷◌, ◌+◌, ◌-◌, ◌*◌, ◌/◌, ◌^◌, ◌<◌, ◌≤◌, ℕ, List, length, Option, Some, None, IfOk, OnOk, IfErr, IfSome, IfNone, IsTrue, vec_len, vec_capacity};
+ghost use Rattle.bank.specs.Given.{IsFaulted, NeverFalls};
+ghost use Rattle.bank.specs.Tape.{AreSectors};
+ghost use Rattle.md_base.specs.Sectors.{IsWhole, sectors_of};
+ghost use Rattle.md_base.specs.Shapes.{is_valid_shape, is_multiple, data_disks};
+ghost use Rattle.flat_history.specs.Flat.{next_number, now};
+ghost use Rattle.flat_history.specs.Plain.{IsPlainLegal, entries_of};
+ghost use Rattle.flat_history.specs.declared.events.Event.TheVariants.{Read, Wrote, Halted};
+ghost use Rattle.md_base.specs.declared.answers.Fault.TheVariants.{NoMemory as WantsMemory};
+ghost use Rattle.flat_history.specs.declared.events.Request.TheVariants.{Read as AsksRead, Write as AsksWrite};
+ghost use Rattle.array.specs.Rows.{present, AreMembers};
+ghost use Rattle.array.specs.Kept.{opening_of, zero_list, Holds, IsPlaced, IsAnswered, IsCausedBy, IsMade, IsNotMadeFor, IsSameArray, IsRefusalOf};
+
+use crate::buffers::{read_rows, touched_rows, write_rows};
+use crate::calls::{check_number, enter, enter_loss, enter_torn};
+use crate::lists::read_body;
+use crate::spec::CreateSpec;
+use crate::zeros::zero_members;
+use bank::Bank;
+use flat_history::{Entries, Epoch, Event};
+use md_base::{Fault, Refusal, Sectors, Shape, Who};
+use std::alloc::Global;
+use std::marker::Model;
+
+/// An array over the first slots of a bank.
+#[derive(Drop)]
+pub struct Array<B: Bank> {
+    alloc: Global,
+    bank: B,
+    epoch: Epoch,
+    shape: Shape,
+    size: u64,
+    offset: u64,
+    lost: Option<u32>,
+    rows: Vec<u64>,
+    buffer: Vec<u8>,
+}
+
+impl<B: Bank> Model for Array<B> {
+    ghost use Rattle.std.specs.Prelude.{vec_capacity, length};
+    ghost use Rattle.array.specs.Parts.{Parts};
+    ghost use Rattle.array.specs.Kept.{IsReady};
+
+    ghost Value = { Parts B };
+
+    ghost view = { λ a. record {
+        bank = a.bank;
+        uuid = a.epoch.uuid;
+        given = a.epoch.given;
+        first = a.epoch.first;
+        last = a.epoch.last;
+        entries = a.epoch.entries.items;
+        shape = a.shape;
+        size = a.size;
+        offset = a.offset;
+        lost = a.lost;
+    } };
+
+    ghost invariant = { λ a. IsReady B.tells (B.given a.bank) (B.tape a.bank) a.epoch.first a.epoch.entries.items a.shape a.size a.offset a.lost
+        a.epoch.entries.room (vec_capacity a.rows) (length a.buffer.items) };
+}
+
+// The refusal of a read or write that ends at `to`, by the visible size and the member that was lost.
+fn refusal_of(visible: u64, to: u64, lost: Option<u32>) -> Option<Refusal>
+    ensures { IsRefusalOf visible to lost result }
+{
+    if visible < to {
+        return Some(Refusal::PastEnd(visible));
+    }
+    match lost {
+        Some(_) => Some(Refusal::TooManyMissing(1, 0)),
+        None => None,
+    }
+}
+
+// So many zero bytes.
+fn zeros(alloc: Global, len: usize) -> Result<Vec<u8>, Fault>
+    ensures no_memory { IfErr result (λ fault. fault ≡ WantsMemory) }
+    ensures len { IfOk result (λ v. length v.items ≡ len) }
+{
+    match vec![in alloc; 0u8; len] {
+        Ok(bytes) => Ok(bytes),
+        Err(_) => Err(Fault::NoMemory),
+    }
+}
+
+// The sectors of the flat list: so many data disks times the rows of each.
+#[tactic(auto, using(layout::proofs::Limits::limited))]
+fn list_length(shape: &Shape, size: u64) -> u64
+    requires shape { IsTrue (is_valid_shape shape.now) }
+    requires size { size ≤ 2 ^ 48 }
+    ensures { result ≡ data_disks shape.now * size }
+{
+    let parities = if shape.level == 6 { 2 } else { 1 };
+    (shape.disks - parities) as u64 * size
+}
+
+// A set of all slots below this number.
+fn all_slots(slots: u32) -> u32
+    requires { slots ≤ 32 }
+    ensures { result ≡ 2 ^ slots - 1 }
+{
+    ((1u64 << slots) - 1) as u32
+}
+
+/// Makes an array of zeros over the first slots of the bank. Refusal: `SlotFault`.
+pub fn create<B: Bank>(alloc: Global, bank: B, spec: CreateSpec) -> Result<Array<B>, (B, Fault)>
+    requires placed { IsPlaced (B.given bank) spec.shape spec.size spec.offset }
+    requires slots { (B.given bank).slots ≤ 32 }
+    ensures made { IfOk result (λ a. IsMade B.tells (length (B.tape a.bank)) (B.given bank).slots spec a) }
+    ensures given { IfOk result (λ a. B.given a.bank ≡ B.given bank) }
+    ensures never_falls { IfOk result (λ a. NeverFalls (B.faults_of bank) (B.faults_of a.bank)) }
+    ensures refused { IfErr result (λ e. IsNotMadeFor (B.faults_of bank) (B.faults_of e.0) e.1) }
+    ensures left_given { IfErr result (λ e. B.given e.0 ≡ B.given bank) }
+    ensures left_never_falls { IfErr result (λ e. NeverFalls (B.faults_of bank) (B.faults_of e.0)) }
+{
+    let mut bank = bank;
+    let mut entries = Entries::new(alloc);
+    match entries.make_room(1) {
+        Ok(()) => {}
+        Err(_) => return Err((bank, Fault::NoMemory)),
+    }
+    let rows = match Vec::with_capacity(alloc, 128) {
+        Ok(rows) => rows,
+        Err(_) => return Err((bank, Fault::NoMemory)),
+    };
+    let buffer = match zeros(alloc, 1048576) {
+        Ok(buffer) => buffer,
+        Err(fault) => return Err((bank, fault)),
+    };
+    match zero_members(&mut bank, spec.shape.disks, spec.offset, spec.size) {
+        Err(slot) => return Err((bank, Fault::Refused(Refusal::SlotFault(slot)))),
+        Ok(()) => {}
+    }
+    let first = bank.ops();
+    let uuid = spec.uuid;
+    let epoch = Epoch {
+        uuid,
+        given: all_slots(bank.slots()),
+        first,
+        last: first,
+        entries,
+    };
+    Ok(Array {
+        alloc,
+        bank,
+        epoch,
+        shape: spec.shape,
+        size: spec.size,
+        offset: spec.offset,
+        lost: None,
+        rows,
+        buffer,
+    })
+}
+
+impl<B: Bank> Array<B> {
+    /// How many sectors can be read and written.
+    pub fn visible(&self) -> u64
+        ensures { result ≡ data_disks self.now.shape * self.now.size }
+    {
+        list_length(&self.shape, self.size)
+    }
+
+    /// The number that the caller's next call bears.
+    pub fn next_number(&self, caller: u32) -> u64
+        ensures { result ≡ next_number caller self.now.entries }
+    {
+        self.epoch.entries.next_number(caller)
+    }
+
+    /// Fills `into`, of whole sectors, with those of the list from `at` on. Refusals: `PastEnd`, `TooManyMissing`.
+    pub fn read(&mut self, who: Who, at: u64, into: &mut [u8]) -> Result<(), Fault>
+        requires next { who.number ≡ next_number who.caller self.old.entries }
+        requires caller { who.caller ≢ 254 }
+        requires whole { IsWhole into.old }
+        requires short { at + length into.old / 512 < 2 ^ 63 }
+        ensures answered { IsAnswered (opening_of self.old.shape self.old.size self.old.first) (AsksRead at (length into.old / 512)) who self.old.entries self.new.entries (Read at (sectors_of into.new)) result }
+        ensures holds { OnOk result (B.tells → AreSectors (now (zero_list self.old.shape self.old.size) self.old.entries) at into.new) }
+        ensures caused { IsCausedBy self.old.lost self.new.lost (B.faults_of self.old.bank) (B.faults_of self.new.bank) result }
+        ensures never_falls { NeverFalls (B.faults_of self.old.bank) (B.faults_of self.new.bank) }
+        ensures given { B.given self.new.bank ≡ B.given self.old.bank }
+        ensures same { IsSameArray self.old self.new }
+    {
+        let mut bytes = match zeros(self.alloc, into.len()) {
+            Ok(bytes) => bytes,
+            Err(fault) => return Err(fault),
+        };
+        match self.epoch.entries.make_room(3) {
+            Ok(()) => {}
+            Err(_) => return Err(Fault::NoMemory),
+        }
+        check_number(&self.epoch.entries, who);
+        let to = at + (into.len() / 512) as u64;
+        match refusal_of(list_length(&self.shape, self.size), to, self.lost) {
+            Some(refusal) => {
+                let end = self.bank.ops();
+                enter(&mut self.epoch, who, end, Event::Refused { refusal });
+                return Err(Fault::Refused(refusal));
+            }
+            None => {}
+        }
+        match read_body(&mut self.bank, &self.shape, self.offset, self.size, at, &mut bytes) {
+            Err(role) => {
+                self.lost = Some(role);
+                let refusal = Refusal::TooManyMissing(1, 0);
+                let end = self.bank.ops();
+                enter_loss(&mut self.epoch, who, end, role, refusal);
+                Err(Fault::Refused(refusal))
+            }
+            Ok(()) => {
+                into.copy_from_slice(bytes.as_slice());
+                let end = self.bank.ops();
+                let body = Sectors::from_bytes(bytes);
+                enter(&mut self.epoch, who, end, Event::Read { at, body });
+                Ok(())
+            }
+        }
+    }
+}
