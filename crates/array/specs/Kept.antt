@@ -54,6 +54,12 @@ pub record IsKept (tells : Type 0) (given : Given) (tape : List Operation) (firs
   pub recorded : IsRecorded tells (opening_of shape size first) (length tape) entries lost
   pub holds : tells → lost ≡ None → Holds shape size offset given tape (zero_list shape size) entries
 
+-- A call entered these events, under its own number, where the tape ended.
+pub record IsEntered (tells : Type 0) (tape : List Operation) (who : Who) (old new : List Entry) (events : List Event) : Type 0 where
+  pub end : ℕ
+  pub at_end : tells → end ≡ length tape
+  pub is : new ≡ old ++ entries_of who end events
+
 -- A call was answered by this event, which fits its request and stands behind the other entries of the call.
 pub record IsReplied (opening : Opening) (request : Request) (who : Who) (old new : List Entry) (event : Event) : Type 0 where
   pub inner : List Event

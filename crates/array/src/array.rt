@@ -11,7 +11,7 @@ ghost use Rattle.flat_history.specs.declared.events.Event.TheVariants.{Read, Wro
 ghost use Rattle.md_base.specs.declared.answers.Fault.TheVariants.{NoMemory as WantsMemory};
 ghost use Rattle.flat_history.specs.declared.events.Request.TheVariants.{Read as AsksRead, Write as AsksWrite};
 ghost use Rattle.array.specs.Rows.{present, AreMembers};
-ghost use Rattle.array.specs.Kept.{opening_of, zero_list, Holds, IsPlaced, IsAnswered, IsCausedBy, IsMade, IsNotMadeFor, IsSameArray, IsRefusalOf};
+ghost use Rattle.array.specs.Kept.{opening_of, zero_list, Holds, IsEntered, IsPlaced, IsAnswered, IsCausedBy, IsMade, IsNotMadeFor, IsSameArray, IsRefusalOf};
 
 use crate::buffers::{read_rows, touched_rows, write_rows};
 use crate::calls::{check_number, enter, enter_loss, enter_torn};
@@ -218,5 +218,123 @@ impl<B: Bank> Array<B> {
                 Ok(())
             }
         }
+    }
+
+    /// Makes the list hold `from`, of 1 to 128 whole sectors, from `at` on. Refusals: `PastEnd`, `TooManyMissing`.
+    pub fn write(&mut self, who: Who, at: u64, from: &[u8]) -> Result<(), Fault>
+        requires next { who.number ≡ next_number who.caller self.old.entries }
+        requires caller { who.caller ≢ 254 }
+        requires whole { IsWhole from.now }
+        requires few { length from.now / 512 ≤ 128 }
+        requires short { at + length from.now / 512 < 2 ^ 63 }
+        ensures answered { IsAnswered (opening_of self.old.shape self.old.size self.old.first) (AsksWrite at (sectors_of from.now)) who self.old.entries self.new.entries (Wrote at (sectors_of from.now)) result }
+        ensures caused { IsCausedBy self.old.lost self.new.lost (B.faults_of self.old.bank) (B.faults_of self.new.bank) result }
+        ensures never_falls { NeverFalls (B.faults_of self.old.bank) (B.faults_of self.new.bank) }
+        ensures given { B.given self.new.bank ≡ B.given self.old.bank }
+        ensures same { IsSameArray self.old self.new }
+    {
+        let body = match Sectors::copy_of(self.alloc, from) {
+            Ok(body) => body,
+            Err(_) => return Err(Fault::NoMemory),
+        };
+        match self.epoch.entries.make_room(4) {
+            Ok(()) => {}
+            Err(_) => return Err(Fault::NoMemory),
+        }
+        check_number(&self.epoch.entries, who);
+        let count = (from.len() / 512) as u64;
+        match refusal_of(list_length(&self.shape, self.size), at + count, self.lost) {
+            Some(refusal) => {
+                let end = self.bank.ops();
+                enter(&mut self.epoch, who, end, Event::Refused { refusal });
+                return Err(Fault::Refused(refusal));
+            }
+            None => {}
+        }
+        self.rows.clear();
+        touched_rows(&self.shape, at, count, &mut self.rows);
+        let read = read_rows(
+            &mut self.bank,
+            self.shape.disks,
+            self.offset,
+            self.size,
+            &self.rows,
+            &mut self.buffer,
+        );
+        match read {
+            Err(role) => {
+                self.lost = Some(role);
+                let refusal = Refusal::TooManyMissing(1, 0);
+                let end = self.bank.ops();
+                enter_loss(&mut self.epoch, who, end, role, refusal);
+                return Err(Fault::Refused(refusal));
+            }
+            Ok(()) => {}
+        }
+        let written = write_rows(
+            &mut self.bank,
+            &self.shape,
+            self.offset,
+            self.size,
+            at,
+            from,
+            &self.rows,
+            &mut self.buffer,
+        );
+        match written {
+            Err(role) => {
+                self.lost = Some(role);
+                let refusal = Refusal::TooManyMissing(1, 0);
+                let end = self.bank.ops();
+                enter_torn(&mut self.epoch, who, end, role, at, body, refusal);
+                Err(Fault::Refused(refusal))
+            }
+            Ok(()) => {
+                let end = self.bank.ops();
+                enter(&mut self.epoch, who, end, Event::Wrote { at, body });
+                Ok(())
+            }
+        }
+    }
+
+    /// What happened so far.
+    pub fn epoch(&self) -> &Epoch
+        ensures entries { result.now.entries.items ≡ self.now.entries }
+        ensures uuid { result.now.uuid ≡ self.now.uuid }
+        ensures given { result.now.given ≡ self.now.given }
+        ensures first { result.now.first ≡ self.now.first }
+        ensures last { result.now.last ≡ self.now.last }
+    {
+        &self.epoch
+    }
+
+    /// Ends the epoch, and gives the bank back with what happened. It takes no memory and makes no device call.
+    pub fn halt(self, who: Who) -> (B, Epoch)
+        requires next { who.number ≡ next_number who.caller self.entries }
+        requires caller { who.caller ≢ 254 }
+        ensures bank { result.0 ≡ self.bank }
+        ensures entered { IsEntered B.tells (B.tape self.bank) who self.entries result.1.entries.items (Halted ∷ []) }
+        ensures legal { B.tells → IsPlainLegal (opening_of self.shape self.size self.first) (length (B.tape self.bank)) result.1.entries.items }
+        ensures good { B.tells → self.lost ≡ None → Holds self.shape self.size self.offset (B.given self.bank) (B.tape self.bank) (zero_list self.shape self.size) self.entries }
+        ensures uuid { result.1.uuid ≡ self.uuid }
+        ensures given { result.1.given ≡ self.given }
+        ensures first { result.1.first ≡ self.first }
+        ensures last { B.tells → result.1.last ≡ length (B.tape self.bank) }
+    {
+        let Array {
+            alloc: _,
+            bank,
+            mut epoch,
+            shape: _,
+            size: _,
+            offset: _,
+            lost: _,
+            rows: _,
+            buffer: _,
+        } = self;
+        check_number(&epoch.entries, who);
+        let end = bank.ops();
+        enter(&mut epoch, who, end, Event::Halted);
+        (bank, epoch)
     }
 }
