@@ -11,7 +11,7 @@ use Rattle.flat_history.specs.declared.events.Entry.{Entry}
 use Rattle.flat_history.specs.declared.events.Event.TheVariants.{Wrote}
 use Rattle.flat_history.specs.Flat.{now}
 use Rattle.layout.specs.Layout.{place}
-use Rattle.array.specs.Rows.{HoldsRow, HasOther, IsTouched, IsRowWritten, AreRowsWritten, row_sector}
+use Rattle.array.specs.Rows.{HoldsRow, HasOther, IsTouched, IsRowWritten, AreRowsWritten, IsWritten, row_sector}
 use Rattle.array.proofs.RowParity.{parity-same}
 use Rattle.array.proofs.NowLaws.{now-wrote_here, now-wrote_other, sectors_of-at}
 
@@ -22,11 +22,6 @@ holds-same {shape = shape} {offset = offset} {c = c} {row = row} c' list' same i
   sectors = λ role x lt placed. same role lt ∙ held.sectors role x lt placed ∙ sym (is x);
   parity = parity-same shape row (λ role. c role (offset + row)) (λ role. c' role (offset + row)) (λ role lt. sym (same role lt)) held.parity;
 }
-
--- a list with these sectors written from a place on
-pub record IsWritten (list list' : ℕ → Sector) (first : ℕ) (from : List ℕ) : Type 0 where
-  pub here : (x : ℕ) → first ≤ x → x < first + length from / 512 → list' x ≡ row_sector from (x - first)
-  pub other : (x : ℕ) → (x < first) ⊎ (first + length from / 512 ≤ x) → list' x ≡ list x
 
 among : (first count x : ℕ) → ((first ≤ x) × (x < first + count)) ⊎ ((x < first) ⊎ (first + count ≤ x))
 among first count x = elim (cases_lt x first) [

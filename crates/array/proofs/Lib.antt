@@ -10,3 +10,4 @@ pub mod RecordLaws
 pub mod ZeroLaws
 pub mod ReplyLaws
 pub mod ReadyLaws
+pub mod Written

@@ -12,19 +12,19 @@ use Rattle.bank.specs.Given.{Given}
 use Rattle.bank.specs.declared.bank.Operation.{Operation}
 use Rattle.flat_history.specs.declared.events.Entry.{Entry}
 use Rattle.flat_history.specs.declared.events.Event.{Event}
-use Rattle.flat_history.specs.declared.events.Event.TheVariants.{Read, Wrote, Torn, Lost, Refused}
+use Rattle.flat_history.specs.declared.events.Event.TheVariants.{Read, Wrote, Torn, Lost, Refused, Halted}
 use Rattle.flat_history.specs.declared.events.LostCause.TheVariants.{Fault}
 use Rattle.flat_history.specs.Flat.{next_number, now, values_after}
-use Rattle.flat_history.specs.Plain.{entries_of}
-use Rattle.array.specs.Rows.{present, row_sector}
+use Rattle.flat_history.specs.Plain.{entries_of, IsPlainLegal}
+use Rattle.array.specs.Rows.{present, row_sector, HoldsRow, TakesOver}
 use Rattle.layout.specs.Layout.{place}
 use Rattle.layout.proofs.Places.{place-row_below, place-role_below}
 use Rattle.md_base.proofs.SectorLaws.{length-sectors_of}
 use Rattle.flat_history.specs.Transfers.{IsReadOver}
-use Rattle.array.specs.Kept.{zero_list, opening_of, IsPlaced, Holds, IsKept, IsReady, IsRecorded, IsRefusalOf}
-use Rattle.array.proofs.PlainLaws.{IsCallOf}
+use Rattle.array.specs.Kept.{zero_list, opening_of, failure_events, IsPlaced, Holds, IsKept, IsReady, IsRecorded, IsRefusalOf}
+use Rattle.array.proofs.PlainLaws.{one, IsCallOf}
 use Rattle.array.proofs.NowLaws.{now-quiet, sectors_of-at}
-use Rattle.array.proofs.HoldLaws.{holds-same}
+use Rattle.array.proofs.HoldLaws.{holds-same, wrote-is}
 use Rattle.array.proofs.ZeroLaws.{holds-zero}
 use Rattle.array.proofs.RecordLaws.{AreSilent, IsTold, recorded-after, told-more, told-new, call-past, call-missing, call-read, call-lost, call-torn, call-wrote, all_visible}
 use Rattle.array.proofs.ReplyLaws.{length-zeros}
@@ -115,6 +115,11 @@ module _ {tells : Type 0} {given given' : Given} {tape tape' : List Operation} {
       (λ t. call-torn shape size first was.kept.recorded who end role at body lt (omega (arith, within, length-zeros shape size))) (record { length = λ n. refl; limit = refl })
       (told-new role who end entries (Torn at body ∷ Refused (TooManyMissing 1 0) ∷ []) lt) (λ t none. absurd (cc)) room_left rows_fit buffer_fits
 
+  pub ready_failed : (torn : Bool) (role at : ℕ) (body : List Sector) → entries' ≡ mid ++ entries_of who end (failure_events torn role at body) → (tells → length tape ≤ length tape') → role < 32
+      → at + length body ≤ data_disks shape * size → IsReady tells given' tape' first' entries' shape size offset (Some role) room' rows' buffer'
+  ready_failed true role at body is longer lt within = ready_torn role at body is longer lt within
+  ready_failed false role at body is longer lt within = ready_lost role is longer lt
+
   -- after a write
   pub ready_wrote : (at : ℕ) (body : List Sector) → entries' ≡ mid ++ entries_of who end (Wrote at body ∷ []) → (tells → length tape ≤ length tape') → at + length body ≤ data_disks shape * size
       → (tells → lost ≡ None → Holds shape size offset given tape' (zero_list shape size) (entries ++ entries_of who end (Wrote at body ∷ [])))
@@ -161,3 +166,24 @@ ready_made {tells = tells} {given' = given'} {tape = tape} {room = room} {rows =
       rows_fit = rows_fit;
       buffer_fits = buffer_fits;
     })
+
+-- ---- the end
+
+pub ready_halted : {tells : Type 0} {given : Given} {tape : List Operation} {first : ℕ} {entries entries' : List Entry} {shape : Shape} {size offset : ℕ} {lost : Option ℕ} {room rows buffer : ℕ} (who : Who) (end : ℕ)
+    → IsReady tells given tape first entries shape size offset lost room rows buffer → who.number ≡ next_number who.caller entries → who.caller ≢ 254 → (tells → end ≡ length tape)
+    → entries' ≡ entries ++ entries_of who end (Halted ∷ []) → tells → IsPlainLegal (opening_of shape size first) (length tape) entries'
+ready_halted {tape = tape} {first = first} {entries = entries} {shape = shape} {size = size} {lost = lost} who end was number caller at_end is t =
+    subst (λ (l : List Entry). IsPlainLegal (opening_of shape size first) (length tape) l) (sym is)
+    ((recorded-after lost who end Halted [] was.kept.recorded number (not_254 who.caller caller) (λ u. omega arith) at_end (λ u. (tt, tt, tt)) (record { length = λ n. refl; limit = refl })
+    (told-more lost entries (entries_of who end (Halted ∷ [])) was.kept.recorded.told)).legal t)
+
+-- ---- writes
+
+-- after a write every row holds the list with its entry
+pub holds_put : (shape : Shape) (size offset : ℕ) (given given' : Given) (tape tape' : List Operation) (entries : List Entry) (who : Who) (end first : ℕ) (from : List ℕ) → given' ≡ given
+    → TakesOver shape offset size first from (present given tape) (present given' tape')
+    → Holds shape size offset given tape (zero_list shape size) entries → Holds shape size offset given tape' (zero_list shape size) (entries ++ entries_of who end (Wrote first (sectors_of from) ∷ []))
+holds_put shape size offset given given' tape tape' entries who end first from same takes held row lt =
+    subst (λ (g : Given). HoldsRow shape offset (present g tape') (now (zero_list shape size) (entries ++ entries_of who end (Wrote first (sectors_of from) ∷ []))) row) same
+    (takes (now (zero_list shape size) entries) (now (zero_list shape size) (entries ++ entries_of who end (Wrote first (sectors_of from) ∷ [])))
+    (wrote-is (zero_list shape size) entries (one who end (Wrote first (sectors_of from))) first from refl) held row lt)

@@ -20,7 +20,7 @@ use Rattle.flat_history.specs.Growing.{BeginAnother}
 use Rattle.flat_history.specs.Transfers.{IsRefusedAt, IsPastEnd}
 use Rattle.flat_history.specs.Fits.{AreTornOf, IsTornOf, IsReadRefused, IsWriteRefused}
 use Rattle.flat_history.specs.Plain.{Opening, PlainAnswers, PlainFits, entries_of}
-use Rattle.array.specs.Kept.{zero_list, opening_of, IsRecorded, IsReplied, IsRefusalOf}
+use Rattle.array.specs.Kept.{zero_list, opening_of, failure_events, IsRecorded, IsReplied, IsRefusalOf}
 use Rattle.array.proofs.PlainLaws.{one, begins, IsCallOf}
 use Rattle.array.proofs.NowLaws.{visible-is, length-more, limit-more}
 use Rattle.array.proofs.RecordLaws.{AreSilent, call-past, call-missing}
@@ -153,3 +153,11 @@ read_kind at count = record { listed = tt; answers = λ opening before refusal r
 
 pub write_kind : (at : ℕ) (body : List Sector) → IsTransfer (AsksWrite at body) (at + length body) IsWriteRefused
 write_kind at body = record { listed = tt; answers = λ opening before refusal refused. refused }
+
+pub failed_reply : (shape : Shape) (size first : ℕ) {tells : Type 0} {ops : ℕ} {lost : Option ℕ} {old : List Entry} (was : IsRecorded tells (opening_of shape size first) ops old lost)
+    (torn : Bool) (who : Who) (at : ℕ) (body : List Sector) (new : List Entry) (end role : ℕ) → at + length body ≤ data_disks shape * size
+    → new ≡ old ++ entries_of who end (failure_events torn role at body) → who.number ≡ next_number who.caller old
+    → IsReplied (opening_of shape size first) (AsksWrite at body) who old new (Refused (TooManyMissing 1 0))
+failed_reply shape size first was true who at body new end role within is number = torn_reply shape size first was who at body new end role within is number
+failed_reply shape size first was false who at body new end role within is number =
+    lost_reply shape size first was IsWriteRefused (AsksWrite at body) who (at + length body) new end role (write_kind at body) within (tt, tt) is number

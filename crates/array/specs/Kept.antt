@@ -1,5 +1,5 @@
 -- What an array keeps, over plain data.
-use Rattle.std.specs.Prelude.{◌≡◌, ◌⊎◌, ℕ, ◌+◌, ◌-◌, ◌*◌, ◌^◌, ◌<◌, ◌≤◌, ◌++◌, ◌==◌, List, [], ◌∷◌, length, replicate, Option, Some, None, Result, Ok, Err, MatchOption, IsSome, IsTrue, ⊤}
+use Rattle.std.specs.Prelude.{Bool, true, false, ◌≡◌, ◌⊎◌, ℕ, ◌+◌, ◌-◌, ◌*◌, ◌^◌, ◌<◌, ◌≤◌, ◌++◌, ◌==◌, List, [], ◌∷◌, length, replicate, Option, Some, None, Result, Ok, Err, MatchOption, IsSome, IsTrue, ⊤}
 use Rattle.std.specs.List.{list_any}
 use Rattle.md_base.specs.declared.places.Shape.{Shape}
 use Rattle.md_base.specs.declared.answers.Who.{Who}
@@ -13,7 +13,8 @@ use Rattle.bank.specs.Given.{Given, IsFaulted}
 use Rattle.bank.specs.declared.bank.Operation.{Operation}
 use Rattle.flat_history.specs.declared.events.Entry.{Entry}
 use Rattle.flat_history.specs.declared.events.Event.{Event}
-use Rattle.flat_history.specs.declared.events.Event.TheVariants.{Refused}
+use Rattle.flat_history.specs.declared.events.Event.TheVariants.{Torn, Lost, Refused}
+use Rattle.flat_history.specs.declared.events.LostCause.TheVariants.{Fault as FaultCause}
 use Rattle.flat_history.specs.declared.events.Request.{Request}
 use Rattle.flat_history.specs.Flat.{now, length_of, limit_of}
 use Rattle.flat_history.specs.Transfers.{last_end_from}
@@ -59,6 +60,11 @@ pub record IsEntered (tells : Type 0) (tape : List Operation) (who : Who) (old n
   pub end : ℕ
   pub at_end : tells → end ≡ length tape
   pub is : new ≡ old ++ entries_of who end events
+
+-- what a write enters that lost a member, by whether a device write had been made
+abbrev pub failure_events : Bool → ℕ → ℕ → List Sector → List Event
+failure_events true role at body = Lost role FaultCause ∷ Torn at body ∷ Refused (TooManyMissing 1 0) ∷ []
+failure_events false role at body = Lost role FaultCause ∷ Refused (TooManyMissing 1 0) ∷ []
 
 -- A call was answered by this event, which fits its request and stands behind the other entries of the call.
 pub record IsReplied (opening : Opening) (request : Request) (who : Who) (old new : List Entry) (event : Event) : Type 0 where

@@ -65,3 +65,13 @@ pub record IsRowWritten (shape : Shape) (offset first : ℕ) (from : List ℕ) (
 pub record AreRowsWritten (shape : Shape) (offset first : ℕ) (from : List ℕ) (rows : List ℕ) (before after : Contents) : Type 0 where
   pub done : (row : ℕ) → Contains rows row → IsRowWritten shape offset first from before after row
   pub others : (role row : ℕ) → (Contains rows row → ⊥) → after role (offset + row) ≡ before role (offset + row)
+
+-- a list with these sectors written from a place on
+pub record IsWritten (list list' : ℕ → Sector) (first : ℕ) (from : List ℕ) : Type 0 where
+  pub here : (x : ℕ) → first ≤ x → x < first + length from / 512 → list' x ≡ row_sector from (x - first)
+  pub other : (x : ℕ) → (x < first) ⊎ (first + length from / 512 ≤ x) → list' x ≡ list x
+
+-- Rows that held the list hold it with these sectors written.
+abbrev pub TakesOver : Shape → ℕ → ℕ → ℕ → List ℕ → Contents → Contents → Type 0
+TakesOver shape offset size first from before after = (list list' : ℕ → Sector) → IsWritten list list' first from
+    → ((row : ℕ) → row < size → HoldsRow shape offset before list row) → (row : ℕ) → row < size → HoldsRow shape offset after list' row

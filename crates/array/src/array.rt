@@ -13,9 +13,9 @@ ghost use Rattle.flat_history.specs.declared.events.Request.TheVariants.{Read as
 ghost use Rattle.array.specs.Rows.{present, AreMembers};
 ghost use Rattle.array.specs.Kept.{opening_of, zero_list, Holds, IsEntered, IsPlaced, IsAnswered, IsCausedBy, IsMade, IsNotMadeFor, IsSameArray, IsRefusalOf};
 
-use crate::buffers::{read_rows, touched_rows, write_rows};
-use crate::calls::{check_number, enter, enter_loss, enter_torn};
+use crate::calls::{check_number, enter, enter_failure, enter_loss};
 use crate::lists::read_body;
+use crate::puts::put;
 use crate::spec::CreateSpec;
 use crate::zeros::zero_members;
 use bank::Bank;
@@ -251,43 +251,22 @@ impl<B: Bank> Array<B> {
             }
             None => {}
         }
-        self.rows.clear();
-        touched_rows(&self.shape, at, count, &mut self.rows);
-        let read = read_rows(
-            &mut self.bank,
-            self.shape.disks,
-            self.offset,
-            self.size,
-            &self.rows,
-            &mut self.buffer,
-        );
-        match read {
-            Err(role) => {
-                self.lost = Some(role);
-                let refusal = Refusal::TooManyMissing(1, 0);
-                let end = self.bank.ops();
-                enter_loss(&mut self.epoch, who, end, role, refusal);
-                return Err(Fault::Refused(refusal));
-            }
-            Ok(()) => {}
-        }
-        let written = write_rows(
+        let put = put(
             &mut self.bank,
             &self.shape,
             self.offset,
             self.size,
             at,
             from,
-            &self.rows,
+            &mut self.rows,
             &mut self.buffer,
         );
-        match written {
-            Err(role) => {
-                self.lost = Some(role);
-                let refusal = Refusal::TooManyMissing(1, 0);
+        match put {
+            Err(loss) => {
+                self.lost = Some(loss.role);
                 let end = self.bank.ops();
-                enter_torn(&mut self.epoch, who, end, role, at, body, refusal);
-                Err(Fault::Refused(refusal))
+                enter_failure(&mut self.epoch, who, end, loss, at, body);
+                Err(Fault::Refused(Refusal::TooManyMissing(1, 0)))
             }
             Ok(()) => {
                 let end = self.bank.ops();

@@ -12,9 +12,9 @@ use Rattle.flat_history.specs.declared.events.Request.TheVariants.{Write as Asks
 use Rattle.flat_history.specs.Flat.{next_number, now}
 use Rattle.flat_history.specs.Fits.{IsWriteRefused}
 use Rattle.flat_history.specs.Plain.{entries_of}
-use Rattle.array.specs.Kept.{zero_list, opening_of, IsRefusalOf}
-use Rattle.array.proofs.ReadyLaws.{ready_refused, ready_lost, ready_torn, ready_wrote}
-use Rattle.array.proofs.ReplyLaws.{refused_reply, lost_reply, torn_reply, replied, write_kind}
+use Rattle.array.specs.Kept.{zero_list, opening_of, failure_events, IsRefusalOf}
+use Rattle.array.proofs.ReadyLaws.{ready_refused, ready_failed, ready_wrote, holds_put}
+use Rattle.array.proofs.ReplyLaws.{refused_reply, failed_reply, replied, write_kind}
 use Rattle.array.proofs.array.Array.write.Goals as goal
 
 pub invariant_of-self-in-Some : goal.invariant_of-self-in-Some
@@ -40,3 +40,61 @@ returns-in-Some-clause-answered g c =
     rw (← c.self.view_is) (refused_reply a.shape a.size a.epoch.first was.kept.recorded IsWriteRefused (AsksWrite c.args.at body) c.args.who to c.enter.new.epoch.entries.items
     c.ops-end.result c.in-Some.refusal (write_kind c.args.at body) why'
     (c.enter.ensures.items ∙ ap (λ (l : List Entry). l ++ entries_of c.args.who c.ops-end.result (Refused c.in-Some.refusal ∷ [])) c.make_room.ensures.items) number)
+
+pub invariant_of-self-in-Err-put : goal.invariant_of-self-in-Err-put
+invariant_of-self-in-Err-put g c =
+    let was = c.self.invariant in
+    let a = c.self.inside in
+    let number : c.args.who.number ≡ next_number c.args.who.caller a.epoch.entries.items = c.requires.next ∙ ap (λ p. next_number c.args.who.caller p.entries) (sym c.self.view_is) in
+    let did = c.in-Err-put.ensures in
+    let loss = c.in-Err-put.loss in
+    let lt : loss.role < 32 = omega (arith, did.cause.0, (limited a.shape was.kept.placed.valid).most) in
+    let within : c.args.at + length (sectors_of c.args.from.now) ≤ data_disks a.shape * a.size = omega (arith, c.in-None.ensures.0, c.list_length.ensures, length-sectors_of c.args.from.now) in
+    ready_failed c.args.who c.ops-end-in-Err-put.result was did.given c.enter_failure.ensures.first c.make_room.ensures.items number c.requires.caller c.ops-end-in-Err-put.ensures
+    (omega (arith, c.enter_failure.ensures.room, c.in-Ok-make_room.ensures.ok)) (omega (arith, was.rows_fit, did.rows)) (rw did.buffer was.buffer_fits)
+    loss.torn loss.role c.args.at (sectors_of c.args.from.now)
+    (c.enter_failure.ensures.items ∙ ap (λ (b : List Sector). c.make_room.new.self.items ++ entries_of c.args.who c.ops-end-in-Err-put.result (failure_events loss.torn loss.role c.args.at b)) c.in-Ok.ensures)
+    did.grows lt within
+
+pub returns-in-Err-put-clause-answered : goal.returns-in-Err-put-clause-answered
+returns-in-Err-put-clause-answered g c =
+    let was = c.self.invariant in
+    let a = c.self.inside in
+    let number : c.args.who.number ≡ next_number c.args.who.caller a.epoch.entries.items = c.requires.next ∙ ap (λ p. next_number c.args.who.caller p.entries) (sym c.self.view_is) in
+    let loss = c.in-Err-put.loss in
+    let end = c.ops-end-in-Err-put.result in
+    let body = sectors_of c.args.from.now in
+    let within : c.args.at + length body ≤ data_disks a.shape * a.size = omega (arith, c.in-None.ensures.0, c.list_length.ensures, length-sectors_of c.args.from.now) in
+    rw (← c.self.view_is) (failed_reply a.shape a.size a.epoch.first was.kept.recorded loss.torn c.args.who c.args.at body c.enter_failure.new.epoch.entries.items end loss.role within
+    (c.enter_failure.ensures.items ∙ ap (λ (l : List Entry). l ++ entries_of c.args.who end (failure_events loss.torn loss.role c.args.at c.in-Ok.body)) c.make_room.ensures.items
+    ∙ ap (λ (b : List Sector). a.epoch.entries.items ++ entries_of c.args.who end (failure_events loss.torn loss.role c.args.at b)) c.in-Ok.ensures) number)
+
+pub invariant_of-self-in-Ok-put : goal.invariant_of-self-in-Ok-put
+invariant_of-self-in-Ok-put g c =
+    let was = c.self.invariant in
+    let a = c.self.inside in
+    let number : c.args.who.number ≡ next_number c.args.who.caller a.epoch.entries.items = c.requires.next ∙ ap (λ p. next_number c.args.who.caller p.entries) (sym c.self.view_is) in
+    let did = c.in-Ok-put.ensures in
+    let end = c.ops-end-in-Ok-put.result in
+    let body = sectors_of c.args.from.now in
+    let within : c.args.at + length body ≤ data_disks a.shape * a.size = omega (arith, c.in-None.ensures.0, c.list_length.ensures, length-sectors_of c.args.from.now) in
+    ready_wrote c.args.who end was did.given c.enter-in-Ok-put.ensures.first c.make_room.ensures.items number c.requires.caller c.ops-end-in-Ok-put.ensures
+    (omega (arith, c.enter-in-Ok-put.ensures.room, c.in-Ok-make_room.ensures.ok)) (omega (arith, was.rows_fit, did.rows)) (rw did.buffer was.buffer_fits)
+    c.args.at body
+    (c.enter-in-Ok-put.ensures.items ∙ ap (λ (b : List Sector). c.make_room.new.self.items ++ entries_of c.args.who end (Wrote c.args.at b ∷ [])) c.in-Ok.ensures)
+    did.grows within
+    (λ t none. holds_put a.shape a.size a.offset (g.B.Bank.given a.bank) (g.B.Bank.given c.put-put.new.bank) (g.B.Bank.tape a.bank) (g.B.Bank.tape c.put-put.new.bank) a.epoch.entries.items c.args.who end c.args.at c.args.from.now
+    did.given (did.written t) (was.kept.holds t none))
+
+pub returns-in-Ok-put-clause-answered : goal.returns-in-Ok-put-clause-answered
+returns-in-Ok-put-clause-answered g c =
+    let was = c.self.invariant in
+    let a = c.self.inside in
+    let number : c.args.who.number ≡ next_number c.args.who.caller a.epoch.entries.items = c.requires.next ∙ ap (λ p. next_number c.args.who.caller p.entries) (sym c.self.view_is) in
+    let end = c.ops-end-in-Ok-put.result in
+    let body = sectors_of c.args.from.now in
+    rw (← c.self.view_is) (replied (opening_of a.shape a.size a.epoch.first) (AsksWrite c.args.at body) c.args.who a.epoch.entries.items c.enter-in-Ok-put.new.epoch.entries.items
+    end [] (Wrote c.args.at body)
+    (c.enter-in-Ok-put.ensures.items ∙ ap (λ (l : List Entry). l ++ entries_of c.args.who end (Wrote c.args.at c.in-Ok.body ∷ [])) c.make_room.ensures.items
+    ∙ ap (λ (b : List Sector). a.epoch.entries.items ++ entries_of c.args.who end (Wrote c.args.at b ∷ [])) c.in-Ok.ensures)
+    number (refl, refl) tt)
