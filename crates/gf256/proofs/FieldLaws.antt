@@ -5,7 +5,7 @@ use Rattle.std.proofs.Math.Nat.{zero-mul, one-mul, mul-zero, add-zero, pow-suc}
 use Rattle.std.proofs.lemmas.Bool.{cases_lt, agree_below_at, and_parts, or_cases}
 use borrow.Author.Tests.{ltb-true}
 use Rattle.std.proofs.Common.{Bool, true, nat_eq, nat_lt, eqb-true, ◌||◌, ◌&&◌, if◌then◌else◌}
-use Rattle.gf256.specs.Field.{double, product_of_bits, product, power_of_two, IsField}
+use Rattle.gf256.specs.Field.{double, product_of_bits, product, power_of_two}
 
 -- ---- sums
 
@@ -16,11 +16,11 @@ swap_middle a b c d =
     ∙ ap (λ (x : ℕ). bit_xor a x) (sym (xor_assoc b c d) ∙ ap (λ (x : ℕ). bit_xor x d) (xor_comm b c) ∙ xor_assoc c b d)
     ∙ sym (xor_assoc a c (bit_xor b d))
 
-bit_cases : (s : ℕ) → s < 2 → (s ≡ 0) ⊎ (s ≡ 1)
+pub bit_cases : (s : ℕ) → s < 2 → (s ≡ 0) ⊎ (s ≡ 1)
 bit_cases s h = elim (cases_lt s 1) [ inl lt ↦ inl (omega arith) | inr ge ↦ inr (omega arith) ]
 
 -- a bit times an element, of a sum of bits
-bit_times-add : (s t e : ℕ) → s < 2 → t < 2 → bit_xor s t * e ≡ bit_xor (s * e) (t * e)
+pub bit_times-add : (s t e : ℕ) → s < 2 → t < 2 → bit_xor s t * e ≡ bit_xor (s * e) (t * e)
 bit_times-add s t e hs ht =
     elim (bit_cases s hs) [
       | inl s0 ↦ rw (s0, zero-mul) refl
@@ -77,7 +77,7 @@ double-add a b ha hb =
 
 -- ---- the product
 
-if_bit : (s b : ℕ) → s < 2 → (if s == 1 then b else 0) ≡ s * b
+pub if_bit : (s b : ℕ) → s < 2 → (if s == 1 then b else 0) ≡ s * b
 if_bit s b h = elim (bit_cases s h) [ inl s0 ↦ rw (s0, zero-mul) refl | inr s1 ↦ rw (s1, one-mul) refl ]
 
 pub bits-suc : (n a b : ℕ) → product_of_bits (suc n) a b ≡ bit_xor (a % 2 * b) (product_of_bits n (a / 2) (double b))
@@ -397,16 +397,3 @@ product-nonzero a b ha hb pos e =
     let i = inverse-lt a in
     sym (product-one_l b) ∙ ap (λ (x : ℕ). product x b) (sym (product_comm (inverse a) a i ha ∙ product-inverse a ha pos))
     ∙ product_assoc (inverse a) a b i ha hb ∙ ap (product (inverse a)) e ∙ product-zero_r (inverse a)
-
-pub is_field : IsField
-is_field = record {
-  closed = λ a b ha hb. product-lt a b hb;
-  one = product-one_l;
-  commutes = product_comm;
-  associates = product_assoc;
-  distributes = product-add_r;
-  inverse = λ a h p. (inverse a, inverse-lt a, product-inverse a h p);
-  generates = λ a h p. (log_of a, (log_of-is a h p).below, (log_of-is a h p).value);
-  cycle = power-cycle;
-  order = power-injective;
-}

@@ -58,7 +58,7 @@ filled_one roles n m weight f g lt nothing small same unit gives from meets =
 
 -- ---- two roles
 
-digits_two : (n a b k : ℕ) (f : ℕ → ℕ) → a < n → b < n → with_digits (a ∷ b ∷ []) k (tabulate n f) ≡ tabulate n (put (put f a (k % 256)) b (k / 256 % 256))
+pub digits_two : (n a b k : ℕ) (f : ℕ → ℕ) → a < n → b < n → with_digits (a ∷ b ∷ []) k (tabulate n f) ≡ tabulate n (put (put f a (k % 256)) b (k / 256 % 256))
 digits_two n a b k f ha hb =
     ap (λ c. set c b (k / 256 % 256)) (set-tabulate n a (k % 256) f ha) ∙ set-tabulate n b (k / 256 % 256) (put f a (k % 256)) hb
 

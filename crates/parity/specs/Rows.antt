@@ -5,7 +5,7 @@ use Rattle.md_base.specs.declared.places.RowRoles.{RowRoles}
 use Rattle.md_base.specs.Search.{tabulate}
 use Rattle.md_base.specs.Sectors.{Sector}
 use Rattle.parity.specs.Exponents.{is_q, exponent}
-use Rattle.parity.specs.Parity.{Row}
+use Rattle.parity.specs.Parity.{Row, fill}
 use Rattle.gf256.specs.Field.{power_of_two}
 
 -- The roles of a row: at most sixteen disks, of which P is one, and Q another where there is one.
@@ -38,6 +38,10 @@ row_without lacks disks sectors = tabulate disks (λ role. if lacks role then No
 -- the row of these sectors
 abbrev pub whole_row : ℕ → (ℕ → Sector) → Row
 whole_row disks sectors = row_without (λ role. false) disks sectors
+
+-- a role's sector of such a row, filled where it lacks
+abbrev pub filled_sector : RowRoles → (ℕ → Bool) → ℕ → (ℕ → Sector) → ℕ → Sector
+filled_sector roles lacks disks sectors role = if lacks role then fill roles (row_without lacks disks sectors) role else sectors role
 
 -- byte `at` of a role's sector, and of each
 abbrev pub byte_of : List ℕ → ℕ → ℕ → ℕ

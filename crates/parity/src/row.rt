@@ -1,9 +1,8 @@
 //! The parity of a row, and its lacking roles.
 ghost use Rattle.std.specs.Prelude.{◌≡◌, ◌≢◌, ◌==◌, ℕ, ◌<◌, ◌||◌, false, IsTrue, IsSome, if◌then◌else◌, slice_index};
 ghost use Rattle.std.specs.Int.Bits.{bit_xor};
-ghost use Rattle.gf256.specs.Field.{power_of_two};
-ghost use Rattle.parity.specs.Exponents.{is_data, is_q, exponent};
-ghost use Rattle.parity.specs.Parity.{data_sum, fill, AreEquationsMet};
+ghost use Rattle.parity.specs.Exponents.{is_data, is_q};
+ghost use Rattle.parity.specs.Parity.{p_byte, q_byte, fill, AreEquationsMet};
 ghost use Rattle.parity.specs.Rows.{IsRowRoles, IsRowOf, byte_of, bytes_at, sector_of, row_without, whole_row};
 
 use crate::sectors::{add_sector, combination, put_sector, sector};
@@ -35,8 +34,8 @@ pub fn syndromes(row: &mut [u8], roles: &RowRoles)
 fn missing_sector(row: &[u8], roles: &RowRoles, missing: u32) -> [u8; 512]
     requires roles { IsRowRoles roles.now }
     requires whole { IsRowOf roles.now.disks row.now }
-    ensures q { IsTrue (is_q roles.now missing) → (at : ℕ) → at < 512 → slice_index result at ≡ data_sum (λ role. power_of_two (exponent roles.now missing role)) roles.now 0 (bytes_at roles.now.disks row.now at) }
-    ensures other { is_q roles.now missing ≡ false → (at : ℕ) → at < 512 → slice_index result at ≡ bit_xor (data_sum (λ role. 1) roles.now 0 (bytes_at roles.now.disks row.now at)) (byte_of row.now roles.now.p at) }
+    ensures q { IsTrue (is_q roles.now missing) → (at : ℕ) → at < 512 → slice_index result at ≡ q_byte roles.now missing (bytes_at roles.now.disks row.now at) }
+    ensures other { is_q roles.now missing ≡ false → (at : ℕ) → at < 512 → slice_index result at ≡ bit_xor (p_byte roles.now (bytes_at roles.now.disks row.now at)) (byte_of row.now roles.now.p at) }
 {
     if let Some(q) = roles.q {
         if q == missing {

@@ -1,9 +1,8 @@
 //! The sums of a row's data, and how often each role counts in them.
 ghost use Rattle.std.specs.Prelude.{◌≡◌, ◌≢◌, ℕ, ◌+◌, ◌*◌, ◌<◌, Some, slice_index};
 ghost use Rattle.std.specs.Int.Bits.{bit_xor};
-ghost use Rattle.gf256.specs.Field.{power_of_two};
-ghost use Rattle.parity.specs.Exponents.{is_data, exponent, steps_behind};
-ghost use Rattle.parity.specs.Parity.{data_sum};
+ghost use Rattle.parity.specs.Exponents.{is_data, steps_behind};
+ghost use Rattle.parity.specs.Parity.{p_byte, q_byte};
 ghost use Rattle.parity.specs.Rows.{IsRowRoles, IsRowOf, byte_of, bytes_at, p_weight, q_weight};
 
 use crate::sectors::{add_sector, add_to_both, sector};
@@ -38,7 +37,7 @@ fn is_data_role(roles: &RowRoles, role: u32) -> bool
 pub(crate) fn plain_sum(row: &[u8], roles: &RowRoles) -> [u8; 512]
     requires roles { IsRowRoles roles.now }
     requires whole { IsRowOf roles.now.disks row.now }
-    ensures { (at : ℕ) → at < 512 → slice_index result at ≡ data_sum (λ role. 1) roles.now 0 (bytes_at roles.now.disks row.now at) }
+    ensures { (at : ℕ) → at < 512 → slice_index result at ≡ p_byte roles.now (bytes_at roles.now.disks row.now at) }
 {
     let mut sum = [0; 512];
     for role in 0..roles.disks {
@@ -57,8 +56,8 @@ pub(crate) fn both_sums(row: &[u8], roles: &RowRoles, q: u32) -> Sums
     requires roles { IsRowRoles roles.now }
     requires whole { IsRowOf roles.now.disks row.now }
     requires q { roles.now.q ≡ Some q }
-    ensures plain { (at : ℕ) → at < 512 → slice_index result.plain at ≡ data_sum (λ role. 1) roles.now 0 (bytes_at roles.now.disks row.now at) }
-    ensures weighed { (at : ℕ) → at < 512 → slice_index result.weighed at ≡ data_sum (λ role. power_of_two (exponent roles.now q role)) roles.now 0 (bytes_at roles.now.disks row.now at) }
+    ensures plain { (at : ℕ) → at < 512 → slice_index result.plain at ≡ p_byte roles.now (bytes_at roles.now.disks row.now at) }
+    ensures weighed { (at : ℕ) → at < 512 → slice_index result.weighed at ≡ q_byte roles.now q (bytes_at roles.now.disks row.now at) }
 {
     let mut plain = [0; 512];
     let mut weighed = [0; 512];
@@ -77,8 +76,8 @@ pub(crate) fn rests(row: &[u8], roles: &RowRoles, q: u32) -> Sums
     requires roles { IsRowRoles roles.now }
     requires whole { IsRowOf roles.now.disks row.now }
     requires q { roles.now.q ≡ Some q }
-    ensures plain { (at : ℕ) → at < 512 → slice_index result.plain at ≡ bit_xor (data_sum (λ role. 1) roles.now 0 (bytes_at roles.now.disks row.now at)) (byte_of row.now roles.now.p at) }
-    ensures weighed { (at : ℕ) → at < 512 → slice_index result.weighed at ≡ bit_xor (data_sum (λ role. power_of_two (exponent roles.now q role)) roles.now 0 (bytes_at roles.now.disks row.now at)) (byte_of row.now q at) }
+    ensures plain { (at : ℕ) → at < 512 → slice_index result.plain at ≡ bit_xor (p_byte roles.now (bytes_at roles.now.disks row.now at)) (byte_of row.now roles.now.p at) }
+    ensures weighed { (at : ℕ) → at < 512 → slice_index result.weighed at ≡ bit_xor (q_byte roles.now q (bytes_at roles.now.disks row.now at)) (byte_of row.now q at) }
 {
     let Sums {
         mut plain,

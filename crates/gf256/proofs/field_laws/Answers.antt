@@ -1,4 +1,4 @@
-use Rattle.gf256.proofs.FieldLaws.{is_field}
+use Rattle.gf256.proofs.Fields.{is_field}
 use Rattle.gf256.proofs.field_laws.Goals as goal
 
 pub returns : goal.returns

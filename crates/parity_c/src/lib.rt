@@ -1,0 +1,28 @@
+//! `syndromes` for a caller in C.
+#![tactic(auto)]
+
+ghost use Rattle.std.specs.Prelude.{◌≢◌, ◌<◌, ◌≤◌, Some};
+ghost use Rattle.parity.specs.Parity.{AreEquationsMet};
+ghost use Rattle.parity.specs.Rows.{IsRowOf, sector_of, whole_row};
+
+use md_base::RowRoles;
+use parity::syndromes;
+
+/// Sets P and Q from the data of a row of whole sectors, role after role.
+#[unsafe(no_mangle)]
+pub extern "C" fn parity_syndromes(row: &mut [u8], disks: u32, p: u32, q: u32)
+    requires disks { disks ≤ 16 }
+    requires p { p < disks }
+    requires q { (q < disks) × (q ≢ p) }
+    requires whole { IsRowOf disks row.old }
+    ensures { AreEquationsMet (record { disks = disks; p = p; q = Some q }) (whole_row disks (sector_of row.new)) }
+{
+    syndromes(
+        row,
+        &RowRoles {
+            disks,
+            p,
+            q: Some(q),
+        },
+    );
+}
