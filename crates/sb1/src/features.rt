@@ -3,6 +3,7 @@
 ghost use Rattle.std.specs.Prelude.{⊤, ◌≡◌, [], ◌∷◌, codes};
 ghost use Rattle.sb1.specs.Features.{refused_bits};
 
+use crate::sb::Sb;
 use bitflags::{Flag, Flags, bitflag_items};
 
 /// What a superblock's array makes use of.
@@ -48,6 +49,13 @@ impl Flags for Features {
 }
 
 impl Features {
+    /// The bits of this superblock.
+    pub fn of(sb: &Sb) -> Features
+        ensures { result.0 ≡ sb.now.feature_map }
+    {
+        Features(sb.feature_map)
+    }
+
     /// The bits for which an array is refused: those other than a recovery offset's and a reshape's.
     pub fn refused(self) -> Features
         ensures { result.0 ≡ refused_bits self.0 }
