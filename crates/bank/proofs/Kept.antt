@@ -1,15 +1,15 @@
 -- The image that a pick makes: its writes carried out one by one, and that a stop may leave it.
-use Rattle.std.proofs.Common.{◌≡◌, ◌≢◌, ◌⊎◌, inl, inr, ⊎_elim, ℕ, zero, suc, ◌+◌, ◌-◌, ◌<◌, ◌≤◌, Bool, true, false, ◌||◌, if◌then◌else◌, List, [], ◌∷◌, ◌++◌, length, take, drop, get_or, Some, refl, sym, ◌∙◌, ap, subst, arith, le_refl, take_all}
-use Rattle.std.specs.Prelude.{slice_get, slice_range, nat_lt}
-use Rattle.std.proofs.lemmas.Bool.{cases_eq, cases_lt, lt-ltb, le-ltb}
+use Rattle.std.proofs.Common.{◌≡◌, ◌⊎◌, inl, inr, ⊎_elim, ℕ, zero, suc, ◌+◌, ◌-◌, ◌<◌, ◌≤◌, Bool, true, false, ◌||◌, if◌then◌else◌, List, [], ◌∷◌, ◌++◌, length, take, drop, get_or, Some, refl, sym, ◌∙◌, ap, subst, arith, le_refl}
+use Rattle.std.specs.Prelude.{slice_get, slice_range}
+use Rattle.std.proofs.lemmas.Bool.{cases_eq, lt-ltb, le-ltb}
 use Rattle.std.proofs.lemmas.Bool.Decides.{nat_tests}
 use Rattle.std.proofs.lemmas.List.{take_more, take-take, take-append-drop, drop-take, length-take-le}
 use Rattle.md_base.specs.Sectors.{Sector}
 use Rattle.bank.specs.declared.bank.Operation.{Operation}
 use Rattle.bank.specs.declared.bank.Operation.TheVariants.{Write, Flush}
 use Rattle.bank.specs.declared.image.Pick.{Pick}
-use Rattle.bank.specs.declared.image.Pick.TheVariants.{Flushed, Latest, Mixed}
-use Rattle.bank.specs.Tape.{Contents, contents, after_one, value_after, IsLeft, IsImage}
+use Rattle.bank.specs.declared.image.Pick.TheVariants.{Flushed, Latest}
+use Rattle.bank.specs.Tape.{Contents, contents, after_one, value_after, IsImage}
 use Rattle.bank.specs.Memory.{sector_of}
 use Rattle.bank.specs.Picks.{IsLastFlush, keeps, kept, IsPicked, is_taken}
 use Rattle.bank.proofs.Laws.{value_after-append}

@@ -1,13 +1,13 @@
 -- A set of values that bounds what a stop may leave before a stretch of operations, and has all that they write, bounds it
 -- at each mark of the stretch: so one proof about these values serves every image of every mark.
-use Rattle.std.proofs.Common.{◌≡◌, ◌≢◌, ◌⊎◌, inl, inr, ℕ, ◌≤◌, List, [], ◌∷◌, length, refl, sym, ◌∙◌, ap, subst, Result}
+use Rattle.std.proofs.Common.{◌≡◌, ◌≢◌, ◌⊎◌, inl, inr, ℕ, ◌≤◌, List, [], ◌∷◌, length, refl, sym, ◌∙◌, subst, Result}
 use Rattle.std.proofs.lemmas.Bool.{cases_eq}
 use Rattle.md_base.specs.Sectors.{Sector}
 use Rattle.bank.specs.declared.bank.Operation.{Operation}
 use Rattle.bank.specs.declared.bank.Operation.TheVariants.{Write, Flush}
 use Rattle.bank.specs.Tape.{Contents, IsIn, IsImage, IsDrawn, choices, choices_after, disk, run, EachMark, Did}
 use Rattle.bank.specs.Stretches.{IsBoundedBy, AreWritesWithin, only_writes, widest}
-use Rattle.bank.proofs.Laws.{choices_after-write_here, choices_after-write_other, choices_after-flush_here, choices_after-flush_other, choices-kept, kept_in}
+use Rattle.bank.proofs.Laws.{choices_after-write_here, choices_after-write_other, choices-kept, kept_in}
 use Rattle.bank.proofs.Marks.{Along}
 use Rattle.bank.proofs.Calls.{did_marks}
 use Rattle.bank.proofs.Images.{drawn-fewer, image-drawn}

@@ -1,8 +1,8 @@
-use Rattle.std.proofs.Common.{◌≡◌, ◌⊎◌, inl, inr, ⊎_elim, ℕ, List, [], ◌∷◌, take, subst, ap}
+use Rattle.std.proofs.Common.{◌≡◌, ◌⊎◌, inl, inr, ⊎_elim, ℕ, List, [], ◌∷◌, take, subst}
 use Rattle.md_base.specs.Sectors.{Sector}
 use Rattle.bank.specs.declared.bank.Operation.TheVariants.{Write, Flush}
-use Rattle.bank.specs.Tape.{Contents, IsIn, IsDrawn, choices, choices_after, disk, run}
-use Rattle.bank.specs.Example.{IsOldOrNew, EachIsOldOrNew}
+use Rattle.bank.specs.Tape.{Contents, IsIn, choices_after}
+use Rattle.bank.specs.Example.{EachIsOldOrNew}
 use Rattle.bank.proofs.Laws.{choices_after-write_here}
 use Rattle.bank.proofs.Marks.{Along}
 use Rattle.bank.proofs.Calls.{did_then, did_stop, did_marks}

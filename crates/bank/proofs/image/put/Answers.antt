@@ -1,5 +1,5 @@
 use Rattle.std.proofs.Common.{refl}
-use Rattle.bank.proofs.Slots.{put-lists, get-lists}
+use Rattle.bank.proofs.Slots.{put-lists}
 use Rattle.bank.proofs.image.put.Goals as goal
 
 pub returns : goal.returns

@@ -1,6 +1,5 @@
 use Rattle.std.proofs.Common.{◌≡◌, ◌++◌, ◌/◌, length, take}
 use Rattle.bank.specs.Tape.{writes}
-use Rattle.bank.specs.Memory.{Memory}
 use Rattle.bank.proofs.memory.MemoryBank.append_writes.Given as goal
 
 abbrev pub invariant-loop-i : goal.invariant-loop-i
