@@ -1,5 +1,5 @@
 -- A cache's rows against its entries.
-use Rattle.std.proofs.Common.{◌≡◌, ℕ, zero, suc, ◌+◌, ◌-◌, ◌==◌, Bool, true, false, ◌&&◌, cond, not, if◌then◌else◌, List, [], ◌∷◌, length, take, map, Option, Some, None, is_some, IfSome, ◌*◌, refl, sym, ap, ap₂, ◌∙◌, subst, arith, bit_or, slice_get}
+use Rattle.std.proofs.Common.{◌≡◌, ℕ, ◌-◌, ◌==◌, Bool, true, false, cond, not, if◌then◌else◌, List, [], ◌∷◌, length, take, map, Option, Some, None, IfSome, ◌*◌, refl, sym, ap, ap₂, ◌∙◌, subst, arith, bit_or, slice_get}
 use Rattle.std.specs.Option.{option_map, option_map_or}
 use Rattle.std.specs.List.{find, IsDistinct, AllByRecursion}
 use Rattle.std.specs.Map.{keys_of, lookup, lookup_entry, remove_entry, set_value}

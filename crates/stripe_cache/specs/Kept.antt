@@ -1,5 +1,5 @@
 -- What became of a row that was to be kept.
-use Rattle.std.specs.Prelude.{◌≡◌, Option, Some, None}
+use Rattle.std.specs.Prelude.{◌≡◌, Some, None}
 use Rattle.stripe_cache.specs.declared.cached.Cached.{Cached}
 use Rattle.stripe_cache.specs.declared.cached.Kept.{Kept}
 use Rattle.stripe_cache.specs.declared.cached.Kept.TheVariants.{Here, Evicted, NoMemory}

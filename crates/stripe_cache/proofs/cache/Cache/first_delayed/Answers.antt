@@ -1,4 +1,4 @@
-use Rattle.std.proofs.Common.{sym, ap, ◌∙◌, subst, ◌≡◌}
+use Rattle.std.proofs.Common.{◌∙◌}
 use Rattle.stripe_cache.proofs.Views.{first_found}
 use Rattle.stripe_cache.proofs.cache.Cache.first_delayed.Goals as goal
 

@@ -2,7 +2,7 @@ use Rattle.std.proofs.Common.{◌≡◌, Option, Some, None, MatchOption, option
 use Rattle.md_base.specs.Sectors.{sectors_of}
 use Rattle.stripe_cache.specs.declared.cached.Cached.{Cached}
 use Rattle.stripe_cache.specs.declared.cached.Kept.{Kept}
-use Rattle.stripe_cache.specs.declared.cached.Kept.TheVariants.{Here, Evicted, NoMemory}
+use Rattle.stripe_cache.specs.declared.cached.Kept.TheVariants.{Here, Evicted}
 use Rattle.stripe_cache.specs.Rows.{Rows, kept, leaving, if_delayed}
 use Rattle.stripe_cache.specs.View.{cached_of, rows_of}
 use Rattle.stripe_cache.specs.Kept.{IsKept}

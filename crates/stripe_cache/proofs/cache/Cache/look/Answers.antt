@@ -1,12 +1,10 @@
-use Rattle.std.proofs.Common.{◌≡◌, ℕ, ◌*◌, Bool, true, false, List, length, is_some, Option, Some, None, IfSome, MatchOption, refl, sym, ap, ◌∙◌, subst}
-use Rattle.std.specs.Map.{lookup}
+use Rattle.std.proofs.Common.{◌≡◌, ℕ, List, is_some, None, MatchOption, sym, ap, ◌∙◌, subst}
 use Rattle.md_base.specs.Sectors.{sectors_of}
 use Rattle.md_base.specs.declared.places.Side.{Side}
-use Rattle.stripe_cache.specs.declared.cached.Cached.{Cached}
 use Rattle.stripe_cache.specs.HeldRow.{HeldRow}
 use Rattle.stripe_cache.specs.Rows.{Rows, held_row, used}
-use Rattle.stripe_cache.specs.View.{rows_of, key_of}
-use Rattle.stripe_cache.proofs.Views.{same_key, IsFound, found_in, none_in, used_in, found_length}
+use Rattle.stripe_cache.specs.View.{rows_of}
+use Rattle.stripe_cache.proofs.Views.{IsFound, found_in, none_in, used_in, found_length}
 use Rattle.stripe_cache.proofs.cache.Cache.look.Goals as goal
 use Rattle.stripe_cache.proofs.cache.Cache.look.Goals.{in-Some, in-None}
 

@@ -2,7 +2,7 @@ use Rattle.std.proofs.Common.{◌≡◌, Bool, true, false, if◌then◌else◌,
 use Rattle.std.specs.Map.{set_value}
 use Rattle.lru.specs.LruCache.{lru_cache, promoted}
 use Rattle.md_base.specs.Sectors.{sectors_of}
-use Rattle.stripe_cache.specs.Rows.{Rows, kept}
+use Rattle.stripe_cache.specs.Rows.{Rows}
 use Rattle.stripe_cache.specs.View.{rows_of}
 use Rattle.stripe_cache.proofs.Views.{same_key, found_in, none_in, found_length, replaced_in}
 use Rattle.stripe_cache.proofs.cache.Cache.replace.Goals as goal

@@ -1,9 +1,6 @@
-use Rattle.std.proofs.Common.{◌≡◌, Option, Some, None, map, sym, ap, ◌∙◌}
-use Rattle.std.specs.List.{find}
-use Rattle.lru.specs.LruCache.{LruCache}
+use Rattle.std.proofs.Common.{◌≡◌, Option, Some, None, sym, ap, ◌∙◌}
 use Rattle.stripe_cache.specs.declared.key.Key.{Key}
 use Rattle.stripe_cache.specs.HeldRow.{HeldRow}
-use Rattle.stripe_cache.specs.Rows.{Rows, is_delayed}
 use Rattle.stripe_cache.specs.View.{cached_of, rows_of}
 use Rattle.stripe_cache.proofs.Views.{IsTaken, taken, untaken}
 use Rattle.stripe_cache.proofs.cache.Cache.take_delayed.Goals as goal
