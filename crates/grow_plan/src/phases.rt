@@ -1,12 +1,12 @@
 //! The phases of a plan, one after another.
 
-ghost use Rattle.std.specs.Prelude.{◌≡◌, ◌≤◌, ◌^◌, IsTrue};
-ghost use Rattle.md_base.specs.Shapes.{data_disks, is_valid_shape};
+ghost use Rattle.std.specs.Prelude.{◌≡◌, ◌≤◌, ◌^◌, ◌*◌, ◌∷◌};
+ghost use Rattle.std.specs.Option.{option_to_list};
 ghost use Rattle.geometry.specs.Geometry.{AreInForce};
 ghost use Rattle.grow_plan.specs.Plans.{phase_shape, phase_window, phase_steps, phases_steps, plan_phases, AreSound, most_disks, largest_window, least_data};
 
 use geometry::steps::reshape_steps;
-use geometry::{data_disks, list_end, unit};
+use geometry::{list_end, unit};
 use md_base::{Phase, Plan, Shape};
 
 /// The shape that a phase leads to.
@@ -26,6 +26,42 @@ pub fn phase_window(now: &Shape, size: u64, phase: &Phase) -> u64
     match *phase {
         Phase::Reshape(to) => unit(now, &to).min(list_end(now, &to, size)),
         Phase::UpTo6(_) | Phase::DownTo5(_) => 0,
+    }
+}
+
+/// The largest disk count of a shape and one or two phases from it.
+pub fn most_disks(now: &Shape, first: &Phase, second: Option<Phase>) -> u32
+    ensures { result ≡ most_disks now.now (first.now ∷ option_to_list second) }
+{
+    let disks = now.disks.max(phase_shape(first).disks);
+    match second {
+        None => disks,
+        Some(phase) => disks.max(phase_shape(&phase).disks),
+    }
+}
+
+/// The smallest length of the list on the way through one or two phases.
+pub fn least_length(now: &Shape, size: u64, first: &Phase, second: Option<Phase>) -> u64
+    requires { AreSound now.now size (first.now ∷ option_to_list second) }
+    ensures { result ≡ least_data now.now (first.now ∷ option_to_list second) * size }
+{
+    let middle = phase_shape(first);
+    let length = list_end(now, &middle, size);
+    match second {
+        None => length,
+        Some(phase) => length.min(list_end(&middle, &phase_shape(&phase), size)),
+    }
+}
+
+/// The largest window of one or two phases.
+pub fn largest_window(now: &Shape, size: u64, first: &Phase, second: Option<Phase>) -> u64
+    requires { AreSound now.now size (first.now ∷ option_to_list second) }
+    ensures { result ≡ largest_window now.now size (first.now ∷ option_to_list second) }
+{
+    let window = phase_window(now, size, first);
+    match second {
+        None => window,
+        Some(phase) => window.max(phase_window(&phase_shape(first), size, &phase)),
     }
 }
 

@@ -4,12 +4,11 @@ ghost use Rattle.std.specs.Prelude.{◌≡◌, ◌∷◌, ◌<◌, ◌^◌, IsTr
 ghost use Rattle.std.specs.Option.{option_to_list};
 ghost use Rattle.md_base.specs.Shapes.{is_valid_shape, is_level};
 ghost use Rattle.geometry.specs.Geometry.{is_size};
-ghost use Rattle.grow_plan.specs.Plans.{IsPlan, IsPlanOf, AreSound, plan_phases, phases_to, bad_field};
+ghost use Rattle.grow_plan.specs.Plans.{IsPlan, IsPlanOf, AreSound, plan_phases, phases_to, bad_field, has_bad_disks};
 
-use crate::phases::{phase_shape, phase_window};
+use crate::phases::{largest_window, least_length, most_disks};
 use crate::targets::{before_down, is_same_shape, taken_up, target, wished_level};
 use geometry::limits::{is_chunk, is_disk_count, is_layout, is_level, is_multiple};
-use geometry::data_disks;
 use md_base::{Phase, Plan, Refusal, Shape, ShapeField, Wish};
 
 /// The plan of a wish on an array of this shape, with `size` rows on each member.
@@ -49,48 +48,48 @@ fn bad_field(now: &Shape, level: u32, to: &Shape) -> Option<ShapeField>
         Some(ShapeField::Layout)
     } else if !is_chunk(to.chunk) {
         Some(ShapeField::Chunk)
-    } else if !are_disk_counts(now, level, to) {
+    } else if has_bad_disks(now, level, to) {
         Some(ShapeField::Disks)
     } else {
         None
     }
 }
 
-/// Whether the target and both shapes of its takeover have disk counts within the limits, and the target leaves the
-/// takeover its disk for Q.
-fn are_disk_counts(now: &Shape, level: u32, to: &Shape) -> bool
+/// Whether a disk count on the way to the target is out of its limits, or doesn't do for the takeover: to level 6 the
+/// target has at least the disks of the shape that is taken up, and to level 5 it leaves one for Q.
+fn has_bad_disks(now: &Shape, level: u32, to: &Shape) -> bool
     requires valid { IsTrue (is_valid_shape now.now) }
-    ensures { IsTrue result ↔ HaveGoodDisks now.now level to.now }
+    requires good_level { IsTrue (is_level level) }
+    requires levelled { to.now.level ≡ level }
+    ensures { result ≡ has_bad_disks now.now level to.now }
 {
     if !is_disk_count(level, to.disks) {
-        false
-    } else if level == now.level {
-        true
-    } else if level == 6 {
-        to.disks > now.disks && is_disk_count(6, now.disks + 1)
+        return true;
+    }
+    if level == now.level {
+        return false;
+    }
+    if level == 6 {
+        to.disks <= now.disks || !is_disk_count(6, now.disks + 1)
     } else {
-        to.disks < now.disks && is_disk_count(6, to.disks + 1)
+        to.disks >= now.disks || !is_disk_count(6, to.disks + 1)
     }
 }
 
 /// The plan that leads to a target within the limits.
 fn plan_to(now: &Shape, size: u64, level: u32, to: &Shape) -> Plan
+    requires valid { IsTrue (is_valid_shape now.now) }
     requires sound { AreSound now.now size (phases_to now.now level to.now) }
     requires few { to.now.disks < 2 ^ 31 }
     ensures { IsPlanOf now.now size (phases_to now.now level to.now) result }
 {
     let (first, second) = phases_to(now, level, to);
-    let middle = phase_shape(&first);
-    let last = match &second {
-        None => middle,
-        Some(phase) => phase_shape(phase),
-    };
     Plan {
         first,
         second,
-        spares: now.disks.max(middle.disks).max(last.disks) - now.disks,
-        span: largest_window(now, size, &first, &second),
-        least: data_disks(now).min(data_disks(&middle)).min(data_disks(&last)) * size,
+        spares: most_disks(now, &first, second) - now.disks,
+        span: largest_window(now, size, &first, second),
+        least: least_length(now, size, &first, second),
     }
 }
 
