@@ -1,12 +1,10 @@
 -- Which of the shapes on the way to a target decide whether a field is within its limits.
-use Rattle.std.proofs.Common.{◌≡◌, ℕ, ◌+◌, ◌-◌, ◌<◌, ◌≤◌, Bool, true, false, not, ◌&&◌, ◌||◌, cond, List, [], ◌∷◌, ◌++◌, Option, Some, None, refl, sym, ap, subst, ◌∙◌, inl, inr, arith}
-use Rattle.std.specs.Prelude.{IsTrue, ◌==◌, nat_le, nat_lt}
-use Rattle.std.proofs.lemmas.Bool.{cases_Bool, and_parts, eqb-true, eqb-false, eq-eqb, ne_eqb, cond-true, cond-false, not_from_true, not_from_false, both_ways, or_right}
+use Rattle.std.proofs.Common.{◌≡◌, ℕ, Bool, true, false, not, ◌||◌, cond, [], ◌∷◌, ◌++◌, Some, None, refl, sym, ap, subst, ◌∙◌, inl, inr, arith}
+use Rattle.std.specs.Prelude.{IsTrue, ◌==◌}
+use Rattle.std.proofs.lemmas.Bool.{cases_Bool, and_parts, eqb-true, cond-true, cond-false, not_from_true, not_from_false}
 use Rattle.std.proofs.lemmas.Bool.Decides.{nat_tests}
 use Rattle.md_base.specs.declared.places.Shape.{Shape}
-use Rattle.md_base.specs.declared.wishes.Phase.{Phase}
 use Rattle.md_base.specs.declared.wishes.Phase.TheVariants.{Reshape, UpTo6, DownTo5}
-use Rattle.md_base.specs.declared.answers.ShapeField.{ShapeField}
 use Rattle.md_base.specs.declared.answers.ShapeField.TheVariants.{Level, Layout, Chunk, Disks}
 use Rattle.md_base.specs.Shapes.{is_level, is_layout, is_chunk, is_disk_count, is_valid_shape}
 use Rattle.grow_plan.specs.Plans.{is_same_shape, as_six, taken_up, before_down, reshape_unless_same, phases_to, some_shape, bad_field, has_bad_disks}
