@@ -4,4 +4,7 @@
 pub mod reply;
 pub mod seeds;
 
-pub use reply::{push_created, push_event, push_refusal};
+pub use reply::{
+    Lane, push_assembled, push_created, push_event, push_lane, push_refusal, push_unworked,
+    push_waited, push_worked,
+};
