@@ -1,3 +1,2 @@
-pub mod SectorBytes
-pub mod SeedLaws
+pub mod KindLaws
 pub mod RunLaws

@@ -1,4 +1,4 @@
--- What a seed writes depends on the low 32 bits of the place alone.
+-- Sectors at places with the same low 32 bits, and the kind of a sector by the tests that tell it.
 use Rattle.std.proofs.Common.{◌≡◌, ℕ, ◌+◌, ◌*◌, ◌/◌, ◌%◌, ◌^◌, ◌≤◌, Bool, true, false, List, [], ◌∷◌, ◌++◌, length, get_or, replicate, take, refl, sym, ap, ap₂, ◌∙◌, arith, cond}
 use Rattle.std.proofs.Math.Nat.{mod-add-div', add-mul-mod_self_right, add-mod-mod, mul_assoc}
 use Rattle.std.specs.Int.{w32, to_le_bytes}
