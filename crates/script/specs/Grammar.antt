@@ -4,7 +4,7 @@ use Rattle.std.specs.List.{list_all}
 use Rattle.std.specs.Option.{option_and_then}
 use Rattle.std.specs.Cmp.Lexicographic.{pointwise}
 use Rattle.uuid.specs.Text.{parsed}
-use Rattle.script.specs.Numbers.{words_of, number_below}
+use Rattle.script.specs.Numbers.{is_space, words_of, number_below}
 use Rattle.script.specs.declared.lines.Line.{Line}
 use Rattle.script.specs.declared.lines.Line.TheVariants.{Create, Read, Write}
 use Rattle.script.specs.declared.grammar.Meaning.{Meaning}
@@ -59,7 +59,7 @@ is_printable text = list_all (λ b. nat_le 32 b && nat_le b 126) text
 
 -- lines without a byte, of spaces alone, or that begin with `#`
 abbrev pub is_passed_over : List ℕ → Bool
-is_passed_over text = list_all (λ b. b == 32) text || (slice_index text 0 == 35)
+is_passed_over text = list_all is_space text || (slice_index text 0 == 35)
 
 abbrev pub asks_or_bad : Option Line → Meaning
 asks_or_bad (Some line) = Asks line

@@ -4,9 +4,12 @@ use Rattle.std.specs.Char.{is_ascii_digit}
 use Rattle.std.specs.List.{list_all, slice_split}
 use Rattle.std.specs.Str.Parse.{digits_value}
 
+abbrev pub is_space : ℕ → Bool
+is_space b = b == 32
+
 -- the words of a line: what stands between spaces
 abbrev pub words_of : List ℕ → List (List ℕ)
-words_of line = filter (λ word. nat_lt 0 (length word)) (slice_split (λ b. b == 32) line)
+words_of line = filter (λ word. nat_lt 0 (length word)) (slice_split is_space line)
 
 -- decimal digits without a leading zero, except 0 itself
 abbrev pub is_numeral : List ℕ → Bool

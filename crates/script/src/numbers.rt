@@ -1,8 +1,8 @@
 //! The words of a line, and the numbers that they write.
 
-ghost use Rattle.std.specs.Prelude.{◌≡◌, ◌≤◌, ◌^◌};
+ghost use Rattle.std.specs.Prelude.{◌≡◌, ◌≤◌, ◌^◌, length, not, position, unwrap_or};
 ghost use Rattle.std.specs.Iterator.{YieldsFirstRef, item_count};
-ghost use Rattle.script.specs.Numbers.{words_of, number_below};
+ghost use Rattle.script.specs.Numbers.{is_space, words_of, number_below};
 
 /// The words that are left of a line.
 #[derive(Drop)]
@@ -27,15 +27,27 @@ impl<'a> Iterator for Words<'a> {
     ghost remaining = { item_count (λ s. words_of s.line.now) };
 
     fn next(&mut self) -> Option<&'a [u8]> {
-        let start = self.line.iter().position(|byte| *byte != b' ')?;
-        let found = &self.line[start..];
-        let end = found
-            .iter()
-            .position(|byte| *byte == b' ')
-            .unwrap_or(found.len());
-        self.line = &found[end..];
-        Some(&found[..end])
+        let start = first_other(self.line)?;
+        let (_, found) = self.line.split_at(start);
+        let end = first_space(found).unwrap_or(found.len());
+        let (word, rest) = found.split_at(end);
+        self.line = rest;
+        Some(word)
     }
+}
+
+// Where the first byte stands that is no space.
+fn first_other(line: &[u8]) -> Option<usize>
+    ensures { result ≡ position (λ b. not (is_space b)) line.now }
+{
+    line.iter().position(|byte| *byte != b' ')
+}
+
+// Where the first space stands.
+fn first_space(line: &[u8]) -> Option<usize>
+    ensures { result ≡ position is_space line.now }
+{
+    line.iter().position(|byte| *byte == b' ')
 }
 
 /// The number below 2^64 that a word writes, if it writes one.
