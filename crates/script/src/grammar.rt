@@ -1,7 +1,9 @@
 //! What one line of a script asks.
 
-ghost use Rattle.std.specs.Prelude.{◌≡◌};
-ghost use Rattle.script.specs.Grammar.{meaning_of, line_of, create_of, read_of, write_of, span_of};
+ghost use Rattle.std.specs.Prelude.{◌≡◌, bytes_eq, map};
+ghost use Rattle.std.specs.Cmp.Lexicographic.{pointwise};
+ghost use Rattle.uuid.specs.Text.{parsed};
+ghost use Rattle.script.specs.Grammar.{meaning_of, line_of, first_keys, created, create_of, read_of, write_of, span_of};
 ghost use Rattle.script.specs.Numbers.{words_of};
 
 use crate::lines::{CreateLine, Line};
@@ -49,33 +51,63 @@ fn parse_line(mut words: Words<'_>) -> Option<Line>
     }
 }
 
+// `create UUID` and the keys of the one array that can be made so far.
 fn parse_create(mut words: Words<'_>) -> Option<Line>
     ensures { result ≡ create_of (words_of words.entry.line.now) }
 {
     let uuid = words.next()?;
-    for wanted in FIRST_KEYS {
-        if words.next()? != wanted {
-            return None;
-        }
-    }
-    if words.next().is_some() {
+    if !has_first_keys(words) {
         return None;
     }
-    let uuid = Uuid::try_parse_ascii(uuid).ok()?;
-    Some(Line::Create(CreateLine {
-        uuid: *uuid.as_bytes(),
-        shape: Shape {
-            level: 5,
-            layout: 2,
-            chunk: 8,
-            disks: 3,
-        },
-        size: 40,
-        offset: 16,
-    }))
+    Some(first_array(parse_uuid(uuid)?))
 }
 
-const FIRST_KEYS: [&[u8]; 5] = [b"level=5", b"disks=3", b"chunk=8", b"size=40", b"offset=16"];
+fn has_first_keys(words: Words<'_>) -> bool
+    ensures { result ≡ pointwise bytes_eq (words_of words.entry.line.now) first_keys }
+{
+    let keys: [&[u8]; 5] = [b"level=5", b"disks=3", b"chunk=8", b"size=40", b"offset=16"];
+    are_words(words, &keys)
+}
+
+// Whether the words are these.
+fn are_words(mut words: Words<'_>, wanted: &[&[u8]]) -> bool
+    ensures { result ≡ pointwise bytes_eq (words_of words.entry.line.now) (map (λ word. word.now) wanted.now) }
+{
+    for word in wanted {
+        match words.next() {
+            Some(next) if next == *word => {}
+            _ => return false,
+        }
+    }
+    words.next().is_none()
+}
+
+fn first_array(uuid: [u8; 16]) -> Line
+    ensures { result ≡ created uuid }
+{
+    let shape = Shape {
+        level: 5,
+        layout: 2,
+        chunk: 8,
+        disks: 3,
+    };
+    Line::Create(CreateLine {
+        uuid,
+        shape,
+        size: 40,
+        offset: 16,
+    })
+}
+
+// The bytes of the uuid that a word writes, if it writes one.
+fn parse_uuid(word: &[u8]) -> Option<[u8; 16]>
+    ensures { result ≡ parsed word.now }
+{
+    match Uuid::try_parse_ascii(word) {
+        Ok(uuid) => Some(*uuid.as_bytes()),
+        Err(_) => None,
+    }
+}
 
 fn parse_read(mut words: Words<'_>) -> Option<Line>
     ensures { result ≡ read_of (words_of words.entry.line.now) }
