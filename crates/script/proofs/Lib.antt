@@ -1,2 +1,4 @@
 pub mod Decimals
+pub mod ScriptLaws
+pub mod SeedLaws
 pub mod WordsLaws

@@ -1,5 +1,5 @@
 -- The words of a line, taken off one after the other.
-use Rattle.std.proofs.Common.{◌≡◌, ℕ, zero, suc, ◌+◌, ◌-◌, ◌<◌, ◌≤◌, Bool, true, false, cond, not, eqb, ltb, List, [], ◌∷◌, ◌++◌, length, take, drop, get_or, filter, refl, sym, ap, ap₂, ◌∙◌, subst, arith, drop-cons, add-one, ◌⊎◌, inl, inr, Some, None}
+use Rattle.std.proofs.Common.{◌≡◌, ℕ, suc, ◌+◌, ◌<◌, ◌≤◌, Bool, true, false, cond, not, ltb, List, [], ◌∷◌, length, take, drop, get_or, filter, refl, sym, ap, ap₂, ◌∙◌, arith, drop-cons, ◌⊎◌, inl, inr, Some, None}
 use Rattle.std.proofs.lemmas.Bool.Decides.{nat_tests}
 use Rattle.std.proofs.lemmas.Bool.{cases_lt}
 use Rattle.std.proofs.lemmas.List.{take_all, drop_all, length-take-le}
@@ -7,7 +7,7 @@ use Rattle.std.proofs.lemmas.List.Splits.{slice_split_first, slice_split_none}
 use Rattle.std.proofs.lemmas.List.Sums.{fails_before_first, passes_at_first, prefix_len-le-length}
 use Rattle.std.proofs.lemmas.List.Elements.{All-from_get_or}
 use Rattle.std.specs.Option.{unwrap_or}
-use Rattle.std.specs.List.{prefix_len, position, position_or_len, slice_split, onto_first, All, before_first, after_first}
+use Rattle.std.specs.List.{position, position_or_len, slice_split, onto_first}
 use Rattle.script.specs.Numbers.{is_space, words_of}
 
 abbrev is_other : ℕ → Bool
@@ -19,7 +19,7 @@ by_place p xs = at_end (cases_lt (position_or_len p xs) (length xs))
   where
     at_end : (position_or_len p xs < length xs) ⊎ (length xs ≤ position_or_len p xs)
         → (position p xs ≡ Some (position_or_len p xs)) × (position_or_len p xs < length xs)
-            ⊎ (position p xs ≡ None) × (length xs ≤ position_or_len p xs)
+        ⊎ (position p xs ≡ None) × (length xs ≤ position_or_len p xs)
     at_end (inl found) =
         let t : ltb (position_or_len p xs) (length xs) ≡ true = grind (arith, nat_tests) in
         inl (ap (λ b. cond b (Some (position_or_len p xs)) None) t, found)
@@ -31,7 +31,7 @@ pub position_some : (p : ℕ → Bool) (xs : List ℕ) (i : ℕ) → position p 
 position_some p xs i found = by_cases (by_place p xs)
   where
     by_cases : (position p xs ≡ Some (position_or_len p xs)) × (position_or_len p xs < length xs)
-            ⊎ (position p xs ≡ None) × (length xs ≤ position_or_len p xs)
+        ⊎ (position p xs ≡ None) × (length xs ≤ position_or_len p xs)
         → (i ≡ position_or_len p xs) × (i < length xs)
     by_cases (inl here) = let e : i ≡ position_or_len p xs = cc (here.0) in (e, omega (arith, e, here))
     by_cases (inr nowhere) = absurd (cc (nowhere.0))
@@ -40,7 +40,7 @@ pub position_none : (p : ℕ → Bool) (xs : List ℕ) → position p xs ≡ Non
 position_none p xs nothing = by_cases (by_place p xs)
   where
     by_cases : (position p xs ≡ Some (position_or_len p xs)) × (position_or_len p xs < length xs)
-            ⊎ (position p xs ≡ None) × (length xs ≤ position_or_len p xs)
+        ⊎ (position p xs ≡ None) × (length xs ≤ position_or_len p xs)
         → length xs ≤ position_or_len p xs
     by_cases (inl here) = absurd (cc (here.0))
     by_cases (inr nowhere) = nowhere.1
@@ -49,7 +49,7 @@ place_or_len : (p : ℕ → Bool) (xs : List ℕ) → unwrap_or (position p xs) 
 place_or_len p xs = by_cases (by_place p xs)
   where
     by_cases : (position p xs ≡ Some (position_or_len p xs)) × (position_or_len p xs < length xs)
-            ⊎ (position p xs ≡ None) × (length xs ≤ position_or_len p xs)
+        ⊎ (position p xs ≡ None) × (length xs ≤ position_or_len p xs)
         → unwrap_or (position p xs) (length xs) ≡ position_or_len p xs
     by_cases (inl here) = ap (λ o. unwrap_or o (length xs)) here.0
     by_cases (inr nowhere) =

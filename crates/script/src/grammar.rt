@@ -1,10 +1,11 @@
 //! What one line of a script asks.
 
-ghost use Rattle.std.specs.Prelude.{◌≡◌, bytes_eq, map};
+ghost use Rattle.std.specs.Prelude.{◌≡◌, ◌==◌, bytes_eq, map, slice_index};
+ghost use Rattle.std.specs.List.{list_all};
 ghost use Rattle.std.specs.Cmp.Lexicographic.{pointwise};
 ghost use Rattle.uuid.specs.Text.{parsed};
-ghost use Rattle.script.specs.Grammar.{meaning_of, line_of, first_keys, created, create_of, read_of, write_of, span_of};
-ghost use Rattle.script.specs.Numbers.{words_of};
+ghost use Rattle.script.specs.Grammar.{meaning_of, is_printable, line_of, first_keys, created, create_of, read_of, write_of, span_of};
+ghost use Rattle.script.specs.Numbers.{is_space, words_of};
 
 use crate::lines::{CreateLine, Line};
 use crate::numbers::{Words, number, small_number};
@@ -23,16 +24,34 @@ pub enum Meaning {
 pub fn meaning_of_line(text: &[u8]) -> Meaning
     ensures { result ≡ meaning_of text.now }
 {
-    if !text.iter().all(|byte| (32..=126).contains(byte)) {
+    if !has_plain_bytes(text) {
         return Meaning::Bad;
     }
-    if text.iter().all(|byte| *byte == b' ') || text.first() == Some(&b'#') {
+    if is_blank(text) || is_comment(text) {
         return Meaning::PassedOver;
     }
     match parse_line(Words::of(text)) {
         Some(line) => Meaning::Asks(line),
         None => Meaning::Bad,
     }
+}
+
+fn has_plain_bytes(text: &[u8]) -> bool
+    ensures { result ≡ is_printable text.now }
+{
+    text.iter().all(|byte| (32..=126).contains(byte))
+}
+
+fn is_blank(text: &[u8]) -> bool
+    ensures { result ≡ list_all is_space text.now }
+{
+    text.iter().all(|byte| *byte == b' ')
+}
+
+fn is_comment(text: &[u8]) -> bool
+    ensures { result ≡ (slice_index text.now 0 == 35) }
+{
+    matches!(text, [b'#', ..])
 }
 
 // The line that these words make.

@@ -99,8 +99,11 @@ pub fn read_script(alloc: Global, text: &[u8]) -> Result<Vec<Numbered>, ScriptFa
             Meaning::PassedOver => {}
             Meaning::Bad => return Err(ScriptFault::BadLine(number)),
             Meaning::Asks(line) => {
+                if !may_follow(&script, line) {
+                    return Err(ScriptFault::BadLine(number));
+                }
                 sectors += line.sectors();
-                if !may_follow(&script, line) || sectors > MOST_SECTORS {
+                if sectors > MOST_SECTORS {
                     return Err(ScriptFault::BadLine(number));
                 }
                 if script.push(Numbered { number, line }).is_err() {

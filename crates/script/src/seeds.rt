@@ -13,9 +13,9 @@ pub fn seed_contents(seed: u32, x: u64) -> [u8; 512]
     let mut sector = [0u8; 512];
     sector[..4].copy_from_slice(&seed.to_le_bytes());
     sector[4..8].copy_from_slice(&((x % 0x1_0000_0000) as u32).to_le_bytes());
-    let sum = (u64::from(seed) + x % 256) % 256;
-    for (b, byte) in sector.iter_mut().enumerate().skip(8) {
-        *byte = ((sum + b as u64) % 256) as u8;
+    let sum = u64::from(seed) % 256 + x % 256;
+    for b in 8..512u64 {
+        sector[b as usize] = ((sum + b) % 256) as u8;
     }
     sector
 }

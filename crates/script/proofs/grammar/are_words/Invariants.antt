@@ -1,5 +1,5 @@
 -- The words that are left have to be those that are left to be found.
-use Rattle.std.proofs.Common.{◌≡◌, ℕ, List, drop, map}
+use Rattle.std.proofs.Common.{◌≡◌, drop, map}
 use Rattle.std.specs.Str.{bytes_eq}
 use Rattle.std.specs.Cmp.Lexicographic.{pointwise}
 use Rattle.script.specs.Numbers.{words_of}

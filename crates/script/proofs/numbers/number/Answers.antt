@@ -1,4 +1,4 @@
-use Rattle.std.proofs.Common.{◌≡◌, ◌+◌, ◌^◌, ◌*◌, ◌≤◌, ◌<◌, length, take, get_or, arith, sym, true, None, ◌∙◌, ⊎_elim, ap₂, ◌&&◌}
+use Rattle.std.proofs.Common.{◌≡◌, ◌+◌, ◌^◌, ◌<◌, length, take, get_or, arith, sym, true, ◌∙◌, ⊎_elim, ap₂, ◌&&◌}
 use Rattle.std.specs.Char.{is_ascii_digit}
 use Rattle.std.proofs.lemmas.Bool.Decides.{nat_tests}
 use Rattle.std.proofs.lemmas.List.{take_all}
@@ -26,9 +26,9 @@ loop-byte-preserved c =
     let next = digit_more c.args.word.now c.loop-byte.byte-index c.loop-byte.value (omega arith) c.loop-byte.invariant.value digit in
     record {
       digits =
-        let within : c.loop-byte.byte-index < length c.args.word.now = omega arith in
-        list_all_more is_ascii_digit c.args.word.now c.loop-byte.byte-index 0 within
-        ∙ ap₂ (λ a b. a && b) c.loop-byte.invariant.digits digit;
+          let within : c.loop-byte.byte-index < length c.args.word.now = omega arith in
+          list_all_more is_ascii_digit c.args.word.now c.loop-byte.byte-index 0 within
+          ∙ ap₂ (λ a b. a && b) c.loop-byte.invariant.digits digit;
       value = omega (arith, next, c.in_ok-checked_mul.ensures, c.in_ok-value.ensures, c.from.ensures);
       fits = omega (arith, c.in_ok-value.ensures);
     }

@@ -1,7 +1,7 @@
-use Rattle.std.proofs.Common.{◌≡◌, ◌<◌, arith, ap, ap₂, sym, ◌∙◌, ◌∷◌, length, take, drop, refl, Some, position, unwrap_or}
+use Rattle.std.proofs.Common.{◌≡◌, ◌<◌, arith, sym, ◌∙◌, ◌∷◌, length}
 use Rattle.std.proofs.lemmas.Grind.{common_steps}
 use Rattle.script.proofs.WordsLaws.{words_of-spaces, words_of-next}
-use Rattle.script.specs.Numbers.{words_of, is_space}
+use Rattle.script.specs.Numbers.{words_of}
 use Rattle.script.proofs.numbers.WordsIterator.next.Goals as goal
 
 pub returns-in_err-start-clause-steps : goal.returns-in_err-start-clause-steps
