@@ -1,2 +1,6 @@
+pub mod Decimals
 pub mod KindLaws
 pub mod RunLaws
+pub mod ScriptLaws
+pub mod SeedLaws
+pub mod WordsLaws

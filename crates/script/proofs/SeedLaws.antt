@@ -1,0 +1,81 @@
+-- A sector that is written byte by byte, and sectors one after the other.
+use Rattle.std.proofs.Common.{◌≡◌, ℕ, zero, suc, ◌+◌, ◌*◌, ◌/◌, ◌^◌, ◌%◌, ◌<◌, ◌≤◌, List, [], ◌∷◌, ◌++◌, length, take, drop, get_or, set, refl, sym, ap, ap₂, ◌∙◌, arith, ◌⊎◌, inl, inr}
+use Rattle.std.proofs.lemmas.Bool.{cases_lt}
+use Rattle.std.proofs.lemmas.List.{ext_get_or, get_or-drop, length-drop, take-append-drop, get_or-set_other, length-append, take_all, take-append-le, drop-append-le}
+use Rattle.std.proofs.lemmas.Grind.{get_or-set_at}
+use Rattle.std.specs.Int.{w32, to_le_bytes}
+use Rattle.md_base.specs.Search.{tabulate}
+use Rattle.md_base.specs.Sectors.{first_sectors, sectors_of, IsWhole}
+use Rattle.md_base.proofs.Tabulated.{length-tabulate, get_or-tabulate}
+use Rattle.script.specs.Seeds.{seed_byte, seed_sector, seeded}
+
+-- one byte more is written
+pub stored : (s : List ℕ) (b v : ℕ) (f : ℕ → ℕ) → b < length s → ((k : ℕ) → 8 ≤ k → k < b → get_or s k 0 ≡ f k) → v ≡ f b
+    → (k : ℕ) → 8 ≤ k → k < b + 1 → get_or (set s b v) k 0 ≡ f k
+stored s b v f within before new k low high = by_place (cases_lt k b)
+  where
+    by_place : (k < b) ⊎ (b ≤ k) → get_or (set s b v) k 0 ≡ f k
+    by_place (inl lt) = get_or-set_other s b k v 0 (omega (arith, lt)) ∙ before k low lt
+    by_place (inr ge) = let e : k ≡ b = omega (arith, ge, high) in get_or-set_at s b k v 0 e within ∙ new ∙ ap f (sym e)
+
+pub whole_sector : (s : List ℕ) (seed x : ℕ) → length s ≡ 512 → take 8 s ≡ to_le_bytes w32 seed ++ to_le_bytes w32 (x % 2 ^ 32)
+    → ((k : ℕ) → 8 ≤ k → k < 512 → get_or s k 0 ≡ seed_byte seed x k) → s ≡ seed_sector seed x
+unfolding seed_sector
+whole_sector s seed x size head body =
+    let rest = length-drop 8 s in
+    let wanted = length-tabulate 504 (λ k. seed_byte seed x (8 + k)) in
+    sym (take-append-drop 8 s)
+    ∙ ap₂ (λ a b. a ++ b) head
+    (ext_get_or 0 (drop 8 s) (tabulate 504 (λ k. seed_byte seed x (8 + k))) (omega (arith, rest, size, wanted))
+    (λ i h. get_or-drop 8 s i 0 ∙ body (8 + i) (omega arith) (omega (arith, h, rest, size))
+    ∙ sym (get_or-tabulate 504 (λ k. seed_byte seed x (8 + k)) i 0 (omega (arith, h, rest, size)))))
+
+pub length-seed_sector : (seed x : ℕ) → length (seed_sector seed x) ≡ 512
+unfolding seed_sector
+length-seed_sector seed x =
+    let body = length-tabulate 504 (λ k. seed_byte seed x (8 + k)) in
+    length-append (to_le_bytes w32 seed ++ to_le_bytes w32 (x % 2 ^ 32)) (tabulate 504 (λ k. seed_byte seed x (8 + k))) ∙ ap (λ n. 8 + n) body
+
+-- one sector more behind whole ones
+first_sectors-more : (n : ℕ) (bytes sector : List ℕ) → length bytes ≡ 512 * n → length sector ≡ 512
+    → first_sectors (suc n) (bytes ++ sector) ≡ first_sectors n bytes ++ sector ∷ []
+first_sectors-more zero [] sector size one = ap (λ s. s ∷ []) (take_all 512 sector (omega (arith, one)))
+first_sectors-more zero (b ∷ bytes) sector size one = absurd (omega (arith, size))
+first_sectors-more (suc n) bytes sector size one =
+    let left = length-drop 512 bytes in
+    ap₂ (λ s rest. s ∷ rest) (take-append-le 512 bytes sector (omega (arith, size)))
+    (ap (first_sectors (suc n)) (drop-append-le 512 bytes sector (omega (arith, size)))
+    ∙ first_sectors-more n (drop 512 bytes) sector (omega (arith, left, size)) one)
+
+-- the sectors that were written so far
+pub record Written (seed first k : ℕ) (bytes : List ℕ) : Type 0 where
+  pub size : length bytes ≡ 512 * k
+  pub sectors : first_sectors k bytes ≡ seeded seed first k
+
+pub written-start : (seed first : ℕ) → Written seed first 0 []
+unfolding tabulate
+written-start seed first = record { size = refl; sectors = refl }
+
+pub written-more : (seed first k : ℕ) (bytes : List ℕ) → Written seed first k bytes → Written seed first (k + 1) (bytes ++ seed_sector seed (first + k))
+unfolding tabulate
+written-more seed first k bytes written =
+    let more : k + 1 ≡ suc k = omega arith in
+    let one = length-seed_sector seed (first + k) in
+    let joined = length-append bytes (seed_sector seed (first + k)) in
+    record {
+      size = omega (arith, joined, one, written.size);
+      sectors =
+          ap (λ n. first_sectors n (bytes ++ seed_sector seed (first + k))) more
+          ∙ first_sectors-more k bytes (seed_sector seed (first + k)) written.size one
+          ∙ ap (λ done. done ++ seed_sector seed (first + k) ∷ []) written.sectors
+          ∙ ap (λ n. seeded seed first n) (sym more);
+    }
+
+pub written-whole : (seed first k : ℕ) (bytes : List ℕ) → Written seed first k bytes → IsWhole bytes
+written-whole seed first k bytes written = let size = written.size in omega (arith, size)
+
+pub written-all : (seed first k : ℕ) (bytes : List ℕ) → Written seed first k bytes → sectors_of bytes ≡ seeded seed first k
+written-all seed first k bytes written =
+    let size = written.size in
+    let count : length bytes / 512 ≡ k = omega (arith, size) in
+    ap (λ n. first_sectors n bytes) count ∙ written.sectors
