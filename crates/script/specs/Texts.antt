@@ -166,15 +166,15 @@ waited_text (Refused refusal) = refusal_text refusal
 waited_text event = []
 
 -- the reply of a worker that was refused: all but the want of work is shown
-abbrev pub unworked_text : Refusal → List ℕ
-unworked_text Nothing = left_text 0 None
-unworked_text refusal = left_text 0 (Some refusal)
+abbrev pub worker_refusal_text : Refusal → List ℕ
+worker_refusal_text Nothing = left_text 0 None
+worker_refusal_text refusal = left_text 0 (Some refusal)
 
 -- the worker's reply whose last call has this event
-abbrev pub worked_text : Event → List ℕ
-worked_text (Stepped done left ended) = left_text left ended
-worked_text (Refused refusal) = unworked_text refusal
-worked_text event = []
+abbrev pub worker_text : Event → List ℕ
+worker_text (Stepped done left ended) = left_text left ended
+worker_text (Refused refusal) = worker_refusal_text refusal
+worker_text event = []
 
 -- what stands before a reply
 abbrev pub lane_text : Lane → List ℕ

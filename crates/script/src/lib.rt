@@ -9,7 +9,7 @@ pub mod seeds;
 
 pub use lines::{CreateLine, Line, Numbered, ScriptFault, read_script};
 pub use reply::{
-    Lane, push_assembled, push_created, push_event, push_lane, push_refusal, push_unworked,
-    push_waited, push_worked,
+    Lane, push_assembled, push_created, push_event, push_lane, push_refusal, push_waited,
+    push_worker, push_worker_refusal,
 };
 pub use seeds::seed_sectors;

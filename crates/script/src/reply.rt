@@ -2,7 +2,7 @@
 
 ghost use Rattle.std.specs.Prelude.{◌≡◌, ℕ, ◌+◌, ◌<◌, ◌≤◌, [], ◌∷◌, ◌++◌, length, drop, map, slice_index_or, OnOk, codes, decimal};
 ghost use Rattle.script.specs.Looks.{kind_seen};
-ghost use Rattle.script.specs.Texts.{assembled_text, busy_word, created_text, ending_text, event_text, field_word, is_same, kind_of, kind_text, kinds, lane_text, layout_text, refusal_text, refused, run_text, runs, runs_text, shape_text, shown_text, unworked_text, waited_text, worked_text, Hex};
+ghost use Rattle.script.specs.Texts.{assembled_text, busy_word, created_text, ending_text, event_text, field_word, is_same, kind_of, kind_text, kinds, lane_text, layout_text, refusal_text, refused, run_text, runs, runs_text, shape_text, shown_text, worker_refusal_text, waited_text, worker_text, Hex};
 
 use crate::seeds::seed_contents;
 use flat_history::Event;
@@ -103,19 +103,19 @@ pub fn push_waited(text: &mut Vec<u8>, event: &Event) -> Result<(), AllocError>
 }
 
 /// Appends the worker's reply whose last call has this event, behind `worker: `.
-pub fn push_worked(text: &mut Vec<u8>, event: &Event) -> Result<(), AllocError>
-    ensures { OnOk result (text.new.items ≡ text.old.items ++ worked_text event.now) }
+pub fn push_worker(text: &mut Vec<u8>, event: &Event) -> Result<(), AllocError>
+    ensures { OnOk result (text.new.items ≡ text.old.items ++ worker_text event.now) }
 {
     match event {
         Event::Stepped { left, ended, .. } => push_left(text, "left ", *left, ended),
-        Event::Refused { refusal } => push_unworked(text, refusal),
+        Event::Refused { refusal } => push_worker_refusal(text, refusal),
         _ => Ok(()),
     }
 }
 
 /// Appends the reply of a worker that was refused, behind `worker: `.
-pub fn push_unworked(text: &mut Vec<u8>, refusal: &Refusal) -> Result<(), AllocError>
-    ensures { OnOk result (text.new.items ≡ text.old.items ++ unworked_text refusal.now) }
+pub fn push_worker_refusal(text: &mut Vec<u8>, refusal: &Refusal) -> Result<(), AllocError>
+    ensures { OnOk result (text.new.items ≡ text.old.items ++ worker_refusal_text refusal.now) }
 {
     match *refusal {
         Refusal::Nothing => push_left(text, "left ", 0, &None),

@@ -1,6 +1,6 @@
 //! Replies as a reader sees them; the expected texts were written by hand.
 
-use super::{push_event, push_refusal, push_waited, push_worked};
+use super::{push_event, push_refusal, push_waited, push_worker};
 use crate::seeds::seed_contents;
 use flat_history::Event;
 use md_base::{BusyKind, Refusal, Sectors, ShapeField, Wish};
@@ -228,7 +228,7 @@ fn work_that_is_waited_for(rt: HostRuntime) -> Result<(), Fail> {
         push_waited(&mut text, &event)?;
         assert_eq!(rt; text.as_slice(), waited.as_bytes());
         text.clear();
-        push_worked(&mut text, &event)?;
+        push_worker(&mut text, &event)?;
         assert_eq!(rt; text.as_slice(), worked.as_bytes());
     }
     Ok(())
