@@ -5,6 +5,8 @@ pub mod grammar;
 pub mod lines;
 pub mod numbers;
 pub mod seeds;
+#[cfg(test)]
+mod tests;
 
 pub use lines::{CreateLine, Line, Numbered, ScriptFault, read_script};
 pub use seeds::seed_sectors;
