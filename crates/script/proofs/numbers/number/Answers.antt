@@ -1,4 +1,4 @@
-use Rattle.std.proofs.Common.{◌≡◌, ◌+◌, ◌^◌, ◌<◌, length, take, get_or, arith, sym, true, ◌∙◌, ⊎_elim, ap₂, ◌&&◌}
+use Rattle.std.proofs.Common.{◌≡◌, ◌+◌, ◌^◌, ◌<◌, length, take, get_or, arith, sym, true, ◌∙◌, ap₂, ◌&&◌}
 use Rattle.std.specs.Char.{is_ascii_digit}
 use Rattle.std.proofs.lemmas.Bool.Decides.{nat_tests}
 use Rattle.std.proofs.lemmas.List.{take_all}
@@ -37,6 +37,6 @@ pub returns : goal.returns
 returns c =
     let all : take c.loop-byte.byte-index c.args.word.now ≡ c.args.word.now = take_all c.loop-byte.byte-index c.args.word.now c.loop-byte-test.false in
     sym (number_is (2 ^ 64) c.args.word.now c.loop-byte.value
-    (numeral_true c.args.word.now (grind (arith, nat_tests)) (λ zero. ⊎_elim (λ p. p.1) (λ other. absurd (other zero)) c.if-word-gt1.either) (rw all at c.loop-byte.invariant.digits))
+    (numeral_true c.args.word.now (grind (arith, nat_tests)) (λ zero. grind (arith, nat_tests)) (rw all at c.loop-byte.invariant.digits))
     (rw all at c.loop-byte.invariant.value)
     (omega arith))
