@@ -1,4 +1,5 @@
 pub mod Decimals
 pub mod ScriptLaws
 pub mod SeedLaws
+pub mod SpanLaws
 pub mod WordsLaws
