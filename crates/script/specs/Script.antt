@@ -2,7 +2,7 @@
 use Rattle.std.specs.Prelude.{◌≡◌, ℕ, ◌+◌, ◌-◌, Bool, true, false, ◌||◌, not, ◌==◌, nat_lt, nat_le, if◌then◌else◌, List, [], length, take, sum_by, slice_index, slice_index_or, Option, Some, None, Result, Ok, Err}
 use Rattle.std.specs.List.{slice_split, enumerate_from, filter_map}
 use Rattle.md_base.specs.Search.{least_below}
-use Rattle.script.specs.Grammar.{meaning_of}
+use Rattle.script.specs.Grammar.{is_span, meaning_of}
 use Rattle.script.specs.declared.lines.Line.{Line}
 use Rattle.script.specs.declared.lines.Line.TheVariants.{Create, Read, Write}
 use Rattle.script.specs.declared.lines.Numbered.{Numbered}
@@ -43,6 +43,12 @@ abbrev pub sectors_of : Line → ℕ
 sectors_of (Create line) = 0
 sectors_of (Read start count) = count
 sectors_of (Write start count seed) = count
+
+-- what a line reads or writes is a span
+abbrev pub has_span : Line → Bool
+has_span (Create line) = true
+has_span (Read start count) = is_span (start, count)
+has_span (Write start count seed) = is_span (start, count)
 
 abbrev pub total_sectors : List Numbered → ℕ
 total_sectors asked = sum_by (λ numbered. sectors_of numbered.line) asked

@@ -1,4 +1,4 @@
-use Rattle.std.proofs.Common.{◌≡◌, true, false, cond, ◌++◌, ◌∷◌, Err, ◌≤◌, ◌+◌, [], length, eqb, arith, rules, refl, sym, ap, ◌∙◌}
+use Rattle.std.proofs.Common.{◌≡◌, take, true, false, cond, ◌++◌, ◌∷◌, Err, ◌≤◌, ◌+◌, [], length, eqb, arith, rules, refl, sym, ap, ◌∙◌}
 use Rattle.std.proofs.lemmas.Iterator.Splits.{YieldsList-from_slice_split}
 use Rattle.std.proofs.lemmas.Iterator.Consumers.{YieldsList-from_enumerate, YieldsList-turn, YieldsList-end}
 use borrow.Author.Tests.{tests}
@@ -7,6 +7,7 @@ use Rattle.script.proofs.ScriptLaws.{so_far-start, so_far-bad, so_far-long, so_f
 use Rattle.std.proofs.lemmas.List.{length_push}
 use Rattle.script.specs.Grammar.{meaning_of}
 use Rattle.std.proofs.lemmas.List.FromFn.{length-enumerate_from}
+use Rattle.script.proofs.SpanLaws.{asked-spans}
 use Rattle.script.proofs.lines.read_script.Goals as goal
 
 pub returns-then-text-gt-MOST_BYTES-clause-bad : goal.returns-then-text-gt-MOST_BYTES-clause-bad
@@ -112,3 +113,7 @@ returns-clause-lines c =
     c.loop-k.yielded _ c.loop-k.yielded_by _ _ c.in-None.is c.next.ensures.steps in
     all_read c.args.text.now (length c.loop-k.yielded) c.loop-k.script.items c.loop-k.sectors (omega arith) c.loop-k.invariant
     (done.1 ∙ length-enumerate_from 0 (lines_of c.args.text.now))
+
+pub returns-clause-spans : goal.returns-clause-spans
+returns-clause-spans c =
+    rw c.loop-k.invariant.script_is (asked-spans (take (length c.loop-k.yielded) (lines_of c.args.text.now)))
