@@ -1,3 +1,7 @@
-pub mod SectorBytes
-pub mod SeedLaws
+pub mod Decimals
+pub mod KindLaws
 pub mod RunLaws
+pub mod ScriptLaws
+pub mod SeedLaws
+pub mod SpanLaws
+pub mod WordsLaws

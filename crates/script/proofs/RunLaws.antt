@@ -8,7 +8,7 @@ use Rattle.std.specs.Cmp.Lexicographic.{same_text}
 use Rattle.std.specs.Str.{bytes_eq}
 use Rattle.md_base.specs.Sectors.{Sector}
 use Rattle.script.specs.Texts.{Kind, Zero, Seed, Hex, kind_of, kinds, is_same, joined, runs, run_text, runs_text}
-use Rattle.script.proofs.SeedLaws.{kind_of-same, kinds-same, place_after, low_bits_wrapped}
+use Rattle.script.proofs.KindLaws.{kind_of-same, kinds-same, place_after, low_bits_wrapped}
 
 bytes_same : (bs : List ℕ) → bytes_eq bs bs ≡ true
 bytes_same [] = refl

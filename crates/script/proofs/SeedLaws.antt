@@ -1,93 +1,81 @@
--- What a seed writes depends on the low 32 bits of the place alone.
-use Rattle.std.proofs.Common.{◌≡◌, ℕ, ◌+◌, ◌*◌, ◌/◌, ◌%◌, ◌^◌, ◌≤◌, Bool, true, false, List, [], ◌∷◌, ◌++◌, length, get_or, replicate, take, refl, sym, ap, ap₂, ◌∙◌, arith, cond}
-use Rattle.std.proofs.Math.Nat.{mod-add-div', add-mul-mod_self_right, add-mod-mod, mul_assoc}
+-- A sector that is written byte by byte, and sectors one after the other.
+use Rattle.std.proofs.Common.{◌≡◌, ℕ, zero, suc, ◌+◌, ◌*◌, ◌/◌, ◌^◌, ◌%◌, ◌<◌, ◌≤◌, List, [], ◌∷◌, ◌++◌, length, take, drop, get_or, set, refl, sym, ap, ap₂, ◌∙◌, arith, ◌⊎◌, inl, inr}
+use Rattle.std.proofs.lemmas.Bool.{cases_lt}
+use Rattle.std.proofs.lemmas.List.{ext_get_or, get_or-drop, length-drop, take-append-drop, get_or-set_other, length-append, take_all, take-append-le, drop-append-le}
+use Rattle.std.proofs.lemmas.Grind.{get_or-set_at}
 use Rattle.std.specs.Int.{w32, to_le_bytes}
-use Rattle.std.specs.Str.{bytes_eq}
 use Rattle.md_base.specs.Search.{tabulate}
-use Rattle.md_base.specs.Bytes.{little}
-use Rattle.md_base.specs.Sectors.{Sector, zero_sector}
-use Rattle.script.specs.Seeds.{seed_byte, seed_sector}
-use Rattle.script.specs.Texts.{Zero, Seed, Hex, kind_of, kinds}
+use Rattle.md_base.specs.Sectors.{first_sectors, sectors_of, IsWhole}
+use Rattle.md_base.proofs.Tabulated.{length-tabulate, get_or-tabulate}
+use Rattle.script.specs.Seeds.{seed_byte, seed_sector, seeded}
 
--- a remainder by a multiple of m has the remainder by m
-pub mod_of_multiple : (x k m : ℕ) → x % (k * m) % m ≡ x % m
-mod_of_multiple x k m =
-    sym (add-mul-mod_self_right (x % (k * m)) (x / (k * m) * k) m)
-    ∙ ap (λ n. (x % (k * m) + n) % m) (mul_assoc (x / (k * m)) k m)
-    ∙ ap (λ n. n % m) (mod-add-div' x (k * m))
-
--- 2 ^ 64 places on, the low 32 bits are the same
-pub low_bits_wrapped : (n : ℕ) → n % 2 ^ 64 % 2 ^ 32 ≡ n % 2 ^ 32
-low_bits_wrapped n = mod_of_multiple n (2 ^ 32) (2 ^ 32)
-
-low_byte : (x y : ℕ) → x % 2 ^ 32 ≡ y % 2 ^ 32 → x % 256 ≡ y % 256
-low_byte x y same = sym (mod_of_multiple x (2 ^ 24) 256) ∙ ap (λ n. n % 256) same ∙ mod_of_multiple y (2 ^ 24) 256
-
--- places with the same low 32 bits go on alike
-pub place_after : (x y k : ℕ) → x % 2 ^ 32 ≡ y % 2 ^ 32 → (x + k) % 2 ^ 32 ≡ (y + k) % 2 ^ 32
-place_after x y k same = swapped x ∙ ap (λ n. (k + n) % 2 ^ 32) same ∙ sym (swapped y)
+-- one byte more is written
+pub stored : (s : List ℕ) (b v : ℕ) (f : ℕ → ℕ) → b < length s → ((k : ℕ) → 8 ≤ k → k < b → get_or s k 0 ≡ f k) → v ≡ f b
+    → (k : ℕ) → 8 ≤ k → k < b + 1 → get_or (set s b v) k 0 ≡ f k
+stored s b v f within before new k low high = by_place (cases_lt k b)
   where
-    swapped : (z : ℕ) → (z + k) % 2 ^ 32 ≡ (k + z % 2 ^ 32) % 2 ^ 32
-    swapped z = let e : z + k ≡ k + z = omega arith in ap (λ n. n % 2 ^ 32) e ∙ sym (add-mod-mod k z (2 ^ 32))
+    by_place : (k < b) ⊎ (b ≤ k) → get_or (set s b v) k 0 ≡ f k
+    by_place (inl lt) = get_or-set_other s b k v 0 (omega (arith, lt)) ∙ before k low lt
+    by_place (inr ge) = let e : k ≡ b = omega (arith, ge, high) in get_or-set_at s b k v 0 e within ∙ new ∙ ap f (sym e)
 
-seed_byte-same : (seed x y b : ℕ) → x % 2 ^ 32 ≡ y % 2 ^ 32 → seed_byte seed x b ≡ seed_byte seed y b
-seed_byte-same seed x y b same = parted x ∙ ap (λ n. (seed + b + n) % 256) (low_byte x y same) ∙ sym (parted y)
-  where
-    parted : (z : ℕ) → (seed + z + b) % 256 ≡ (seed + b + z % 256) % 256
-    parted z = let e : seed + z + b ≡ seed + b + z = omega arith in ap (λ n. n % 256) e ∙ sym (add-mod-mod (seed + b) z 256)
-
-pub seed_sector-same : (seed x y : ℕ) → x % 2 ^ 32 ≡ y % 2 ^ 32 → seed_sector seed x ≡ seed_sector seed y
+pub whole_sector : (s : List ℕ) (seed x : ℕ) → length s ≡ 512 → take 8 s ≡ to_le_bytes w32 seed ++ to_le_bytes w32 (x % 2 ^ 32)
+    → ((k : ℕ) → 8 ≤ k → k < 512 → get_or s k 0 ≡ seed_byte seed x k) → s ≡ seed_sector seed x
 unfolding seed_sector
-seed_sector-same seed x y same =
-    ap₂ (λ low bytes. to_le_bytes w32 seed ++ to_le_bytes w32 low ++ tabulate 504 bytes)
-    same
-    (λ i k. seed_byte-same seed x y (8 + k) same i)
+whole_sector s seed x size head body =
+    let rest = length-drop 8 s in
+    let wanted = length-tabulate 504 (λ k. seed_byte seed x (8 + k)) in
+    sym (take-append-drop 8 s)
+    ∙ ap₂ (λ a b. a ++ b) head
+    (ext_get_or 0 (drop 8 s) (tabulate 504 (λ k. seed_byte seed x (8 + k))) (omega (arith, rest, size, wanted))
+    (λ i h. get_or-drop 8 s i 0 ∙ body (8 + i) (omega arith) (omega (arith, h, rest, size))
+    ∙ sym (get_or-tabulate 504 (λ k. seed_byte seed x (8 + k)) i 0 (omega (arith, h, rest, size)))))
 
-pub kind_of-same : (x y : ℕ) (sector : Sector) → x % 2 ^ 32 ≡ y % 2 ^ 32 → kind_of x sector ≡ kind_of y sector
-kind_of-same x y sector same =
-    let seed = little (take 4 sector) in
-    ap (λ written. cond (bytes_eq sector zero_sector) Zero (cond (bytes_eq sector written) (Seed seed) (Hex sector)))
-    (seed_sector-same seed x y same)
+pub length-seed_sector : (seed x : ℕ) → length (seed_sector seed x) ≡ 512
+unfolding seed_sector
+length-seed_sector seed x =
+    let body = length-tabulate 504 (λ k. seed_byte seed x (8 + k)) in
+    length-append (to_le_bytes w32 seed ++ to_le_bytes w32 (x % 2 ^ 32)) (tabulate 504 (λ k. seed_byte seed x (8 + k))) ∙ ap (λ n. 8 + n) body
 
-pub kinds-same : (x y : ℕ) (sectors : List Sector) → x % 2 ^ 32 ≡ y % 2 ^ 32 → kinds x sectors ≡ kinds y sectors
-kinds-same x y [] same = refl
-kinds-same x y (sector ∷ sectors) same =
-    ap₂ (λ kind others. kind ∷ others) (kind_of-same x y sector same) (kinds-same (x + 1) (y + 1) sectors (place_after x y 1 same))
+-- one sector more behind whole ones
+first_sectors-more : (n : ℕ) (bytes sector : List ℕ) → length bytes ≡ 512 * n → length sector ≡ 512
+    → first_sectors (suc n) (bytes ++ sector) ≡ first_sectors n bytes ++ sector ∷ []
+first_sectors-more zero [] sector size one = ap (λ s. s ∷ []) (take_all 512 sector (omega (arith, one)))
+first_sectors-more zero (b ∷ bytes) sector size one = absurd (omega (arith, size))
+first_sectors-more (suc n) bytes sector size one =
+    let left = length-drop 512 bytes in
+    ap₂ (λ s rest. s ∷ rest) (take-append-le 512 bytes sector (omega (arith, size)))
+    (ap (first_sectors (suc n)) (drop-append-le 512 bytes sector (omega (arith, size)))
+    ∙ first_sectors-more n (drop 512 bytes) sector (omega (arith, left, size)) one)
 
--- ---- a sector's kind, by the tests that tell it
+-- the sectors that were written so far
+pub record Written (seed first k : ℕ) (bytes : List ℕ) : Type 0 where
+  pub size : length bytes ≡ 512 * k
+  pub sectors : first_sectors k bytes ≡ seeded seed first k
 
-pub kind-zero : (x : ℕ) (sector : Sector) (r : Bool) → r ≡ bytes_eq sector (replicate 512 0) → r ≡ true → Zero ≡ kind_of x sector
-unfolding zero_sector
-kind-zero x sector r told yes_zero =
-    ap (λ b. cond b Zero (cond (bytes_eq sector (seed_sector (little (take 4 sector)) x)) (Seed (little (take 4 sector))) (Hex sector)))
-    (sym yes_zero ∙ told)
+pub written-start : (seed first : ℕ) → Written seed first 0 []
+unfolding tabulate
+written-start seed first = record { size = refl; sectors = refl }
 
-kind-other : (x : ℕ) (sector : Sector) (r : Bool) → r ≡ bytes_eq sector (replicate 512 0) → r ≡ false
-    → cond (bytes_eq sector (seed_sector (little (take 4 sector)) x)) (Seed (little (take 4 sector))) (Hex sector) ≡ kind_of x sector
-unfolding zero_sector
-kind-other x sector r told not_zero =
-    ap (λ b. cond b Zero (cond (bytes_eq sector (seed_sector (little (take 4 sector)) x)) (Seed (little (take 4 sector))) (Hex sector)))
-    (sym not_zero ∙ told)
+pub written-more : (seed first k : ℕ) (bytes : List ℕ) → Written seed first k bytes → Written seed first (k + 1) (bytes ++ seed_sector seed (first + k))
+unfolding tabulate
+written-more seed first k bytes written =
+    let more : k + 1 ≡ suc k = omega arith in
+    let one = length-seed_sector seed (first + k) in
+    let joined = length-append bytes (seed_sector seed (first + k)) in
+    record {
+      size = omega (arith, joined, one, written.size);
+      sectors =
+          ap (λ n. first_sectors n (bytes ++ seed_sector seed (first + k))) more
+          ∙ first_sectors-more k bytes (seed_sector seed (first + k)) written.size one
+          ∙ ap (λ done. done ++ seed_sector seed (first + k) ∷ []) written.sectors
+          ∙ ap (λ n. seeded seed first n) (sym more);
+    }
 
--- the number of the first 4 bytes
-pub little-four : (bytes : List ℕ) → 4 ≤ length bytes
-    → get_or bytes 0 0 + get_or bytes 1 0 * 256 + get_or bytes 2 0 * 65536 + get_or bytes 3 0 * 16777216 ≡ little (take 4 bytes)
-little-four [] long = absurd (omega (arith, long))
-little-four (a ∷ []) long = absurd (omega (arith, long))
-little-four (a ∷ b ∷ []) long = absurd (omega (arith, long))
-little-four (a ∷ b ∷ c ∷ []) long = absurd (omega (arith, long))
-little-four (a ∷ b ∷ c ∷ d ∷ bytes) long = omega arith
+pub written-whole : (seed first k : ℕ) (bytes : List ℕ) → Written seed first k bytes → IsWhole bytes
+written-whole seed first k bytes written = let size = written.size in omega (arith, size)
 
-pub kind-seed : (x : ℕ) (sector written : Sector) (r q : Bool) (seed : ℕ) → r ≡ bytes_eq sector (replicate 512 0) → r ≡ false
-    → seed ≡ little (take 4 sector) → written ≡ seed_sector seed x → q ≡ bytes_eq sector written → q ≡ true → Seed seed ≡ kind_of x sector
-kind-seed x sector written r q seed told not_zero number content matched yes_seed =
-    let e : bytes_eq sector (seed_sector (little (take 4 sector)) x) ≡ true =
-    ap (λ s. bytes_eq sector (seed_sector s x)) (sym number) ∙ ap (bytes_eq sector) (sym content) ∙ sym matched ∙ yes_seed in
-    ap Seed number ∙ ap (λ b. cond b (Seed (little (take 4 sector))) (Hex sector)) (sym e) ∙ kind-other x sector r told not_zero
-
-pub kind-hex : (x : ℕ) (sector written : Sector) (r q : Bool) (seed : ℕ) → r ≡ bytes_eq sector (replicate 512 0) → r ≡ false
-    → seed ≡ little (take 4 sector) → written ≡ seed_sector seed x → q ≡ bytes_eq sector written → q ≡ false → Hex sector ≡ kind_of x sector
-kind-hex x sector written r q seed told not_zero number content matched not_seed =
-    let e : bytes_eq sector (seed_sector (little (take 4 sector)) x) ≡ false =
-    ap (λ s. bytes_eq sector (seed_sector s x)) (sym number) ∙ ap (bytes_eq sector) (sym content) ∙ sym matched ∙ not_seed in
-    ap (λ b. cond b (Seed (little (take 4 sector))) (Hex sector)) (sym e) ∙ kind-other x sector r told not_zero
+pub written-all : (seed first k : ℕ) (bytes : List ℕ) → Written seed first k bytes → sectors_of bytes ≡ seeded seed first k
+written-all seed first k bytes written =
+    let size = written.size in
+    let count : length bytes / 512 ≡ k = omega (arith, size) in
+    ap (λ n. first_sectors n bytes) count ∙ written.sectors

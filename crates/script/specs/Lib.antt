@@ -1,3 +1,6 @@
+pub mod Grammar
+pub mod Looks
+pub mod Numbers
+pub mod Script
 pub mod Seeds
 pub mod Texts
-pub mod Looks

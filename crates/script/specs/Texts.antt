@@ -1,5 +1,5 @@
 -- The text of a reply, without its newline.
-use Rattle.std.specs.Prelude.{ℕ, ◌+◌, Bool, true, false, ◌==◌, if◌then◌else◌, List, [], ◌∷◌, ◌++◌, length, take, Option, Some, None, codes, decimal}
+use Rattle.std.specs.Prelude.{ℕ, ◌+◌, Bool, true, false, ◌==◌, if◌then◌else◌, List, [], ◌∷◌, ◌++◌, length, take, Option, Some, None, unwrap_or, codes, decimal}
 use Rattle.std.specs.List.{flat_map}
 use Rattle.std.specs.Str.{bytes_eq}
 use Rattle.hex.specs.Hex.{encode_lower}
@@ -11,8 +11,12 @@ use Rattle.md_base.specs.declared.answers.BusyKind.{BusyKind}
 use Rattle.md_base.specs.declared.answers.BusyKind.TheVariants.{Reshape, Resync, Rebuild, Plan}
 use Rattle.md_base.specs.declared.answers.ShapeField.{ShapeField}
 use Rattle.md_base.specs.declared.answers.ShapeField.TheVariants.{Level, Layout, Chunk, Disks, Size, Offset}
+use Rattle.md_base.specs.declared.places.Shape.{Shape}
+use Rattle.md_base.specs.declared.status.Status.{Status}
 use Rattle.flat_history.specs.declared.events.Event.{Event}
 use Rattle.flat_history.specs.declared.events.Event.TheVariants.{Read, Wrote, Flushed, Added, Failed, Visible, Planned, Stepped, Stopped, Halted, Refused}
+use Rattle.script.specs.declared.reply.Lane.{Lane}
+use Rattle.script.specs.declared.reply.Lane.TheVariants.{Script, A, B, Worker}
 use Rattle.script.specs.Seeds.{seed_sector}
 
 -- ---- refusals
@@ -147,3 +151,69 @@ event_text Stopped = codes "stopped"
 event_text Halted = codes "halted"
 event_text (Refused refusal) = refusal_text refusal
 event_text event = []
+
+-- ---- work that is waited for
+
+-- `left K`, and the refusal that ended the work
+abbrev pub left_text : ℕ → Option Refusal → List ℕ
+left_text left ended = codes "left " ++ decimal left ++ ending_text ended
+
+-- the reply of `wait` whose last call has this event; where nothing was pending, nothing is left
+abbrev pub waited_text : Event → List ℕ
+waited_text (Stepped done left ended) = codes "waited " ++ left_text left ended
+waited_text (Refused Nothing) = codes "waited " ++ left_text 0 None
+waited_text (Refused refusal) = refusal_text refusal
+waited_text event = []
+
+-- the reply of a worker that was refused: all but the want of work is shown
+abbrev pub worker_refusal_text : Refusal → List ℕ
+worker_refusal_text Nothing = left_text 0 None
+worker_refusal_text refusal = left_text 0 (Some refusal)
+
+-- the worker's reply whose last call has this event
+abbrev pub worker_text : Event → List ℕ
+worker_text (Stepped done left ended) = left_text left ended
+worker_text (Refused refusal) = worker_refusal_text refusal
+worker_text event = []
+
+-- what stands before a reply
+abbrev pub lane_text : Lane → List ℕ
+lane_text Script = []
+lane_text A = codes "a: "
+lane_text B = codes "b: "
+lane_text Worker = codes "worker: "
+
+-- ---- an array that was assembled
+
+abbrev pub layout_name : ℕ → Option (List ℕ)
+layout_name layout =
+    if layout == 0 then Some (codes "left-asymmetric")
+    else if layout == 1 then Some (codes "right-asymmetric")
+    else if layout == 2 then Some (codes "left-symmetric")
+    else if layout == 3 then Some (codes "right-symmetric")
+    else if layout == 4 then Some (codes "parity-first")
+    else if layout == 5 then Some (codes "parity-last")
+    else if layout == 16 then Some (codes "left-asymmetric-6")
+    else if layout == 17 then Some (codes "right-asymmetric-6")
+    else if layout == 18 then Some (codes "left-symmetric-6")
+    else if layout == 19 then Some (codes "right-symmetric-6")
+    else if layout == 20 then Some (codes "parity-first-6")
+    else None
+
+-- a layout by its name; no shape has a layout without one
+abbrev pub layout_text : ℕ → List ℕ
+layout_text layout = unwrap_or (layout_name layout) (decimal layout)
+
+abbrev pub shape_text : Shape → ℕ → List ℕ
+shape_text shape size =
+    codes "level " ++ decimal shape.level ++ codes " disks " ++ decimal shape.disks ++ codes " chunk " ++ decimal shape.chunk
+    ++ codes " size " ++ decimal size ++ codes " layout " ++ layout_text shape.layout
+
+abbrev pub shown_text : Shape → Status → List ℕ
+shown_text shape status =
+    codes "assembled " ++ shape_text shape status.size
+    ++ codes " visible " ++ decimal status.visible ++ codes " left " ++ decimal status.left
+
+-- with the new shape while a reshape is active
+abbrev pub assembled_text : Status → List ℕ
+assembled_text status = shown_text (unwrap_or status.target status.shape) status

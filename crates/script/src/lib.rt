@@ -1,7 +1,17 @@
-//! The script's language, and the text of its replies.
+//! The script: its text, what it asks, and the text of its replies.
 #![tactic(auto)]
 
+pub mod grammar;
+pub mod lines;
+pub mod numbers;
 pub mod reply;
 pub mod seeds;
+#[cfg(test)]
+mod tests;
 
-pub use reply::{push_created, push_event, push_refusal};
+pub use lines::{CreateLine, Line, Numbered, ScriptFault, read_script};
+pub use reply::{
+    Lane, push_assembled, push_created, push_event, push_lane, push_refusal, push_waited,
+    push_worker, push_worker_refusal,
+};
+pub use seeds::seed_sectors;

@@ -2,11 +2,11 @@
 
 ghost use Rattle.std.specs.Prelude.{◌≡◌, ℕ, ◌+◌, ◌<◌, ◌≤◌, [], ◌∷◌, ◌++◌, length, drop, map, slice_index_or, OnOk, codes, decimal};
 ghost use Rattle.script.specs.Looks.{kind_seen};
-ghost use Rattle.script.specs.Texts.{busy_word, created_text, ending_text, event_text, field_word, is_same, kind_of, kind_text, kinds, refusal_text, refused, run_text, runs, runs_text, Hex};
+ghost use Rattle.script.specs.Texts.{assembled_text, busy_word, created_text, ending_text, event_text, field_word, is_same, kind_of, kind_text, kinds, lane_text, layout_text, refusal_text, refused, run_text, runs, runs_text, shape_text, shown_text, worker_refusal_text, waited_text, worker_text, Hex};
 
 use crate::seeds::seed_contents;
 use flat_history::Event;
-use md_base::{BusyKind, Refusal, Sectors, ShapeField};
+use md_base::{BusyKind, Refusal, Sectors, Shape, ShapeField, Status};
 use std::alloc::AllocError;
 
 /// Appends `created`.
@@ -88,6 +88,92 @@ pub fn push_refusal(text: &mut Vec<u8>, refusal: &Refusal) -> Result<(), AllocEr
     }
 }
 
+/// Appends the reply of `wait` whose last call has this event.
+pub fn push_waited(text: &mut Vec<u8>, event: &Event) -> Result<(), AllocError>
+    ensures { OnOk result (text.new.items ≡ text.old.items ++ waited_text event.now) }
+{
+    match event {
+        Event::Stepped { left, ended, .. } => push_left(text, "waited left ", *left, ended),
+        Event::Refused {
+            refusal: Refusal::Nothing,
+        } => push_left(text, "waited left ", 0, &None),
+        Event::Refused { refusal } => push_refusal(text, refusal),
+        _ => Ok(()),
+    }
+}
+
+/// Appends the worker's reply whose last call has this event, behind `worker: `.
+pub fn push_worker(text: &mut Vec<u8>, event: &Event) -> Result<(), AllocError>
+    ensures { OnOk result (text.new.items ≡ text.old.items ++ worker_text event.now) }
+{
+    match event {
+        Event::Stepped { left, ended, .. } => push_left(text, "left ", *left, ended),
+        Event::Refused { refusal } => push_worker_refusal(text, refusal),
+        _ => Ok(()),
+    }
+}
+
+/// Appends the reply of a worker that was refused, behind `worker: `.
+pub fn push_worker_refusal(text: &mut Vec<u8>, refusal: &Refusal) -> Result<(), AllocError>
+    ensures { OnOk result (text.new.items ≡ text.old.items ++ worker_refusal_text refusal.now) }
+{
+    match *refusal {
+        Refusal::Nothing => push_left(text, "left ", 0, &None),
+        other => push_left(text, "left ", 0, &Some(other)),
+    }
+}
+
+/// Who a reply is for: the script, a lane beside it, or the worker.
+#[derive(Clone, Copy, Debug, PartialEq, Eq)]
+pub enum Lane {
+    Script,
+    A,
+    B,
+    Worker,
+}
+
+/// Appends what stands before a reply of this lane.
+pub fn push_lane(text: &mut Vec<u8>, lane: Lane) -> Result<(), AllocError>
+    ensures { OnOk result (text.new.items ≡ text.old.items ++ lane_text lane) }
+{
+    match lane {
+        Lane::Script => Ok(()),
+        Lane::A => text.extend_from_slice(b"a: "),
+        Lane::B => text.extend_from_slice(b"b: "),
+        Lane::Worker => text.extend_from_slice(b"worker: "),
+    }
+}
+
+/// Appends the reply of `assemble`.
+pub fn push_assembled(text: &mut Vec<u8>, status: &Status) -> Result<(), AllocError>
+    ensures { OnOk result (text.new.items ≡ text.old.items ++ assembled_text status.now) }
+{
+    match status.target {
+        Some(target) => push_shown(text, &target, status),
+        None => push_shown(text, &status.shape, status),
+    }
+}
+
+fn push_shown(text: &mut Vec<u8>, shape: &Shape, status: &Status) -> Result<(), AllocError>
+    ensures { OnOk result (text.new.items ≡ text.old.items ++ shown_text shape.now status.now) }
+{
+    text.extend_from_slice(b"assembled ")?;
+    push_shape(text, shape, status.size)?;
+    push_counted(text, " visible ", status.visible)?;
+    push_counted(text, " left ", status.left)
+}
+
+fn push_shape(text: &mut Vec<u8>, shape: &Shape, size: u64) -> Result<(), AllocError>
+    ensures { OnOk result (text.new.items ≡ text.old.items ++ shape_text shape.now size) }
+{
+    push_counted(text, "level ", u64::from(shape.level))?;
+    push_counted(text, " disks ", u64::from(shape.disks))?;
+    push_counted(text, " chunk ", u64::from(shape.chunk))?;
+    push_counted(text, " size ", size)?;
+    text.extend_from_slice(b" layout ")?;
+    push_layout(text, shape.layout)
+}
+
 fn push_number(text: &mut Vec<u8>, number: u64) -> Result<(), AllocError>
     ensures { OnOk result (text.new.items ≡ text.old.items ++ decimal number) }
 {
@@ -154,6 +240,25 @@ fn field_name(field: ShapeField) -> &'static str
     }
 }
 
+fn push_layout(text: &mut Vec<u8>, layout: u32) -> Result<(), AllocError>
+    ensures { OnOk result (text.new.items ≡ text.old.items ++ layout_text layout) }
+{
+    match layout {
+        0 => text.extend_from_slice(b"left-asymmetric"),
+        1 => text.extend_from_slice(b"right-asymmetric"),
+        2 => text.extend_from_slice(b"left-symmetric"),
+        3 => text.extend_from_slice(b"right-symmetric"),
+        4 => text.extend_from_slice(b"parity-first"),
+        5 => text.extend_from_slice(b"parity-last"),
+        16 => text.extend_from_slice(b"left-asymmetric-6"),
+        17 => text.extend_from_slice(b"right-asymmetric-6"),
+        18 => text.extend_from_slice(b"left-symmetric-6"),
+        19 => text.extend_from_slice(b"right-symmetric-6"),
+        20 => text.extend_from_slice(b"parity-first-6"),
+        _ => push_number(text, u64::from(layout)),
+    }
+}
+
 fn push_wrote(text: &mut Vec<u8>, at: u64, body: &Sectors) -> Result<(), AllocError>
     ensures { OnOk result (text.new.items ≡ text.old.items
         ++ (codes "wrote " ++ decimal at ++ codes " " ++ decimal (length body.now))) }
@@ -172,7 +277,19 @@ fn push_stepped(
         ++ (codes "stepped " ++ decimal done ++ codes " left " ++ decimal left ++ ending_text ended.now)) }
 {
     push_counted(text, "stepped ", done)?;
-    push_counted(text, " left ", left)?;
+    push_left(text, " left ", left, ended)
+}
+
+fn push_left(
+    text: &mut Vec<u8>,
+    words: &str,
+    left: u64,
+    ended: &Option<Refusal>,
+) -> Result<(), AllocError>
+    ensures { OnOk result
+        (text.new.items ≡ text.old.items ++ (words.now ++ decimal left ++ ending_text ended.now)) }
+{
+    push_counted(text, words, left)?;
     match ended {
         Some(refusal) => {
             text.push(b' ')?;
@@ -283,3 +400,6 @@ fn push_runs(text: &mut Vec<u8>, at: u64, sectors: &[[u8; 512]]) -> Result<(), A
     }
     Ok(())
 }
+
+#[cfg(test)]
+mod tests;

@@ -1,31 +1,33 @@
 //! What a SEED writes.
 
-ghost use Rattle.std.specs.Prelude.{◌≡◌, ◌<◌, slice_index};
-ghost use Rattle.script.specs.Seeds.{seed_sector};
+ghost use Rattle.std.specs.Prelude.{◌≡◌, ◌+◌, ◌≤◌, ◌^◌, IfOk};
+ghost use Rattle.script.specs.Seeds.{seed_sector, seeded};
+
+use md_base::Sectors;
+use std::alloc::{AllocError, Global};
 
 /// The 512 bytes that `seed` writes into sector `x`.
 pub fn seed_contents(seed: u32, x: u64) -> [u8; 512]
     ensures { result ≡ seed_sector seed x }
 {
     let mut sector = [0u8; 512];
-    for b in 0..sector.len() {
-        sector[b] = content(seed, x, b);
+    sector[..4].copy_from_slice(&seed.to_le_bytes());
+    sector[4..8].copy_from_slice(&((x % 0x1_0000_0000) as u32).to_le_bytes());
+    let sum = u64::from(seed) % 256 + x % 256;
+    for b in 8..512u64 {
+        sector[b as usize] = ((sum + b) % 256) as u8;
     }
     sector
 }
 
-// Byte `b` of it.
-fn content(seed: u32, x: u64, b: usize) -> u8
-    requires { b < 512 }
-    ensures { result ≡ slice_index (seed_sector seed x) b }
+/// The contents of the `count` sectors from `at` on under `seed`.
+pub fn seed_sectors(alloc: Global, at: u64, count: u32, seed: u32) -> Result<Sectors, AllocError>
+    requires { at + count ≤ 2 ^ 64 }
+    ensures { IfOk result (λ s. s ≡ seeded seed at count) }
 {
-    if b < 4 {
-        let seed_bytes = seed.to_le_bytes();
-        return seed_bytes[b];
+    let mut bytes = Vec::new(alloc);
+    for k in 0..count {
+        bytes.extend_from_slice(&seed_contents(seed, at + u64::from(k)))?;
     }
-    if b < 8 {
-        let place_bytes = ((x % 0x1_0000_0000) as u32).to_le_bytes();
-        return place_bytes[b - 4];
-    }
-    ((u64::from(seed) + x % 256 + b as u64) % 256) as u8
+    Ok(Sectors::from_bytes(bytes))
 }

@@ -1,7 +1,7 @@
 use Rattle.std.proofs.Common.{◌≡◌, ◌≤◌, take, length, replicate, ◌∙◌, arith}
 use Rattle.std.specs.Str.{bytes_eq}
 use Rattle.md_base.specs.Bytes.{little}
-use Rattle.script.proofs.SeedLaws.{kind-zero, kind-seed, kind-hex, little-four}
+use Rattle.script.proofs.KindLaws.{kind-zero, kind-seed, kind-hex, little-four}
 use Rattle.script.proofs.reply.look_at.Goals as goal
 
 pub returns-then-eq : goal.returns-then-eq
