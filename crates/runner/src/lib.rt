@@ -1,0 +1,8 @@
+//! The top call: it reads a script, performs its lines and shows their replies.
+#![tactic(auto)]
+
+mod asks;
+mod report;
+
+pub use asks::ask;
+pub use report::{Answered, Ended, LineReply, Outside, Report};
