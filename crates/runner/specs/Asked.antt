@@ -1,5 +1,6 @@
 -- One request of the script to a running array.
-use Rattle.std.specs.Prelude.{◌≡◌, ℕ, ◌+◌, List, length, Result, Ok, Err}
+use Rattle.std.specs.Prelude.{◌≡◌, ℕ, ◌+◌, List, length, Option, None, MatchOption, Result, Ok, Err}
+use Rattle.md_base.specs.declared.answers.Refusal.TheVariants.{Running}
 use Rattle.md_base.specs.declared.answers.NoMemory.{NoMemory}
 use Rattle.md_base.specs.declared.answers.Who.{Who}
 use Rattle.flat_history.specs.declared.events.Entry.{Entry}
@@ -8,6 +9,10 @@ use Rattle.flat_history.specs.declared.events.Request.{Request}
 use Rattle.flat_history.specs.Flat.{next_number}
 use Rattle.flat_history.specs.Plain.{Opening}
 use Rattle.array.specs.Kept.{IsReplied}
+use Rattle.script.specs.declared.lines.Line.{Line}
+use Rattle.runner.specs.declared.report.Answered.{Answered}
+use Rattle.runner.specs.declared.report.Answered.TheVariants.{Inside, Refused}
+use Rattle.runner.specs.Replies.{asked_of}
 
 -- the script's next call
 abbrev pub script_who : List Entry → Who
@@ -23,3 +28,9 @@ pub record IsAskedAt (opening : Opening) (request : Request) (old new : List Ent
 abbrev pub IsAsked : Opening → Request → List Entry → List Entry → Result ℕ NoMemory → Type 0
 IsAsked opening request old new (Ok place) = IsAskedAt opening request old new place
 IsAsked opening request old new (Err fault) = new ≡ old
+
+-- one line was answered, at the end of the history; or memory was short, and nothing was entered
+abbrev pub IsPerformedLine : Opening → List Entry → List Entry → Line → Result Answered NoMemory → Type 0
+IsPerformedLine opening old new line (Ok (Inside place)) = MatchOption (asked_of line) ⊥ (λ request. IsAskedAt opening request old new place)
+IsPerformedLine opening old new line (Ok (Refused refusal)) = (asked_of line ≡ None) × (refusal ≡ Running) × (new ≡ old)
+IsPerformedLine opening old new line (Err fault) = new ≡ old

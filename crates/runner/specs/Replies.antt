@@ -1,22 +1,26 @@
--- The replies to the lines of a script, over the history of the array that they made.
-use Rattle.std.specs.Prelude.{◌≡◌, ℕ, ◌+◌, ◌<◌, Bool, true, false, List, [], ◌∷◌, ◌++◌, drop, take, slice_get, Option, Some, None, MatchOption, ⊤, codes}
-use Rattle.md_base.specs.declared.answers.Refusal.TheVariants.{SlotFault, NotRunning, Running}
+-- The replies to the lines that a running array was asked, over its history.
+use Rattle.std.specs.Prelude.{◌≡◌, ℕ, ◌+◌, ◌≤◌, List, [], ◌∷◌, ◌++◌, length, drop, take, slice_get, Option, Some, None, MatchOption, ⊤}
+use Rattle.md_base.specs.declared.answers.Refusal.TheVariants.{Running}
 use Rattle.flat_history.specs.declared.events.Entry.{Entry}
 use Rattle.flat_history.specs.declared.events.Request.{Request}
 use Rattle.flat_history.specs.declared.events.Request.TheVariants.{Read as AsksRead, Write as AsksWrite}
-use Rattle.flat_history.specs.Flat.{rest_of_call}
+use Rattle.flat_history.specs.Flat.{rest_of_call, next_number}
 use Rattle.flat_history.specs.Plain.{Opening, PlainFits}
 use Rattle.script.specs.declared.lines.Line.{Line}
 use Rattle.script.specs.declared.lines.Line.TheVariants.{Create, Read, Write}
 use Rattle.script.specs.declared.lines.Numbered.{Numbered}
 use Rattle.script.specs.Seeds.{seeded}
-use Rattle.script.specs.Texts.{event_text, refusal_text, created_text}
 use Rattle.runner.specs.declared.report.Answered.{Answered}
-use Rattle.runner.specs.declared.report.Answered.TheVariants.{Inside, Outside}
-use Rattle.runner.specs.declared.report.Outside.TheVariants.{Created, Refused}
+use Rattle.runner.specs.declared.report.Answered.TheVariants.{Inside, Refused}
 use Rattle.runner.specs.declared.report.LineReply.{LineReply}
 
--- The entry at a place is the last of the call of this number of the script, and its reply to the request.
+-- what a line asks of a running array: a create asks nothing
+abbrev pub asked_of : Line → Option Request
+asked_of (Create spec) = None
+asked_of (Read at count) = Some (AsksRead at count)
+asked_of (Write at count seed) = Some (AsksWrite at (seeded seed at count))
+
+-- The entry at a place is the last of the script's call of this number, and its reply to the request.
 pub record IsReplyAt (opening : Opening) (entries : List Entry) (place number : ℕ) (request : Request) : Type 0 where
   pub entry : Entry
   pub there : slice_get entries place ≡ Some entry
@@ -25,48 +29,34 @@ pub record IsReplyAt (opening : Opening) (entries : List Entry) (place number : 
   pub last : rest_of_call entry (drop (place + 1) entries) ≡ []
   pub fits : PlainFits opening (take place entries) entry request
 
--- what a reply answers to a line, while an array runs or not; so many calls were made before
-abbrev pub IsAnswer : Opening → List Entry → Bool → ℕ → Line → Answered → Type 0
-IsAnswer opening entries false calls (Create spec) (Outside Created) = ⊤
-IsAnswer opening entries false calls (Create spec) (Outside (Refused (SlotFault slot))) = ⊤
-IsAnswer opening entries true calls (Create spec) (Outside (Refused Running)) = ⊤
-IsAnswer opening entries false calls (Read at count) (Outside (Refused NotRunning)) = ⊤
-IsAnswer opening entries false calls (Write at count seed) (Outside (Refused NotRunning)) = ⊤
-IsAnswer opening entries true calls (Read at count) (Inside epoch place) = (epoch ≡ 0) × IsReplyAt opening entries place calls (AsksRead at count)
-IsAnswer opening entries true calls (Write at count seed) (Inside epoch place) =
-    (epoch ≡ 0) × IsReplyAt opening entries place calls (AsksWrite at (seeded seed at count))
-IsAnswer opening entries running calls line what = ⊥
+-- a read or write is answered by an entry, a create by the refusal that an array runs; so many calls were made before
+abbrev pub IsAnswer : Opening → List Entry → ℕ → Line → Answered → Type 0
+IsAnswer opening entries calls line (Inside place) = MatchOption (asked_of line) ⊥ (λ request. IsReplyAt opening entries place calls request)
+IsAnswer opening entries calls line (Refused refusal) = (asked_of line ≡ None) × (refusal ≡ Running)
 
--- whether an array runs after an answer, and how many calls were made then
-abbrev pub running_after : Bool → Answered → Bool
-running_after running (Outside Created) = true
-running_after running what = running
-
+-- how many calls the script has made after an answer, and after several
 abbrev pub calls_after : ℕ → Answered → ℕ
-calls_after calls (Inside epoch place) = calls + 1
-calls_after calls what = calls
+calls_after calls (Inside place) = calls + 1
+calls_after calls (Refused refusal) = calls
+
+abbrev pub calls_of : ℕ → List LineReply → ℕ
+calls_of calls [] = calls
+calls_of calls (reply ∷ replies) = calls_of (calls_after calls reply.what) replies
 
 -- the replies answer the lines, one after another
-abbrev pub AreAnswers : Opening → List Entry → Bool → ℕ → List Numbered → List LineReply → Type 0
-AreAnswers opening entries running calls [] [] = ⊤
-AreAnswers opening entries running calls (line ∷ lines) (reply ∷ replies) =
+abbrev pub AreAnswers : Opening → List Entry → ℕ → List Numbered → List LineReply → Type 0
+AreAnswers opening entries calls [] [] = ⊤
+AreAnswers opening entries calls [] (reply ∷ replies) = ⊥
+AreAnswers opening entries calls (line ∷ lines) [] = ⊥
+AreAnswers opening entries calls (line ∷ lines) (reply ∷ replies) =
     (reply.line ≡ line.number)
-    × IsAnswer opening entries running calls line.line reply.what
-    × AreAnswers opening entries (running_after running reply.what) (calls_after calls reply.what) lines replies
-AreAnswers opening entries running calls lines replies = ⊥
+    × IsAnswer opening entries calls line.line reply.what
+    × AreAnswers opening entries (calls_after calls reply.what) lines replies
 
--- ---- their text
-
-abbrev pub entry_text : Option Entry → List ℕ
-entry_text None = []
-entry_text (Some entry) = event_text entry.event
-
-abbrev pub answer_text : List Entry → Answered → List ℕ
-answer_text entries (Inside epoch place) = entry_text (slice_get entries place)
-answer_text entries (Outside Created) = created_text
-answer_text entries (Outside (Refused refusal)) = refusal_text refusal
-
--- each reply is one line
-abbrev pub replies_text : List Entry → List LineReply → List ℕ
-replies_text entries [] = []
-replies_text entries (reply ∷ replies) = (answer_text entries reply.what ++ 10 ∷ []) ++ replies_text entries replies
+-- The first so many lines were answered, by calls that stand behind the old history.
+pub record IsPerformed (opening : Opening) (old new : List Entry) (lines : List Numbered) (replies : List LineReply) : Type 0 where
+  pub more : List Entry
+  pub grown : new ≡ old ++ more
+  pub few : length replies ≤ length lines
+  pub answers : AreAnswers opening new (next_number 0 old) (take (length replies) lines) replies
+  pub calls : next_number 0 new ≡ calls_of (next_number 0 old) replies

@@ -1,8 +1,10 @@
-//! The top call: it reads a script, performs its lines and shows their replies.
+//! The lines of a script, performed on a running array.
 #![tactic(auto)]
 
 mod asks;
+mod lines;
 mod report;
 
 pub use asks::{ask_read, ask_write};
-pub use report::{Answered, Ended, LineReply, Outside, Report};
+pub use lines::perform;
+pub use report::{Answered, LineReply};
