@@ -1,5 +1,5 @@
 -- What one written sector does to what the slots hold.
-use Rattle.std.proofs.Common.{◌≡◌, ℕ, zero, suc, ◌+◌, ◌<◌, ◌≤◌, ◌≢◌, ◌==◌, ◌&&◌, ◌⊎◌, inl, inr, Bool, true, false, if◌then◌else◌, List, [], ◌∷◌, ◌++◌, length, take, refl, sym, ◌∙◌, ap, subst, arith, lit<}
+use Rattle.std.proofs.Common.{◌≡◌, ℕ, zero, suc, ◌<◌, ◌≤◌, ◌≢◌, ◌==◌, ◌&&◌, ◌⊎◌, inl, inr, Bool, true, false, if◌then◌else◌, List, [], ◌∷◌, ◌++◌, length, take, refl, sym, ◌∙◌, ap, subst, arith, lit<}
 use Rattle.std.proofs.lemmas.List.{take_all}
 use Rattle.md_base.specs.Sectors.{Sector}
 use Rattle.bank.specs.declared.bank.Operation.{Operation}
@@ -61,6 +61,7 @@ with_sector-here c sector slot at k same = by (slot == slot) (at == k) (yes_same
     by true true one two = refl
     by true false one two = absurd (cc)
     by false b one two = absurd (cc)
+
     yes_same : (m n : ℕ) → m ≡ n → (m == n) ≡ true
     yes_same m n e = grind (arith, nat_tests, e)
 
@@ -72,5 +73,6 @@ with_sector-other c sector slot at s k apart = by (slot == s) (at == k) (elim ap
     by true true (inr two) = absurd (cc)
     by true false either = refl
     by false b either = refl
+
     no_same : (m n : ℕ) → m ≢ n → (m == n) ≡ false
     no_same m n ne = grind (arith, nat_tests, ne)

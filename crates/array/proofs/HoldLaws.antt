@@ -1,5 +1,5 @@
 -- Rows that hold the list go on to hold it.
-use Rattle.std.proofs.Common.{◌≡◌, ◌≢◌, ℕ, ◌+◌, ◌-◌, ◌*◌, ◌/◌, ◌<◌, ◌≤◌, ◌⊎◌, inl, inr, true, List, [], ◌∷◌, ◌++◌, length, refl, sym, ◌∙◌, ap, subst, arith}
+use Rattle.std.proofs.Common.{◌≡◌, ℕ, ◌+◌, ◌-◌, ◌/◌, ◌<◌, ◌≤◌, ◌⊎◌, inl, inr, List, [], ◌∷◌, ◌++◌, length, sym, ◌∙◌, ap, subst, arith}
 use Rattle.std.proofs.lemmas.Bool.{cases_lt}
 use Rattle.std.specs.Prelude.{Contains}
 use Rattle.md_base.specs.declared.places.Place.{Place}
@@ -11,7 +11,7 @@ use Rattle.flat_history.specs.declared.events.Entry.{Entry}
 use Rattle.flat_history.specs.declared.events.Event.TheVariants.{Wrote}
 use Rattle.flat_history.specs.Flat.{now}
 use Rattle.layout.specs.Layout.{place}
-use Rattle.array.specs.Rows.{HoldsRow, HasOther, IsTouched, IsRowWritten, AreRowsWritten, IsWritten, row_sector}
+use Rattle.array.specs.Rows.{HoldsRow, IsTouched, IsRowWritten, AreRowsWritten, IsWritten}
 use Rattle.array.proofs.RowParity.{parity-same}
 use Rattle.array.proofs.NowLaws.{now-wrote_here, now-wrote_other, sectors_of-at}
 

@@ -1,12 +1,11 @@
 -- What the flat list holds after one more call.
-use Rattle.std.proofs.Common.{◌≡◌, ◌≢◌, ℕ, zero, suc, ◌+◌, ◌-◌, ◌*◌, ◌/◌, ◌<◌, ◌≤◌, ◌⊎◌, inl, inr, Bool, true, false, cond, nat_le, nat_lt, ◌&&◌, Option, Some, None, List, [], ◌∷◌, ◌++◌, length, take, drop, refl, sym, ◌∙◌, ap, subst, arith}
+use Rattle.std.proofs.Common.{◌≡◌, ℕ, zero, suc, ◌+◌, ◌*◌, ◌/◌, ◌<◌, ◌≤◌, ◌⊎◌, inl, inr, Bool, true, false, cond, Option, None, List, [], ◌∷◌, ◌++◌, length, take, drop, refl, ◌∙◌, ap, arith}
 use Rattle.std.proofs.lemmas.Bool.Decides.{nat_tests}
 use Rattle.std.proofs.lemmas.List.{drop-drop}
 use Rattle.std.proofs.lemmas.List.Sums.{fold-append}
 use Rattle.std.specs.Prelude.{fold, slice_index_or, min}
 use Rattle.std.specs.Option.{option_map_or}
 use Rattle.md_base.specs.Sectors.{Sector, sectors_of, first_sectors}
-use Rattle.md_base.proofs.SectorLaws.{length-sectors_of}
 use Rattle.flat_history.specs.declared.events.Entry.{Entry}
 use Rattle.flat_history.specs.declared.events.Event.TheVariants.{Wrote}
 use Rattle.flat_history.specs.Flat.{values_after, values_of, first_values, now, covers, sector_at, length_of, length_after, limit_of, limit_after, visible_of}
@@ -47,6 +46,7 @@ now-wrote_other list entries e at body x is apart =
   where
     before : (at : ℕ) (body : List Sector) (x : ℕ) → x < at → covers at body x ≡ false
     before at body x below = grind (arith, nat_tests, below)
+
     behind : (at : ℕ) (body : List Sector) (x : ℕ) → at + length body ≤ x → covers at body x ≡ false
     behind at body x above = grind (arith, nat_tests, above)
 

@@ -1,13 +1,12 @@
 -- How a legal history grows by a call.
-use Rattle.std.proofs.Common.{◌≡◌, ◌≢◌, ℕ, zero, suc, ◌+◌, ◌<◌, ◌≤◌, ◌==◌, ◌&&◌, ◌||◌, ◌⊎◌, inl, inr, Bool, true, false, cond, Option, Some, None, List, [], ◌∷◌, ◌++◌, length, unwrap_or, refl, sym, ◌∙◌, ap, subst, arith, append_assoc, append-nil, eqb-true}
+use Rattle.std.proofs.Common.{◌≡◌, ℕ, ◌+◌, ◌≤◌, ◌==◌, ◌&&◌, inl, Bool, true, false, cond, Option, Some, List, [], ◌∷◌, ◌++◌, unwrap_or, refl, sym, ◌∙◌, ap, subst, arith, append_assoc, append-nil}
 use Rattle.std.proofs.lemmas.Bool.Decides.{nat_tests}
-use Rattle.std.proofs.lemmas.List.Sums.{fold-append}
-use Rattle.std.specs.Prelude.{fold, IsTrue, IsFalse, ⊤}
+use Rattle.std.specs.Prelude.{fold, IsFalse}
 use Rattle.std.specs.Option.{option_map_or}
 use Rattle.md_base.specs.declared.answers.Who.{Who}
 use Rattle.flat_history.specs.declared.events.Entry.{Entry}
 use Rattle.flat_history.specs.declared.events.Event.{Event}
-use Rattle.flat_history.specs.Flat.{is_same_call, rest_of_call, last_of, next_number, number_after}
+use Rattle.flat_history.specs.Flat.{is_same_call, rest_of_call, last_of, number_after}
 use Rattle.flat_history.specs.Transfers.{last_end_from}
 use Rattle.flat_history.specs.Legal.{IsNumbered, GoesOn, IsInnerOrLast}
 use Rattle.flat_history.specs.Growing.{BeginAnother}
@@ -22,13 +21,16 @@ one who end event = record { caller = who.caller; number = who.number; end = end
 
 pub plain-later : (opening : Opening) (ops more : ℕ) (before entries : List Entry) → ops ≤ more → ArePlain opening ops before entries → ArePlain opening more before entries
 plain-later opening ops more before [] le plain = tt
-plain-later opening ops more before (e ∷ entries) le plain = (record {
-  numbered = plain.0.numbered;
-  timed = record { rises = plain.0.timed.rises; within = omega (arith, plain.0.timed.within, le) };
-  inner = plain.0.inner;
-  caller = plain.0.caller;
-  event = plain.0.event;
-}, plain-later opening ops more (before ++ e ∷ []) entries le plain.1)
+plain-later opening ops more before (e ∷ entries) le plain = (
+  record {
+    numbered = plain.0.numbered;
+    timed = record { rises = plain.0.timed.rises; within = omega (arith, plain.0.timed.within, le) };
+    inner = plain.0.inner;
+    caller = plain.0.caller;
+    event = plain.0.event;
+  },
+  plain-later opening ops more (before ++ e ∷ []) entries le plain.1,
+)
 
 pub plain-add_up : (opening : Opening) (ops : ℕ) (before xs added : List Entry) → BeginAnother (last_of xs) added
     → ArePlain opening ops before xs → ArePlain opening ops (before ++ xs) added → ArePlain opening ops before (xs ++ added)

@@ -1,7 +1,7 @@
 -- What an array keeps, after a call.
 use Rattle.std.proofs.Common.{◌≡◌, ◌≢◌, ℕ, ◌+◌, ◌*◌, ◌/◌, ◌<◌, ◌≤◌, ◌==◌, Bool, true, false, Option, Some, None, List, [], ◌∷◌, ◌++◌, length, refl, sym, ◌∙◌, ap, subst, arith}
 use Rattle.std.proofs.lemmas.Bool.Decides.{nat_tests}
-use Rattle.std.specs.Prelude.{fold, IsFalse, MatchOption, IsSome}
+use Rattle.std.specs.Prelude.{fold}
 use Rattle.md_base.specs.Sectors.{Sector, sectors_of, zero_sector}
 use Rattle.md_base.specs.Shapes.{data_disks}
 use Rattle.md_base.specs.declared.answers.Who.{Who}
@@ -21,7 +21,7 @@ use Rattle.layout.specs.Layout.{place}
 use Rattle.layout.proofs.Places.{place-row_below, place-role_below}
 use Rattle.md_base.proofs.SectorLaws.{length-sectors_of}
 use Rattle.flat_history.specs.Transfers.{IsReadOver}
-use Rattle.array.specs.Kept.{zero_list, opening_of, failure_events, IsPlaced, Holds, IsKept, IsReady, IsRecorded, IsRefusalOf}
+use Rattle.array.specs.Kept.{zero_list, opening_of, failure_events, IsPlaced, Holds, IsReady, IsRecorded, IsRefusalOf}
 use Rattle.array.proofs.PlainLaws.{one, IsCallOf}
 use Rattle.array.proofs.NowLaws.{now-quiet, sectors_of-at}
 use Rattle.array.proofs.HoldLaws.{holds-same, wrote-is}
@@ -79,7 +79,6 @@ module _ {tells : Type 0} {given given' : Given} {tape tape' : List Operation} {
     (who : Who) (end : ℕ) (was : IsReady tells given tape first entries shape size offset lost room rows buffer) (same : given' ≡ given) (first_is : first' ≡ first) (mid_is : mid ≡ entries)
     (number : who.number ≡ next_number who.caller entries) (caller : who.caller ≢ 254) (at_end : tells → end ≡ length tape')
     (room_left : 1 ≤ room') (rows_fit : 128 ≤ rows') (buffer_fits : 1048576 ≤ buffer') where
-
   -- after a refusal that needs no entry before it
   pub ready_refused : (to : ℕ) (refusal : Refusal) → entries' ≡ mid ++ entries_of who end (Refused refusal ∷ []) → (tells → tape' ≡ tape) → IsRefusalOf (data_disks shape * size) to lost (Some refusal)
       → IsReady tells given' tape' first' entries' shape size offset lost room' rows' buffer'

@@ -1,5 +1,5 @@
 -- What is kept after a call, by what the call entered.
-use Rattle.std.proofs.Common.{◌≡◌, ◌≢◌, ℕ, zero, suc, ◌+◌, ◌<◌, ◌≤◌, ◌==◌, ◌&&◌, ◌||◌, ◌⊎◌, inl, inr, Bool, true, false, cond, Option, Some, None, List, [], ◌∷◌, ◌++◌, length, refl, sym, ◌∙◌, ap, subst, arith}
+use Rattle.std.proofs.Common.{◌≡◌, ℕ, zero, suc, ◌+◌, ◌<◌, ◌≤◌, ◌==◌, ◌||◌, inl, inr, Bool, true, cond, Option, Some, None, List, [], ◌∷◌, ◌++◌, length, refl, sym, ◌∙◌, ap, subst, arith}
 use Rattle.std.proofs.lemmas.Bool.Decides.{nat_tests}
 use Rattle.std.proofs.lemmas.Bool.{cases_eq}
 use Rattle.std.proofs.lemmas.List.Folds.{list_any-append}
@@ -7,21 +7,17 @@ use Rattle.std.specs.Prelude.{fold, IsTrue, IsFalse, ⊤, MatchOption}
 use Rattle.std.specs.List.{list_any}
 use Rattle.md_base.specs.Search.{count_below}
 use Rattle.md_base.specs.Sectors.{Sector}
-use Rattle.md_base.specs.Shapes.{data_disks}
 use Rattle.md_base.specs.declared.answers.Who.{Who}
 use Rattle.md_base.specs.declared.places.Shape.{Shape}
 use Rattle.md_base.specs.declared.answers.Refusal.TheVariants.{PastEnd, TooManyMissing}
-use Rattle.bank.specs.Given.{Given}
-use Rattle.bank.specs.declared.bank.Operation.{Operation}
 use Rattle.flat_history.specs.declared.events.Entry.{Entry}
 use Rattle.flat_history.specs.declared.events.Event.{Event}
-use Rattle.flat_history.specs.declared.events.Event.TheVariants.{Read, Wrote, Torn, Lost, Refused, Halted}
+use Rattle.flat_history.specs.declared.events.Event.TheVariants.{Read, Wrote, Torn, Lost, Refused}
 use Rattle.flat_history.specs.declared.events.LostCause.TheVariants.{Fault}
-use Rattle.flat_history.specs.Flat.{next_number, length_of, length_after, limit_of, limit_after, visible_of}
+use Rattle.flat_history.specs.Flat.{next_number, length_after, limit_after, visible_of}
 use Rattle.flat_history.specs.Transfers.{last_end_from, IsReadOver}
-use Rattle.flat_history.specs.Plain.{Opening, ArePlain, IsPlainEvent, IsOneMissing, loses_role, lost_count, entries_of}
-use Rattle.array.specs.Rows.{present, HoldsRow}
-use Rattle.array.specs.Kept.{zero_list, opening_of, IsRecorded, Holds, IsKept}
+use Rattle.flat_history.specs.Plain.{Opening, IsOneMissing, loses_role, entries_of}
+use Rattle.array.specs.Kept.{zero_list, opening_of, IsRecorded}
 use Rattle.array.proofs.PlainLaws.{one, plain-later, plain-add_up, IsCallOf, call_plain, begins, last_end-call}
 use Rattle.array.proofs.NowLaws.{length-more, limit-more, visible-is}
 
@@ -56,12 +52,15 @@ told-more (Some role) entries added told =
     (told.0, list_any-append (λ e. loses_role role e.event) entries added ∙ ap (λ (b : Bool). b || list_any (λ e. loses_role role e.event) added) told.1)
 
 pub told-new : (role : ℕ) (who : Who) (end : ℕ) (entries : List Entry) (events : List Event) → role < 32 → IsTold (Some role) (entries ++ entries_of who end (Lost role Fault ∷ events))
-told-new role who end entries events lt =
-    (lt, list_any-append (λ e. loses_role role e.event) entries (entries_of who end (Lost role Fault ∷ events))
-    ∙ by (list_any (λ e. loses_role role e.event) entries) (role == role) (list_any (λ e. loses_role role e.event) (entries_of who end events)) (itself role))
+told-new role who end entries events lt = (
+  lt,
+  list_any-append (λ e. loses_role role e.event) entries (entries_of who end (Lost role Fault ∷ events))
+      ∙ by (list_any (λ e. loses_role role e.event) entries) (role == role) (list_any (λ e. loses_role role e.event) (entries_of who end events)) (itself role),
+)
   where
     by : (a b c : Bool) → b ≡ true → (a || (b || c)) ≡ true
     by a b c e = grind (arith, nat_tests, e)
+
     itself : (n : ℕ) → (n == n) ≡ true
     itself n = grind (arith, nat_tests)
 
@@ -75,6 +74,7 @@ count-some (suc n) k test lt h = elim (cases_eq k n) [
   where
     at_end : (m : ℕ) (b : Bool) → b ≡ true → 0 < m + cond b 1 0
     at_end m b e = rw e (omega arith)
+
     earlier : (m k : ℕ) → 0 < m → 0 < m + k
     earlier m k lt = omega (arith, lt)
 
@@ -108,10 +108,16 @@ module _ (shape : Shape) (size first : ℕ) {ops : ℕ} {tells : Type 0} {entrie
   call-torn who end role at body lt within =
       let mid : List Entry = entries ++ one who end (Lost role Fault) ∷ [] in
       let seen : visible_of (length (zero_list shape size)) mid ≡ length (zero_list shape size) =
-          visible-is (length (zero_list shape size)) mid (length-more (length (zero_list shape size)) entries (one who end (Lost role Fault) ∷ []) was.sized refl)
-          (limit-more entries (one who end (Lost role Fault) ∷ []) was.unlimited refl) in
-      (tt, tt, (record { within = omega (arith, within, seen); refused = tt }, tt,
-      (one_missing role (mid ++ one who end (Torn at body) ∷ []) (told-more (Some role) mid (one who end (Torn at body) ∷ []) (told-new role who end entries [] lt)), tt, tt)))
+      visible-is (length (zero_list shape size)) mid (length-more (length (zero_list shape size)) entries (one who end (Lost role Fault) ∷ []) was.sized refl)
+      (limit-more entries (one who end (Lost role Fault) ∷ []) was.unlimited refl) in (
+        tt,
+        tt,
+        (
+          record { within = omega (arith, within, seen); refused = tt },
+          tt,
+          (one_missing role (mid ++ one who end (Torn at body) ∷ []) (told-more (Some role) mid (one who end (Torn at body) ∷ []) (told-new role who end entries [] lt)), tt, tt),
+        ),
+      )
 
   pub call-read : (who : Who) (end at : ℕ) (body : List Sector) → IsReadOver (zero_list shape size) entries at body → IsCallOf (opening_of shape size first) entries who end (Read at body ∷ [])
   call-read who end at body read = (read, tt, tt)

@@ -1,8 +1,8 @@
 -- Replies that fit their requests.
-use Rattle.std.proofs.Common.{◌≡◌, ◌≢◌, ℕ, zero, suc, ◌+◌, ◌*◌, ◌<◌, ◌≤◌, ◌==◌, ◌&&◌, ◌⊎◌, inl, inr, Bool, true, false, cond, nat_lt, Option, Some, None, List, [], ◌∷◌, ◌++◌, length, unwrap_or, refl, sym, ◌∙◌, ap, subst, arith, append-nil, append_assoc}
+use Rattle.std.proofs.Common.{◌≡◌, ℕ, ◌+◌, ◌*◌, ◌<◌, ◌≤◌, ◌==◌, ◌&&◌, Bool, true, false, cond, nat_lt, Option, Some, None, List, [], ◌∷◌, ◌++◌, length, unwrap_or, refl, sym, ◌∙◌, ap, subst, arith}
 use Rattle.std.proofs.lemmas.Bool.Decides.{nat_tests}
 use Rattle.std.proofs.lemmas.List.{reverse-append, length-replicate}
-use Rattle.std.specs.Prelude.{fold, reverse, replicate, IsTrue, IsFalse, ⊤, MatchBool}
+use Rattle.std.specs.Prelude.{fold, reverse, MatchBool}
 use Rattle.md_base.specs.Sectors.{Sector, zero_sector}
 use Rattle.md_base.specs.Shapes.{data_disks}
 use Rattle.md_base.specs.declared.answers.Who.{Who}
@@ -18,12 +18,11 @@ use Rattle.flat_history.specs.declared.events.Request.TheVariants.{Read as AsksR
 use Rattle.flat_history.specs.Flat.{is_same_call, rest_of_call, last_of, next_number, visible_of, length_after, limit_after}
 use Rattle.flat_history.specs.Growing.{BeginAnother}
 use Rattle.flat_history.specs.Transfers.{IsRefusedAt, IsPastEnd}
-use Rattle.flat_history.specs.Fits.{AreTornOf, IsTornOf, IsReadRefused, IsWriteRefused}
-use Rattle.flat_history.specs.Plain.{Opening, PlainAnswers, PlainFits, entries_of}
+use Rattle.flat_history.specs.Fits.{AreTornOf, IsReadRefused, IsWriteRefused}
+use Rattle.flat_history.specs.Plain.{Opening, PlainAnswers, entries_of}
 use Rattle.array.specs.Kept.{zero_list, opening_of, failure_events, IsRecorded, IsReplied, IsRefusalOf}
-use Rattle.array.proofs.PlainLaws.{one, begins, IsCallOf}
+use Rattle.array.proofs.PlainLaws.{one, begins}
 use Rattle.array.proofs.NowLaws.{visible-is, length-more, limit-more}
-use Rattle.array.proofs.RecordLaws.{AreSilent, call-past, call-missing}
 
 pub length-zeros : (shape : Shape) (size : ℕ) → length (zero_list shape size) ≡ data_disks shape * size
 length-zeros shape size = length-replicate (data_disks shape * size) zero_sector
@@ -54,6 +53,7 @@ none_before entries who end event number = by (reverse entries) (last_of entries
   where
     swap : (a b c d : ℕ) → ((a == b) && (c == d)) ≡ false → ((b == a) && (d == c)) ≡ false
     swap a b c d e = grind (arith, nat_tests, e)
+
     by : (xs : List Entry) (last : Option Entry) → head_of xs ≡ last → BeginAnother last (one who end event ∷ []) → rest_of_call (one who end event) xs ≡ []
     by [] last is begin = refl
     by (x ∷ xs) None is begin = absurd cc

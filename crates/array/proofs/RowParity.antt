@@ -1,19 +1,16 @@
 -- Data roles of a row, and rows that hold the same.
-use Rattle.std.proofs.Common.{◌≡◌, ◌≢◌, ℕ, zero, suc, ◌+◌, ◌-◌, ◌*◌, ◌/◌, ◌<◌, ◌≤◌, ◌==◌, ◌&&◌, Bool, true, false, not, ◌⊎◌, inl, inr, Option, Some, None, List, [], ◌∷◌, ◌++◌, length, take, drop, refl, sym, ◌∙◌, ap, ap₂, subst, arith}
+use Rattle.std.proofs.Common.{◌≡◌, ◌≢◌, ℕ, zero, suc, ◌+◌, ◌-◌, ◌*◌, ◌<◌, ◌≤◌, ◌==◌, ◌&&◌, true, not, ◌⊎◌, inl, inr, Option, Some, None, List, [], ◌∷◌, ◌++◌, take, drop, refl, sym, ◌∙◌, ap, ap₂, subst, arith}
 use Rattle.std.proofs.lemmas.Bool.Decides.{nat_tests}
 use Rattle.md_base.specs.Search.{tabulate}
 use Rattle.md_base.specs.Sectors.{Sector}
 use Rattle.md_base.specs.Shapes.{is_valid_shape}
 use Rattle.md_base.specs.declared.places.Shape.{Shape}
-use Rattle.md_base.specs.declared.places.RowRoles.{RowRoles}
 use Rattle.bank.specs.Tape.{Contents}
-use Rattle.layout.specs.Layout.{place, row_roles, IsParity}
+use Rattle.layout.specs.Layout.{place, row_roles}
 use Rattle.layout.proofs.Places.{place-apart, place-only}
 use Rattle.parity.specs.Exponents.{is_data, is_this_q}
 use Rattle.parity.specs.Parity.{AreEquationsMet}
-use Rattle.parity.specs.Rows.{IsRowRoles, sector_of}
-use Rattle.std.specs.Prelude.{IfSome}
-use Rattle.layout.proofs.Limits.{limited}
+use Rattle.parity.specs.Rows.{sector_of}
 use Rattle.array.specs.Rows.{row_sector, HasOther, IsOther, IsRowWritten}
 
 data_by : (p : ℕ) (q : Option ℕ) (role : ℕ) → role ≢ p → q ≢ Some role → (not (role == p) && not (is_this_q q role)) ≡ true

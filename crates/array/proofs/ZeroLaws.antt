@@ -1,9 +1,9 @@
 -- Rows of zeros, and the list of zeros.
-use Rattle.std.proofs.Common.{◌≡◌, ◌≢◌, ℕ, zero, suc, ◌+◌, ◌*◌, ◌<◌, ◌≤◌, ◌==◌, ◌⊎◌, inl, inr, Bool, true, false, cond, Option, Some, None, List, [], ◌∷◌, ◌++◌, length, take, drop, replicate, get_or, refl, sym, ◌∙◌, ap, ap₂, subst, arith}
+use Rattle.std.proofs.Common.{◌≡◌, ℕ, zero, suc, ◌+◌, ◌*◌, ◌<◌, ◌==◌, Bool, true, false, cond, Option, Some, None, List, [], ◌∷◌, ◌++◌, take, drop, replicate, get_or, refl, sym, ◌∙◌, ap, subst, arith}
 use Rattle.std.proofs.lemmas.Bool.Decides.{nat_tests}
 use Rattle.std.specs.Prelude.{slice_index_or, slice_index, bit_xor}
 use Rattle.md_base.specs.Search.{tabulate}
-use Rattle.md_base.specs.Sectors.{Sector, zero_sector}
+use Rattle.md_base.specs.Sectors.{zero_sector}
 use Rattle.md_base.specs.Shapes.{is_valid_shape, is_multiple, data_disks}
 use Rattle.md_base.specs.declared.places.RowRoles.{RowRoles}
 use Rattle.md_base.specs.declared.places.Shape.{Shape}
@@ -11,11 +11,10 @@ use Rattle.md_base.proofs.Tabulated.{get_or-tabulate}
 use Rattle.bank.specs.Tape.{Contents}
 use Rattle.gf256.specs.Field.{product, power_of_two}
 use Rattle.gf256.proofs.FieldLaws.{product-zero_r}
-use Rattle.layout.specs.Layout.{row_roles, place}
+use Rattle.layout.specs.Layout.{row_roles}
 use Rattle.layout.proofs.Places.{row_roles-p_below, row_roles-q_apart, place-sector_below}
 use Rattle.parity.specs.Exponents.{is_data, exponent}
 use Rattle.parity.specs.Parity.{data_sum, p_holds, q_holds, q_holds_at, AreEquationsMet}
-use Rattle.parity.specs.Rows.{whole_row}
 use Rattle.parity.proofs.Contents.{whole-good}
 use Rattle.flat_history.specs.Flat.{now, values_of}
 use Rattle.array.specs.Kept.{zero_list}

@@ -1,5 +1,5 @@
 -- What an array keeps, over plain data.
-use Rattle.std.specs.Prelude.{Bool, true, false, ◌≡◌, ◌⊎◌, ℕ, ◌+◌, ◌-◌, ◌*◌, ◌^◌, ◌<◌, ◌≤◌, ◌++◌, ◌==◌, List, [], ◌∷◌, length, replicate, Option, Some, None, Result, Ok, Err, MatchOption, IsSome, IsTrue, ⊤}
+use Rattle.std.specs.Prelude.{Bool, true, false, ◌≡◌, ℕ, ◌+◌, ◌-◌, ◌*◌, ◌^◌, ◌<◌, ◌≤◌, ◌++◌, List, [], ◌∷◌, length, replicate, Option, Some, None, Result, Ok, Err, MatchOption, IsSome, IsTrue, ⊤}
 use Rattle.std.specs.List.{list_any}
 use Rattle.md_base.specs.declared.places.Shape.{Shape}
 use Rattle.md_base.specs.declared.answers.Who.{Who}

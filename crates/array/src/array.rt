@@ -46,16 +46,16 @@ impl<B: Bank> Model for Array<B> {
     ghost Value = { Parts B };
 
     ghost view = { λ a. record {
-        bank = a.bank;
-        uuid = a.epoch.uuid;
-        given = a.epoch.given;
-        first = a.epoch.first;
-        last = a.epoch.last;
-        entries = a.epoch.entries.items;
-        shape = a.shape;
-        size = a.size;
-        offset = a.offset;
-        lost = a.lost;
+      bank = a.bank;
+      uuid = a.epoch.uuid;
+      given = a.epoch.given;
+      first = a.epoch.first;
+      last = a.epoch.last;
+      entries = a.epoch.entries.items;
+      shape = a.shape;
+      size = a.size;
+      offset = a.offset;
+      lost = a.lost;
     } };
 
     ghost invariant = { λ a. IsReady B.tells (B.given a.bank) (B.tape a.bank) a.epoch.first a.epoch.entries.items a.shape a.size a.offset a.lost
@@ -202,7 +202,14 @@ impl<B: Bank> Array<B> {
             }
             None => {}
         }
-        match read_body(&mut self.bank, &self.shape, self.offset, self.size, at, &mut bytes) {
+        match read_body(
+            &mut self.bank,
+            &self.shape,
+            self.offset,
+            self.size,
+            at,
+            &mut bytes,
+        ) {
             Err(role) => {
                 self.lost = Some(role);
                 let refusal = Refusal::TooManyMissing(1, 0);

@@ -20,3 +20,6 @@ pub use puts::{Loss, put};
 pub use rows::{change_row, read_row, rewrite_row, write_row};
 pub use spec::CreateSpec;
 pub use zeros::zero_members;
+
+#[cfg(test)]
+mod tests;

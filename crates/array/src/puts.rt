@@ -54,7 +54,14 @@ pub fn put<B: Bank>(
     let count = (from.len() / 512) as u64;
     rows.clear();
     touched_rows(shape, first, count, rows);
-    match read_rows(bank, shape.disks, offset, size, rows.as_slice(), buffer.as_mut_slice()) {
+    match read_rows(
+        bank,
+        shape.disks,
+        offset,
+        size,
+        rows.as_slice(),
+        buffer.as_mut_slice(),
+    ) {
         Err(role) => return Err(Loss { role, torn: false }),
         Ok(()) => {}
     }

@@ -186,5 +186,13 @@ pub fn rewrite_row<B: Bank>(
 {
     change_row(shape, row, first, from, bytes);
     syndromes(bytes, &row_of(shape, row));
-    write_row(bank, shape, offset, row, first, (from.len() / 512) as u64, bytes)
+    write_row(
+        bank,
+        shape,
+        offset,
+        row,
+        first,
+        (from.len() / 512) as u64,
+        bytes,
+    )
 }

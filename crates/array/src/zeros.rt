@@ -45,12 +45,7 @@ fn zero_bytes() -> [u8; 512]
 }
 
 /// Writes zeros over the rows of each member, and flushes it. An Err is the slot that failed.
-pub fn zero_members<B: Bank>(
-    bank: &mut B,
-    disks: u32,
-    offset: u64,
-    size: u64,
-) -> Result<(), u32>
+pub fn zero_members<B: Bank>(bank: &mut B, disks: u32, offset: u64, size: u64) -> Result<(), u32>
     requires members { AreMembers (B.given bank.old) disks (offset + size) }
     requires short { offset + size < 2 ^ 63 }
     ensures zero { OnOk result (B.tells → (slot row : ℕ) → slot < disks → row < size → present (B.given bank.new) (B.tape bank.new) slot (offset + row) ≡ zero_sector) }

@@ -1,5 +1,4 @@
-use Rattle.std.proofs.Common.{rules, ◌≡◌, ◌<◌, ◌≤◌, ℕ, List, [], length, Option, None, refl, sym, ◌∙◌, ap, subst, arith}
-use Rattle.bank.specs.Given.{Given}
+use Rattle.std.proofs.Common.{◌∙◌, arith}
 use Rattle.array.proofs.ReadyLaws.{ready_made}
 use Rattle.array.proofs.array.create.Goals as goal
 

@@ -1,10 +1,9 @@
-use Rattle.std.proofs.Common.{rules, ◌≡◌, ◌+◌, ◌-◌, ◌*◌, ◌<◌, ◌≤◌, ℕ, List, length, inl, inr, sym, ◌∙◌, ap, subst, arith}
+use Rattle.std.proofs.Common.{◌≡◌, ◌+◌, ◌-◌, ◌*◌, ◌<◌, ◌≤◌, ℕ, length, inl, inr, sym, ◌∙◌, subst, arith}
 use Rattle.std.proofs.lemmas.Bool.{cases_eq}
 use Rattle.std.specs.Prelude.{slice_index}
 use borrow.Rule.Slice.PartMut.{put_mid}
 use Rattle.bank.specs.Given.{Given}
-use Rattle.bank.specs.declared.bank.Operation.{Operation}
-use Rattle.array.specs.Rows.{present, buffered, AreMembers, row_sector}
+use Rattle.array.specs.Rows.{present, buffered, AreMembers}
 use Rattle.array.proofs.DeviceLaws.{members_fewer, present-same}
 use Rattle.array.proofs.Elements.{contains-at}
 use Rattle.array.proofs.RowBytes.{row_sector-part_here, row_sector-part_other}

@@ -1,4 +1,4 @@
-use Rattle.std.proofs.Common.{◌≡◌, ◌+◌, ◌-◌, ◌<◌, ◌≤◌, ℕ, vec_len, vec_capacity}
+use Rattle.std.proofs.Common.{◌+◌, ◌-◌, ◌<◌, ◌≤◌, ℕ, vec_len, vec_capacity}
 use Rattle.std.specs.Prelude.{Contains}
 use Rattle.layout.specs.Layout.{place}
 use Rattle.array.specs.Rows.{IsTouched}

@@ -1,12 +1,11 @@
-use Rattle.std.proofs.Common.{rules, ◌≡◌, ◌≢◌, ◌+◌, ◌-◌, ◌*◌, ◌/◌, ◌<◌, ◌≤◌, ◌++◌, ◌∷◌, [], ℕ, List, length, take, drop, inl, inr, sym, ◌∙◌, ap, subst, arith}
+use Rattle.std.proofs.Common.{◌≡◌, ◌+◌, ◌-◌, ◌*◌, ◌/◌, ◌<◌, ◌≤◌, ◌++◌, ◌∷◌, [], ℕ, List, length, take, inl, inr, sym, ◌∙◌, subst, arith}
 use Rattle.std.proofs.lemmas.Bool.{cases_eq}
 use Rattle.std.proofs.lemmas.List.{take_more, take_all}
 use Rattle.std.proofs.lemmas.List.Elements.{Contains-append_left}
 use Rattle.std.specs.Prelude.{slice_index, Contains}
-use borrow.Rule.Slice.PartMut.{put_mid}
 use Rattle.bank.specs.Given.{Given}
 use Rattle.bank.specs.Tape.{Contents}
-use Rattle.array.specs.Rows.{present, buffered, AreMembers, row_sector, HasOther, IsRowWritten}
+use Rattle.array.specs.Rows.{present, AreMembers, HasOther, IsRowWritten}
 use Rattle.array.proofs.DeviceLaws.{members_fewer}
 use Rattle.array.proofs.Elements.{contains-at, contains-last, contains-more}
 use Rattle.array.proofs.RowBytes.{row_sector-part, row_sector-part_other}
@@ -51,14 +50,14 @@ loop-i-preserved g c =
     record {
       done = λ told row has. elim (cases_eq row r) [
         | inl same ↦ subst (λ (y : ℕ). IsRowWritten shape c.args.offset c.args.first c.args.from.now start after y) (sym same) (record {
-            changed = (did.written told).changed;
-            kept = λ role lt other. (did.written told).kept role lt other ∙ was.kept told role r lt other;
-            parity = (did.written told).parity;
-          })
+          changed = (did.written told).changed;
+          kept = λ role lt other. (did.written told).kept role lt other ∙ was.kept told role r lt other;
+          parity = (did.written told).parity;
+        })
         | inr ne ↦ elim (contains-more (take c.loop-i.i rows) r row (subst (λ (l : List ℕ). Contains l row) more has)) [
-            | inl before ↦ written-later after (was.done told row before) (λ role lt. did.others told role (c.args.offset + row) (λ e. ne (omega (arith, e))))
-            | inr here ↦ absurd (ne here)
-          ]
+          | inl before ↦ written-later after (was.done told row before) (λ role lt. did.others told role (c.args.offset + row) (λ e. ne (omega (arith, e))))
+          | inr here ↦ absurd (ne here)
+        ]
       ];
       kept = λ told role row lt other. elim (cases_eq row r) [
         | inl same ↦ subst (λ (y : ℕ). after role (c.args.offset + y) ≡ start role (c.args.offset + y)) (sym same)

@@ -1,4 +1,4 @@
-use Rattle.std.proofs.Common.{rules, ◌≡◌, ◌≢◌, ◌+◌, ◌*◌, ◌/◌, ◌-◌, ◌<◌, ℕ, length, take, drop, List, refl, sym, ◌∙◌, ap, subst, arith, lit<}
+use Rattle.std.proofs.Common.{◌≡◌, ℕ, length, List, sym, ◌∙◌, ap, arith, lit<}
 use Rattle.std.proofs.lemmas.List.{take_all}
 use Rattle.md_base.specs.Sectors.{Sector}
 use Rattle.bank.specs.Tape.{AreSectors}

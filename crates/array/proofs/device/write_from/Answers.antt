@@ -1,4 +1,4 @@
-use Rattle.std.proofs.Common.{rules, ◌≡◌, ◌≢◌, ◌+◌, ◌*◌, ◌/◌, ◌-◌, [], ◌∷◌, ◌++◌, ℕ, length, take, drop, List, refl, sym, ◌∙◌, ap, arith, Result}
+use Rattle.std.proofs.Common.{◌≡◌, ◌+◌, ◌*◌, ◌-◌, [], ◌∷◌, ◌++◌, ℕ, take, drop, List, refl, ◌∙◌, ap, arith, Result}
 use Rattle.std.specs.Prelude.{IsOk}
 use Rattle.bank.specs.Given.{Given}
 use Rattle.bank.specs.Tape.{Did}

@@ -1,7 +1,6 @@
-use Rattle.std.proofs.Common.{rules, ◌≡◌, ◌≢◌, ◌+◌, ◌*◌, ◌/◌, ◌<◌, ◌≤◌, ℕ, List, length, inl, inr, sym, ◌∙◌, ap, subst, arith}
+use Rattle.std.proofs.Common.{◌≡◌, ◌+◌, ℕ, inl, inr, sym, ◌∙◌, ap, subst, arith}
 use Rattle.std.proofs.lemmas.Bool.{cases_eq}
 use Rattle.md_base.specs.declared.places.Place.{Place}
-use Rattle.md_base.specs.Sectors.{Sector}
 use Rattle.bank.specs.Tape.{Contents}
 use Rattle.layout.specs.Layout.{place}
 use Rattle.array.specs.Rows.{present, row_sector}

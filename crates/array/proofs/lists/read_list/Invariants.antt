@@ -1,4 +1,4 @@
-use Rattle.std.proofs.Common.{◌≡◌, ◌+◌, ◌<◌, ℕ, length}
+use Rattle.std.proofs.Common.{◌≡◌, ◌+◌, ◌<◌, ℕ}
 use Rattle.bank.specs.Given.{NeverFalls}
 use Rattle.layout.specs.Layout.{place}
 use Rattle.array.specs.Rows.{present, row_sector}

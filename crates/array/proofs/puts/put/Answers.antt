@@ -1,6 +1,5 @@
-use Rattle.std.proofs.Common.{rules, ◌≡◌, ◌+◌, ◌*◌, ◌/◌, ◌<◌, ◌≤◌, ℕ, List, true, length, refl, sym, ◌∙◌, ap, ap₂, subst, arith}
+use Rattle.std.proofs.Common.{◌≡◌, ◌+◌, ◌*◌, ◌/◌, ◌<◌, ◌≤◌, ℕ, List, true, length, sym, ap₂, subst, arith}
 use Rattle.std.specs.Prelude.{Contains}
-use Rattle.md_base.specs.Sectors.{Sector}
 use Rattle.md_base.specs.Shapes.{is_valid_shape, is_multiple, data_disks}
 use Rattle.md_base.specs.declared.places.Shape.{Shape}
 use Rattle.bank.specs.Given.{Given}

@@ -1,4 +1,4 @@
-use Rattle.std.proofs.Common.{rules, ◌≡◌, ◌≢◌, ◌+◌, ◌*◌, ◌-◌, ℕ, length, take, drop, List, refl, sym, ◌∙◌, ap, arith}
+use Rattle.std.proofs.Common.{◌≡◌, ◌+◌, ◌*◌, ◌-◌, ℕ, take, drop, ◌∙◌, ap, arith}
 use Rattle.array.proofs.RowBytes.{row_sector-put_here, row_sector-put_other}
 use Rattle.array.proofs.rows.copy_sector.Goals as goal
 

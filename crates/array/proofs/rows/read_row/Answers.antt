@@ -1,5 +1,4 @@
-use Rattle.std.proofs.Common.{rules, ◌≡◌, ◌≢◌, ◌+◌, ◌*◌, ◌<◌, ◌≤◌, ℕ, length, OnOk, ◌∙◌, sym, ap, arith}
-use Rattle.array.specs.Rows.{present, row_sector, AreMembers, HasLost}
+use Rattle.std.proofs.Common.{arith}
 use Rattle.array.proofs.DeviceLaws.{member_place_later}
 use Rattle.array.proofs.rows.read_row.Goals as goal
 

@@ -1,13 +1,12 @@
-use Rattle.std.proofs.Common.{rules, ◌≡◌, ◌≢◌, ◌+◌, ◌-◌, ◌*◌, ◌/◌, ◌<◌, ◌≤◌, ℕ, true, length, List, inl, inr, sym, ◌∙◌, ap, subst, arith}
+use Rattle.std.proofs.Common.{◌≡◌, ◌+◌, ◌/◌, ℕ, true, length, List, sym, ◌∙◌, subst}
 use Rattle.md_base.specs.declared.places.RowRoles.{RowRoles}
 use Rattle.md_base.specs.declared.places.Shape.{Shape}
 use Rattle.md_base.specs.Shapes.{is_valid_shape}
-use Rattle.md_base.specs.Sectors.{Sector}
 use Rattle.parity.specs.Exponents.{is_data}
 use Rattle.parity.specs.Parity.{AreEquationsMet}
 use Rattle.parity.specs.Rows.{sector_of, whole_row}
 use Rattle.layout.specs.Layout.{place, row_roles}
-use Rattle.array.specs.Rows.{present, row_sector, HasOther}
+use Rattle.array.specs.Rows.{present, row_sector}
 use Rattle.array.proofs.Answered.{on_ok}
 use Rattle.array.proofs.RowParity.{data_here, other_only, parity-same, sector_of-is}
 use Rattle.array.proofs.rows.rewrite_row.Goals as goal
@@ -30,7 +29,7 @@ returns-clause-written g c = on_ok c.write_row.result (λ row told.
     let shape = c.args.shape.now in
     let bytes = c.syndromes.new.row in
     let good : AreEquationsMet (row_roles shape c.args.row) (whole_row shape.disks (sector_of bytes)) =
-        subst (λ (r : RowRoles). AreEquationsMet r (whole_row r.disks (sector_of bytes))) c.row_of.ensures.roles c.syndromes.ensures.good in
+    subst (λ (r : RowRoles). AreEquationsMet r (whole_row r.disks (sector_of bytes))) c.row_of.ensures.roles c.syndromes.ensures.good in
     record {
       changed = λ role x lt placed low high.
           row told role lt

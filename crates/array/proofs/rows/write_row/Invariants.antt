@@ -1,4 +1,4 @@
-use Rattle.std.proofs.Common.{◌≡◌, ◌≢◌, ◌⊎◌, ◌+◌, ◌*◌, ◌<◌, ◌≤◌, ℕ, length}
+use Rattle.std.proofs.Common.{◌≡◌, ◌≢◌, ◌⊎◌, ◌+◌, ◌<◌, ◌≤◌, ℕ, length}
 use Rattle.bank.specs.Given.{NeverFalls}
 use Rattle.array.specs.Rows.{present, row_sector}
 use Rattle.array.proofs.rows.write_row.Given as goal

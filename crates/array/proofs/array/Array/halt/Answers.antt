@@ -1,5 +1,4 @@
-use Rattle.std.proofs.Common.{◌≡◌, ◌+◌, ◌<◌, ◌≤◌, ◌++◌, ◌∷◌, [], ℕ, List, length, Option, None, refl, sym, ◌∙◌, ap, subst, arith}
-use Rattle.flat_history.specs.declared.events.Event.TheVariants.{Halted}
+use Rattle.std.proofs.Common.{◌≡◌, sym, ◌∙◌, ap}
 use Rattle.flat_history.specs.Flat.{next_number}
 use Rattle.array.proofs.ReadyLaws.{ready_halted}
 use Rattle.array.proofs.array.Array.halt.Goals as goal

@@ -1,18 +1,15 @@
-use Rattle.std.proofs.Common.{rules, ◌≡◌, ◌≢◌, ◌+◌, ◌*◌, ◌/◌, ◌<◌, ◌≤◌, ◌++◌, ◌∷◌, [], ℕ, List, length, Option, Some, None, refl, sym, ◌∙◌, ap, subst, arith}
+use Rattle.std.proofs.Common.{◌≡◌, ◌+◌, ◌*◌, ◌/◌, ◌<◌, ◌≤◌, ◌++◌, ◌∷◌, [], ℕ, List, length, Some, refl, sym, ◌∙◌, ap, subst, arith}
 use Rattle.md_base.specs.Shapes.{data_disks}
 use Rattle.md_base.specs.Sectors.{Sector, sectors_of}
 use Rattle.md_base.proofs.SectorLaws.{length-sectors_of}
 use Rattle.layout.proofs.Limits.{limited}
 use Rattle.flat_history.specs.declared.events.Entry.{Entry}
-use Rattle.flat_history.specs.declared.events.Event.{Event}
-use Rattle.flat_history.specs.declared.events.Event.TheVariants.{Wrote, Lost, Torn, Refused}
-use Rattle.flat_history.specs.declared.events.LostCause.TheVariants.{Fault}
-use Rattle.md_base.specs.declared.answers.Refusal.TheVariants.{TooManyMissing}
+use Rattle.flat_history.specs.declared.events.Event.TheVariants.{Wrote, Refused}
 use Rattle.flat_history.specs.declared.events.Request.TheVariants.{Write as AsksWrite}
-use Rattle.flat_history.specs.Flat.{next_number, now}
+use Rattle.flat_history.specs.Flat.{next_number}
 use Rattle.flat_history.specs.Fits.{IsWriteRefused}
 use Rattle.flat_history.specs.Plain.{entries_of}
-use Rattle.array.specs.Kept.{zero_list, opening_of, failure_events, IsRefusalOf}
+use Rattle.array.specs.Kept.{opening_of, failure_events, IsRefusalOf}
 use Rattle.array.proofs.ReadyLaws.{ready_refused, ready_failed, ready_wrote, holds_put}
 use Rattle.array.proofs.ReplyLaws.{refused_reply, failed_reply, replied, write_kind}
 use Rattle.array.proofs.array.Array.write.Goals as goal
