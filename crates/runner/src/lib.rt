@@ -4,6 +4,8 @@
 mod asks;
 mod lines;
 mod report;
+#[cfg(test)]
+mod tests;
 
 pub use asks::{ask_read, ask_write};
 pub use lines::perform;
