@@ -4,5 +4,5 @@
 mod asks;
 mod report;
 
-pub use asks::ask;
+pub use asks::{ask_read, ask_write};
 pub use report::{Answered, Ended, LineReply, Outside, Report};
