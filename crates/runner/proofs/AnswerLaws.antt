@@ -85,9 +85,11 @@ pub answers_longer : (opening : Opening) (entries : List Entry) (n : ℕ) (more 
 answers_longer opening entries n more calls [] [] le later was = was
 answers_longer opening entries n more calls [] (reply ∷ replies) le later was = absurd was
 answers_longer opening entries n more calls (line ∷ lines) [] le later was = absurd was
-answers_longer opening entries n more calls (line ∷ lines) (reply ∷ replies) le later (same, answer, rest) =
-    (same, answer_longer opening entries n more calls line.line reply.what (omega (arith, le, calls_grow (calls_after calls reply.what) replies)) later answer,
-     answers_longer opening entries n more (calls_after calls reply.what) lines replies le later rest)
+answers_longer opening entries n more calls (line ∷ lines) (reply ∷ replies) le later (same, answer, rest) = (
+  same,
+  answer_longer opening entries n more calls line.line reply.what (omega (arith, le, calls_grow (calls_after calls reply.what) replies)) later answer,
+  answers_longer opening entries n more (calls_after calls reply.what) lines replies le later rest,
+)
 
 -- one reply more
 pub answers_more : (opening : Opening) (entries : List Entry) (calls : ℕ) (lines : List Numbered) (replies : List LineReply) (line : Numbered) (reply : LineReply)
@@ -176,9 +178,9 @@ performed_more {opening = opening} {old = old} {mid = mid} {new = new} {lines = 
       few = omega (arith, lt, length-append replies (reply ∷ []));
       answers = subst (λ (ls : List Numbered). AreAnswers opening new (next_number 0 old) ls (replies ++ reply ∷ [])) (sym lines_taken)
           (answers_more opening new (next_number 0 old) (take (length replies) lines) replies line reply
-              (subst (λ (es : List Entry). AreAnswers opening es (next_number 0 old) (take (length replies) lines) replies) (sym (added what did).1.grown)
-                  (answers_longer opening mid (next_number 0 mid) (added what did).0 (next_number 0 old) (take (length replies) lines) replies (omega (arith, was.calls)) (added what did).1.later was.answers))
-              refl (subst (λ (n : ℕ). IsAnswer opening new n line.line what) was.calls (added what did).1.answer));
+          (subst (λ (es : List Entry). AreAnswers opening es (next_number 0 old) (take (length replies) lines) replies) (sym (added what did).1.grown)
+          (answers_longer opening mid (next_number 0 mid) (added what did).0 (next_number 0 old) (take (length replies) lines) replies (omega (arith, was.calls)) (added what did).1.later was.answers))
+          refl (subst (λ (n : ℕ). IsAnswer opening new n line.line what) was.calls (added what did).1.answer));
       calls = (added what did).1.number ∙ ap (λ (n : ℕ). calls_after n what) was.calls ∙ sym (calls_more (next_number 0 old) replies reply);
     }
   where
@@ -196,15 +198,21 @@ performed_more {opening = opening} {old = old} {mid = mid} {new = new} {lines = 
       where
         by_request : (request : Option Request) → asked_of line.line ≡ request → MatchOption request ⊥ (λ r. IsAskedAt opening r mid new place) → (more : List Entry) × Added opening mid new line.line (Inside place) more
         by_request None same asked = absurd asked
-        by_request (Some r) same asked = (entered asked, record {
-          grown = is_entered asked;
-          later = entered_later asked;
-          answer = subst (λ (o : Option Request). MatchOption o ⊥ (λ r. IsReplyAt opening new place (next_number 0 mid) r)) (sym same) (reply_at asked);
-          number = number_entered asked;
-        })
-    added (Refused refusal) (nothing, running, same) = ([], record {
-      grown = same ∙ sym (append-nil mid);
-      later = none_later (next_number 0 mid);
-      answer = (nothing, running);
-      number = ap (λ (l : List Entry). next_number 0 l) same;
-    })
+        by_request (Some r) same asked = (
+          entered asked,
+          record {
+            grown = is_entered asked;
+            later = entered_later asked;
+            answer = subst (λ (o : Option Request). MatchOption o ⊥ (λ r. IsReplyAt opening new place (next_number 0 mid) r)) (sym same) (reply_at asked);
+            number = number_entered asked;
+          },
+        )
+    added (Refused refusal) (nothing, running, same) = (
+      [],
+      record {
+        grown = same ∙ sym (append-nil mid);
+        later = none_later (next_number 0 mid);
+        answer = (nothing, running);
+        number = ap (λ (l : List Entry). next_number 0 l) same;
+      },
+    )

@@ -1,2 +1,5 @@
 pub mod Asked
+pub mod Pace
 pub mod Replies
+pub mod Source
+pub mod Words

@@ -44,7 +44,12 @@ fn wants_memory(answer: &Result<(), Fault>) -> bool
 }
 
 /// Reads so many sectors. Ok is the place of the reply entry.
-pub fn ask_read<B: Bank>(alloc: Global, array: &mut Array<B>, at: u64, count: u32) -> Result<u64, NoMemory>
+pub fn ask_read<B: Bank>(
+    alloc: Global,
+    array: &mut Array<B>,
+    at: u64,
+    count: u32,
+) -> Result<u64, NoMemory>
     requires few { count ≤ 128 }
     requires short { at + count < 2 ^ 63 }
     ensures asked { IsAsked (opening_of array.old.shape array.old.size array.old.first) (AsksRead at count) array.old.entries array.new.entries result }

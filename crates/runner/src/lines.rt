@@ -17,7 +17,11 @@ use script::{Line, Numbered};
 use std::alloc::Global;
 
 // The answer to one line.
-fn answer_line<B: Bank>(alloc: Global, array: &mut Array<B>, line: Line) -> Result<Answered, NoMemory>
+fn answer_line<B: Bank>(
+    alloc: Global,
+    array: &mut Array<B>,
+    line: Line,
+) -> Result<Answered, NoMemory>
     requires span { IsTrue (has_span line) }
     ensures performed { IsPerformedLine (opening_of array.old.shape array.old.size array.old.first) array.old.entries array.new.entries line result }
     ensures never_falls { NeverFalls (B.faults_of array.old.bank) (B.faults_of array.new.bank) }

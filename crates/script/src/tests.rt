@@ -15,7 +15,7 @@ fn first_bad(alloc: Global, text: &[u8]) -> Result<Option<u64>, Fail> {
     }
 }
 
-// Texts as a user may write them, with the answers of the specification.
+// Texts as a user may write them, and the first bad line of each.
 #[test]
 fn whole_texts(rt: HostRuntime) -> Result<(), Fail> {
     let texts: [(&str, Option<u64>); 18] = [

@@ -12,17 +12,17 @@ sectors_in n len is = omega (arith, is)
 pub returns-then-wants_memory-clause-asked : goal.returns-then-wants_memory-clause-asked
 returns-then-wants_memory-clause-asked g c =
     answered_none (opening_of c.args.array.now.shape c.args.array.now.size c.args.array.now.first) (AsksRead c.args.at (length c.as_mut_slice.result.now / 512)) c.script_call-who.result c.args.array.now.entries c.read-answer.new.self.entries (Read c.args.at (sectors_of c.read-answer.new.into)) c.read-answer.result
-        c.read-answer.ensures.answered (c.wants_memory.ensures.yes c.if-wants_memory.true)
+    c.read-answer.ensures.answered (c.wants_memory.ensures.yes c.if-wants_memory.true)
 
 pub last_place-requires : goal.last_place-requires
 last_place-requires g c =
     grew (answered_reply (opening_of c.args.array.now.shape c.args.array.now.size c.args.array.now.first) (AsksRead c.args.at (length c.as_mut_slice.result.now / 512)) c.script_call-who.result c.args.array.now.entries c.read-answer.new.self.entries (Read c.args.at (sectors_of c.read-answer.new.into)) c.read-answer.result
-        c.read-answer.ensures.answered (c.wants_memory.ensures.no c.if-wants_memory.false)).1
+    c.read-answer.ensures.answered (c.wants_memory.ensures.no c.if-wants_memory.false)).1
 
 pub returns-clause-asked : goal.returns-clause-asked
 returns-clause-asked g c =
     let count : length c.as_mut_slice.result.now / 512 ≡ c.args.count = sectors_in c.args.count (length c.as_mut_slice.result.now) (c.as_mut_slice.ensures.len ∙ c.in-Ok.ensures.len) in
     let same : AsksRead c.args.at (length c.as_mut_slice.result.now / 512) ≡ AsksRead c.args.at c.args.count = ap (λ (n : ℕ). AsksRead c.args.at n) count in
     let was = answered_reply (opening_of c.args.array.now.shape c.args.array.now.size c.args.array.now.first) (AsksRead c.args.at (length c.as_mut_slice.result.now / 512)) c.script_call-who.result c.args.array.now.entries c.read-answer.new.self.entries (Read c.args.at (sectors_of c.read-answer.new.into)) c.read-answer.result
-        c.read-answer.ensures.answered (c.wants_memory.ensures.no c.if-wants_memory.false) in
+    c.read-answer.ensures.answered (c.wants_memory.ensures.no c.if-wants_memory.false) in
     asked_at (AsksRead c.args.at c.args.count) c.last_place.result was.1 same c.script_call-who.ensures c.last_place.ensures

@@ -36,7 +36,7 @@ returns-then-is_err-clause-same g c = c.loop-i.invariant.same
 pub returns-in_err-what-clause-performed : goal.returns-in_err-what-clause-performed
 returns-in_err-what-clause-performed g c =
     subst (λ (l : List LineReply). IsPerformed (opening_of c.args.array.now.shape c.args.array.now.size c.args.array.now.first) c.args.array.now.entries c.answer_line.new.array.entries c.args.lines.now l) (sym c.reserve.ensures.items)
-        (performed_same c.loop-i.invariant.performed c.in_err-what.ensures.performed)
+    (performed_same c.loop-i.invariant.performed c.in_err-what.ensures.performed)
 
 pub returns-in_err-what-clause-never_falls : goal.returns-in_err-what-clause-never_falls
 returns-in_err-what-clause-never_falls g c = λ s. omega (arith, c.loop-i.invariant.never_falls s, c.answer_line.ensures.never_falls s)
@@ -59,11 +59,11 @@ loop-i-preserved g c =
     let line : Numbered = get_or c.args.lines.now c.loop-i.i nothing in
     let reply : LineReply = record { line = line.number; what = c.in_ok-what.what } in
     let items : c.push.new.self.items ≡ c.loop-i.replies.items ++ reply ∷ [] =
-        c.push.ensures.items ∙ ap (λ (b : Bool). if b then c.reserve.new.self.items ++ reply ∷ [] else c.reserve.new.self.items) c.if-is_err-2.ensures.negation ∙ ap (λ (l : List LineReply). l ++ reply ∷ []) c.reserve.ensures.items in
+    c.push.ensures.items ∙ ap (λ (b : Bool). if b then c.reserve.new.self.items ++ reply ∷ [] else c.reserve.new.self.items) c.if-is_err-2.ensures.negation ∙ ap (λ (l : List LineReply). l ++ reply ∷ []) c.reserve.ensures.items in
     record {
       performed = subst (λ (l : List LineReply). IsPerformed (opening_of c.args.array.now.shape c.args.array.now.size c.args.array.now.first) c.args.array.now.entries c.answer_line.new.array.entries c.args.lines.now l) (sym items)
           (performed_more nothing line c.in_ok-what.what c.loop-i.invariant.performed (omega (arith, c.loop-i.invariant.count, c.loop-i-test.true)) (ap (λ (k : ℕ). get_or c.args.lines.now k nothing) c.loop-i.invariant.count)
-              (subst (λ (o : Opening). IsPerformedLine o c.loop-i.array.entries c.answer_line.new.array.entries line.line (Ok c.in_ok-what.what)) (same_opening c.loop-i.invariant.same) c.in_ok-what.ensures.performed));
+          (subst (λ (o : Opening). IsPerformedLine o c.loop-i.array.entries c.answer_line.new.array.entries line.line (Ok c.in_ok-what.what)) (same_opening c.loop-i.invariant.same) c.in_ok-what.ensures.performed));
       count = ap (λ (l : List LineReply). length l) items ∙ length-append c.loop-i.replies.items (reply ∷ []) ∙ ap (λ (n : ℕ). n + 1) c.loop-i.invariant.count;
       never_falls = λ s. omega (arith, c.loop-i.invariant.never_falls s, c.answer_line.ensures.never_falls s);
       given = c.answer_line.ensures.given ∙ c.loop-i.invariant.given;

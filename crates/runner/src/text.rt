@@ -1,0 +1,93 @@
+// The text of a script is read whole before any of it is performed.
+ghost use Rattle.std.specs.Prelude.{◌<◌, ◌≤◌, length, IfOk, IfErr};
+ghost use Rattle.runner.specs.Source.{IsTextOf, IsPiece, IsCaused};
+
+use std::alloc::Global;
+use text_io::Source;
+use thiserror::Error;
+
+#[derive(Clone, Copy, Debug, PartialEq, Eq, Error)]
+pub enum TextFault {
+    #[error("the source failed")]
+    Failed,
+    #[error("out of memory")]
+    NoMemory,
+}
+
+/// The most bytes of a script.
+pub const LONGEST_TEXT: usize = 1_048_576;
+
+// How many bytes are pulled at once, at most.
+const PIECE: usize = 65_536;
+
+// Pulls once into the piece and appends what came to the text. Answers how many bytes came.
+fn pull_piece<S: Source>(
+    source: &mut S,
+    piece: &mut [u8],
+    text: &mut Vec<u8>,
+) -> Result<usize, TextFault>
+    requires { 0 < length piece.old }
+    ensures pulled { IfOk result (IsPiece S.tells (S.left source.old) (S.left source.new) text.old.items text.new.items (length piece.old)) }
+    ensures cause { IfErr result (IsCaused (S.faults_of source.old) (S.faults_of source.new)) }
+    ensures never_falls { S.faults_of source.old ≤ S.faults_of source.new }
+{
+    let count = match source.pull(piece) {
+        Err(_) => return Err(TextFault::Failed),
+        Ok(count) => count,
+    };
+    match text.extend_from_slice(&piece[..count]) {
+        Err(_) => Err(TextFault::NoMemory),
+        Ok(()) => Ok(count),
+    }
+}
+
+/// All that the source has left, or where that is more than `LONGEST_TEXT` bytes, one byte more than these.
+pub fn read_text<S: Source>(alloc: Global, source: &mut S) -> Result<Vec<u8>, TextFault>
+    ensures text { IfOk result (λ text. IsTextOf S.tells (S.left source.old) (S.left source.new) text.items) }
+    ensures cause { IfErr result (IsCaused (S.faults_of source.old) (S.faults_of source.new)) }
+    ensures never_falls { S.faults_of source.old ≤ S.faults_of source.new }
+{
+    let Ok(mut buffer) = vec![in alloc; 0u8; PIECE] else {
+        return Err(TextFault::NoMemory);
+    };
+    let piece = buffer.as_mut_slice();
+    let mut text = Vec::new(alloc);
+    while text.len() <= LONGEST_TEXT {
+        let wanted = piece.len().min(LONGEST_TEXT + 1 - text.len());
+        match pull_piece(source, &mut piece[..wanted], &mut text) {
+            Err(fault) => return Err(fault),
+            Ok(0) => return Ok(text),
+            Ok(_) => {}
+        }
+    }
+    Ok(text)
+}
+
+#[cfg(test)]
+mod tests {
+    use super::*;
+    use std::test::Fail;
+    use text_io::MemorySource;
+
+    #[test]
+    fn a_text_is_read_whole_unless_a_pull_fails(rt: HostRuntime) -> Result<(), Fail> {
+        let alloc = rt.alloc();
+        let rows = [
+            (None, Ok(true)),
+            (Some(0), Err(TextFault::Failed)),
+            (Some(1), Err(TextFault::Failed)),
+            (Some(2), Ok(true)),
+        ];
+        for (failing, expected) in rows {
+            let mut numbers = Vec::new(alloc);
+            if let Some(number) = failing {
+                numbers.push(number)?;
+            }
+            let mut source = MemorySource::new(b"halt\n".to_vec(alloc)?, numbers);
+            let read = read_text(alloc, &mut source).map(|text| text.as_slice()
+                == b"halt\n".as_slice());
+            assert_eq!(rt; read, expected);
+        }
+        Ok(())
+    }
+}
