@@ -16,7 +16,7 @@ use script::seed_sectors;
 use std::alloc::Global;
 
 // The script's next call.
-fn script_call<B: Bank>(array: &Array<B>) -> Who
+pub fn script_call<B: Bank>(array: &Array<B>) -> Who
     ensures { result ≡ script_who array.now.entries }
 {
     let number = array.next_number(0);

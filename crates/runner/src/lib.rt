@@ -3,6 +3,7 @@
 #![tactic(auto)]
 
 mod asks;
+mod epochs;
 mod lines;
 mod pace;
 mod report;
@@ -12,6 +13,7 @@ mod text;
 mod words;
 
 pub use asks::{ask_read, ask_write};
+pub use epochs::{Played, play};
 pub use lines::perform;
 pub use pace::Pace;
 pub use report::{Answered, LineReply};
