@@ -1,71 +1,145 @@
-/* Times `syndromes` of the crate parity against a plain loop, on a row of eight data sectors, P and Q. */
+/* Times `syndromes` of the crates parity and parity_lanes against a plain loop in C, on rows of data with P and Q. */
 #include <stdint.h>
 #include <stdio.h>
 #include <stdlib.h>
 #include <string.h>
 #include <time.h>
+#ifdef WITH_ISA_L
+#include <isa-l/raid.h>
+#endif
 
-enum { SECTOR = 512, DATA = 8, DISKS = DATA + 2, REPEATS = 20000, RUNS = 15 };
+enum { SECTOR = 512, MOST_DISKS = 16, MOST_ROWS = 16, WORK = 10000, RUNS = 25 };
 
 void parity_syndromes(uint8_t *row, size_t length, uint32_t disks, uint32_t p, uint32_t q);
+void parity_lanes_syndromes(uint8_t *row, size_t length, uint32_t disks, uint32_t p, uint32_t q);
+void plain_loop(uint8_t *row, int disks);
+void plain_loop_native(uint8_t *row, int disks);
 
-static uint8_t row[DISKS * SECTOR];
+/* Some rows, each role after role: Q is the first role and P the last. */
+static _Alignas(64) uint8_t rows[MOST_ROWS * MOST_DISKS * SECTOR];
+static int disks, count;
 
-/* The data stand behind Q, so role k + 1 of Q = 0 has the exponent k; P is the last role. */
-__attribute__((noinline)) static void plain_loop(uint8_t *restrict all)
+static uint8_t *row_at(int i) { return rows + (size_t)i * disks * SECTOR; }
+
+static void by_c(void)
 {
-    uint8_t p[SECTOR] = {0}, q[SECTOR] = {0};
-    for (int k = DATA; k >= 1; k--) {
-        const uint8_t *data = all + k * SECTOR;
-        for (int i = 0; i < SECTOR; i++) {
-            p[i] ^= data[i];
-            q[i] = (uint8_t)((q[i] << 1) ^ ((q[i] >> 7) * 0x1d) ^ data[i]);
-        }
-    }
-    memcpy(all + (DISKS - 1) * SECTOR, p, SECTOR);
-    memcpy(all, q, SECTOR);
+    for (int i = 0; i < count; i++)
+        plain_loop(row_at(i), disks);
 }
 
-static void by_c(void) { plain_loop(row); }
-static void by_parity(void) { parity_syndromes(row, sizeof row, DISKS, DISKS - 1, 0); }
+static void by_c_native(void)
+{
+    for (int i = 0; i < count; i++)
+        plain_loop_native(row_at(i), disks);
+}
 
+static void by_parity(void)
+{
+    for (int i = 0; i < count; i++)
+        parity_syndromes(row_at(i), (size_t)disks * SECTOR, disks, disks - 1, 0);
+}
+
+static void by_lanes(void)
+{
+    for (int i = 0; i < count; i++)
+        parity_lanes_syndromes(row_at(i), (size_t)disks * SECTOR, disks, disks - 1, 0);
+}
+
+#ifdef WITH_ISA_L
+static void by_isa_l(void)
+{
+    for (int i = 0; i < count; i++) {
+        void *sectors[MOST_DISKS];
+        for (int role = 1; role < disks; role++)
+            sectors[role - 1] = row_at(i) + role * SECTOR;
+        sectors[disks - 1] = row_at(i);
+        pq_gen(disks, SECTOR, sectors);
+    }
+}
+#endif
+
+/* Of processor time, so that other programs on the machine count little. */
 static double seconds(void)
 {
     struct timespec now;
-    clock_gettime(CLOCK_MONOTONIC, &now);
+    clock_gettime(CLOCK_PROCESS_CPUTIME_ID, &now);
     return (double)now.tv_sec + (double)now.tv_nsec * 1e-9;
 }
 
-/* The best of some runs, in nanoseconds a row. */
-static double best(void (*call)(void))
+/* One run, in nanoseconds a row. */
+static double timed(void (*call)(void))
 {
-    double least = 1e9;
-    for (int run = 0; run < RUNS; run++) {
-        double start = seconds();
-        for (int i = 0; i < REPEATS; i++)
-            call();
-        double each = (seconds() - start) / REPEATS;
-        if (each < least)
-            least = each;
+    int repeats = WORK / (count * disks);
+    double start = seconds();
+    for (int i = 0; i < repeats; i++)
+        call();
+    return (seconds() - start) * 1e9 / repeats / count;
+}
+
+struct way {
+    const char *name;
+    void (*call)(void);
+    double least;
+};
+
+/* Compares the rows that each way leaves, then times them in turns and keeps the best run of each. */
+static int measure(struct way *ways, int way_count)
+{
+    static uint8_t expected[sizeof rows];
+    size_t length = (size_t)count * disks * SECTOR;
+    for (size_t i = 0; i < length; i++)
+        rows[i] = (uint8_t)rand();
+    by_c();
+    memcpy(expected, rows, length);
+    for (int w = 0; w < way_count; w++) {
+        for (int i = 0; i < count; i++) {
+            memset(row_at(i), 0, SECTOR);
+            memset(row_at(i) + (disks - 1) * SECTOR, 0, SECTOR);
+        }
+        ways[w].call();
+        if (memcmp(expected, rows, length) != 0) {
+            printf("%s differs\n", ways[w].name);
+            return 1;
+        }
+        ways[w].least = 1e18;
     }
-    return least * 1e9;
+    for (int run = 0; run < RUNS; run++)
+        for (int w = 0; w < way_count; w++) {
+            double each = timed(ways[w].call);
+            if (each < ways[w].least)
+                ways[w].least = each;
+        }
+    return 0;
 }
 
 int main(void)
 {
-    uint8_t expected[sizeof row];
-    for (size_t i = 0; i < sizeof row; i++)
-        row[i] = (uint8_t)rand();
-    by_c();
-    memcpy(expected, row, sizeof row);
-    memset(row, 0, SECTOR);
-    memset(row + (DISKS - 1) * SECTOR, 0, SECTOR);
-    by_parity();
-    if (memcmp(expected, row, sizeof row) != 0) {
-        puts("the two differ");
-        return 1;
+    static const struct { int data, count; } cases[] = {{8, 1}, {8, 6}, {8, 16}, {4, 1}, {14, 1}};
+    struct way ways[] = {
+        {"parity", by_parity, 0},
+        {"lanes", by_lanes, 0},
+        {"C", by_c, 0},
+        {"C native", by_c_native, 0},
+#ifdef WITH_ISA_L
+        {"pq_gen", by_isa_l, 0},
+#endif
+    };
+    int way_count = sizeof ways / sizeof ways[0];
+    for (size_t c = 0; c < sizeof cases / sizeof cases[0]; c++) {
+        disks = cases[c].data + 2;
+        count = cases[c].count;
+        if (measure(ways, way_count) != 0)
+            return 1;
+        printf("%2d data disks, %2d rows: ", cases[c].data, count);
+        for (int w = 0; w < way_count; w++)
+            printf("%s %.0f ns, ", ways[w].name, ways[w].least);
+        double lanes = ways[1].least;
+        printf("lanes/parity %.2f, lanes/C %.2f, lanes/C native %.2f", lanes / ways[0].least,
+               lanes / ways[2].least, lanes / ways[3].least);
+        if (way_count > 4)
+            printf(", lanes/pq_gen %.2f", lanes / ways[4].least);
+        printf("\n");
+        fflush(stdout);
     }
-    double c = best(by_c), ours = best(by_parity);
-    printf("plain loop in C %.0f ns, syndromes %.0f ns, ratio %.2f\n", c, ours, ours / c);
     return 0;
 }

@@ -4,5 +4,7 @@
 mod row;
 mod sectors;
 mod sums;
+#[cfg(test)]
+mod tests;
 
 pub use row::{fill_one, fill_two, syndromes};
