@@ -1,7 +1,8 @@
 //! `syndromes` for a caller in C: of the crate `parity`, and of `parity_lanes`.
 #![tactic(auto)]
 
-ghost use Rattle.std.specs.Prelude.{◌≢◌, ◌<◌, ◌≤◌, Some};
+ghost use Rattle.std.specs.Prelude.{◌≡◌, ◌≢◌, ◌<◌, ◌≤◌, ℕ, Some, IsTrue};
+ghost use Rattle.parity.specs.Exponents.{is_data};
 ghost use Rattle.parity.specs.Parity.{AreEquationsMet};
 ghost use Rattle.parity.specs.Rows.{IsRowOf, sector_of, whole_row};
 
@@ -14,7 +15,8 @@ pub extern "C" fn parity_syndromes(row: &mut [u8], disks: u32, p: u32, q: u32)
     requires p { p < disks }
     requires q { (q < disks) × (q ≢ p) }
     requires whole { IsRowOf disks row.old }
-    ensures { AreEquationsMet (record { disks = disks; p = p; q = Some q }) (whole_row disks (sector_of row.new)) }
+    ensures good { AreEquationsMet (record { disks = disks; p = p; q = Some q }) (whole_row disks (sector_of row.new)) }
+    ensures data { (role : ℕ) → IsTrue (is_data (record { disks = disks; p = p; q = Some q }) role) → sector_of row.new role ≡ sector_of row.old role }
 {
     parity::syndromes(
         row,
@@ -33,7 +35,8 @@ pub extern "C" fn parity_lanes_syndromes(row: &mut [u8], disks: u32, p: u32, q: 
     requires p { p < disks }
     requires q { (q < disks) × (q ≢ p) }
     requires whole { IsRowOf disks row.old }
-    ensures { AreEquationsMet (record { disks = disks; p = p; q = Some q }) (whole_row disks (sector_of row.new)) }
+    ensures good { AreEquationsMet (record { disks = disks; p = p; q = Some q }) (whole_row disks (sector_of row.new)) }
+    ensures data { (role : ℕ) → IsTrue (is_data (record { disks = disks; p = p; q = Some q }) role) → sector_of row.new role ≡ sector_of row.old role }
 {
     parity_lanes::syndromes(
         row,

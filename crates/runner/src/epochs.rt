@@ -1,6 +1,6 @@
 //! An array that is made, asked the lines of a script, and halted.
 
-ghost use Rattle.std.specs.Prelude.{◌≡◌, ◌≤◌, length, IfOk, IfErr, IsTrue};
+ghost use Rattle.std.specs.Prelude.{◌≡◌, ◌-◌, ◌^◌, ◌≤◌, length, IfOk, IfErr, IsTrue};
 ghost use Rattle.std.specs.List.{AllPass};
 ghost use Rattle.bank.specs.Given.{NeverFalls};
 ghost use Rattle.array.specs.Kept.{opening_of, IsPlaced, IsNotMadeFor};
@@ -39,6 +39,7 @@ pub fn play<B: Bank>(
     requires spans { AllPass (λ numbered. has_span numbered.line) lines.now }
     ensures played { IfOk result (λ p. IsPlayed B.tells (opening_of spec.shape spec.size p.epoch.first) (B.tape p.bank) lines.now p.epoch.entries.items p.replies.items) }
     ensures all { IfOk result (λ p. IsTrue p.all → length p.replies.items ≡ length lines.now) }
+    ensures slots_given { IfOk result (λ p. p.epoch.given ≡ 2 ^ (B.given bank).slots - 1) }
     ensures uuid { IfOk result (λ p. p.epoch.uuid ≡ spec.uuid) }
     ensures last { IfOk result (λ p. B.tells → p.epoch.last ≡ length (B.tape p.bank)) }
     ensures given { IfOk result (λ p. B.given p.bank ≡ B.given bank) }
