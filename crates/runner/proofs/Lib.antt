@@ -1,3 +1,4 @@
-pub mod AnswerLaws
 pub mod AskLaws
+pub mod Growth
 pub mod Texts
+pub mod Turns

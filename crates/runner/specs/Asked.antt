@@ -11,7 +11,8 @@ use Rattle.flat_history.specs.Plain.{Opening}
 use Rattle.array.specs.Kept.{IsReplied}
 use Rattle.script.specs.declared.lines.Line.{Line}
 use Rattle.runner.specs.declared.report.Answered.{Answered}
-use Rattle.runner.specs.declared.report.Answered.TheVariants.{Inside, Refused}
+use Rattle.runner.specs.declared.report.Answered.TheVariants.{Inside, Outside}
+use Rattle.runner.specs.declared.report.Outside.TheVariants.{Created, Assembled, Refused}
 use Rattle.runner.specs.Replies.{asked_of}
 
 -- the script's next call
@@ -31,6 +32,8 @@ IsAsked opening request old new (Err fault) = new ≡ old
 
 -- one line was answered, at the end of the history; or memory was short, and nothing was entered
 abbrev pub IsPerformedLine : Opening → List Entry → List Entry → Line → Result Answered NoMemory → Type 0
-IsPerformedLine opening old new line (Ok (Inside place)) = MatchOption (asked_of line) ⊥ (λ request. IsAskedAt opening request old new place)
-IsPerformedLine opening old new line (Ok (Refused refusal)) = (asked_of line ≡ None) × (refusal ≡ Running) × (new ≡ old)
+IsPerformedLine opening old new line (Ok (Inside epoch place)) = (epoch ≡ 0) × MatchOption (asked_of line) ⊥ (λ request. IsAskedAt opening request old new place)
+IsPerformedLine opening old new line (Ok (Outside (Refused refusal))) = (asked_of line ≡ None) × (refusal ≡ Running) × (new ≡ old)
+IsPerformedLine opening old new line (Ok (Outside Created)) = ⊥
+IsPerformedLine opening old new line (Ok (Outside (Assembled epoch status))) = ⊥
 IsPerformedLine opening old new line (Err fault) = new ≡ old

@@ -1,6 +1,7 @@
--- The replies to the lines that a running array was asked, over its history.
-use Rattle.std.specs.Prelude.{◌≡◌, ℕ, ◌+◌, ◌≤◌, List, [], ◌∷◌, ◌++◌, length, drop, take, slice_get, Option, Some, None, MatchOption, ⊤}
-use Rattle.md_base.specs.declared.answers.Refusal.TheVariants.{Running}
+-- The replies to the lines of a script, over the histories of its arrays.
+use Rattle.std.specs.Prelude.{◌≡◌, ◌⊎◌, ℕ, ◌+◌, ◌≤◌, Bool, true, false, List, [], ◌∷◌, ◌++◌, length, drop, take, slice_get, Option, Some, None, MatchOption, IsTrue, IsFalse, ⊤}
+use Rattle.md_base.specs.declared.answers.Refusal.{Refusal}
+use Rattle.md_base.specs.declared.answers.Refusal.TheVariants.{Running, NotRunning, SlotFault}
 use Rattle.flat_history.specs.declared.events.Entry.{Entry}
 use Rattle.flat_history.specs.declared.events.Request.{Request}
 use Rattle.flat_history.specs.declared.events.Request.TheVariants.{Read as AsksRead, Write as AsksWrite}
@@ -9,16 +10,42 @@ use Rattle.flat_history.specs.Plain.{Opening, PlainFits}
 use Rattle.script.specs.declared.lines.Line.{Line}
 use Rattle.script.specs.declared.lines.Line.TheVariants.{Create, Read, Write}
 use Rattle.script.specs.declared.lines.Numbered.{Numbered}
+use Rattle.script.specs.declared.reply.Lane.TheVariants.{Script as InScript}
+use Rattle.script.specs.Script.{is_create}
 use Rattle.script.specs.Seeds.{seeded}
+use Rattle.runner.specs.declared.report.Outside.{Outside}
+use Rattle.runner.specs.declared.report.Outside.TheVariants.{Created, Assembled, Refused}
 use Rattle.runner.specs.declared.report.Answered.{Answered}
-use Rattle.runner.specs.declared.report.Answered.TheVariants.{Inside, Refused}
+use Rattle.runner.specs.declared.report.Answered.TheVariants.{Inside, Outside as IsOutside}
 use Rattle.runner.specs.declared.report.LineReply.{LineReply}
+use Rattle.runner.specs.Histories.{History, opening_at, entry_at}
 
 -- what a line asks of a running array: a create asks nothing
 abbrev pub asked_of : Line → Option Request
 asked_of (Create spec) = None
 asked_of (Read at count) = Some (AsksRead at count)
 asked_of (Write at count seed) = Some (AsksWrite at (seeded seed at count))
+
+-- where a run stands between two lines: how many arrays were made, whether the last one runs, and how many calls the
+-- script has made on it
+pub record Course : Type 0 where
+  pub opened : ℕ
+  pub running : Bool
+  pub calls : ℕ
+
+abbrev pub at_rest : Course
+at_rest = record { opened = 0; running = false; calls = 0 }
+
+-- where it stands after an answer, and after several
+abbrev pub course_after : Course → Answered → Course
+course_after course (Inside epoch at) = record { opened = course.opened; running = course.running; calls = course.calls + 1 }
+course_after course (IsOutside Created) = record { opened = course.opened + 1; running = true; calls = 0 }
+course_after course (IsOutside (Assembled epoch status)) = record { opened = course.opened + 1; running = true; calls = 0 }
+course_after course (IsOutside (Refused refusal)) = course
+
+abbrev pub course_of : Course → List LineReply → Course
+course_of course [] = course
+course_of course (reply ∷ replies) = course_of (course_after course reply.what) replies
 
 -- The entry at a place is the last of the script's call of this number, and its reply to the request.
 pub record IsReplyAt (opening : Opening) (entries : List Entry) (place number : ℕ) (request : Request) : Type 0 where
@@ -29,34 +56,47 @@ pub record IsReplyAt (opening : Opening) (entries : List Entry) (place number : 
   pub last : rest_of_call entry (drop (place + 1) entries) ≡ []
   pub fits : PlainFits opening (take place entries) entry request
 
--- a read or write is answered by an entry, a create by the refusal that an array runs; so many calls were made before
-abbrev pub IsAnswer : Opening → List Entry → ℕ → Line → Answered → Type 0
-IsAnswer opening entries calls line (Inside place) = MatchOption (asked_of line) ⊥ (λ request. IsReplyAt opening entries place calls request)
-IsAnswer opening entries calls line (Refused refusal) = (asked_of line ≡ None) × (refusal ≡ Running)
+-- the request is answered by an entry of the array that runs, in the script's next call
+pub record IsAnsweredInside (histories : List History) (course : Course) (epoch place : ℕ) (request : Request) : Type 0 where
+  pub running : IsTrue course.running
+  pub latest : epoch + 1 ≡ course.opened
+  pub history : History
+  pub there : slice_get histories epoch ≡ Some history
+  pub replied : IsReplyAt (opening_at history) history.entries place course.calls request
 
--- how many calls the script has made after an answer, and after several
-abbrev pub calls_after : ℕ → Answered → ℕ
-calls_after calls (Inside place) = calls + 1
-calls_after calls (Refused refusal) = calls
+-- the refusals that stand in no history: a create while an array runs or with a member that fails, and a line without an array
+abbrev pub IsRefusedOutside : Bool → Line → Refusal → Type 0
+IsRefusedOutside true (Create spec) refusal = refusal ≡ Running
+IsRefusedOutside true (Read at count) refusal = ⊥
+IsRefusedOutside true (Write at count seed) refusal = ⊥
+IsRefusedOutside false (Create spec) (SlotFault slot) = ⊤
+IsRefusedOutside false (Create spec) refusal = ⊥
+IsRefusedOutside false (Read at count) refusal = refusal ≡ NotRunning
+IsRefusedOutside false (Write at count seed) refusal = refusal ≡ NotRunning
 
-abbrev pub calls_of : ℕ → List LineReply → ℕ
-calls_of calls [] = calls
-calls_of calls (reply ∷ replies) = calls_of (calls_after calls reply.what) replies
+-- an answer to a line, where the run stands at this point
+abbrev pub IsAnswer : List History → Course → Line → Answered → Type 0
+IsAnswer histories course line (Inside epoch at) = MatchOption (asked_of line) ⊥ (λ request. IsAnsweredInside histories course epoch at request)
+IsAnswer histories course line (IsOutside Created) = IsFalse course.running × IsTrue (is_create line)
+IsAnswer histories course line (IsOutside (Assembled epoch status)) = ⊥
+IsAnswer histories course line (IsOutside (Refused refusal)) = IsRefusedOutside course.running line refusal
+
+-- a reply that an entry gives was made when the entry ended
+abbrev pub IsEnd : List History → LineReply → Answered → Type 0
+IsEnd histories reply (Inside epoch at) = MatchOption (entry_at histories epoch at) ⊥ (λ entry. reply.end ≡ entry.end)
+IsEnd histories reply (IsOutside outside) = ⊤
+
+-- the reply to a line of the script
+pub record IsReplyTo (histories : List History) (course : Course) (numbered : Numbered) (reply : LineReply) : Type 0 where
+  pub line : reply.line ≡ numbered.number
+  pub lane : reply.lane ≡ InScript
+  pub end : IsEnd histories reply reply.what
+  pub answer : IsAnswer histories course numbered.line reply.what
 
 -- the replies answer the lines, one after another
-abbrev pub AreAnswers : Opening → List Entry → ℕ → List Numbered → List LineReply → Type 0
-AreAnswers opening entries calls [] [] = ⊤
-AreAnswers opening entries calls [] (reply ∷ replies) = ⊥
-AreAnswers opening entries calls (line ∷ lines) [] = ⊥
-AreAnswers opening entries calls (line ∷ lines) (reply ∷ replies) =
-    (reply.line ≡ line.number)
-    × IsAnswer opening entries calls line.line reply.what
-    × AreAnswers opening entries (calls_after calls reply.what) lines replies
-
--- The first so many lines were answered, by calls that stand behind the old history.
-pub record IsPerformed (opening : Opening) (old new : List Entry) (lines : List Numbered) (replies : List LineReply) : Type 0 where
-  pub more : List Entry
-  pub grown : new ≡ old ++ more
-  pub few : length replies ≤ length lines
-  pub answers : AreAnswers opening new (next_number 0 old) (take (length replies) lines) replies
-  pub calls : next_number 0 new ≡ calls_of (next_number 0 old) replies
+abbrev pub AreReplies : List History → Course → List Numbered → List LineReply → Type 0
+AreReplies histories course [] [] = ⊤
+AreReplies histories course [] (reply ∷ replies) = ⊥
+AreReplies histories course (line ∷ lines) [] = ⊥
+AreReplies histories course (line ∷ lines) (reply ∷ replies) =
+    IsReplyTo histories course line reply × AreReplies histories (course_after course reply.what) lines replies

@@ -3,19 +3,15 @@
 #![tactic(auto)]
 
 mod asks;
-mod epochs;
-mod lines;
 mod pace;
 mod report;
-#[cfg(test)]
-mod tests;
+mod states;
 mod text;
 mod words;
 
 pub use asks::{ask_read, ask_write};
-pub use epochs::{Played, play};
-pub use lines::perform;
 pub use pace::Pace;
-pub use report::{Answered, LineReply};
+pub use report::{Answered, LineReply, Outside, Report};
+pub use states::{State, answer, entry_of};
 pub use text::{LONGEST_TEXT, TextFault, read_text};
 pub use words::{Command, command_of};

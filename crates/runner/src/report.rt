@@ -1,17 +1,41 @@
-//! The reply to a line.
+//! What a run reports.
 
-use md_base::Refusal;
+use flat_history::Epoch;
+use md_base::{Refusal, Status};
+use script::Lane;
 
-/// A reply that the history holds at a place, counted from 0, or a refusal that it doesn't hold.
-#[derive(Clone, Copy, Debug, PartialEq, Eq)]
-pub enum Answered {
-    Inside { place: u64 },
+/// A reply that no history holds: an array was made or found, or the line was refused.
+#[derive(Drop)]
+pub enum Outside {
+    Created,
+    Assembled { epoch: u32, status: Status },
     Refused { refusal: Refusal },
 }
 
-/// The reply to a line of the script.
-#[derive(Clone, Copy, Debug, PartialEq, Eq)]
+/// A reply that the history of an epoch holds, both counted from 0, or one that none holds.
+#[derive(Drop)]
+pub enum Answered {
+    Inside { epoch: u32, at: u64 },
+    Outside(Outside),
+}
+
+/// The reply to a line of the script, and the number of the bank's operations when it was made.
+#[derive(Drop)]
 pub struct LineReply {
     pub line: u64,
+    pub lane: Lane,
+    pub end: u64,
     pub what: Answered,
+}
+
+/// How a run ended: the status that the program ends with, the first bad line where one was bad, the bank, the epochs of
+/// its arrays, the replies in the order of the lines, and how many bytes of their text the sink took whole.
+#[derive(Drop)]
+pub struct Report<B> {
+    pub status: u8,
+    pub bad_line: u64,
+    pub bank: B,
+    pub epochs: Vec<Epoch>,
+    pub lines: Vec<LineReply>,
+    pub shown: u64,
 }

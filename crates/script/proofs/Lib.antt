@@ -3,5 +3,5 @@ pub mod KindLaws
 pub mod RunLaws
 pub mod ScriptLaws
 pub mod SeedLaws
-pub mod SpanLaws
+pub mod LimitLaws
 pub mod WordsLaws

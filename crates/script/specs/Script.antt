@@ -1,8 +1,9 @@
 -- What the text of a whole script asks, or which of its lines is the first bad one.
-use Rattle.std.specs.Prelude.{◌≡◌, ℕ, ◌+◌, ◌-◌, Bool, true, false, ◌||◌, not, ◌==◌, nat_lt, nat_le, if◌then◌else◌, List, [], length, take, sum_by, slice_index, slice_index_or, Option, Some, None, Result, Ok, Err}
+use Rattle.std.specs.Prelude.{◌≡◌, ℕ, ◌+◌, ◌-◌, Bool, true, false, ◌&&◌, ◌||◌, not, ◌==◌, nat_lt, nat_le, if◌then◌else◌, List, [], length, take, sum_by, slice_index, slice_index_or, Option, Some, None, Result, Ok, Err}
 use Rattle.std.specs.List.{slice_split, enumerate_from, filter_map}
 use Rattle.md_base.specs.Search.{least_below}
 use Rattle.script.specs.Grammar.{is_span, meaning_of}
+use Rattle.script.specs.declared.lines.CreateLine.{CreateLine}
 use Rattle.script.specs.declared.lines.Line.{Line}
 use Rattle.script.specs.declared.lines.Line.TheVariants.{Create, Read, Write}
 use Rattle.script.specs.declared.lines.Numbered.{Numbered}
@@ -44,11 +45,17 @@ sectors_of (Create line) = 0
 sectors_of (Read start count) = count
 sectors_of (Write start count seed) = count
 
--- what a line reads or writes is a span
-abbrev pub has_span : Line → Bool
-has_span (Create line) = true
-has_span (Read start count) = is_span (start, count)
-has_span (Write start count seed) = is_span (start, count)
+-- the one array that can be made so far: 40 rows on three disks, with rotating parity
+abbrev pub is_first_array : CreateLine → Bool
+is_first_array line =
+    (line.shape.level == 5) && (line.shape.layout == 2) && (line.shape.chunk == 8) && (line.shape.disks == 3)
+    && (line.size == 40) && (line.offset == 16)
+
+-- what a line reads or writes is a span, and what it makes is the one array
+abbrev pub is_within_limits : Line → Bool
+is_within_limits (Create line) = is_first_array line
+is_within_limits (Read start count) = is_span (start, count)
+is_within_limits (Write start count seed) = is_span (start, count)
 
 abbrev pub total_sectors : List Numbered → ℕ
 total_sectors asked = sum_by (λ numbered. sectors_of numbered.line) asked

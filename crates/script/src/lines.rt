@@ -1,7 +1,7 @@
 //! The lines of a whole script.
 
 ghost use Rattle.std.specs.Prelude.{◌≡◌, IfOk, IfErr, Ok};
-ghost use Rattle.script.specs.Script.{script_of, IsFaultOf, sectors_of, has_span, without_end, is_in_place};
+ghost use Rattle.script.specs.Script.{script_of, IsFaultOf, sectors_of, is_within_limits, without_end, is_in_place};
 ghost use Rattle.std.specs.List.{AllPass};
 
 use crate::grammar::{Meaning, meaning_of_line};
@@ -81,7 +81,7 @@ fn may_follow(before: &[Numbered], line: Line) -> bool
 /// The lines that a script's text asks to perform, or its first bad line.
 pub fn read_script(alloc: Global, text: &[u8]) -> Result<Vec<Numbered>, ScriptFault>
     ensures lines { IfOk result (λ lines. script_of text.now ≡ Ok lines.items) }
-    ensures spans { IfOk result (λ lines. AllPass (λ numbered. has_span numbered.line) lines.items) }
+    ensures limits { IfOk result (λ lines. AllPass (λ numbered. is_within_limits numbered.line) lines.items) }
     ensures bad { IfErr result (IsFaultOf text.now) }
 {
     if text.len() > MOST_BYTES {

@@ -1,4 +1,4 @@
-use Rattle.std.proofs.Common.{rules, ◌≡◌, ◌+◌, ◌*◌, ◌/◌, ◌<◌, ◌≤◌, ℕ, List, length, refl, sym, ◌∙◌, ap, subst, arith}
+use Rattle.std.proofs.Common.{◌≡◌, ◌*◌, ◌/◌, ℕ, length, ◌∙◌, ap, arith}
 use Rattle.md_base.specs.Sectors.{sectors_of}
 use Rattle.flat_history.specs.declared.events.Event.TheVariants.{Read}
 use Rattle.flat_history.specs.declared.events.Request.TheVariants.{Read as AsksRead}

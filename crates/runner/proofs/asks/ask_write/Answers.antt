@@ -1,4 +1,4 @@
-use Rattle.std.proofs.Common.{rules, ◌≡◌, ◌+◌, ◌*◌, ◌/◌, ◌<◌, ◌≤◌, ℕ, List, length, refl, sym, ◌∙◌, ap, subst, arith}
+use Rattle.std.proofs.Common.{List, ◌∙◌, ap, arith}
 use Rattle.md_base.specs.Sectors.{Sector, sectors_of}
 use Rattle.flat_history.specs.declared.events.Event.TheVariants.{Wrote}
 use Rattle.flat_history.specs.declared.events.Request.TheVariants.{Write as AsksWrite}

@@ -7,7 +7,7 @@ use Rattle.script.proofs.ScriptLaws.{so_far-start, so_far-bad, so_far-long, so_f
 use Rattle.std.proofs.lemmas.List.{length_push}
 use Rattle.script.specs.Grammar.{meaning_of}
 use Rattle.std.proofs.lemmas.List.FromFn.{length-enumerate_from}
-use Rattle.script.proofs.SpanLaws.{asked-spans}
+use Rattle.script.proofs.LimitLaws.{asked_within_limits}
 use Rattle.script.proofs.lines.read_script.Goals as goal
 
 pub returns-then-text-gt-MOST_BYTES-clause-bad : goal.returns-then-text-gt-MOST_BYTES-clause-bad
@@ -114,6 +114,6 @@ returns-clause-lines c =
     all_read c.args.text.now (length c.loop-k.yielded) c.loop-k.script.items c.loop-k.sectors (omega arith) c.loop-k.invariant
     (done.1 ∙ length-enumerate_from 0 (lines_of c.args.text.now))
 
-pub returns-clause-spans : goal.returns-clause-spans
-returns-clause-spans c =
-    rw c.loop-k.invariant.script_is (asked-spans (take (length c.loop-k.yielded) (lines_of c.args.text.now)))
+pub returns-clause-limits : goal.returns-clause-limits
+returns-clause-limits c =
+    rw c.loop-k.invariant.script_is (asked_within_limits (take (length c.loop-k.yielded) (lines_of c.args.text.now)))

@@ -1,4 +1,4 @@
--- Every read and write that a script asks has a proper span.
+-- Every line that a script asks is within the limits.
 use Rattle.std.proofs.Common.{◌≡◌, ℕ, ◌^◌, Bool, true, false, cond, not, ◌&&◌, List, [], ◌∷◌, refl, sym, ap, ◌∙◌, ◌⊎◌, inl, inr, Option, Some, None, option_map}
 use Rattle.std.specs.Str.{bytes_eq}
 use Rattle.std.specs.List.{list_all, filter_map, cons_option, enumerate_from, AllPass}
@@ -9,7 +9,7 @@ use Rattle.uuid.specs.Text.{parsed}
 use lib.Chars.{codes}
 use Rattle.script.specs.Numbers.{words_of, number_below}
 use Rattle.script.specs.Grammar.{is_span, span_of, first_keys, created, create_of, read_of, write_of, line_of, is_printable, is_passed_over, asks_or_bad, meaning_of}
-use Rattle.script.specs.Script.{numbered, asked, has_span}
+use Rattle.script.specs.Script.{numbered, asked, is_within_limits}
 use Rattle.script.specs.declared.lines.Line.{Line}
 use Rattle.script.specs.declared.lines.Line.TheVariants.{Read, Write}
 use Rattle.script.specs.declared.lines.Numbered.{Numbered}
@@ -40,76 +40,76 @@ span_ok x count s e =
     let kept = kept_some (is_span (first.0, second.0)) (first.0, second.0) s (second.1) in
     ap is_span (sym (kept.1)) ∙ kept.0
 
-read_ok : (values : List (List ℕ)) (line : Line) → read_of values ≡ Some line → has_span line ≡ true
+read_ok : (values : List (List ℕ)) (line : Line) → read_of values ≡ Some line → is_within_limits line ≡ true
 read_ok [] line e = absurd (cc)
 read_ok (x ∷ []) line e = absurd (cc)
 read_ok (x ∷ count ∷ []) line e =
     let made = map_some (λ (span : ℕ × ℕ). Read (span.0) (span.1)) (span_of x count) line e in
-    ap has_span (sym (made.2)) ∙ span_ok x count (made.0) (made.1)
+    ap is_within_limits (sym (made.2)) ∙ span_ok x count (made.0) (made.1)
 read_ok (x ∷ count ∷ more ∷ rest) line e = absurd (cc)
 
-write_ok : (values : List (List ℕ)) (line : Line) → write_of values ≡ Some line → has_span line ≡ true
+write_ok : (values : List (List ℕ)) (line : Line) → write_of values ≡ Some line → is_within_limits line ≡ true
 write_ok [] line e = absurd (cc)
 write_ok (x ∷ []) line e = absurd (cc)
 write_ok (x ∷ count ∷ []) line e = absurd (cc)
 write_ok (x ∷ count ∷ seed ∷ []) line e = by_span (span_of x count) (λ s h. span_ok x count s h) e
   where
     by_span : (o : Option (ℕ × ℕ)) → ((s : ℕ × ℕ) → o ≡ Some s → is_span s ≡ true)
-        → option_and_then (λ span. option_map (λ n. Write (span.0) (span.1) n) (number_below (2 ^ 32) seed)) o ≡ Some line → has_span line ≡ true
+        → option_and_then (λ span. option_map (λ n. Write (span.0) (span.1) n) (number_below (2 ^ 32) seed)) o ≡ Some line → is_within_limits line ≡ true
     by_span None ok h = absurd (cc)
     by_span (Some s) ok h =
         let made = map_some (λ (n : ℕ). Write (s.0) (s.1) n) (number_below (2 ^ 32) seed) line h in
-        ap has_span (sym (made.2)) ∙ ok s refl
+        ap is_within_limits (sym (made.2)) ∙ ok s refl
 write_ok (x ∷ count ∷ seed ∷ more ∷ rest) line e = absurd (cc)
 
-create_ok : (values : List (List ℕ)) (line : Line) → create_of values ≡ Some line → has_span line ≡ true
+create_ok : (values : List (List ℕ)) (line : Line) → create_of values ≡ Some line → is_within_limits line ≡ true
 create_ok [] line e = absurd (cc)
 create_ok (uuid ∷ keys) line e = by_keys (either_some (pointwise bytes_eq keys first_keys) (option_map created (parsed uuid)) None line e)
   where
-    by_keys : (option_map created (parsed uuid) ≡ Some line) ⊎ (None ≡ Some line) → has_span line ≡ true
-    by_keys (inl h) = let made = map_some created (parsed uuid) line h in ap has_span (sym (made.2))
+    by_keys : (option_map created (parsed uuid) ≡ Some line) ⊎ (None ≡ Some line) → is_within_limits line ≡ true
+    by_keys (inl h) = let made = map_some created (parsed uuid) line h in ap is_within_limits (sym (made.2))
     by_keys (inr h) = absurd (cc)
 
-line_ok : (words : List (List ℕ)) (line : Line) → line_of words ≡ Some line → has_span line ≡ true
+line_ok : (words : List (List ℕ)) (line : Line) → line_of words ≡ Some line → is_within_limits line ≡ true
 line_ok [] line e = absurd (cc)
 line_ok (verb ∷ values) line e = first (either_some (bytes_eq verb (codes "create")) (create_of values) _ line e)
   where
-    third : (write_of values ≡ Some line) ⊎ (None ≡ Some line) → has_span line ≡ true
+    third : (write_of values ≡ Some line) ⊎ (None ≡ Some line) → is_within_limits line ≡ true
     third (inl h) = write_ok values line h
     third (inr h) = absurd (cc)
 
-    second : (read_of values ≡ Some line) ⊎ (cond (bytes_eq verb (codes "write")) (write_of values) None ≡ Some line) → has_span line ≡ true
+    second : (read_of values ≡ Some line) ⊎ (cond (bytes_eq verb (codes "write")) (write_of values) None ≡ Some line) → is_within_limits line ≡ true
     second (inl h) = read_ok values line h
     second (inr h) = third (either_some (bytes_eq verb (codes "write")) (write_of values) None line h)
 
     first : (create_of values ≡ Some line)
-        ⊎ (cond (bytes_eq verb (codes "read")) (read_of values) (cond (bytes_eq verb (codes "write")) (write_of values) None) ≡ Some line) → has_span line ≡ true
+        ⊎ (cond (bytes_eq verb (codes "read")) (read_of values) (cond (bytes_eq verb (codes "write")) (write_of values) None) ≡ Some line) → is_within_limits line ≡ true
     first (inl h) = create_ok values line h
     first (inr h) = second (either_some (bytes_eq verb (codes "read")) (read_of values) _ line h)
 
-meaning_ok : (text : List ℕ) (line : Line) → meaning_of text ≡ Asks line → has_span line ≡ true
+meaning_ok : (text : List ℕ) (line : Line) → meaning_of text ≡ Asks line → is_within_limits line ≡ true
 meaning_ok text line e = by_tests (not (is_printable text)) (is_passed_over text) (line_of (words_of text)) (line_ok (words_of text) line) e
   where
-    by_tests : (a b : Bool) (o : Option Line) → (o ≡ Some line → has_span line ≡ true)
-        → cond a Bad (cond b PassedOver (asks_or_bad o)) ≡ Asks line → has_span line ≡ true
+    by_tests : (a b : Bool) (o : Option Line) → (o ≡ Some line → is_within_limits line ≡ true)
+        → cond a Bad (cond b PassedOver (asks_or_bad o)) ≡ Asks line → is_within_limits line ≡ true
     by_tests true b o ok h = absurd (cc)
     by_tests false true o ok h = absurd (cc)
     by_tests false false None ok h = absurd (cc)
     by_tests false false (Some l) ok h = ok (cc)
 
-numbered_ok : (p : ℕ × List ℕ) → (rest : List Numbered) → list_all (λ n. has_span n.line) rest ≡ true
-    → list_all (λ n. has_span n.line) (cons_option (numbered (p.0) (meaning_of (p.1))) rest) ≡ true
+numbered_ok : (p : ℕ × List ℕ) → (rest : List Numbered) → list_all (λ n. is_within_limits n.line) rest ≡ true
+    → list_all (λ n. is_within_limits n.line) (cons_option (numbered (p.0) (meaning_of (p.1))) rest) ≡ true
 numbered_ok p rest ok = by_meaning (meaning_of (p.1)) (meaning_ok (p.1))
   where
-    by_meaning : (m : Meaning) → ((line : Line) → m ≡ Asks line → has_span line ≡ true)
-        → list_all (λ n. has_span n.line) (cons_option (numbered (p.0) m) rest) ≡ true
+    by_meaning : (m : Meaning) → ((line : Line) → m ≡ Asks line → is_within_limits line ≡ true)
+        → list_all (λ n. is_within_limits n.line) (cons_option (numbered (p.0) m) rest) ≡ true
     by_meaning PassedOver each = ok
     by_meaning Bad each = ok
-    by_meaning (Asks line) each = ap (λ b. b && list_all (λ n. has_span n.line) rest) (each line refl) ∙ ok
+    by_meaning (Asks line) each = ap (λ b. b && list_all (λ n. is_within_limits n.line) rest) (each line refl) ∙ ok
 
-asked_ok : (lines : List (ℕ × List ℕ)) → list_all (λ n. has_span n.line) (filter_map (λ p. numbered (p.0) (meaning_of (p.1))) lines) ≡ true
+asked_ok : (lines : List (ℕ × List ℕ)) → list_all (λ n. is_within_limits n.line) (filter_map (λ p. numbered (p.0) (meaning_of (p.1))) lines) ≡ true
 asked_ok [] = refl
 asked_ok (p ∷ lines) = numbered_ok p (filter_map (λ q. numbered (q.0) (meaning_of (q.1))) lines) (asked_ok lines)
 
-pub asked-spans : (lines : List (List ℕ)) → AllPass (λ n. has_span n.line) (asked lines)
-asked-spans lines = AllPass-from_list_all (λ n. has_span n.line) (asked lines) (asked_ok (enumerate_from 1 lines))
+pub asked_within_limits : (lines : List (List ℕ)) → AllPass (λ n. is_within_limits n.line) (asked lines)
+asked_within_limits lines = AllPass-from_list_all (λ n. is_within_limits n.line) (asked lines) (asked_ok (enumerate_from 1 lines))

@@ -1,0 +1,163 @@
+-- What one line does to a run, by the answer that it got.
+use Rattle.std.proofs.Common.{◌≡◌, ◌≢◌, ℕ, zero, suc, ◌+◌, ◌*◌, ◌<◌, ◌≤◌, ◌==◌, ◌&&◌, Bool, true, false, Option, Some, None, List, [], ◌∷◌, ◌++◌, length, take, drop, refl, sym, ◌∙◌, ap, subst, arith, append-nil, replicate, Result, Ok, Err}
+use Rattle.std.proofs.lemmas.List.Sums.{fold-append}
+use Rattle.std.proofs.lemmas.Bool.Decides.{nat_tests}
+use Rattle.std.specs.Prelude.{slice_get, MatchOption, if◌then◌else◌, IsTrue, ⊤}
+use Rattle.md_base.specs.declared.places.Shape.{Shape}
+use Rattle.md_base.specs.declared.answers.NoMemory.{NoMemory}
+use Rattle.md_base.specs.Sectors.{zero_sector}
+use Rattle.md_base.specs.declared.answers.Refusal.{Refusal}
+use Rattle.md_base.specs.declared.answers.Refusal.TheVariants.{Running as IsRunning, NotRunning, SlotFault}
+use Rattle.md_base.specs.declared.answers.Fault.{Fault}
+use Rattle.md_base.specs.declared.answers.Fault.TheVariants.{Refused as IsRefusedWith, NoMemory as WantsMemory}
+use Rattle.md_base.specs.declared.answers.Who.{Who}
+use Rattle.md_base.specs.Shapes.{data_disks}
+use Rattle.array.specs.Parts.{Parts}
+use Rattle.array.specs.Kept.{opening_of, IsSameArray, IsMade, IsNotMadeFor}
+use Rattle.array.specs.declared.spec.CreateSpec.{CreateSpec}
+use Rattle.script.specs.declared.lines.CreateLine.{CreateLine}
+use Rattle.script.specs.Script.{is_first_array, is_create}
+use Rattle.array.proofs.PlainLaws.{one}
+use Rattle.flat_history.specs.declared.events.Entry.{Entry}
+use Rattle.flat_history.specs.declared.events.Event.{Event}
+use Rattle.flat_history.specs.declared.events.Request.{Request}
+use Rattle.flat_history.specs.Flat.{rest_of_call, is_same_call, next_number, number_after}
+use Rattle.flat_history.specs.Plain.{Opening, entries_of}
+use Rattle.script.specs.declared.lines.Line.{Line}
+use Rattle.script.specs.declared.lines.Line.TheVariants.{Create, Read, Write}
+use Rattle.runner.specs.declared.report.Outside.{Outside}
+use Rattle.runner.specs.declared.report.Outside.TheVariants.{Created, Assembled, Refused}
+use Rattle.runner.specs.declared.report.Answered.{Answered}
+use Rattle.runner.specs.declared.report.Answered.TheVariants.{Inside, Outside as IsOutside}
+use Rattle.runner.specs.declared.states.State.{State}
+use Rattle.runner.specs.declared.states.State.TheVariants.{Idle, Running}
+use Rattle.runner.specs.Asked.{script_who, IsAskedAt, IsPerformedLine}
+use Rattle.runner.specs.Histories.{History, opening_at}
+use Rattle.runner.specs.Replies.{Course, asked_of, course_after, IsReplyAt, IsAnsweredInside, IsAnswer, IsRefusedOutside}
+use Rattle.runner.specs.States.{running_history, IsGrown, AreGrown, IsTurn, IsNoTurn, IsTurnOrNone, IsSized}
+use Rattle.runner.proofs.AskLaws.{with_reply, reply_at}
+
+both_false : (a b : Bool) → b ≡ false → (a && b) ≡ false
+both_false true b is = is
+both_false false b is = refl
+
+other_number : (a b : ℕ) → a < b → (a == b) ≡ false
+other_number a b lt = grind (arith, nat_tests, lt)
+
+other_call : (e : Entry) (who : Who) (end : ℕ) (event : Event) → e.number < who.number → is_same_call e (one who end event) ≡ false
+other_call e who end event lt = both_false (e.caller == who.caller) (e.number == who.number) (other_number e.number who.number lt)
+
+-- the entries of a later call go on with no former one
+pub later_call : (e : Entry) (who : Who) (end : ℕ) (events : List Event) → e.number < who.number → rest_of_call e (entries_of who end events) ≡ []
+later_call e who end [] lt = refl
+later_call e who end (event ∷ events) lt = ap (λ (t : Bool). if t then one who end event ∷ rest_of_call e (entries_of who end events) else []) (other_call e who end event lt)
+
+-- what a call of the script enters
+pub grown_by_call : (first : ℕ) (old new : List Entry) (end : ℕ) (events : List Event) → new ≡ old ++ entries_of (script_who old) end events
+    → IsGrown (record { first = first; entries = old }) (record { first = first; entries = new })
+grown_by_call first old new end events is = record {
+  first = refl;
+  more = entries_of (script_who old) end events;
+  grown = is;
+  later = λ e lt. later_call e (script_who old) end events lt;
+}
+
+grown_same : (first : ℕ) (old new : List Entry) → new ≡ old → IsGrown (record { first = first; entries = old }) (record { first = first; entries = new })
+grown_same first old new is = record {
+  first = refl;
+  more = [];
+  grown = is ∙ sym (append-nil old);
+  later = λ e lt. refl;
+}
+
+number_entered : {opening : Opening} {request : Request} {old new : List Entry} {place : ℕ} → IsAskedAt opening request old new place → next_number 0 new ≡ next_number 0 old + 1
+number_entered {old = old} asked = ap (λ (l : List Entry). next_number 0 l) (with_reply asked.replied) ∙ fold-append (number_after 0) 0 (old ++ entries_of (script_who old) asked.replied.end asked.replied.inner) (one (script_who old) asked.replied.end asked.event ∷ [])
+
+-- an array of the size that there is so far
+same_opening : (shape : Shape) (size first : ℕ) → data_disks shape * size ≡ 80 → opening_of shape size first ≡ opening_at (record { first = first; entries = [] })
+same_opening shape size first is = ap (λ (n : ℕ). record { list = replicate n zero_sector; first = first }) is
+
+module _ {B : Type 0} {old new : Parts B} (same : IsSameArray old new) (sized : IsSized (Running old)) where
+  sized_still : IsSized (Running new)
+  sized_still = ap (λ (s : Shape). data_disks s * new.size) same.shape ∙ ap (λ (n : ℕ). data_disks old.shape * n) same.size ∙ sized
+
+  refirst : IsGrown (record { first = old.first; entries = old.entries }) (record { first = old.first; entries = new.entries }) → IsGrown (running_history old) (running_history new)
+  refirst is = record { first = same.first; more = is.more; grown = is.grown; later = is.later }
+
+  course_still : new.entries ≡ old.entries → ◌≡◌ {A = Course} (record { opened = 1; running = true; calls = next_number 0 new.entries }) (record { opened = 1; running = true; calls = next_number 0 old.entries })
+  course_still is = ap (λ (l : List Entry). record { opened = 1; running = true; calls = next_number 0 l }) is
+
+  -- a request of the script was answered
+  turn_inside : (line : Line) (epoch place : ℕ) (request : Request) → asked_of line ≡ Some request → epoch ≡ 0 → IsAskedAt (opening_of old.shape old.size old.first) request old.entries new.entries place
+      → IsTurn (Running old) (Running new) line (Inside epoch place)
+  turn_inside line epoch place request is first asked = record {
+    sized = sized_still;
+    grown = (refirst (grown_by_call old.first old.entries new.entries asked.replied.end _ asked.replied.is), tt);
+    answer = subst (λ (o : Option Request). MatchOption o ⊥ (λ r. IsAnsweredInside (running_history new ∷ []) (record { opened = 1; running = true; calls = next_number 0 old.entries }) epoch place r)) (sym is)
+        (record {
+          running = refl;
+          latest = ap (λ (k : ℕ). k + 1) first;
+          history = running_history new;
+          there = ap (λ (k : ℕ). slice_get (running_history new ∷ []) k) first;
+          replied = subst (λ (o : Opening). IsReplyAt o new.entries place (next_number 0 old.entries) request)
+              (same_opening old.shape old.size old.first sized ∙ ap (λ (n : ℕ). opening_at (record { first = n; entries = [] })) (sym same.first)) (reply_at asked);
+        });
+    course = ap (λ (n : ℕ). record { opened = 1; running = true; calls = n }) (number_entered asked);
+  }
+
+  -- a create is refused
+  turn_refused : (line : Line) (refusal : Refusal) → asked_of line ≡ None → refusal ≡ IsRunning → new.entries ≡ old.entries → IsTurn (Running old) (Running new) line (IsOutside (Refused refusal))
+  turn_refused line refusal is running entries = record {
+    sized = sized_still;
+    grown = (refirst (grown_same old.first old.entries new.entries entries), tt);
+    answer = by_line line is;
+    course = course_still entries;
+  }
+    where
+      by_line : (line : Line) → asked_of line ≡ None → IsRefusedOutside true line refusal
+      by_line (Create spec) is = running
+      by_line (Read at count) is = absurd (cc)
+      by_line (Write at count seed) is = absurd (cc)
+
+  no_turn : new.entries ≡ old.entries → IsNoTurn (Running old) (Running new)
+  no_turn entries = record {
+    sized = sized_still;
+    grown = (refirst (grown_same old.first old.entries new.entries entries), tt);
+    course = course_still entries;
+  }
+
+  -- what the running array answered
+  pub turn_running : (line : Line) (answer : Result Answered NoMemory) → IsPerformedLine (opening_of old.shape old.size old.first) old.entries new.entries line answer → IsTurnOrNone (Running old) (Running new) line answer
+  turn_running line (Ok (Inside epoch place)) (first, did) = by_request (asked_of line) refl did
+    where
+      by_request : (request : Option Request) → asked_of line ≡ request → MatchOption request ⊥ (λ r. IsAskedAt (opening_of old.shape old.size old.first) r old.entries new.entries place) → IsTurn (Running old) (Running new) line (Inside epoch place)
+      by_request None is asked = absurd asked
+      by_request (Some r) is asked = turn_inside line epoch place r is first asked
+  turn_running line (Ok (IsOutside Created)) did = absurd did
+  turn_running line (Ok (IsOutside (Assembled epoch status))) did = absurd did
+  turn_running line (Ok (IsOutside (Refused refusal))) (none, running, entries) = turn_refused line refusal none running entries
+  turn_running line (Err fault) entries = no_turn entries
+
+-- an array was made as the line asks
+pub turn_created : {B : Type 0} {tells : Type 0} {ops slots : ℕ} {spec : CreateSpec} {made : Parts B} (bank : B) (line : CreateLine) → IsMade tells ops slots spec made
+    → data_disks spec.shape * spec.size ≡ 80 → IsTurn (Idle bank) (Running made) (Create line) (IsOutside Created)
+turn_created {spec = spec} {made = made} bank line was sized = record {
+  sized = ap (λ (s : Shape). data_disks s * made.size) was.shape ∙ ap (λ (n : ℕ). data_disks spec.shape * n) was.size ∙ sized;
+  grown = tt;
+  answer = (refl, refl);
+  course = ap (λ (l : List Entry). record { opened = 1; running = true; calls = next_number 0 l }) was.entries;
+}
+
+-- no array was made
+pub turn_unmade : {B : Type 0} {before now : ℕ → ℕ} (old new : B) (line : CreateLine) (refusal : Refusal) → IsNotMadeFor before now (IsRefusedWith refusal)
+    → IsTurn (Idle old) (Idle new) (Create line) (IsOutside (Refused refusal))
+turn_unmade old new line refusal was = record {
+  sized = tt;
+  grown = tt;
+  answer = by_refusal refusal was;
+  course = refl;
+}
+  where
+    by_refusal : (r : Refusal) → IsNotMadeFor _ _ (IsRefusedWith r) → IsRefusedOutside false (Create line) r
+    by_refusal (SlotFault slot) is = tt
+    by_refusal r is = absurd is

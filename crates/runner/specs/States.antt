@@ -1,0 +1,77 @@
+-- The bank of a run with or without an array on it, and what a line does to it.
+use Rattle.std.specs.Prelude.{◌≡◌, ℕ, ◌+◌, ◌<◌, ◌≤◌, ◌*◌, ◌++◌, Bool, true, false, List, [], ◌∷◌, Result, Ok, Err, IsSome, ⊤}
+use Rattle.md_base.specs.declared.answers.NoMemory.{NoMemory}
+use Rattle.md_base.specs.Shapes.{data_disks}
+use Rattle.bank.specs.Given.{Given}
+use Rattle.flat_history.specs.declared.events.Entry.{Entry}
+use Rattle.flat_history.specs.Flat.{rest_of_call, next_number}
+use Rattle.array.specs.Parts.{Parts}
+use Rattle.array.specs.Rows.{AreMembers}
+use Rattle.script.specs.declared.lines.Line.{Line}
+use Rattle.runner.specs.declared.report.Answered.{Answered}
+use Rattle.runner.specs.declared.report.Answered.TheVariants.{Inside, Outside}
+use Rattle.runner.specs.declared.states.State.{State}
+use Rattle.runner.specs.declared.states.State.TheVariants.{Idle, Running}
+use Rattle.runner.specs.Histories.{History, entry_at}
+use Rattle.runner.specs.Replies.{Course, at_rest, course_after, IsAnswer}
+
+-- the history of an array that runs
+abbrev pub running_history : {B : Type 0} → Parts B → History
+running_history array = record { first = array.first; entries = array.entries }
+
+abbrev pub histories_in : {B : Type 0} → State B → List History
+histories_in (Idle bank) = []
+histories_in (Running array) = running_history array ∷ []
+
+abbrev pub bank_in : {B : Type 0} → State B → B
+bank_in (Idle bank) = bank
+bank_in (Running array) = array.bank
+
+-- where the run stands
+abbrev pub course_in : {B : Type 0} → State B → Course
+course_in (Idle bank) = at_rest
+course_in (Running array) = record { opened = 1; running = true; calls = next_number 0 array.entries }
+
+-- the array has the size of the one that can be made so far
+abbrev pub IsSized : {B : Type 0} → State B → Type 0
+IsSized (Idle bank) = ⊤
+IsSized (Running array) = data_disks array.shape * array.size ≡ 80
+
+-- the bank has room for it
+pub record IsRoomy (given : Given) : Type 0 where
+  pub few : given.slots ≤ 32
+  pub members : AreMembers given 3 56
+
+-- a history went on: what was added belongs to none of the script's former calls
+pub record IsGrown (old new : History) : Type 0 where
+  pub first : new.first ≡ old.first
+  pub more : List Entry
+  pub grown : new.entries ≡ old.entries ++ more
+  pub later : (e : Entry) → e.number < next_number 0 old.entries → rest_of_call e more ≡ []
+
+abbrev pub AreGrown : List History → List History → Type 0
+AreGrown [] news = ⊤
+AreGrown (old ∷ olds) [] = ⊥
+AreGrown (old ∷ olds) (new ∷ news) = IsGrown old new × AreGrown olds news
+
+-- one line was answered
+pub record IsTurn {B : Type 0} (old new : State B) (line : Line) (what : Answered) : Type 0 where
+  pub sized : IsSized new
+  pub grown : AreGrown (histories_in old) (histories_in new)
+  pub answer : IsAnswer (histories_in new) (course_in old) line what
+  pub course : course_in new ≡ course_after (course_in old) what
+
+-- memory was short, and nothing was entered
+pub record IsNoTurn {B : Type 0} (old new : State B) : Type 0 where
+  pub sized : IsSized new
+  pub grown : AreGrown (histories_in old) (histories_in new)
+  pub course : course_in new ≡ course_in old
+
+abbrev pub IsTurnOrNone : {B : Type 0} → State B → State B → Line → Result Answered NoMemory → Type 0
+IsTurnOrNone old new line (Ok what) = IsTurn old new line what
+IsTurnOrNone old new line (Err fault) = IsNoTurn old new
+
+-- the entry that an answer names is there
+abbrev pub IsNamed : List History → Answered → Type 0
+IsNamed histories (Inside epoch at) = IsSome (entry_at histories epoch at)
+IsNamed histories (Outside outside) = ⊤
