@@ -11,3 +11,4 @@ pub mod ZeroLaws
 pub mod ReplyLaws
 pub mod ReadyLaws
 pub mod Written
+pub mod LossLaws

@@ -152,7 +152,7 @@ read_is shape size first entries at bytes was within holds = record {
 -- ---- an array that was just made
 
 pub ready_made : {tells : Type 0} {given given' : Given} {tape : List Operation} {entries : List Entry} {room rows buffer : ℕ} (shape : Shape) (size offset first : ℕ) → IsPlaced given shape size offset → given' ≡ given → entries ≡ []
-    → (tells → first ≤ length tape) → (tells → (slot row : ℕ) → slot < shape.disks → row < size → present given' tape slot (offset + row) ≡ zero_sector)
+    → (tells → first ≡ length tape) → (tells → (slot row : ℕ) → slot < shape.disks → row < size → present given' tape slot (offset + row) ≡ zero_sector)
     → 1 ≤ room → 128 ≤ rows → 1048576 ≤ buffer → IsReady tells given' tape first entries shape size offset None room rows buffer
 ready_made {tells = tells} {given' = given'} {tape = tape} {room = room} {rows = rows} {buffer = buffer} shape size offset first placed same none first_is zeros room_left rows_fit buffer_fits =
     subst (λ (l : List Entry). IsReady tells given' tape first l shape size offset None room rows buffer) (sym none) (record {

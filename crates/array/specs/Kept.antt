@@ -1,6 +1,6 @@
 -- What an array keeps, over plain data.
 use Rattle.std.specs.Prelude.{Bool, true, false, ◌≡◌, ℕ, ◌+◌, ◌-◌, ◌*◌, ◌^◌, ◌<◌, ◌≤◌, ◌++◌, List, [], ◌∷◌, length, replicate, Option, Some, None, Result, Ok, Err, MatchOption, IsSome, IsTrue, ⊤}
-use Rattle.std.specs.List.{list_any}
+use Rattle.std.specs.List.{list_any, All}
 use Rattle.md_base.specs.declared.places.Shape.{Shape}
 use Rattle.md_base.specs.declared.answers.Who.{Who}
 use Rattle.md_base.specs.declared.answers.Fault.{Fault}
@@ -41,7 +41,7 @@ pub record IsPlaced (given : Given) (shape : Shape) (size offset : ℕ) : Type 0
 -- what is kept of the history
 pub record IsRecorded (tells : Type 0) (opening : Opening) (ops : ℕ) (entries : List Entry) (lost : Option ℕ) : Type 0 where
   pub legal : tells → IsPlainLegal opening ops entries
-  pub ended : tells → last_end_from opening.first entries ≤ ops
+  pub ended : tells → last_end_from opening.first entries ≡ ops
   pub sized : length_of (length opening.list) entries ≡ length opening.list
   pub unlimited : limit_of entries ≡ None
   pub told : MatchOption lost ⊤ (λ role. (role < 32) × IsTrue (list_any (λ e. loses_role role e.event) entries))
@@ -93,6 +93,21 @@ abbrev pub IsAnswered : {T : Type 0} → Opening → Request → Who → List En
 IsAnswered opening request who old new event (Ok x) = IsReplied opening request who old new event
 IsAnswered opening request who old new event (Err (IsRefusedWith refusal)) = IsReplied opening request who old new (Refused refusal)
 IsAnswered opening request who old new event (Err NoMemory) = new ≡ old
+
+-- an entry that tells of a lost role does so only where the slot of that number has failed since
+abbrev pub IsLossOf : (ℕ → ℕ) → (ℕ → ℕ) → Event → Type 0
+IsLossOf before now (Lost role cause) = IsFaulted role before now
+IsLossOf before now event = ⊤
+
+-- More entries stand behind the old ones, and each role that they tell lost is that of a slot that has failed since.
+pub record AreLossesOf (before now : ℕ → ℕ) (old new : List Entry) : Type 0 where
+  pub more : List Entry
+  pub grown : new ≡ old ++ more
+  pub failed : All (λ e. IsLossOf before now e.event) more
+
+-- the tape stands where the last entry ended; at the opening mark, if there is none
+abbrev pub IsEndOf : Type 0 → ℕ → List Entry → List Operation → Type 0
+IsEndOf tells first entries tape = tells → last_end_from first entries ≡ length tape
 
 -- what an array keeps besides: room for the entry of its end, and buffers for the rows of one call
 pub record IsReady (tells : Type 0) (given : Given) (tape : List Operation) (first : ℕ) (entries : List Entry) (shape : Shape) (size offset : ℕ) (lost : Option ℕ) (room rows buffer : ℕ) : Type 0 where

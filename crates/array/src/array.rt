@@ -11,7 +11,7 @@ ghost use Rattle.flat_history.specs.declared.events.Event.TheVariants.{Read, Wro
 ghost use Rattle.md_base.specs.declared.answers.Fault.TheVariants.{NoMemory as WantsMemory};
 ghost use Rattle.flat_history.specs.declared.events.Request.TheVariants.{Read as AsksRead, Write as AsksWrite};
 ghost use Rattle.array.specs.Rows.{present, AreMembers};
-ghost use Rattle.array.specs.Kept.{opening_of, zero_list, Holds, IsEntered, IsPlaced, IsAnswered, IsCausedBy, IsMade, IsNotMadeFor, IsSameArray, IsRefusalOf};
+ghost use Rattle.array.specs.Kept.{opening_of, zero_list, Holds, IsEntered, IsPlaced, IsAnswered, IsCausedBy, IsMade, IsNotMadeFor, IsSameArray, IsRefusalOf, AreLossesOf, IsEndOf};
 
 use crate::calls::{check_number, enter, enter_failure, enter_loss};
 use crate::lists::read_body;
@@ -171,6 +171,13 @@ impl<B: Bank> Array<B> {
         self.epoch.entries.next_number(caller)
     }
 
+    /// How many operations the bank has made. It takes no memory and makes no device call.
+    pub fn ops(&self) -> u64
+        ensures { B.tells → result ≡ length (B.tape self.now.bank) }
+    {
+        self.bank.ops()
+    }
+
     /// Fills `into`, of whole sectors, with those of the list from `at` on. Refusals: `PastEnd`, `TooManyMissing`.
     pub fn read(&mut self, who: Who, at: u64, into: &mut [u8]) -> Result<(), Fault>
         requires next { who.number ≡ next_number who.caller self.old.entries }
@@ -180,6 +187,8 @@ impl<B: Bank> Array<B> {
         ensures answered { IsAnswered (opening_of self.old.shape self.old.size self.old.first) (AsksRead at (length into.old / 512)) who self.old.entries self.new.entries (Read at (sectors_of into.new)) result }
         ensures holds { OnOk result (B.tells → AreSectors (now (zero_list self.old.shape self.old.size) self.old.entries) at into.new) }
         ensures caused { IsCausedBy self.old.lost self.new.lost (B.faults_of self.old.bank) (B.faults_of self.new.bank) result }
+        ensures losses { AreLossesOf (B.faults_of self.old.bank) (B.faults_of self.new.bank) self.old.entries self.new.entries }
+        ensures ended { IsEndOf B.tells self.new.first self.new.entries (B.tape self.new.bank) }
         ensures never_falls { NeverFalls (B.faults_of self.old.bank) (B.faults_of self.new.bank) }
         ensures given { B.given self.new.bank ≡ B.given self.old.bank }
         ensures same { IsSameArray self.old self.new }
@@ -236,6 +245,8 @@ impl<B: Bank> Array<B> {
         requires short { at + length from.now / 512 < 2 ^ 63 }
         ensures answered { IsAnswered (opening_of self.old.shape self.old.size self.old.first) (AsksWrite at (sectors_of from.now)) who self.old.entries self.new.entries (Wrote at (sectors_of from.now)) result }
         ensures caused { IsCausedBy self.old.lost self.new.lost (B.faults_of self.old.bank) (B.faults_of self.new.bank) result }
+        ensures losses { AreLossesOf (B.faults_of self.old.bank) (B.faults_of self.new.bank) self.old.entries self.new.entries }
+        ensures ended { IsEndOf B.tells self.new.first self.new.entries (B.tape self.new.bank) }
         ensures never_falls { NeverFalls (B.faults_of self.old.bank) (B.faults_of self.new.bank) }
         ensures given { B.given self.new.bank ≡ B.given self.old.bank }
         ensures same { IsSameArray self.old self.new }
@@ -300,6 +311,7 @@ impl<B: Bank> Array<B> {
         requires caller { who.caller ≢ 254 }
         ensures bank { result.0 ≡ self.bank }
         ensures entered { IsEntered B.tells (B.tape self.bank) who self.entries result.1.entries.items (Halted ∷ []) }
+        ensures losses { AreLossesOf (B.faults_of self.bank) (B.faults_of self.bank) self.entries result.1.entries.items }
         ensures legal { B.tells → IsPlainLegal (opening_of self.shape self.size self.first) (length (B.tape self.bank)) result.1.entries.items }
         ensures good { B.tells → self.lost ≡ None → Holds self.shape self.size self.offset (B.given self.bank) (B.tape self.bank) (zero_list self.shape self.size) self.entries }
         ensures uuid { result.1.uuid ≡ self.uuid }

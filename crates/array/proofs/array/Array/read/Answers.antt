@@ -14,6 +14,7 @@ use Rattle.flat_history.specs.Fits.{IsReadRefused}
 use Rattle.flat_history.specs.Plain.{entries_of}
 use Rattle.array.specs.Kept.{zero_list, opening_of, IsRefusalOf}
 use Rattle.array.proofs.ReadyLaws.{ready_refused, ready_lost, ready_read, read_holds, read_is}
+use Rattle.array.proofs.LossLaws.{ended-call}
 use Rattle.array.proofs.ReplyLaws.{refused_reply, lost_reply, replied, read_kind}
 use Rattle.array.proofs.array.Array.read.Goals as goal
 
@@ -106,3 +107,17 @@ returns-in-Ok-read_body-clause-holds g c = λ t i lt.
     ∙ read_holds a.shape a.size a.offset (g.B.Bank.given a.bank) (g.B.Bank.tape a.bank) a.epoch.entries.items c.args.at bytes was.kept.placed (was.kept.holds t c.in-None.ensures.1) within (did.sectors t)
     i (subst (λ (l : List ℕ). i < length l / 512) copied lt)
     ∙ ap (λ p. now (zero_list p.shape p.size) p.entries (c.args.at + i)) c.self.view_is
+
+pub returns-in-Some-clause-ended : goal.returns-in-Some-clause-ended
+returns-in-Some-clause-ended g c =
+    ended-call (g.B.Bank.tape c.self.inside.bank) c.enter.new.epoch.first c.make_room.new.self.items c.args.who c.ops-end.result (Refused c.in-Some.refusal) [] c.enter.ensures.items c.ops-end.ensures
+
+pub returns-in-Err-read_body-clause-ended : goal.returns-in-Err-read_body-clause-ended
+returns-in-Err-read_body-clause-ended g c =
+    ended-call (g.B.Bank.tape c.read_body.new.bank) c.enter_loss.new.epoch.first c.make_room.new.self.items c.args.who c.ops-end-in-Err-read_body.result
+    (Lost c.in-Err-read_body.role Fault) (Refused (TooManyMissing 1 0) ∷ []) c.enter_loss.ensures.items c.ops-end-in-Err-read_body.ensures
+
+pub returns-in-Ok-read_body-clause-ended : goal.returns-in-Ok-read_body-clause-ended
+returns-in-Ok-read_body-clause-ended g c =
+    ended-call (g.B.Bank.tape c.read_body.new.bank) c.enter-in-Ok-read_body.new.epoch.first c.make_room.new.self.items c.args.who c.ops-end-in-Ok-read_body.result
+    (Read c.args.at c.from_bytes-body.result) [] c.enter-in-Ok-read_body.ensures.items c.ops-end-in-Ok-read_body.ensures

@@ -11,6 +11,7 @@ use Rattle.flat_history.specs.Fits.{IsWriteRefused}
 use Rattle.flat_history.specs.Plain.{entries_of}
 use Rattle.array.specs.Kept.{opening_of, failure_events, IsRefusalOf}
 use Rattle.array.proofs.ReadyLaws.{ready_refused, ready_failed, ready_wrote, holds_put}
+use Rattle.array.proofs.LossLaws.{ended-call, ended-failure}
 use Rattle.array.proofs.ReplyLaws.{refused_reply, failed_reply, replied, write_kind}
 use Rattle.array.proofs.array.Array.write.Goals as goal
 
@@ -95,3 +96,17 @@ returns-in-Ok-put-clause-answered g c =
     (c.enter-in-Ok-put.ensures.items ∙ ap (λ (l : List Entry). l ++ entries_of c.args.who end (Wrote c.args.at c.in-Ok.body ∷ [])) c.make_room.ensures.items
     ∙ ap (λ (b : List Sector). a.epoch.entries.items ++ entries_of c.args.who end (Wrote c.args.at b ∷ [])) c.in-Ok.ensures)
     number (refl, refl) tt)
+
+pub returns-in-Some-clause-ended : goal.returns-in-Some-clause-ended
+returns-in-Some-clause-ended g c =
+    ended-call (g.B.Bank.tape c.self.inside.bank) c.enter.new.epoch.first c.make_room.new.self.items c.args.who c.ops-end.result (Refused c.in-Some.refusal) [] c.enter.ensures.items c.ops-end.ensures
+
+pub returns-in-Err-put-clause-ended : goal.returns-in-Err-put-clause-ended
+returns-in-Err-put-clause-ended g c =
+    ended-failure (g.B.Bank.tape c.put-put.new.bank) c.enter_failure.new.epoch.first c.make_room.new.self.items c.args.who c.ops-end-in-Err-put.result
+    c.in-Err-put.loss.torn c.in-Err-put.loss.role c.args.at c.in-Ok.body c.enter_failure.ensures.items c.ops-end-in-Err-put.ensures
+
+pub returns-in-Ok-put-clause-ended : goal.returns-in-Ok-put-clause-ended
+returns-in-Ok-put-clause-ended g c =
+    ended-call (g.B.Bank.tape c.put-put.new.bank) c.enter-in-Ok-put.new.epoch.first c.make_room.new.self.items c.args.who c.ops-end-in-Ok-put.result
+    (Wrote c.args.at c.in-Ok.body) [] c.enter-in-Ok-put.ensures.items c.ops-end-in-Ok-put.ensures
