@@ -2,6 +2,7 @@
 use Rattle.std.specs.Prelude.{◌≡◌, ◌⊎◌, ℕ, ◌+◌, ◌≤◌, Bool, true, false, List, [], ◌∷◌, ◌++◌, length, drop, take, slice_get, Option, Some, None, MatchOption, IsTrue, IsFalse, ⊤}
 use Rattle.md_base.specs.declared.answers.Refusal.{Refusal}
 use Rattle.md_base.specs.declared.answers.Refusal.TheVariants.{Running, NotRunning, SlotFault}
+use Rattle.bank.specs.Given.{IsFaulted}
 use Rattle.flat_history.specs.declared.events.Entry.{Entry}
 use Rattle.flat_history.specs.declared.events.Request.{Request}
 use Rattle.flat_history.specs.declared.events.Request.TheVariants.{Read as AsksRead, Write as AsksWrite}
@@ -80,6 +81,17 @@ IsAnswer histories course line (Inside epoch at) = MatchOption (asked_of line) �
 IsAnswer histories course line (IsOutside Created) = IsFalse course.running × IsTrue (is_create line)
 IsAnswer histories course line (IsOutside (Assembled epoch status)) = ⊥
 IsAnswer histories course line (IsOutside (Refused refusal)) = IsRefusedOutside course.running line refusal
+
+-- a slot that a refusal calls failed has failed since
+abbrev pub IsRefusalCause : (ℕ → ℕ) → (ℕ → ℕ) → Refusal → Type 0
+IsRefusalCause before now (SlotFault slot) = IsFaulted slot before now
+IsRefusalCause before now refusal = ⊤
+
+abbrev pub IsCauseOf : (ℕ → ℕ) → (ℕ → ℕ) → Answered → Type 0
+IsCauseOf before now (Inside epoch at) = ⊤
+IsCauseOf before now (IsOutside Created) = ⊤
+IsCauseOf before now (IsOutside (Assembled epoch status)) = ⊤
+IsCauseOf before now (IsOutside (Refused refusal)) = IsRefusalCause before now refusal
 
 -- a reply that an entry gives was made when the entry ended
 abbrev pub IsEnd : List History → LineReply → Answered → Type 0

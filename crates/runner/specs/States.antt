@@ -7,13 +7,14 @@ use Rattle.flat_history.specs.declared.events.Entry.{Entry}
 use Rattle.flat_history.specs.Flat.{rest_of_call, next_number}
 use Rattle.array.specs.Parts.{Parts}
 use Rattle.array.specs.Rows.{AreMembers}
+use Rattle.array.specs.Kept.{AreLossesOf}
 use Rattle.script.specs.declared.lines.Line.{Line}
 use Rattle.runner.specs.declared.report.Answered.{Answered}
 use Rattle.runner.specs.declared.report.Answered.TheVariants.{Inside, Outside}
 use Rattle.runner.specs.declared.states.State.{State}
 use Rattle.runner.specs.declared.states.State.TheVariants.{Idle, Running}
 use Rattle.runner.specs.Histories.{History, entry_at}
-use Rattle.runner.specs.Replies.{Course, at_rest, course_after, IsAnswer}
+use Rattle.runner.specs.Replies.{Course, at_rest, course_after, IsAnswer, IsCauseOf}
 
 -- the history of an array that runs
 abbrev pub running_history : {B : Type 0} → Parts B → History
@@ -54,22 +55,32 @@ AreGrown [] news = ⊤
 AreGrown (old ∷ olds) [] = ⊥
 AreGrown (old ∷ olds) (new ∷ news) = IsGrown old new × AreGrown olds news
 
--- one line was answered
-pub record IsTurn {B : Type 0} (old new : State B) (line : Line) (what : Answered) : Type 0 where
+-- each role that was told lost since is that of a slot that has failed since
+abbrev pub AreLossesFrom : (ℕ → ℕ) → (ℕ → ℕ) → List History → List History → Type 0
+AreLossesFrom before now [] [] = ⊤
+AreLossesFrom before now [] (new ∷ news) = AreLossesOf before now [] new.entries × AreLossesFrom before now [] news
+AreLossesFrom before now (old ∷ olds) [] = ⊥
+AreLossesFrom before now (old ∷ olds) (new ∷ news) = AreLossesOf before now old.entries new.entries × AreLossesFrom before now olds news
+
+-- one line was answered; the counts of the slots' faults stood at `before`, and stand at `now`
+pub record IsTurn {B : Type 0} (before now : ℕ → ℕ) (old new : State B) (line : Line) (what : Answered) : Type 0 where
   pub sized : IsSized new
+  pub losses : AreLossesFrom before now (histories_in old) (histories_in new)
+  pub cause : IsCauseOf before now what
   pub grown : AreGrown (histories_in old) (histories_in new)
   pub answer : IsAnswer (histories_in new) (course_in old) line what
   pub course : course_in new ≡ course_after (course_in old) what
 
 -- memory was short, and nothing was entered
-pub record IsNoTurn {B : Type 0} (old new : State B) : Type 0 where
+pub record IsNoTurn {B : Type 0} (before now : ℕ → ℕ) (old new : State B) : Type 0 where
   pub sized : IsSized new
+  pub losses : AreLossesFrom before now (histories_in old) (histories_in new)
   pub grown : AreGrown (histories_in old) (histories_in new)
   pub course : course_in new ≡ course_in old
 
-abbrev pub IsTurnOrNone : {B : Type 0} → State B → State B → Line → Result Answered NoMemory → Type 0
-IsTurnOrNone old new line (Ok what) = IsTurn old new line what
-IsTurnOrNone old new line (Err fault) = IsNoTurn old new
+abbrev pub IsTurnOrNone : {B : Type 0} → (ℕ → ℕ) → (ℕ → ℕ) → State B → State B → Line → Result Answered NoMemory → Type 0
+IsTurnOrNone before now old new line (Ok what) = IsTurn before now old new line what
+IsTurnOrNone before now old new line (Err fault) = IsNoTurn before now old new
 
 -- the entry that an answer names is there
 abbrev pub IsNamed : List History → Answered → Type 0

@@ -4,7 +4,7 @@ ghost use Rattle.std.specs.Prelude.{◌≡◌, ◌≢◌, ◌+◌, ◌*◌, ◌/
 ghost use Rattle.md_base.specs.declared.answers.Fault.TheVariants.{NoMemory as WantsMemory};
 ghost use Rattle.bank.specs.Given.{NeverFalls};
 ghost use Rattle.md_base.specs.Sectors.{IsWhole};
-ghost use Rattle.array.specs.Kept.{opening_of, IsSameArray};
+ghost use Rattle.array.specs.Kept.{opening_of, IsSameArray, AreLossesOf};
 ghost use Rattle.script.specs.Seeds.{seeded};
 ghost use Rattle.runner.specs.Asked.{IsAsked, script_who};
 ghost use Rattle.flat_history.specs.declared.events.Request.TheVariants.{Read as AsksRead, Write as AsksWrite};
@@ -53,6 +53,7 @@ pub fn ask_read<B: Bank>(
     requires few { count ≤ 128 }
     requires short { at + count < 2 ^ 63 }
     ensures asked { IsAsked (opening_of array.old.shape array.old.size array.old.first) (AsksRead at count) array.old.entries array.new.entries result }
+    ensures losses { AreLossesOf (B.faults_of array.old.bank) (B.faults_of array.new.bank) array.old.entries array.new.entries }
     ensures never_falls { NeverFalls (B.faults_of array.old.bank) (B.faults_of array.new.bank) }
     ensures given { B.given array.new.bank ≡ B.given array.old.bank }
     ensures same { IsSameArray array.old array.new }
@@ -80,6 +81,7 @@ pub fn ask_write<B: Bank>(
     requires few { count ≤ 128 }
     requires short { at + count < 2 ^ 63 }
     ensures asked { IsAsked (opening_of array.old.shape array.old.size array.old.first) (AsksWrite at (seeded seed at count)) array.old.entries array.new.entries result }
+    ensures losses { AreLossesOf (B.faults_of array.old.bank) (B.faults_of array.new.bank) array.old.entries array.new.entries }
     ensures never_falls { NeverFalls (B.faults_of array.old.bank) (B.faults_of array.new.bank) }
     ensures given { B.given array.new.bank ≡ B.given array.old.bank }
     ensures same { IsSameArray array.old array.new }

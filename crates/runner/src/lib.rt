@@ -5,6 +5,7 @@
 mod asks;
 mod pace;
 mod report;
+mod sessions;
 mod states;
 mod text;
 mod words;
@@ -12,6 +13,7 @@ mod words;
 pub use asks::{ask_read, ask_write};
 pub use pace::Pace;
 pub use report::{Answered, LineReply, Outside, Report};
+pub use sessions::{Made, Session, Stop, perform};
 pub use states::{State, answer, entry_of};
 pub use text::{LONGEST_TEXT, TextFault, read_text};
 pub use words::{Command, command_of};

@@ -3,11 +3,13 @@
 ghost use Rattle.std.specs.Prelude.{◌≡◌, ◌<◌, ◌≤◌, ◌*◌, ℕ, [], ◌∷◌, Some, IsTrue, IsSome};
 ghost use Rattle.md_base.specs.Shapes.{data_disks};
 ghost use Rattle.bank.specs.Given.{NeverFalls};
-ghost use Rattle.array.specs.Kept.{opening_of, IsSameArray};
+ghost use Rattle.array.specs.Kept.{opening_of, IsSameArray, AreLossesOf};
 ghost use Rattle.script.specs.Script.{is_within_limits};
 ghost use Rattle.runner.specs.Asked.{IsPerformedLine};
 ghost use Rattle.runner.specs.Histories.{entry_at};
 ghost use Rattle.runner.specs.States.{running_history, histories_in, bank_in, IsSized, IsRoomy, IsTurnOrNone, IsNamed};
+ghost use Rattle.runner.specs.declared.report.Answered.TheVariants.{Outside as AnsweredOutside};
+ghost use Rattle.runner.specs.declared.report.Outside.TheVariants.{Refused as IsRefused};
 ghost use Rattle.runner.specs.declared.states.State.TheVariants.{Idle as IsIdle};
 
 use crate::asks::{ask_read, ask_write};
@@ -26,7 +28,10 @@ pub enum State<B: Bank> {
     Running(Array<B>),
 }
 
-fn refused(refusal: Refusal) -> Answered {
+// A refusal that no history holds.
+fn refused(refusal: Refusal) -> Answered
+    ensures { result ≡ AnsweredOutside (IsRefused refusal) }
+{
     Answered::Outside(Outside::Refused { refusal })
 }
 
@@ -38,6 +43,7 @@ fn answer_running<B: Bank>(
 ) -> Result<Answered, NoMemory>
     requires limits { IsTrue (is_within_limits line) }
     ensures performed { IsPerformedLine (opening_of array.old.shape array.old.size array.old.first) array.old.entries array.new.entries line result }
+    ensures losses { AreLossesOf (B.faults_of array.old.bank) (B.faults_of array.new.bank) array.old.entries array.new.entries }
     ensures never_falls { NeverFalls (B.faults_of array.old.bank) (B.faults_of array.new.bank) }
     ensures given { B.given array.new.bank ≡ B.given array.old.bank }
     ensures same { IsSameArray array.old array.new }
@@ -63,26 +69,32 @@ fn answer_idle<B: Bank>(
 ) -> (State<B>, Result<Answered, NoMemory>)
     requires limits { IsTrue (is_within_limits line) }
     requires roomy { IsRoomy (B.given bank) }
-    ensures answered { IsTurnOrNone (IsIdle bank) result.0 line result.1 }
+    ensures answered { IsTurnOrNone (B.faults_of bank) (B.faults_of (bank_in result.0)) (IsIdle bank) result.0 line result.1 }
     ensures never_falls { NeverFalls (B.faults_of bank) (B.faults_of (bank_in result.0)) }
     ensures given { B.given (bank_in result.0) ≡ B.given bank }
 {
     let Line::Create(line) = line else {
         return (State::Idle(bank), Ok(refused(Refusal::NotRunning)));
     };
+    let uuid = line.uuid;
     let spec = CreateSpec {
-        uuid: line.uuid,
+        uuid,
         shape: line.shape,
         size: line.size,
         offset: line.offset,
     };
-    match create(alloc, bank, spec) {
-        Ok(array) => (
-            State::Running(array),
-            Ok(Answered::Outside(Outside::Created)),
-        ),
-        Err((bank, Fault::Refused(refusal))) => (State::Idle(bank), Ok(refused(refusal))),
-        Err((bank, Fault::NoMemory)) => (State::Idle(bank), Err(NoMemory {})),
+    let (bank, fault) = match create(alloc, bank, spec) {
+        Ok(array) => {
+            return (
+                State::Running(array),
+                Ok(Answered::Outside(Outside::Created)),
+            );
+        }
+        Err(left) => left,
+    };
+    match fault {
+        Fault::Refused(refusal) => (State::Idle(bank), Ok(refused(refusal))),
+        Fault::NoMemory => (State::Idle(bank), Err(NoMemory {})),
     }
 }
 
@@ -95,7 +107,7 @@ pub fn answer<B: Bank>(
     requires limits { IsTrue (is_within_limits line) }
     requires roomy { IsRoomy (B.given (bank_in state)) }
     requires sized { IsSized state }
-    ensures answered { IsTurnOrNone state result.0 line result.1 }
+    ensures answered { IsTurnOrNone (B.faults_of (bank_in state)) (B.faults_of (bank_in result.0)) state result.0 line result.1 }
     ensures never_falls { NeverFalls (B.faults_of (bank_in state)) (B.faults_of (bank_in result.0)) }
     ensures given { B.given (bank_in result.0) ≡ B.given (bank_in state) }
 {

@@ -1,0 +1,282 @@
+//! The lines of a script performed one after another, each reply shown before the next line.
+
+ghost use Rattle.std.specs.Prelude.{◌≡◌, ◌≤◌, ◌||◌, ℕ, [], ◌++◌, length, slice_index, Some, None, OnOk, IsTrue, IsSome};
+ghost use Rattle.std.specs.List.{AllPass};
+ghost use Rattle.bank.specs.Given.{NeverFalls};
+ghost use Rattle.text_io.specs.Causes.{HasRisen};
+ghost use Rattle.script.specs.Script.{is_within_limits};
+ghost use Rattle.runner.specs.Shown.{outside_text, answer_text, reply_text, is_refused_outside, is_refusal, tells_refusal};
+ghost use Rattle.runner.specs.States.{histories_in, bank_in, IsSized, IsRoomy, IsNamed};
+ghost use Rattle.runner.specs.Sessions.{IsRepliedOrNot, IsStep, IsStopCause, IsPerformed, IsShownTo};
+ghost use Rattle.runner.specs.Replies.{IsEnd};
+ghost use Rattle.script.specs.declared.reply.Lane.TheVariants.{Script as InScript};
+
+use crate::report::{Answered, LineReply, Outside};
+use crate::states::{State, answer, entry_of};
+use bank::Bank;
+use flat_history::Event;
+use md_base::NoMemory;
+use script::{Lane, Numbered, push_assembled, push_created, push_event, push_lane, push_refusal};
+use std::alloc::{AllocError, Global};
+use text_io::Sink;
+
+/// Why no later line was performed.
+#[derive(Clone, Copy, Debug, PartialEq, Eq)]
+pub enum Stop {
+    WriteFault,
+    NoMemory,
+}
+
+/// A reply, and whether it is a refusal.
+#[derive(Drop)]
+pub struct Made {
+    pub reply: LineReply,
+    pub refused: bool,
+}
+
+/// A run between two lines: the array or the bank, the replies so far, the bytes of them that the sink took whole, whether
+/// one is a refusal, and why it stopped. The buffer holds the text of one reply.
+#[derive(Drop)]
+pub struct Session<B: Bank> {
+    pub state: State<B>,
+    pub replies: Vec<LineReply>,
+    pub buffer: Vec<u8>,
+    pub shown: u64,
+    pub refused: bool,
+    pub stopped: Option<Stop>,
+}
+
+// Whether an event tells a refusal.
+fn is_refused(event: &Event) -> bool
+    ensures { result ≡ tells_refusal event.now }
+{
+    match event {
+        Event::Refused { .. } => true,
+        Event::Stepped { ended, .. } => ended.is_some(),
+        _ => false,
+    }
+}
+
+fn push_outside(text: &mut Vec<u8>, outside: &Outside) -> Result<(), AllocError>
+    ensures { OnOk result (text.new.items ≡ text.old.items ++ outside_text outside.now) }
+{
+    match outside {
+        Outside::Created => push_created(text),
+        Outside::Assembled { status, .. } => push_assembled(text, status),
+        Outside::Refused { refusal } => push_refusal(text, refusal),
+    }
+}
+
+// Appends the text of an answer, without the newline.
+fn push_answer<B: Bank>(
+    text: &mut Vec<u8>,
+    state: &State<B>,
+    what: &Answered,
+) -> Result<(), AllocError>
+    requires named { IsNamed (histories_in state.now) what.now }
+    ensures { OnOk result (text.new.items ≡ text.old.items ++ answer_text (histories_in state.now) what.now) }
+{
+    match what {
+        Answered::Inside { epoch, at } => match state {
+            State::Running(array) => push_event(text, &entry_of(array, *epoch, *at).event),
+            State::Idle(_) => Ok(()),
+        },
+        Answered::Outside(outside) => push_outside(text, outside),
+    }
+}
+
+// Whether an answer is a refusal.
+fn is_answer_refused<B: Bank>(state: &State<B>, what: &Answered) -> bool
+    requires named { IsNamed (histories_in state.now) what.now }
+    ensures { result ≡ is_refusal (histories_in state.now) what.now }
+{
+    match what {
+        Answered::Inside { epoch, at } => match state {
+            State::Running(array) => is_refused(&entry_of(array, *epoch, *at).event),
+            State::Idle(_) => false,
+        },
+        Answered::Outside(Outside::Refused { .. }) => true,
+        Answered::Outside(_) => false,
+    }
+}
+
+// The reply of this answer to a line of the script.
+fn reply_of<B: Bank>(state: &State<B>, line: u64, what: Answered) -> LineReply
+    requires named { IsNamed (histories_in state.now) what }
+    ensures line { result.line ≡ line }
+    ensures lane { result.lane ≡ InScript }
+    ensures what { result.what ≡ what }
+    ensures end { IsEnd (histories_in state.now) result what }
+{
+    let end = match (&what, state) {
+        (Answered::Inside { epoch, at }, State::Running(array)) => entry_of(array, *epoch, *at).end,
+        (Answered::Outside(_), State::Running(array)) => array.ops(),
+        (_, State::Idle(bank)) => bank.ops(),
+    };
+    LineReply {
+        line,
+        lane: Lane::Script,
+        end,
+        what,
+    }
+}
+
+// Puts the text of a reply, with its newline, in place of what the buffer held.
+fn put_text<B: Bank>(
+    text: &mut Vec<u8>,
+    state: &State<B>,
+    reply: &LineReply,
+) -> Result<(), AllocError>
+    requires named { IsNamed (histories_in state.now) reply.now.what }
+    ensures { OnOk result (text.new.items ≡ reply_text (histories_in state.now) reply.now) }
+{
+    text.clear();
+    push_lane(text, reply.lane)?;
+    push_answer(text, state, &reply.what)?;
+    text.push(b'\n')?;
+    Ok(())
+}
+
+// Performs one line, and puts the text of its reply into the buffer.
+fn reply_to<B: Bank>(
+    alloc: Global,
+    state: State<B>,
+    numbered: Numbered,
+    text: &mut Vec<u8>,
+) -> (State<B>, Result<Made, NoMemory>)
+    requires limits { IsTrue (is_within_limits numbered.line) }
+    requires roomy { IsRoomy (B.given (bank_in state)) }
+    requires sized { IsSized state }
+    ensures replied { IsRepliedOrNot (B.faults_of (bank_in state)) (B.faults_of (bank_in result.0)) state result.0 numbered text.new.items result.1 }
+    ensures never_falls { NeverFalls (B.faults_of (bank_in state)) (B.faults_of (bank_in result.0)) }
+    ensures given { B.given (bank_in result.0) ≡ B.given (bank_in state) }
+{
+    let (state, what) = answer(alloc, state, numbered.line);
+    let what = match what {
+        Ok(what) => what,
+        Err(fault) => return (state, Err(fault)),
+    };
+    let refused = is_answer_refused(&state, &what);
+    let reply = reply_of(&state, numbered.number, what);
+    match put_text(text, &state, &reply) {
+        Ok(()) => (state, Ok(Made { reply, refused })),
+        Err(_) => (state, Err(NoMemory {})),
+    }
+}
+
+// Performs one line and shows its reply.
+fn perform_line<B: Bank, K: Sink>(
+    alloc: Global,
+    session: Session<B>,
+    numbered: Numbered,
+    out: &mut K,
+) -> Session<B>
+    requires limits { IsTrue (is_within_limits numbered.line) }
+    requires roomy { IsRoomy (B.given (bank_in session.state)) }
+    requires sized { IsSized session.state }
+    ensures step { IsStep K.tells (B.faults_of (bank_in session.state)) (B.faults_of (bank_in result.state)) session result numbered (K.taken out.old) (K.taken out.new) result.stopped }
+    ensures cause { IsStopCause result.stopped (K.faults_of out.old) (K.faults_of out.new) }
+    ensures sink_never_falls { K.faults_of out.old ≤ K.faults_of out.new }
+    ensures never_falls { NeverFalls (B.faults_of (bank_in session.state)) (B.faults_of (bank_in result.state)) }
+    ensures given { B.given (bank_in result.state) ≡ B.given (bank_in session.state) }
+{
+    let Session {
+        state,
+        mut replies,
+        mut buffer,
+        shown,
+        refused,
+        stopped: _,
+    } = session;
+    let short = Some(Stop::NoMemory);
+    if replies.reserve(1).is_err() {
+        return Session {
+            state,
+            replies,
+            buffer,
+            shown,
+            refused,
+            stopped: short,
+        };
+    }
+    let (state, made) = reply_to(alloc, state, numbered, &mut buffer);
+    let Ok(made) = made else {
+        return Session {
+            state,
+            replies,
+            buffer,
+            shown,
+            refused,
+            stopped: short,
+        };
+    };
+    let Made {
+        reply,
+        refused: is_refused,
+    } = made;
+    if replies.push(reply).is_err() {
+        return Session {
+            state,
+            replies,
+            buffer,
+            shown,
+            refused,
+            stopped: short,
+        };
+    }
+    let refused = refused | is_refused;
+    match out.push(buffer.as_slice()) {
+        Ok(()) => {
+            let shown = shown.saturating_add(buffer.len() as u64);
+            Session {
+                state,
+                replies,
+                buffer,
+                shown,
+                refused,
+                stopped: None,
+            }
+        }
+        Err(_) => Session {
+            state,
+            replies,
+            buffer,
+            shown,
+            refused,
+            stopped: Some(Stop::WriteFault),
+        },
+    }
+}
+
+/// Performs the lines on a bank, the replies being shown one by one, up to the first that can't be shown or for which
+/// memory is short.
+pub fn perform<B: Bank, K: Sink>(
+    alloc: Global,
+    bank: B,
+    lines: &[Numbered],
+    out: &mut K,
+) -> Session<B>
+    requires limits { AllPass (λ numbered. is_within_limits numbered.line) lines.now }
+    requires roomy { IsRoomy (B.given bank) }
+    ensures performed { IsPerformed (B.faults_of bank) (B.faults_of (bank_in result.state)) lines.now result }
+    ensures all { result.stopped ≡ None → length result.replies.items ≡ length lines.now }
+    ensures shown { IsShownTo K.tells result (K.taken out.old) (K.taken out.new) (K.faults_of out.old) (K.faults_of out.new) }
+    ensures never_falls { NeverFalls (B.faults_of bank) (B.faults_of (bank_in result.state)) }
+    ensures given { B.given (bank_in result.state) ≡ B.given bank }
+{
+    let mut session = Session {
+        state: State::Idle(bank),
+        replies: Vec::new(alloc),
+        buffer: Vec::new(alloc),
+        shown: 0,
+        refused: false,
+        stopped: None,
+    };
+    for i in 0..lines.len() {
+        session = perform_line(alloc, session, lines[i], out);
+        if session.stopped.is_some() {
+            return session;
+        }
+    }
+    session
+}
