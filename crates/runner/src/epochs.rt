@@ -3,7 +3,8 @@
 ghost use Rattle.std.specs.Prelude.{◌≡◌, ◌-◌, ◌^◌, ◌≤◌, length, IfOk, IfErr, IsTrue};
 ghost use Rattle.std.specs.List.{AllPass};
 ghost use Rattle.bank.specs.Given.{NeverFalls};
-ghost use Rattle.array.specs.Kept.{opening_of, IsPlaced, IsNotMadeFor};
+ghost use Rattle.array.specs.Creating.{create_refusal};
+ghost use Rattle.array.specs.Kept.{opening_of, IsNotMadeFor};
 ghost use Rattle.script.specs.Script.{has_span};
 ghost use Rattle.runner.specs.Played.{IsPlayed};
 
@@ -34,7 +35,6 @@ pub fn play<B: Bank>(
     spec: CreateSpec,
     lines: &[Numbered],
 ) -> Result<Played<B>, (B, Fault)>
-    requires placed { IsPlaced (B.given bank) spec.shape spec.size spec.offset }
     requires slots { (B.given bank).slots ≤ 32 }
     requires spans { AllPass (λ numbered. has_span numbered.line) lines.now }
     ensures played { IfOk result (λ p. IsPlayed B.tells (opening_of spec.shape spec.size p.epoch.first) (B.tape p.bank) lines.now p.epoch.entries.items p.replies.items) }
@@ -44,11 +44,11 @@ pub fn play<B: Bank>(
     ensures last { IfOk result (λ p. B.tells → p.epoch.last ≡ length (B.tape p.bank)) }
     ensures given { IfOk result (λ p. B.given p.bank ≡ B.given bank) }
     ensures never_falls { IfOk result (λ p. NeverFalls (B.faults_of bank) (B.faults_of p.bank)) }
-    ensures refused { IfErr result (λ e. IsNotMadeFor (B.faults_of bank) (B.faults_of e.0) e.1) }
+    ensures refused { IfErr result (λ e. IsNotMadeFor (create_refusal (B.given bank) None spec) (B.faults_of bank) (B.faults_of e.0) e.1) }
     ensures left_given { IfErr result (λ e. B.given e.0 ≡ B.given bank) }
     ensures left_never_falls { IfErr result (λ e. NeverFalls (B.faults_of bank) (B.faults_of e.0)) }
 {
-    let mut array = match create(alloc, bank, spec) {
+    let mut array = match create(alloc, bank, None, spec) {
         Ok(array) => array,
         Err(left) => return Err(left),
     };
