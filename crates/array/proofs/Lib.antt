@@ -12,3 +12,4 @@ pub mod ReplyLaws
 pub mod ReadyLaws
 pub mod Written
 pub mod LossLaws
+pub mod CreateLaws

@@ -144,8 +144,14 @@ pub record IsMade {B : Type 0} (tells : Type 0) (ops slots : ℕ) (spec : Create
   pub offset : made.offset ≡ spec.offset
   pub lost : made.lost ≡ None
 
--- why no array was made: a member failed, or memory was short
-abbrev pub IsNotMadeFor : (ℕ → ℕ) → (ℕ → ℕ) → Fault → Type 0
-IsNotMadeFor before now (IsRefusedWith (SlotFault slot)) = IsFaulted slot before now
-IsNotMadeFor before now (IsRefusedWith refusal) = ⊥
-IsNotMadeFor before now NoMemory = ⊤
+-- why no array was made: the first refusal that needs no device call, where there is one, or else a member failed, or memory was short
+abbrev pub IsNotMadeFor : Option Refusal → (ℕ → ℕ) → (ℕ → ℕ) → Fault → Type 0
+IsNotMadeFor (Some refusal) before now fault = fault ≡ IsRefusedWith refusal
+IsNotMadeFor None before now (IsRefusedWith (SlotFault slot)) = IsFaulted slot before now
+IsNotMadeFor None before now (IsRefusedWith refusal) = ⊥
+IsNotMadeFor None before now NoMemory = ⊤
+
+-- the bank that is handed back is the one that was given, unless a member failed
+abbrev pub IsHandedBack : {B : Type 0} → B → B → Fault → Type 0
+IsHandedBack given back (IsRefusedWith (SlotFault slot)) = ⊤
+IsHandedBack given back fault = back ≡ given

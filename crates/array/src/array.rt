@@ -11,9 +11,11 @@ ghost use Rattle.flat_history.specs.declared.events.Event.TheVariants.{Read, Wro
 ghost use Rattle.md_base.specs.declared.answers.Fault.TheVariants.{NoMemory as WantsMemory};
 ghost use Rattle.flat_history.specs.declared.events.Request.TheVariants.{Read as AsksRead, Write as AsksWrite};
 ghost use Rattle.array.specs.Rows.{present, AreMembers};
-ghost use Rattle.array.specs.Kept.{opening_of, zero_list, Holds, IsEntered, IsPlaced, IsAnswered, IsCausedBy, IsMade, IsNotMadeFor, IsSameArray, IsRefusalOf, AreLossesOf, IsEndOf};
+ghost use Rattle.array.specs.Kept.{opening_of, zero_list, Holds, IsEntered, IsPlaced, IsAnswered, IsCausedBy, IsMade, IsNotMadeFor, IsSameArray, IsRefusalOf, AreLossesOf, IsEndOf, IsHandedBack};
+ghost use Rattle.array.specs.Creating.{IsLastSlot, create_refusal};
 
 use crate::calls::{check_number, enter, enter_failure, enter_loss};
+use crate::creating::refusal_of_create;
 use crate::lists::read_body;
 use crate::puts::put;
 use crate::spec::CreateSpec;
@@ -105,29 +107,68 @@ fn all_slots(slots: u32) -> u32
     ((1u64 << slots) - 1) as u32
 }
 
-/// Makes an array of zeros over the first slots of the bank. Refusal: `SlotFault`.
-pub fn create<B: Bank>(alloc: Global, bank: B, spec: CreateSpec) -> Result<Array<B>, (B, Fault)>
-    requires placed { IsPlaced (B.given bank) spec.shape spec.size spec.offset }
+// What an array keeps in memory: an empty history with room for its end, and the buffers of a write.
+#[derive(Drop)]
+struct Room {
+    entries: Entries,
+    rows: Vec<u64>,
+    buffer: Vec<u8>,
+}
+
+fn room_for(alloc: Global) -> Result<Room, Fault>
+    ensures no_memory { IfErr result (λ fault. fault ≡ WantsMemory) }
+    ensures empty { IfOk result (λ room. room.entries.items ≡ []) }
+    ensures entries { IfOk result (λ room. 1 ≤ room.entries.room) }
+    ensures rows { IfOk result (λ room. 128 ≤ vec_capacity room.rows) }
+    ensures buffer { IfOk result (λ room. length room.buffer.items ≡ 1048576) }
+{
+    let mut entries = Entries::new(alloc);
+    match entries.make_room(1) {
+        Ok(()) => {}
+        Err(_) => return Err(Fault::NoMemory),
+    }
+    let rows = match Vec::with_capacity(alloc, 128) {
+        Ok(rows) => rows,
+        Err(_) => return Err(Fault::NoMemory),
+    };
+    let buffer = match zeros(alloc, 1048576) {
+        Ok(buffer) => buffer,
+        Err(fault) => return Err(fault),
+    };
+    Ok(Room {
+        entries,
+        rows,
+        buffer,
+    })
+}
+
+/// Makes an array of zeros over the first slots of the bank; no slot but its members is written. Refusals in order:
+/// `BadShape`, `SizeNotMultiple`, `NoSuchSlot`, `SlotTooSmall`, then `NoMemory`, which all write nothing, then `SlotFault`.
+pub fn create<B: Bank>(
+    alloc: Global,
+    bank: B,
+    backup: Option<u32>,
+    spec: CreateSpec,
+) -> Result<Array<B>, (B, Fault)>
     requires slots { (B.given bank).slots ≤ 32 }
+    requires backup { IsLastSlot (B.given bank).slots backup }
     ensures made { IfOk result (λ a. IsMade B.tells (length (B.tape a.bank)) (B.given bank).slots spec a) }
+    ensures unrefused { IfOk result (λ a. create_refusal (B.given bank) backup spec ≡ None) }
+    ensures placed { IfOk result (λ a. IsPlaced (B.given a.bank) spec.shape spec.size spec.offset) }
     ensures given { IfOk result (λ a. B.given a.bank ≡ B.given bank) }
     ensures never_falls { IfOk result (λ a. NeverFalls (B.faults_of bank) (B.faults_of a.bank)) }
-    ensures refused { IfErr result (λ e. IsNotMadeFor (B.faults_of bank) (B.faults_of e.0) e.1) }
+    ensures refused { IfErr result (λ e. IsNotMadeFor (create_refusal (B.given bank) backup spec) (B.faults_of bank) (B.faults_of e.0) e.1) }
+    ensures handed_back { IfErr result (λ e. IsHandedBack bank e.0 e.1) }
     ensures left_given { IfErr result (λ e. B.given e.0 ≡ B.given bank) }
     ensures left_never_falls { IfErr result (λ e. NeverFalls (B.faults_of bank) (B.faults_of e.0)) }
 {
     let mut bank = bank;
-    let mut entries = Entries::new(alloc);
-    match entries.make_room(1) {
-        Ok(()) => {}
-        Err(_) => return Err((bank, Fault::NoMemory)),
+    match refusal_of_create(&bank, backup, &spec) {
+        Some(refusal) => return Err((bank, Fault::Refused(refusal))),
+        None => {}
     }
-    let rows = match Vec::with_capacity(alloc, 128) {
-        Ok(rows) => rows,
-        Err(_) => return Err((bank, Fault::NoMemory)),
-    };
-    let buffer = match zeros(alloc, 1048576) {
-        Ok(buffer) => buffer,
+    let room = match room_for(alloc) {
+        Ok(room) => room,
         Err(fault) => return Err((bank, fault)),
     };
     match zero_members(&mut bank, spec.shape.disks, spec.offset, spec.size) {
@@ -135,13 +176,12 @@ pub fn create<B: Bank>(alloc: Global, bank: B, spec: CreateSpec) -> Result<Array
         Ok(()) => {}
     }
     let first = bank.ops();
-    let uuid = spec.uuid;
     let epoch = Epoch {
-        uuid,
+        uuid: spec.uuid,
         given: all_slots(bank.slots()),
         first,
         last: first,
-        entries,
+        entries: room.entries,
     };
     Ok(Array {
         alloc,
@@ -151,8 +191,8 @@ pub fn create<B: Bank>(alloc: Global, bank: B, spec: CreateSpec) -> Result<Array
         size: spec.size,
         offset: spec.offset,
         lost: None,
-        rows,
-        buffer,
+        rows: room.rows,
+        buffer: room.buffer,
     })
 }
 

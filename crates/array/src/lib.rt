@@ -4,6 +4,7 @@
 mod array;
 mod buffers;
 mod calls;
+mod creating;
 mod device;
 mod lists;
 mod puts;
@@ -14,6 +15,7 @@ mod zeros;
 pub use array::{Array, create};
 pub use buffers::{ROW_BYTES, read_rows, touched_rows, write_rows};
 pub use calls::{check_number, enter, enter_failure, enter_loss, enter_torn};
+pub use creating::refusal_of_create;
 pub use device::{flush_slot, read_into, write_from};
 pub use lists::{read_body, read_list};
 pub use puts::{Loss, put};

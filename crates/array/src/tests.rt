@@ -2,14 +2,14 @@
 
 ghost use Rattle.std.specs.Prelude.{◌≡◌, ◌-◌};
 
-use crate::{Array, CreateSpec, create};
+use crate::{Array, CreateSpec, create, refusal_of_create};
 use bank::MemoryBank;
 use md_base::{Fault, Refusal, Shape, Who};
 use std::alloc::Global;
 use std::process::Abort;
 use std::test::Fail;
 
-// 40 rows on three disks with rotating parity, over three of eight slots. Making it takes 3 * (40 writes + 1 flush) = 123
+// 40 rows on three disks with rotating parity, over three of eight slots, the last of which is the backup. Making it takes 3 * (40 writes + 1 flush) = 123
 // calls of the bank, where the calls of these numbers fail.
 fn small_array(alloc: Global, failing: &[u64]) -> Result<Array<MemoryBank>, Fail> {
     let lengths = vec![in alloc; 64u64; 8]?;
@@ -26,10 +26,47 @@ fn small_array(alloc: Global, failing: &[u64]) -> Result<Array<MemoryBank>, Fail
         size: 40,
         offset: 16,
     };
-    match create(alloc, bank, spec) {
+    match create(alloc, bank, Some(7), spec) {
         Ok(array) => Ok(array),
         Err(_) => Err(Fail::from("not made")),
     }
+}
+
+#[test]
+fn refusals_in_the_form_of_their_values(rt: HostRuntime) -> Result<(), Fail> {
+    let lengths = vec![in rt.alloc(); 6144u64; 8]?;
+    let bank = MemoryBank::new(rt.alloc(), lengths, 0, Vec::new(rt.alloc()))?;
+    let shape = Shape {
+        level: 5,
+        layout: 2,
+        chunk: 8,
+        disks: 3,
+    };
+    let spec = CreateSpec {
+        uuid: [7; 16],
+        shape,
+        size: 4104,
+        offset: 2048,
+    };
+    let short = Some(Refusal::SlotTooSmall(6144, 6152));
+    assert_eq!(rt; refusal_of_create(&bank, Some(7), &spec), short);
+    let spec = CreateSpec {
+        shape: Shape { disks: 8, ..shape },
+        size: 40,
+        ..spec
+    };
+    assert_eq!(rt;
+        refusal_of_create(&bank, Some(7), &spec),
+        Some(Refusal::NoSuchSlot(7))
+    );
+    assert_eq!(rt; refusal_of_create(&bank, None, &spec), None);
+    let spec = CreateSpec {
+        shape: Shape { chunk: 16, ..shape },
+        ..spec
+    };
+    let parts = Some(Refusal::SizeNotMultiple(40, 16));
+    assert_eq!(rt; refusal_of_create(&bank, Some(7), &spec), parts);
+    Ok(())
 }
 
 // The answer of a read of three sectors, and their bytes.
