@@ -5,6 +5,16 @@ use Rattle.std.proofs.lemmas.Option.{slice_get_within}
 use Rattle.std.specs.Prelude.{slice_get, MatchOption, if◌then◌else◌, IsSome, ⊤}
 use Rattle.std.specs.List.{flat_map, list_any}
 use Rattle.std.specs.Option.{option_and_then, option_map_or}
+use Rattle.bank.specs.Given.{Given, NeverFalls}
+use Rattle.md_base.specs.declared.answers.Refusal.{Refusal}
+use Rattle.md_base.specs.declared.answers.Refusal.TheVariants.{SlotFault}
+use Rattle.md_base.specs.declared.answers.Fault.{Fault}
+use Rattle.md_base.specs.declared.answers.Fault.TheVariants.{Refused as IsRefusedWith, NoMemory}
+use Rattle.array.specs.Creating.{create_refusal}
+use Rattle.array.specs.Kept.{IsNotMadeFor}
+use Rattle.array.proofs.LossLaws.{faulted-wider}
+use Rattle.script.specs.declared.lines.CreateLine.{CreateLine}
+use Rattle.script.specs.declared.lines.Line.TheVariants.{Create, Read, Write}
 use Rattle.flat_history.specs.declared.events.Entry.{Entry}
 use Rattle.flat_history.specs.declared.events.Request.{Request}
 use Rattle.flat_history.specs.Flat.{rest_of_call, is_same_call, next_number}
@@ -18,7 +28,7 @@ use Rattle.runner.specs.declared.report.Answered.{Answered}
 use Rattle.runner.specs.declared.report.Answered.TheVariants.{Inside, Outside as IsOutside}
 use Rattle.runner.specs.declared.report.LineReply.{LineReply}
 use Rattle.runner.specs.Histories.{History, opening_at, entry_at}
-use Rattle.runner.specs.Replies.{Course, asked_of, course_after, course_of, IsReplyAt, IsAnsweredInside, IsAnswer, IsEnd, IsReplyTo, AreReplies}
+use Rattle.runner.specs.Replies.{Course, Setting, spec_of, unmade, IsMadeBy, IsRefusedOutside, asked_of, course_after, course_of, IsReplyAt, IsAnsweredInside, IsAnswer, IsEnd, IsReplyTo, AreReplies}
 use Rattle.runner.specs.Shown.{answer_text, reply_text, report_text, tells_refusal, is_refusal, has_refusal}
 use Rattle.runner.specs.States.{IsGrown, AreGrown, IsNamed}
 
@@ -117,16 +127,48 @@ covered {epoch = epoch} {place = place} (h ∷ []) course replies was covers =
     some_same is = cc
 covered (h ∷ k ∷ more) course replies was covers = absurd covers
 
-answer_stays : (olds news : List History) (course : Course) (line : Line) (what : Answered) (replies : List LineReply) → AreGrown olds news → Covers olds (course_of (course_after course what) replies)
-    → IsAnswer olds course line what → IsAnswer news course line what
-answer_stays olds news course line (Inside epoch at) replies grown covers was = by_request (asked_of line) was
+-- the same bank, over a longer time
+pub record IsWider (was now : Setting) : Type 0 where
+  pub given : now.given ≡ was.given
+  pub backup : now.backup ≡ was.backup
+  pub early : NeverFalls now.before was.before
+  pub between : NeverFalls was.before was.now
+  pub late : NeverFalls was.now now.now
+
+unmade_stays : (was now : Setting) → IsWider was now → (line : CreateLine) → unmade now line ≡ unmade was line
+unmade_stays was now wider line =
+    ap (λ (given : Given). create_refusal given now.backup (spec_of line)) wider.given ∙ ap (λ (backup : Option ℕ). create_refusal was.given backup (spec_of line)) wider.backup
+
+made_stays : (was now : Setting) → IsWider was now → (line : Line) → IsMadeBy was line → IsMadeBy now line
+made_stays was now wider (Create line) is = unmade_stays was now wider line ∙ is
+made_stays was now wider (Read at count) is = is
+made_stays was now wider (Write at count seed) is = is
+
+not_made_stays : (was now : Setting) → IsWider was now → (unmade : Option Refusal) (fault : Fault) → IsNotMadeFor unmade was.before was.now fault → IsNotMadeFor unmade now.before now.now fault
+not_made_stays was now wider (Some refusal) fault is = is
+not_made_stays was now wider None (IsRefusedWith (SlotFault slot)) is = faulted-wider slot wider.early wider.between wider.late is
+not_made_stays was now wider None (IsRefusedWith refusal) is = absurd is
+not_made_stays was now wider None NoMemory is = is
+
+refused_stays : (was now : Setting) → IsWider was now → (running : Bool) (line : Line) (refusal : Refusal) → IsRefusedOutside was running line refusal → IsRefusedOutside now running line refusal
+refused_stays was now wider true (Create line) refusal is = is
+refused_stays was now wider true (Read at count) refusal is = is
+refused_stays was now wider true (Write at count seed) refusal is = is
+refused_stays was now wider false (Create line) refusal is =
+    subst (λ (o : Option Refusal). IsNotMadeFor o now.before now.now (IsRefusedWith refusal)) (sym (unmade_stays was now wider line)) (not_made_stays was now wider (unmade was line) (IsRefusedWith refusal) is)
+refused_stays was now wider false (Read at count) refusal is = is
+refused_stays was now wider false (Write at count seed) refusal is = is
+
+answer_stays : (was now : Setting) → IsWider was now → (olds news : List History) (course : Course) (line : Line) (what : Answered) (replies : List LineReply) → AreGrown olds news → Covers olds (course_of (course_after course what) replies)
+    → IsAnswer was olds course line what → IsAnswer now news course line what
+answer_stays was now wider olds news course line (Inside epoch at) replies grown covers is = by_request (asked_of line) is
   where
     by_request : (request : Option Request) → MatchOption request ⊥ (λ r. IsAnsweredInside olds course epoch at r) → MatchOption request ⊥ (λ r. IsAnsweredInside news course epoch at r)
     by_request None is = absurd is
     by_request (Some r) is = inside_stays olds news course grown is (covered olds course replies is covers)
-answer_stays olds news course line (IsOutside Created) replies grown covers was = was
-answer_stays olds news course line (IsOutside (Assembled epoch status)) replies grown covers was = was
-answer_stays olds news course line (IsOutside (Refused refusal)) replies grown covers was = was
+answer_stays was now wider olds news course line (IsOutside Created) replies grown covers (idle, made) = (idle, made_stays was now wider line made)
+answer_stays was now wider olds news course line (IsOutside (Assembled epoch status)) replies grown covers is = is
+answer_stays was now wider olds news course line (IsOutside (Refused refusal)) replies grown covers is = refused_stays was now wider course.running line refusal is
 
 end_stays : (olds news : List History) (reply : LineReply) (what : Answered) → AreGrown olds news → IsEnd olds reply what → IsEnd news reply what
 end_stays olds news reply (Inside epoch at) grown was = by_entry (entry_at olds epoch at) refl was
@@ -136,43 +178,43 @@ end_stays olds news reply (Inside epoch at) grown was = by_entry (entry_at olds 
     by_entry (Some e) is end = subst (λ (o : Option Entry). MatchOption o ⊥ (λ entry. reply.end ≡ entry.end)) (sym (named_stays olds news grown epoch at e is)) end
 end_stays olds news reply (IsOutside outside) grown was = was
 
-pub replies_stay : (olds news : List History) (course : Course) (lines : List Numbered) (replies : List LineReply) → AreGrown olds news → Covers olds (course_of course replies)
-    → AreReplies olds course lines replies → AreReplies news course lines replies
-replies_stay olds news course [] [] grown covers was = was
-replies_stay olds news course [] (reply ∷ replies) grown covers was = absurd was
-replies_stay olds news course (line ∷ lines) [] grown covers was = absurd was
-replies_stay olds news course (line ∷ lines) (reply ∷ replies) grown covers (one, rest) = (
+pub replies_stay : (was now : Setting) → IsWider was now → (olds news : List History) (course : Course) (lines : List Numbered) (replies : List LineReply) → AreGrown olds news → Covers olds (course_of course replies)
+    → AreReplies was olds course lines replies → AreReplies now news course lines replies
+replies_stay was now wider olds news course [] [] grown covers is = is
+replies_stay was now wider olds news course [] (reply ∷ replies) grown covers is = absurd is
+replies_stay was now wider olds news course (line ∷ lines) [] grown covers is = absurd is
+replies_stay was now wider olds news course (line ∷ lines) (reply ∷ replies) grown covers (one, rest) = (
   record {
     line = one.line;
     lane = one.lane;
     end = end_stays olds news reply reply.what grown one.end;
-    answer = answer_stays olds news course line.line reply.what replies grown covers one.answer;
+    answer = answer_stays was now wider olds news course line.line reply.what replies grown covers one.answer;
   },
-  replies_stay olds news (course_after course reply.what) lines replies grown covers rest,
+  replies_stay was now wider olds news (course_after course reply.what) lines replies grown covers rest,
 )
 
 -- one reply more
-pub replies_more : (histories : List History) (course : Course) (lines : List Numbered) (replies : List LineReply) (line : Numbered) (reply : LineReply)
-    → AreReplies histories course lines replies → IsReplyTo histories (course_of course replies) line reply
-    → AreReplies histories course (lines ++ line ∷ []) (replies ++ reply ∷ [])
-replies_more histories course [] [] line reply was one = (one, was)
-replies_more histories course [] (r ∷ replies) line reply was one = absurd was
-replies_more histories course (l ∷ lines) [] line reply was one = absurd was
-replies_more histories course (l ∷ lines) (r ∷ replies) line reply (first, rest) one = (first, replies_more histories (course_after course r.what) lines replies line reply rest one)
+pub replies_more : (setting : Setting) (histories : List History) (course : Course) (lines : List Numbered) (replies : List LineReply) (line : Numbered) (reply : LineReply)
+    → AreReplies setting histories course lines replies → IsReplyTo setting histories (course_of course replies) line reply
+    → AreReplies setting histories course (lines ++ line ∷ []) (replies ++ reply ∷ [])
+replies_more setting histories course [] [] line reply was one = (one, was)
+replies_more setting histories course [] (r ∷ replies) line reply was one = absurd was
+replies_more setting histories course (l ∷ lines) [] line reply was one = absurd was
+replies_more setting histories course (l ∷ lines) (r ∷ replies) line reply (first, rest) one = (first, replies_more setting histories (course_after course r.what) lines replies line reply rest one)
 
 pub course_more : (course : Course) (replies : List LineReply) (reply : LineReply) → course_of course (replies ++ reply ∷ []) ≡ course_after (course_of course replies) reply.what
 course_more course [] reply = refl
 course_more course (r ∷ replies) reply = course_more (course_after course r.what) replies reply
 
 -- an answer names an entry that is there
-pub answer_named : (histories : List History) (course : Course) (line : Line) (what : Answered) → IsAnswer histories course line what → IsNamed histories what
-answer_named histories course line (Inside epoch at) was = by_request (asked_of line) was
+pub answer_named : (setting : Setting) (histories : List History) (course : Course) (line : Line) (what : Answered) → IsAnswer setting histories course line what → IsNamed histories what
+answer_named setting histories course line (Inside epoch at) was = by_request (asked_of line) was
   where
     by_request : (request : Option Request) → MatchOption request ⊥ (λ r. IsAnsweredInside histories course epoch at r) → IsSome (entry_at histories epoch at)
     by_request None is = absurd is
     by_request (Some r) is =
         subst (λ (o : Option Entry). IsSome o) (sym (ap (λ (o : Option History). option_and_then (λ h. slice_get h.entries at) o) is.there ∙ is.replied.there)) refl
-answer_named histories course line (IsOutside outside) was = tt
+answer_named setting histories course line (IsOutside outside) was = tt
 
 some_named : (o : Option Entry) → IsSome o → (e : Entry) × (o ≡ Some e)
 some_named None is = absurd (cc)
@@ -186,14 +228,14 @@ answer_shown olds news (Inside epoch at) grown named =
     (ap (λ (o : Option Entry). option_map_or (λ e. event_text e.event) o []) same, ap (λ (o : Option Entry). option_map_or (λ e. tells_refusal e.event) o false) same)
 answer_shown olds news (IsOutside outside) grown named = (refl, refl)
 
-pub shown_stays : (olds news : List History) (course : Course) (lines : List Numbered) (replies : List LineReply) → AreGrown olds news → AreReplies olds course lines replies
+pub shown_stays : (setting : Setting) (olds news : List History) (course : Course) (lines : List Numbered) (replies : List LineReply) → AreGrown olds news → AreReplies setting olds course lines replies
     → (report_text news replies ≡ report_text olds replies) × (has_refusal news replies ≡ has_refusal olds replies)
-shown_stays olds news course [] [] grown was = (refl, refl)
-shown_stays olds news course [] (reply ∷ replies) grown was = absurd was
-shown_stays olds news course (line ∷ lines) [] grown was = absurd was
-shown_stays olds news course (line ∷ lines) (reply ∷ replies) grown (one, rest) =
-    let first = answer_shown olds news reply.what grown (answer_named olds course line.line reply.what one.answer) in
-    let others = shown_stays olds news (course_after course reply.what) lines replies grown rest in
+shown_stays setting olds news course [] [] grown was = (refl, refl)
+shown_stays setting olds news course [] (reply ∷ replies) grown was = absurd was
+shown_stays setting olds news course (line ∷ lines) [] grown was = absurd was
+shown_stays setting olds news course (line ∷ lines) (reply ∷ replies) grown (one, rest) =
+    let first = answer_shown olds news reply.what grown (answer_named setting olds course line.line reply.what one.answer) in
+    let others = shown_stays setting olds news (course_after course reply.what) lines replies grown rest in
     (
       ap (λ (t : List ℕ). (lane_text reply.lane ++ t ++ 10 ∷ []) ++ report_text news replies) (first.0) ∙ ap (λ (t : List ℕ). reply_text olds reply ++ t) (others.0),
       ap (λ (b : Bool). b || has_refusal news replies) (first.1) ∙ ap (λ (b : Bool). is_refusal olds reply.what || b) (others.1)

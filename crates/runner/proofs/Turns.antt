@@ -34,7 +34,7 @@ use Rattle.runner.specs.declared.states.State.{State}
 use Rattle.runner.specs.declared.states.State.TheVariants.{Idle, Running}
 use Rattle.runner.specs.Asked.{script_who, IsAskedAt, IsPerformedLine}
 use Rattle.runner.specs.Histories.{History, opening_at}
-use Rattle.runner.specs.Replies.{Course, asked_of, course_after, IsReplyAt, IsAnsweredInside, IsAnswer, IsRefusedOutside, IsRefusalCause}
+use Rattle.runner.specs.Replies.{Course, Setting, spec_of, unmade, asked_of, course_after, IsReplyAt, IsAnsweredInside, IsAnswer, IsRefusedOutside}
 use Rattle.runner.specs.States.{running_history, IsGrown, AreGrown, IsTurn, IsNoTurn, IsTurnOrNone, IsSized}
 use Rattle.runner.proofs.AskLaws.{with_reply, reply_at}
 
@@ -78,7 +78,7 @@ number_entered {old = old} asked = ap (λ (l : List Entry). next_number 0 l) (wi
 same_opening : (shape : Shape) (size first : ℕ) → data_disks shape * size ≡ 80 → opening_of shape size first ≡ opening_at (record { first = first; entries = [] })
 same_opening shape size first is = ap (λ (n : ℕ). record { list = replicate n zero_sector; first = first }) is
 
-module _ {B : Type 0} {before now : ℕ → ℕ} {old new : Parts B} (same : IsSameArray old new) (lost : AreLossesOf before now old.entries new.entries) (sized : IsSized (Running old)) where
+module _ {B : Type 0} (setting : Setting) {old new : Parts B} (same : IsSameArray old new) (lost : AreLossesOf setting.before setting.now old.entries new.entries) (sized : IsSized (Running old)) where
   sized_still : IsSized (Running new)
   sized_still = ap (λ (s : Shape). data_disks s * new.size) same.shape ∙ ap (λ (n : ℕ). data_disks old.shape * n) same.size ∙ sized
 
@@ -90,11 +90,10 @@ module _ {B : Type 0} {before now : ℕ → ℕ} {old new : Parts B} (same : IsS
 
   -- a request of the script was answered
   turn_inside : (line : Line) (epoch place : ℕ) (request : Request) → asked_of line ≡ Some request → epoch ≡ 0 → IsAskedAt (opening_of old.shape old.size old.first) request old.entries new.entries place
-      → IsTurn before now (Running old) (Running new) line (Inside epoch place)
+      → IsTurn setting (Running old) (Running new) line (Inside epoch place)
   turn_inside line epoch place request is first asked = record {
     sized = sized_still;
     losses = (lost, tt);
-    cause = tt;
     grown = (refirst (grown_by_call old.first old.entries new.entries asked.replied.end _ asked.replied.is), tt);
     answer = subst (λ (o : Option Request). MatchOption o ⊥ (λ r. IsAnsweredInside (running_history new ∷ []) (record { opened = 1; running = true; calls = next_number 0 old.entries }) epoch place r)) (sym is)
         (record {
@@ -109,25 +108,21 @@ module _ {B : Type 0} {before now : ℕ → ℕ} {old new : Parts B} (same : IsS
   }
 
   -- a create is refused
-  turn_refused : (line : Line) (refusal : Refusal) → asked_of line ≡ None → refusal ≡ IsRunning → new.entries ≡ old.entries → IsTurn before now (Running old) (Running new) line (IsOutside (Refused refusal))
+  turn_refused : (line : Line) (refusal : Refusal) → asked_of line ≡ None → refusal ≡ IsRunning → new.entries ≡ old.entries → IsTurn setting (Running old) (Running new) line (IsOutside (Refused refusal))
   turn_refused line refusal is running entries = record {
     sized = sized_still;
     losses = (lost, tt);
-    cause = running_cause refusal running;
     grown = (refirst (grown_same old.first old.entries new.entries entries), tt);
     answer = by_line line is;
     course = course_still entries;
   }
     where
-      by_line : (line : Line) → asked_of line ≡ None → IsRefusedOutside true line refusal
+      by_line : (line : Line) → asked_of line ≡ None → IsRefusedOutside setting true line refusal
       by_line (Create spec) is = running
       by_line (Read at count) is = absurd (cc)
       by_line (Write at count seed) is = absurd (cc)
 
-      running_cause : (r : Refusal) → r ≡ IsRunning → IsRefusalCause before now r
-      running_cause r is = subst (λ (x : Refusal). IsRefusalCause before now x) (sym is) tt
-
-  no_turn : new.entries ≡ old.entries → IsNoTurn before now (Running old) (Running new)
+  no_turn : new.entries ≡ old.entries → IsNoTurn setting (Running old) (Running new)
   no_turn entries = record {
     sized = sized_still;
     losses = (lost, tt);
@@ -136,10 +131,10 @@ module _ {B : Type 0} {before now : ℕ → ℕ} {old new : Parts B} (same : IsS
   }
 
   -- what the running array answered
-  pub turn_running : (line : Line) (answer : Result Answered NoMemory) → IsPerformedLine (opening_of old.shape old.size old.first) old.entries new.entries line answer → IsTurnOrNone before now (Running old) (Running new) line answer
+  pub turn_running : (line : Line) (answer : Result Answered NoMemory) → IsPerformedLine (opening_of old.shape old.size old.first) old.entries new.entries line answer → IsTurnOrNone setting (Running old) (Running new) line answer
   turn_running line (Ok (Inside epoch place)) (first, did) = by_request (asked_of line) refl did
     where
-      by_request : (request : Option Request) → asked_of line ≡ request → MatchOption request ⊥ (λ r. IsAskedAt (opening_of old.shape old.size old.first) r old.entries new.entries place) → IsTurn before now (Running old) (Running new) line (Inside epoch place)
+      by_request : (request : Option Request) → asked_of line ≡ request → MatchOption request ⊥ (λ r. IsAskedAt (opening_of old.shape old.size old.first) r old.entries new.entries place) → IsTurn setting (Running old) (Running new) line (Inside epoch place)
       by_request None is asked = absurd asked
       by_request (Some r) is asked = turn_inside line epoch place r is first asked
   turn_running line (Ok (IsOutside Created)) did = absurd did
@@ -147,33 +142,24 @@ module _ {B : Type 0} {before now : ℕ → ℕ} {old new : Parts B} (same : IsS
   turn_running line (Ok (IsOutside (Refused refusal))) (none, running, entries) = turn_refused line refusal none running entries
   turn_running line (Err fault) entries = no_turn entries
 
+-- the array that a line within the limits asks for
+first_size : (line : CreateLine) → IsTrue (is_first_array line) → data_disks line.shape * line.size ≡ 80
+first_size line is = grind (arith, nat_tests, is)
+
 -- an array was made as the line asks
-pub turn_created : {B : Type 0} {tells : Type 0} {ops slots : ℕ} {spec : CreateSpec} {made : Parts B} (bank : B) (line : CreateLine) (before now : ℕ → ℕ) → IsMade tells ops slots spec made
-    → data_disks spec.shape * spec.size ≡ 80 → IsTurn before now (Idle bank) (Running made) (Create line) (IsOutside Created)
-turn_created {spec = spec} {made = made} bank line before now was sized = record {
-  sized = ap (λ (s : Shape). data_disks s * made.size) was.shape ∙ ap (λ (n : ℕ). data_disks spec.shape * n) was.size ∙ sized;
-  losses = (losses-same before now [] made.entries was.entries, tt);
-  cause = tt;
+pub turn_created : {B : Type 0} {tells : Type 0} {ops slots : ℕ} {made : Parts B} (setting : Setting) (bank : B) (line : CreateLine) → IsMade tells ops slots (spec_of line) made
+    → unmade setting line ≡ None → IsTrue (is_first_array line) → IsTurn setting (Idle bank) (Running made) (Create line) (IsOutside Created)
+turn_created {made = made} setting bank line was unrefused first = record {
+  sized = ap (λ (s : Shape). data_disks s * made.size) was.shape ∙ ap (λ (n : ℕ). data_disks line.shape * n) was.size ∙ first_size line first;
+  losses = (losses-same setting.before setting.now [] made.entries was.entries, tt);
   grown = tt;
-  answer = (refl, refl);
+  answer = (refl, unrefused);
   course = ap (λ (l : List Entry). record { opened = 1; running = true; calls = next_number 0 l }) was.entries;
 }
 
 -- where no array runs, a line is refused
-pub turn_idle : {B : Type 0} (old new : B) (line : Line) (refusal : Refusal) (before now : ℕ → ℕ) → IsRefusedOutside false line refusal → IsRefusalCause before now refusal
-    → IsTurn before now (Idle old) (Idle new) line (IsOutside (Refused refusal))
-turn_idle old new line refusal before now is cause = record {
-  sized = tt;
-  losses = tt;
-  cause = cause;
-  grown = tt;
-  answer = is;
-  course = refl;
-}
+pub turn_idle : {B : Type 0} (setting : Setting) (old new : B) (line : Line) (refusal : Refusal) → IsRefusedOutside setting false line refusal → IsTurn setting (Idle old) (Idle new) line (IsOutside (Refused refusal))
+turn_idle setting old new line refusal is = record { sized = tt; losses = tt; grown = tt; answer = is; course = refl }
 
-pub no_turn_idle : {B : Type 0} (old new : B) (before now : ℕ → ℕ) → IsNoTurn before now (Idle old) (Idle new)
-no_turn_idle old new before now = record { sized = tt; losses = tt; grown = tt; course = refl }
-
--- the array that a line within the limits asks for
-pub first_size : (line : CreateLine) → IsTrue (is_first_array line) → data_disks line.shape * line.size ≡ 80
-first_size line is = grind (arith, nat_tests, is)
+pub no_turn_idle : {B : Type 0} (setting : Setting) (old new : B) → IsNoTurn setting (Idle old) (Idle new)
+no_turn_idle setting old new = record { sized = tt; losses = tt; grown = tt; course = refl }

@@ -1,8 +1,13 @@
 -- The replies to the lines of a script, over the histories of its arrays.
 use Rattle.std.specs.Prelude.{◌≡◌, ◌⊎◌, ℕ, ◌+◌, ◌≤◌, Bool, true, false, List, [], ◌∷◌, ◌++◌, length, drop, take, slice_get, Option, Some, None, MatchOption, IsTrue, IsFalse, ⊤}
 use Rattle.md_base.specs.declared.answers.Refusal.{Refusal}
-use Rattle.md_base.specs.declared.answers.Refusal.TheVariants.{Running, NotRunning, SlotFault}
-use Rattle.bank.specs.Given.{IsFaulted}
+use Rattle.md_base.specs.declared.answers.Refusal.TheVariants.{Running, NotRunning}
+use Rattle.md_base.specs.declared.answers.Fault.TheVariants.{Refused as IsRefusedWith}
+use Rattle.bank.specs.Given.{Given}
+use Rattle.array.specs.declared.spec.CreateSpec.{CreateSpec}
+use Rattle.array.specs.Creating.{create_refusal}
+use Rattle.array.specs.Kept.{IsNotMadeFor}
+use Rattle.script.specs.declared.lines.CreateLine.{CreateLine}
 use Rattle.flat_history.specs.declared.events.Entry.{Entry}
 use Rattle.flat_history.specs.declared.events.Request.{Request}
 use Rattle.flat_history.specs.declared.events.Request.TheVariants.{Read as AsksRead, Write as AsksWrite}
@@ -12,7 +17,6 @@ use Rattle.script.specs.declared.lines.Line.{Line}
 use Rattle.script.specs.declared.lines.Line.TheVariants.{Create, Read, Write}
 use Rattle.script.specs.declared.lines.Numbered.{Numbered}
 use Rattle.script.specs.declared.reply.Lane.TheVariants.{Script as InScript}
-use Rattle.script.specs.Script.{is_create}
 use Rattle.script.specs.Seeds.{seeded}
 use Rattle.runner.specs.declared.report.Outside.{Outside}
 use Rattle.runner.specs.declared.report.Outside.TheVariants.{Created, Assembled, Refused}
@@ -65,33 +69,45 @@ pub record IsAnsweredInside (histories : List History) (course : Course) (epoch 
   pub there : slice_get histories epoch ≡ Some history
   pub replied : IsReplyAt (opening_at history) history.entries place course.calls request
 
--- the refusals that stand in no history: a create while an array runs or with a member that fails, and a line without an array
-abbrev pub IsRefusedOutside : Bool → Line → Refusal → Type 0
-IsRefusedOutside true (Create spec) refusal = refusal ≡ Running
-IsRefusedOutside true (Read at count) refusal = ⊥
-IsRefusedOutside true (Write at count seed) refusal = ⊥
-IsRefusedOutside false (Create spec) (SlotFault slot) = ⊤
-IsRefusedOutside false (Create spec) refusal = ⊥
-IsRefusedOutside false (Read at count) refusal = refusal ≡ NotRunning
-IsRefusedOutside false (Write at count seed) refusal = refusal ≡ NotRunning
+-- what the bank of a run is: what never changes in it, its backup slot, and the counts of its slots' faults before and now
+pub record Setting : Type 0 where
+  pub given : Given
+  pub backup : Option ℕ
+  pub before : ℕ → ℕ
+  pub now : ℕ → ℕ
+
+abbrev pub setting_of : Given → Option ℕ → (ℕ → ℕ) → (ℕ → ℕ) → Setting
+setting_of given backup before now = record { given = given; backup = backup; before = before; now = now }
+
+-- the array that a line asks for
+abbrev pub spec_of : CreateLine → CreateSpec
+spec_of line = record { uuid = line.uuid; shape = line.shape; size = line.size; offset = line.offset }
+
+-- why it can't be made on this bank, without regard to slots that fail
+abbrev pub unmade : Setting → CreateLine → Option Refusal
+unmade setting line = create_refusal setting.given setting.backup (spec_of line)
+
+abbrev pub IsMadeBy : Setting → Line → Type 0
+IsMadeBy setting (Create line) = unmade setting line ≡ None
+IsMadeBy setting (Read at count) = ⊥
+IsMadeBy setting (Write at count seed) = ⊥
+
+-- the refusals that stand in no history: a create while an array runs, one that can't be made or whose slot has failed since, and
+-- a read or write without an array
+abbrev pub IsRefusedOutside : Setting → Bool → Line → Refusal → Type 0
+IsRefusedOutside setting true (Create line) refusal = refusal ≡ Running
+IsRefusedOutside setting true (Read at count) refusal = ⊥
+IsRefusedOutside setting true (Write at count seed) refusal = ⊥
+IsRefusedOutside setting false (Create line) refusal = IsNotMadeFor (unmade setting line) setting.before setting.now (IsRefusedWith refusal)
+IsRefusedOutside setting false (Read at count) refusal = refusal ≡ NotRunning
+IsRefusedOutside setting false (Write at count seed) refusal = refusal ≡ NotRunning
 
 -- an answer to a line, where the run stands at this point
-abbrev pub IsAnswer : List History → Course → Line → Answered → Type 0
-IsAnswer histories course line (Inside epoch at) = MatchOption (asked_of line) ⊥ (λ request. IsAnsweredInside histories course epoch at request)
-IsAnswer histories course line (IsOutside Created) = IsFalse course.running × IsTrue (is_create line)
-IsAnswer histories course line (IsOutside (Assembled epoch status)) = ⊥
-IsAnswer histories course line (IsOutside (Refused refusal)) = IsRefusedOutside course.running line refusal
-
--- a slot that a refusal calls failed has failed since
-abbrev pub IsRefusalCause : (ℕ → ℕ) → (ℕ → ℕ) → Refusal → Type 0
-IsRefusalCause before now (SlotFault slot) = IsFaulted slot before now
-IsRefusalCause before now refusal = ⊤
-
-abbrev pub IsCauseOf : (ℕ → ℕ) → (ℕ → ℕ) → Answered → Type 0
-IsCauseOf before now (Inside epoch at) = ⊤
-IsCauseOf before now (IsOutside Created) = ⊤
-IsCauseOf before now (IsOutside (Assembled epoch status)) = ⊤
-IsCauseOf before now (IsOutside (Refused refusal)) = IsRefusalCause before now refusal
+abbrev pub IsAnswer : Setting → List History → Course → Line → Answered → Type 0
+IsAnswer setting histories course line (Inside epoch at) = MatchOption (asked_of line) ⊥ (λ request. IsAnsweredInside histories course epoch at request)
+IsAnswer setting histories course line (IsOutside Created) = IsFalse course.running × IsMadeBy setting line
+IsAnswer setting histories course line (IsOutside (Assembled epoch status)) = ⊥
+IsAnswer setting histories course line (IsOutside (Refused refusal)) = IsRefusedOutside setting course.running line refusal
 
 -- a reply that an entry gives was made when the entry ended
 abbrev pub IsEnd : List History → LineReply → Answered → Type 0
@@ -99,16 +115,16 @@ IsEnd histories reply (Inside epoch at) = MatchOption (entry_at histories epoch 
 IsEnd histories reply (IsOutside outside) = ⊤
 
 -- the reply to a line of the script
-pub record IsReplyTo (histories : List History) (course : Course) (numbered : Numbered) (reply : LineReply) : Type 0 where
+pub record IsReplyTo (setting : Setting) (histories : List History) (course : Course) (numbered : Numbered) (reply : LineReply) : Type 0 where
   pub line : reply.line ≡ numbered.number
   pub lane : reply.lane ≡ InScript
   pub end : IsEnd histories reply reply.what
-  pub answer : IsAnswer histories course numbered.line reply.what
+  pub answer : IsAnswer setting histories course numbered.line reply.what
 
 -- the replies answer the lines, one after another
-abbrev pub AreReplies : List History → Course → List Numbered → List LineReply → Type 0
-AreReplies histories course [] [] = ⊤
-AreReplies histories course [] (reply ∷ replies) = ⊥
-AreReplies histories course (line ∷ lines) [] = ⊥
-AreReplies histories course (line ∷ lines) (reply ∷ replies) =
-    IsReplyTo histories course line reply × AreReplies histories (course_after course reply.what) lines replies
+abbrev pub AreReplies : Setting → List History → Course → List Numbered → List LineReply → Type 0
+AreReplies setting histories course [] [] = ⊤
+AreReplies setting histories course [] (reply ∷ replies) = ⊥
+AreReplies setting histories course (line ∷ lines) [] = ⊥
+AreReplies setting histories course (line ∷ lines) (reply ∷ replies) =
+    IsReplyTo setting histories course line reply × AreReplies setting histories (course_after course reply.what) lines replies

@@ -1,6 +1,5 @@
 -- The lines of a script performed one after another, and what was shown of it.
 use Rattle.std.specs.Prelude.{◌≡◌, ◌⊎◌, ℕ, ◌+◌, ◌-◌, ◌^◌, ◌<◌, ◌≤◌, ◌||◌, Bool, List, [], ◌∷◌, ◌++◌, length, take, min, Option, Some, None, Result, Ok, Err, ⊤}
-use Rattle.std.specs.List.{All}
 use Rattle.md_base.specs.declared.answers.NoMemory.{NoMemory}
 use Rattle.script.specs.declared.lines.Numbered.{Numbered}
 use Rattle.script.specs.declared.reply.Lane.TheVariants.{Script as InScript}
@@ -13,7 +12,7 @@ use Rattle.runner.specs.declared.sessions.Stop.{Stop}
 use Rattle.runner.specs.declared.sessions.Stop.TheVariants.{WriteFault, NoMemory as WantsMemory}
 use Rattle.runner.specs.declared.sessions.Session.{Session}
 use Rattle.runner.specs.Histories.{History}
-use Rattle.runner.specs.Replies.{Course, at_rest, course_after, course_of, IsEnd, IsCauseOf, AreReplies}
+use Rattle.runner.specs.Replies.{Course, Setting, at_rest, course_after, course_of, IsEnd, AreReplies}
 use Rattle.runner.specs.Shown.{reply_text, report_text, is_refusal, has_refusal}
 use Rattle.runner.specs.States.{histories_in, course_in, IsSized, AreLossesFrom, AreGrown, IsTurn}
 
@@ -22,53 +21,53 @@ abbrev pub counted : ℕ → ℕ
 counted bytes = min bytes (2 ^ 64 - 1)
 
 -- a line got this reply
-pub record IsReplied {B : Type 0} (before now : ℕ → ℕ) (old new : State B) (numbered : Numbered) (reply : LineReply) (refused : Bool) : Type 0 where
-  pub turn : IsTurn before now old new numbered.line reply.what
+pub record IsReplied {B : Type 0} (setting : Setting) (old new : State B) (numbered : Numbered) (reply : LineReply) (refused : Bool) : Type 0 where
+  pub turn : IsTurn setting old new numbered.line reply.what
   pub line : reply.line ≡ numbered.number
   pub lane : reply.lane ≡ InScript
   pub end : IsEnd (histories_in new) reply reply.what
   pub refusal : refused ≡ is_refusal (histories_in new) reply.what
 
 -- no reply was made, for want of memory: the line was not performed, or it was the last one
-pub record IsUnreplied {B : Type 0} (before now : ℕ → ℕ) (old new : State B) : Type 0 where
+pub record IsUnreplied {B : Type 0} (setting : Setting) (old new : State B) : Type 0 where
   pub sized : IsSized new
-  pub losses : AreLossesFrom before now (histories_in old) (histories_in new)
+  pub losses : AreLossesFrom setting.before setting.now (histories_in old) (histories_in new)
   pub grown : AreGrown (histories_in old) (histories_in new)
   pub course : (course_in new ≡ course_in old) ⊎ ((what : Answered) × (course_in new ≡ course_after (course_in old) what))
 
-abbrev pub IsRepliedOrNot : {B : Type 0} → (ℕ → ℕ) → (ℕ → ℕ) → State B → State B → Numbered → List ℕ → Result Made NoMemory → Type 0
-IsRepliedOrNot before now old new numbered text (Ok made) = IsReplied before now old new numbered made.reply made.refused × (text ≡ reply_text (histories_in new) made.reply)
-IsRepliedOrNot before now old new numbered text (Err fault) = IsUnreplied before now old new
+abbrev pub IsRepliedOrNot : {B : Type 0} → Setting → State B → State B → Numbered → List ℕ → Result Made NoMemory → Type 0
+IsRepliedOrNot setting old new numbered text (Ok made) = IsReplied setting old new numbered made.reply made.refused × (text ≡ reply_text (histories_in new) made.reply)
+IsRepliedOrNot setting old new numbered text (Err fault) = IsUnreplied setting old new
 
 -- one reply more, which the sink was to take
-pub record IsReplyMore {B : Type 0} (before now : ℕ → ℕ) (old new : Session B) (numbered : Numbered) : Type 0 where
+pub record IsReplyMore {B : Type 0} (setting : Setting) (old new : Session B) (numbered : Numbered) : Type 0 where
   pub made : Made
-  pub replied : IsReplied before now old.state new.state numbered made.reply made.refused
+  pub replied : IsReplied setting old.state new.state numbered made.reply made.refused
   pub more : new.replies.items ≡ old.replies.items ++ made.reply ∷ []
   pub refused : new.refused ≡ (old.refused || made.refused)
 
 -- what one line does to a session, by whether it stops there; the sink had taken `old_taken`
-pub record IsShownWhole {B : Type 0} (tells : Type 0) (before now : ℕ → ℕ) (old new : Session B) (numbered : Numbered) (old_taken new_taken : List ℕ) : Type 0 where
-  pub reply : IsReplyMore before now old new numbered
+pub record IsShownWhole {B : Type 0} (tells : Type 0) (setting : Setting) (old new : Session B) (numbered : Numbered) (old_taken new_taken : List ℕ) : Type 0 where
+  pub reply : IsReplyMore setting old new numbered
   pub taken : tells → new_taken ≡ old_taken ++ reply_text (histories_in new.state) reply.made.reply
   pub shown : new.shown ≡ counted (old.shown + length (reply_text (histories_in new.state) reply.made.reply))
 
-pub record IsShownInPart {B : Type 0} (tells : Type 0) (before now : ℕ → ℕ) (old new : Session B) (numbered : Numbered) (old_taken new_taken : List ℕ) : Type 0 where
-  pub reply : IsReplyMore before now old new numbered
+pub record IsShownInPart {B : Type 0} (tells : Type 0) (setting : Setting) (old new : Session B) (numbered : Numbered) (old_taken new_taken : List ℕ) : Type 0 where
+  pub reply : IsReplyMore setting old new numbered
   pub taken : tells → (n : ℕ) × (new_taken ≡ old_taken ++ take n (reply_text (histories_in new.state) reply.made.reply))
   pub shown : new.shown ≡ old.shown
 
-pub record IsUnshown {B : Type 0} (tells : Type 0) (before now : ℕ → ℕ) (old new : Session B) (old_taken new_taken : List ℕ) : Type 0 where
-  pub none : IsUnreplied before now old.state new.state
+pub record IsUnshown {B : Type 0} (tells : Type 0) (setting : Setting) (old new : Session B) (old_taken new_taken : List ℕ) : Type 0 where
+  pub none : IsUnreplied setting old.state new.state
   pub same : new.replies.items ≡ old.replies.items
   pub refused : new.refused ≡ old.refused
   pub taken : new_taken ≡ old_taken
   pub shown : new.shown ≡ old.shown
 
-abbrev pub IsStep : {B : Type 0} → Type 0 → (ℕ → ℕ) → (ℕ → ℕ) → Session B → Session B → Numbered → List ℕ → List ℕ → Option Stop → Type 0
-IsStep tells before now old new numbered old_taken new_taken None = IsShownWhole tells before now old new numbered old_taken new_taken
-IsStep tells before now old new numbered old_taken new_taken (Some WriteFault) = IsShownInPart tells before now old new numbered old_taken new_taken
-IsStep tells before now old new numbered old_taken new_taken (Some WantsMemory) = IsUnshown tells before now old new old_taken new_taken
+abbrev pub IsStep : {B : Type 0} → Type 0 → Setting → Session B → Session B → Numbered → List ℕ → List ℕ → Option Stop → Type 0
+IsStep tells setting old new numbered old_taken new_taken None = IsShownWhole tells setting old new numbered old_taken new_taken
+IsStep tells setting old new numbered old_taken new_taken (Some WriteFault) = IsShownInPart tells setting old new numbered old_taken new_taken
+IsStep tells setting old new numbered old_taken new_taken (Some WantsMemory) = IsUnshown tells setting old new old_taken new_taken
 
 -- ---- several lines
 
@@ -97,13 +96,12 @@ IsStopCause (Some WriteFault) before now = HasRisen before now
 IsStopCause (Some WantsMemory) before now = ⊤
 
 -- The first lines were performed, from a bank without an array on, and each got its reply.
-pub record IsPerformed {B : Type 0} (before now : ℕ → ℕ) (lines : List Numbered) (session : Session B) : Type 0 where
+pub record IsPerformed {B : Type 0} (setting : Setting) (lines : List Numbered) (session : Session B) : Type 0 where
   pub sized : IsSized session.state
   pub few : length session.replies.items ≤ length lines
-  pub replies : AreReplies (histories_in session.state) at_rest (take (length session.replies.items) lines) session.replies.items
+  pub replies : AreReplies setting (histories_in session.state) at_rest (take (length session.replies.items) lines) session.replies.items
   pub course : IsCourse session.stopped (course_of at_rest session.replies.items) (course_in session.state)
-  pub losses : AreLossesFrom before now [] (histories_in session.state)
-  pub causes : All (λ reply. IsCauseOf before now reply.what) session.replies.items
+  pub losses : AreLossesFrom setting.before setting.now [] (histories_in session.state)
   pub refused : session.refused ≡ has_refusal (histories_in session.state) session.replies.items
 
 -- their text went to the sink

@@ -1,12 +1,12 @@
 -- The bank of a run with or without an array on it, and what a line does to it.
-use Rattle.std.specs.Prelude.{◌≡◌, ℕ, ◌+◌, ◌<◌, ◌≤◌, ◌*◌, ◌++◌, Bool, true, false, List, [], ◌∷◌, Result, Ok, Err, IsSome, ⊤}
+use Rattle.std.specs.Prelude.{◌≡◌, ℕ, ◌+◌, ◌<◌, ◌≤◌, ◌*◌, ◌++◌, Bool, true, false, List, [], ◌∷◌, Result, Ok, Err, Option, IsSome, ⊤}
 use Rattle.md_base.specs.declared.answers.NoMemory.{NoMemory}
 use Rattle.md_base.specs.Shapes.{data_disks}
 use Rattle.bank.specs.Given.{Given}
 use Rattle.flat_history.specs.declared.events.Entry.{Entry}
 use Rattle.flat_history.specs.Flat.{rest_of_call, next_number}
 use Rattle.array.specs.Parts.{Parts}
-use Rattle.array.specs.Rows.{AreMembers}
+use Rattle.array.specs.Creating.{IsLastSlot}
 use Rattle.array.specs.Kept.{AreLossesOf}
 use Rattle.script.specs.declared.lines.Line.{Line}
 use Rattle.runner.specs.declared.report.Answered.{Answered}
@@ -14,7 +14,7 @@ use Rattle.runner.specs.declared.report.Answered.TheVariants.{Inside, Outside}
 use Rattle.runner.specs.declared.states.State.{State}
 use Rattle.runner.specs.declared.states.State.TheVariants.{Idle, Running}
 use Rattle.runner.specs.Histories.{History, entry_at}
-use Rattle.runner.specs.Replies.{Course, at_rest, course_after, IsAnswer, IsCauseOf}
+use Rattle.runner.specs.Replies.{Course, Setting, at_rest, course_after, IsAnswer}
 
 -- the history of an array that runs
 abbrev pub running_history : {B : Type 0} → Parts B → History
@@ -38,10 +38,10 @@ abbrev pub IsSized : {B : Type 0} → State B → Type 0
 IsSized (Idle bank) = ⊤
 IsSized (Running array) = data_disks array.shape * array.size ≡ 80
 
--- the bank has room for it
-pub record IsRoomy (given : Given) : Type 0 where
+-- the bank has few slots, and the backup is the last
+pub record IsFitBank (given : Given) (backup : Option ℕ) : Type 0 where
   pub few : given.slots ≤ 32
-  pub members : AreMembers given 3 56
+  pub last : IsLastSlot given.slots backup
 
 -- a history went on: what was added belongs to none of the script's former calls
 pub record IsGrown (old new : History) : Type 0 where
@@ -62,25 +62,24 @@ AreLossesFrom before now [] (new ∷ news) = AreLossesOf before now [] new.entri
 AreLossesFrom before now (old ∷ olds) [] = ⊥
 AreLossesFrom before now (old ∷ olds) (new ∷ news) = AreLossesOf before now old.entries new.entries × AreLossesFrom before now olds news
 
--- one line was answered; the counts of the slots' faults stood at `before`, and stand at `now`
-pub record IsTurn {B : Type 0} (before now : ℕ → ℕ) (old new : State B) (line : Line) (what : Answered) : Type 0 where
+-- one line was answered
+pub record IsTurn {B : Type 0} (setting : Setting) (old new : State B) (line : Line) (what : Answered) : Type 0 where
   pub sized : IsSized new
-  pub losses : AreLossesFrom before now (histories_in old) (histories_in new)
-  pub cause : IsCauseOf before now what
+  pub losses : AreLossesFrom setting.before setting.now (histories_in old) (histories_in new)
   pub grown : AreGrown (histories_in old) (histories_in new)
-  pub answer : IsAnswer (histories_in new) (course_in old) line what
+  pub answer : IsAnswer setting (histories_in new) (course_in old) line what
   pub course : course_in new ≡ course_after (course_in old) what
 
 -- memory was short, and nothing was entered
-pub record IsNoTurn {B : Type 0} (before now : ℕ → ℕ) (old new : State B) : Type 0 where
+pub record IsNoTurn {B : Type 0} (setting : Setting) (old new : State B) : Type 0 where
   pub sized : IsSized new
-  pub losses : AreLossesFrom before now (histories_in old) (histories_in new)
+  pub losses : AreLossesFrom setting.before setting.now (histories_in old) (histories_in new)
   pub grown : AreGrown (histories_in old) (histories_in new)
   pub course : course_in new ≡ course_in old
 
-abbrev pub IsTurnOrNone : {B : Type 0} → (ℕ → ℕ) → (ℕ → ℕ) → State B → State B → Line → Result Answered NoMemory → Type 0
-IsTurnOrNone before now old new line (Ok what) = IsTurn before now old new line what
-IsTurnOrNone before now old new line (Err fault) = IsNoTurn before now old new
+abbrev pub IsTurnOrNone : {B : Type 0} → Setting → State B → State B → Line → Result Answered NoMemory → Type 0
+IsTurnOrNone setting old new line (Ok what) = IsTurn setting old new line what
+IsTurnOrNone setting old new line (Err fault) = IsNoTurn setting old new
 
 -- the entry that an answer names is there
 abbrev pub IsNamed : List History → Answered → Type 0

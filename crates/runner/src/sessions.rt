@@ -6,9 +6,9 @@ ghost use Rattle.bank.specs.Given.{NeverFalls};
 ghost use Rattle.text_io.specs.Causes.{HasRisen};
 ghost use Rattle.script.specs.Script.{is_within_limits};
 ghost use Rattle.runner.specs.Shown.{outside_text, answer_text, reply_text, is_refused_outside, is_refusal, tells_refusal};
-ghost use Rattle.runner.specs.States.{histories_in, bank_in, IsSized, IsRoomy, IsNamed};
+ghost use Rattle.runner.specs.States.{histories_in, bank_in, IsSized, IsFitBank, IsNamed};
 ghost use Rattle.runner.specs.Sessions.{IsRepliedOrNot, IsStep, IsStopCause, IsPerformed, IsShownTo};
-ghost use Rattle.runner.specs.Replies.{IsEnd};
+ghost use Rattle.runner.specs.Replies.{setting_of, IsEnd};
 ghost use Rattle.script.specs.declared.reply.Lane.TheVariants.{Script as InScript};
 
 use crate::report::{Answered, LineReply, Outside};
@@ -141,17 +141,18 @@ fn put_text<B: Bank>(
 fn reply_to<B: Bank>(
     alloc: Global,
     state: State<B>,
+    backup: Option<u32>,
     numbered: Numbered,
     text: &mut Vec<u8>,
 ) -> (State<B>, Result<Made, NoMemory>)
     requires limits { IsTrue (is_within_limits numbered.line) }
-    requires roomy { IsRoomy (B.given (bank_in state)) }
+    requires bank { IsFitBank (B.given (bank_in state)) backup }
     requires sized { IsSized state }
-    ensures replied { IsRepliedOrNot (B.faults_of (bank_in state)) (B.faults_of (bank_in result.0)) state result.0 numbered text.new.items result.1 }
+    ensures replied { IsRepliedOrNot (setting_of (B.given (bank_in state)) backup (B.faults_of (bank_in state)) (B.faults_of (bank_in result.0))) state result.0 numbered text.new.items result.1 }
     ensures never_falls { NeverFalls (B.faults_of (bank_in state)) (B.faults_of (bank_in result.0)) }
     ensures given { B.given (bank_in result.0) ≡ B.given (bank_in state) }
 {
-    let (state, what) = answer(alloc, state, numbered.line);
+    let (state, what) = answer(alloc, state, backup, numbered.line);
     let what = match what {
         Ok(what) => what,
         Err(fault) => return (state, Err(fault)),
@@ -168,13 +169,14 @@ fn reply_to<B: Bank>(
 fn perform_line<B: Bank, K: Sink>(
     alloc: Global,
     session: Session<B>,
+    backup: Option<u32>,
     numbered: Numbered,
     out: &mut K,
 ) -> Session<B>
     requires limits { IsTrue (is_within_limits numbered.line) }
-    requires roomy { IsRoomy (B.given (bank_in session.state)) }
+    requires bank { IsFitBank (B.given (bank_in session.state)) backup }
     requires sized { IsSized session.state }
-    ensures step { IsStep K.tells (B.faults_of (bank_in session.state)) (B.faults_of (bank_in result.state)) session result numbered (K.taken out.old) (K.taken out.new) result.stopped }
+    ensures step { IsStep K.tells (setting_of (B.given (bank_in session.state)) backup (B.faults_of (bank_in session.state)) (B.faults_of (bank_in result.state))) session result numbered (K.taken out.old) (K.taken out.new) result.stopped }
     ensures cause { IsStopCause result.stopped (K.faults_of out.old) (K.faults_of out.new) }
     ensures sink_never_falls { K.faults_of out.old ≤ K.faults_of out.new }
     ensures never_falls { NeverFalls (B.faults_of (bank_in session.state)) (B.faults_of (bank_in result.state)) }
@@ -199,7 +201,7 @@ fn perform_line<B: Bank, K: Sink>(
             stopped: short,
         };
     }
-    let (state, made) = reply_to(alloc, state, numbered, &mut buffer);
+    let (state, made) = reply_to(alloc, state, backup, numbered, &mut buffer);
     let Ok(made) = made else {
         return Session {
             state,
@@ -253,12 +255,13 @@ fn perform_line<B: Bank, K: Sink>(
 pub fn perform<B: Bank, K: Sink>(
     alloc: Global,
     bank: B,
+    backup: Option<u32>,
     lines: &[Numbered],
     out: &mut K,
 ) -> Session<B>
     requires limits { AllPass (λ numbered. is_within_limits numbered.line) lines.now }
-    requires roomy { IsRoomy (B.given bank) }
-    ensures performed { IsPerformed (B.faults_of bank) (B.faults_of (bank_in result.state)) lines.now result }
+    requires bank { IsFitBank (B.given bank) backup }
+    ensures performed { IsPerformed (setting_of (B.given bank) backup (B.faults_of bank) (B.faults_of (bank_in result.state))) lines.now result }
     ensures all { result.stopped ≡ None → length result.replies.items ≡ length lines.now }
     ensures shown { IsShownTo K.tells result (K.taken out.old) (K.taken out.new) (K.faults_of out.old) (K.faults_of out.new) }
     ensures never_falls { NeverFalls (B.faults_of bank) (B.faults_of (bank_in result.state)) }
@@ -273,7 +276,7 @@ pub fn perform<B: Bank, K: Sink>(
         stopped: None,
     };
     for i in 0..lines.len() {
-        session = perform_line(alloc, session, lines[i], out);
+        session = perform_line(alloc, session, backup, lines[i], out);
         if session.stopped.is_some() {
             return session;
         }

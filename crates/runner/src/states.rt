@@ -7,7 +7,8 @@ ghost use Rattle.array.specs.Kept.{opening_of, IsSameArray, AreLossesOf};
 ghost use Rattle.script.specs.Script.{is_within_limits};
 ghost use Rattle.runner.specs.Asked.{IsPerformedLine};
 ghost use Rattle.runner.specs.Histories.{entry_at};
-ghost use Rattle.runner.specs.States.{running_history, histories_in, bank_in, IsSized, IsRoomy, IsTurnOrNone, IsNamed};
+ghost use Rattle.runner.specs.Replies.{setting_of};
+ghost use Rattle.runner.specs.States.{running_history, histories_in, bank_in, IsSized, IsFitBank, IsTurnOrNone, IsNamed};
 ghost use Rattle.runner.specs.declared.report.Answered.TheVariants.{Outside as AnsweredOutside};
 ghost use Rattle.runner.specs.declared.report.Outside.TheVariants.{Refused as IsRefused};
 ghost use Rattle.runner.specs.declared.states.State.TheVariants.{Idle as IsIdle};
@@ -65,11 +66,12 @@ fn answer_running<B: Bank>(
 fn answer_idle<B: Bank>(
     alloc: Global,
     bank: B,
+    backup: Option<u32>,
     line: Line,
 ) -> (State<B>, Result<Answered, NoMemory>)
     requires limits { IsTrue (is_within_limits line) }
-    requires roomy { IsRoomy (B.given bank) }
-    ensures answered { IsTurnOrNone (B.faults_of bank) (B.faults_of (bank_in result.0)) (IsIdle bank) result.0 line result.1 }
+    requires bank { IsFitBank (B.given bank) backup }
+    ensures answered { IsTurnOrNone (setting_of (B.given bank) backup (B.faults_of bank) (B.faults_of (bank_in result.0))) (IsIdle bank) result.0 line result.1 }
     ensures never_falls { NeverFalls (B.faults_of bank) (B.faults_of (bank_in result.0)) }
     ensures given { B.given (bank_in result.0) ≡ B.given bank }
 {
@@ -83,7 +85,7 @@ fn answer_idle<B: Bank>(
         size: line.size,
         offset: line.offset,
     };
-    let (bank, fault) = match create(alloc, bank, spec) {
+    let (bank, fault) = match create(alloc, bank, backup, spec) {
         Ok(array) => {
             return (
                 State::Running(array),
@@ -102,17 +104,18 @@ fn answer_idle<B: Bank>(
 pub fn answer<B: Bank>(
     alloc: Global,
     state: State<B>,
+    backup: Option<u32>,
     line: Line,
 ) -> (State<B>, Result<Answered, NoMemory>)
     requires limits { IsTrue (is_within_limits line) }
-    requires roomy { IsRoomy (B.given (bank_in state)) }
+    requires bank { IsFitBank (B.given (bank_in state)) backup }
     requires sized { IsSized state }
-    ensures answered { IsTurnOrNone (B.faults_of (bank_in state)) (B.faults_of (bank_in result.0)) state result.0 line result.1 }
+    ensures answered { IsTurnOrNone (setting_of (B.given (bank_in state)) backup (B.faults_of (bank_in state)) (B.faults_of (bank_in result.0))) state result.0 line result.1 }
     ensures never_falls { NeverFalls (B.faults_of (bank_in state)) (B.faults_of (bank_in result.0)) }
     ensures given { B.given (bank_in result.0) ≡ B.given (bank_in state) }
 {
     match state {
-        State::Idle(bank) => answer_idle(alloc, bank, line),
+        State::Idle(bank) => answer_idle(alloc, bank, backup, line),
         State::Running(mut array) => {
             let what = answer_running(alloc, &mut array, line);
             (State::Running(array), what)
