@@ -170,6 +170,13 @@ answer_stays was now wider olds news course line (IsOutside Created) replies gro
 answer_stays was now wider olds news course line (IsOutside (Assembled epoch status)) replies grown covers is = is
 answer_stays was now wider olds news course line (IsOutside (Refused refusal)) replies grown covers is = refused_stays was now wider course.running line refusal is
 
+-- an answer stays one over a longer time
+pub answer_wider : (was now : Setting) → IsWider was now → (histories : List History) (course : Course) (line : Line) (what : Answered) → IsAnswer was histories course line what → IsAnswer now histories course line what
+answer_wider was now wider histories course line (Inside epoch at) is = is
+answer_wider was now wider histories course line (IsOutside Created) (idle, made) = (idle, made_stays was now wider line made)
+answer_wider was now wider histories course line (IsOutside (Assembled epoch status)) is = is
+answer_wider was now wider histories course line (IsOutside (Refused refusal)) is = refused_stays was now wider course.running line refusal is
+
 end_stays : (olds news : List History) (reply : LineReply) (what : Answered) → AreGrown olds news → IsEnd olds reply what → IsEnd news reply what
 end_stays olds news reply (Inside epoch at) grown was = by_entry (entry_at olds epoch at) refl was
   where

@@ -227,9 +227,11 @@ fn perform_line<B: Bank, K: Sink>(
         };
     }
     let refused = refused | is_refused;
-    match out.push(buffer.as_slice()) {
+    let text = buffer.as_slice();
+    let len = text.len() as u64;
+    match out.push(text) {
         Ok(()) => {
-            let shown = shown.saturating_add(buffer.len() as u64);
+            let shown = shown.saturating_add(len);
             Session {
                 state,
                 replies,

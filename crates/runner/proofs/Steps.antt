@@ -1,0 +1,231 @@
+-- One line more was performed and shown.
+use Rattle.std.proofs.Common.{◌≡◌, ℕ, zero, suc, ◌+◌, ◌-◌, ◌^◌, ◌<◌, ◌≤◌, ◌||◌, ◌⊎◌, inl, inr, Bool, true, false, Option, Some, None, List, [], ◌∷◌, ◌++◌, length, take, min, refl, sym, ◌∙◌, ap, subst, arith, append_assoc, append-nil, length-append}
+use Rattle.std.proofs.lemmas.Bool.Decides.{nat_tests}
+use Rattle.std.proofs.lemmas.List.{take_at}
+use Rattle.std.proofs.lemmas.List.Folds.{list_any-append}
+use Rattle.std.proofs.lemmas.Grind.{flat_map-append}
+use Rattle.std.proofs.Math.Seq.{take-suc, take-append-add}
+use Rattle.std.proofs.Math.ListN.{get_or}
+use Rattle.bank.specs.Given.{Given, NeverFalls}
+use Rattle.text_io.specs.Causes.{HasRisen}
+use Rattle.flat_history.specs.Flat.{next_number}
+use Rattle.array.proofs.LossLaws.{losses-none, losses-then}
+use Rattle.script.specs.declared.lines.Numbered.{Numbered}
+use Rattle.runner.specs.declared.report.Answered.{Answered}
+use Rattle.runner.specs.declared.report.LineReply.{LineReply}
+use Rattle.runner.specs.declared.states.State.{State}
+use Rattle.runner.specs.declared.states.State.TheVariants.{Idle, Running}
+use Rattle.runner.specs.declared.sessions.Stop.{Stop}
+use Rattle.runner.specs.declared.sessions.Stop.TheVariants.{WriteFault, NoMemory as WantsMemory}
+use Rattle.runner.specs.declared.sessions.Session.{Session}
+use Rattle.runner.specs.Histories.{History}
+use Rattle.runner.specs.Replies.{Course, Setting, setting_of, at_rest, course_after, course_of, IsAnswer, IsReplyTo, AreReplies}
+use Rattle.runner.specs.Shown.{reply_text, report_text, is_refusal, has_refusal}
+use Rattle.runner.specs.States.{histories_in, course_in, IsSized, AreLossesFrom, AreGrown, IsTurn}
+use Rattle.runner.specs.Sessions.{counted, IsReplied, IsUnreplied, IsReplyMore, IsShownWhole, IsShownInPart, IsUnshown, IsStep, IsCourse, taken_whole, IsTaken, IsStopCause, IsPerformed, IsShownTo}
+use Rattle.runner.proofs.Growth.{Covers, IsWider, answer_wider, replies_stay, replies_more, course_more, shown_stays}
+
+-- a run covers its own replies
+covers_in : {B : Type 0} (state : State B) (course : Course) → course_in state ≡ course → Covers (histories_in state) course
+covers_in (Idle bank) course is = tt
+covers_in (Running array) course is = (
+  sym (ap (λ (c : Course). c.opened) is),
+  omega (arith, ap (λ (c : Course). c.calls) is),
+)
+
+losses_add : {first before now : ℕ → ℕ} (olds news : List History) → NeverFalls first before → NeverFalls before now → AreLossesFrom first before [] olds → AreLossesFrom before now olds news → AreLossesFrom first now [] news
+losses_add [] [] early late was next = tt
+losses_add {first = first} {before = before} {now = now} [] (new ∷ news) early late was (one, more) =
+    (losses-then early late (losses-none first before []) one, losses_add [] news early late was more)
+losses_add (old ∷ olds) [] early late was next = absurd next
+losses_add (old ∷ olds) (new ∷ news) early late (was, others) (one, more) = (losses-then early late was one, losses_add olds news early late others more)
+
+counted_more : (a b : ℕ) → counted (counted a + b) ≡ counted (a + b)
+counted_more a b = grind (arith, nat_tests)
+
+-- the text of one reply more
+text_more : (histories : List History) (replies : List LineReply) (reply : LineReply) → report_text histories (replies ++ reply ∷ []) ≡ report_text histories replies ++ reply_text histories reply
+text_more histories replies reply =
+    flat_map-append (λ r. reply_text histories r) replies (reply ∷ []) ∙ ap (λ (t : List ℕ). report_text histories replies ++ t) (append-nil (reply_text histories reply))
+
+
+module _ {B : Type 0} {given : Given} {backup : Option ℕ} {start mid now : ℕ → ℕ} {lines : List Numbered} {old : Session B} (new : Session B) (nothing numbered : Numbered)
+    (early : NeverFalls start mid) (late : NeverFalls mid now) (going : old.stopped ≡ None) (performed : IsPerformed (setting_of given backup start mid) lines old)
+    (lt : length old.replies.items < length lines) (here : get_or lines (length old.replies.items) nothing ≡ numbered) where
+  course_before : course_in old.state ≡ course_of at_rest old.replies.items
+  course_before = subst (λ (o : Option Stop). IsCourse o (course_of at_rest old.replies.items) (course_in old.state)) going performed.course
+
+  wider_was : IsWider (setting_of given backup start mid) (setting_of given backup start now)
+  wider_was = record { given = refl; backup = refl; early = λ s. omega arith; between = early; late = late }
+
+  wider_step : IsWider (setting_of given backup mid now) (setting_of given backup start now)
+  wider_step = record { given = refl; backup = refl; early = early; between = late; late = λ s. omega arith }
+
+  -- the former replies still answer the former lines
+  replies_still : AreGrown (histories_in old.state) (histories_in new.state)
+      → AreReplies (setting_of given backup start now) (histories_in new.state) at_rest (take (length old.replies.items) lines) old.replies.items
+  replies_still grown =
+      replies_stay (setting_of given backup start mid) (setting_of given backup start now) wider_was (histories_in old.state) (histories_in new.state) at_rest (take (length old.replies.items) lines) old.replies.items grown
+      (covers_in old.state (course_of at_rest old.replies.items) course_before) performed.replies
+
+  shown_still : AreGrown (histories_in old.state) (histories_in new.state)
+      → (report_text (histories_in new.state) old.replies.items ≡ report_text (histories_in old.state) old.replies.items)
+      × (has_refusal (histories_in new.state) old.replies.items ≡ has_refusal (histories_in old.state) old.replies.items)
+  shown_still grown = shown_stays (setting_of given backup start mid) (histories_in old.state) (histories_in new.state) at_rest (take (length old.replies.items) lines) old.replies.items grown performed.replies
+
+  module _ (is : IsReplyMore (setting_of given backup mid now) old new numbered) where
+    reply : LineReply
+    reply = is.made.reply
+
+    one_more : length new.replies.items ≡ length old.replies.items + 1
+    one_more = ap (λ (l : List LineReply). length l) is.more ∙ length-append old.replies.items (is.made.reply ∷ [])
+
+    lines_taken : take (length new.replies.items) lines ≡ take (length old.replies.items) lines ++ numbered ∷ []
+    lines_taken = ap (λ (n : ℕ). take n lines) {y = suc (length old.replies.items)} (omega (arith, one_more)) ∙ take-suc lines (length old.replies.items) nothing lt ∙ ap (λ (l : Numbered). take (length old.replies.items) lines ++ l ∷ []) here
+
+    reply_to : IsReplyTo (setting_of given backup start now) (histories_in new.state) (course_of at_rest old.replies.items) numbered is.made.reply
+    reply_to = record {
+      line = is.replied.line;
+      lane = is.replied.lane;
+      end = is.replied.end;
+      answer = answer_wider (setting_of given backup mid now) (setting_of given backup start now) wider_step (histories_in new.state) (course_of at_rest old.replies.items) numbered.line is.made.reply.what
+          (subst (λ (c : Course). IsAnswer (setting_of given backup mid now) (histories_in new.state) c numbered.line is.made.reply.what) course_before is.replied.turn.answer);
+    }
+
+    replies_new : AreReplies (setting_of given backup start now) (histories_in new.state) at_rest (take (length new.replies.items) lines) new.replies.items
+    replies_new = subst (λ (ls : List Numbered). AreReplies (setting_of given backup start now) (histories_in new.state) at_rest ls new.replies.items) (sym lines_taken)
+        (subst (λ (rs : List LineReply). AreReplies (setting_of given backup start now) (histories_in new.state) at_rest (take (length old.replies.items) lines ++ numbered ∷ []) rs) (sym is.more)
+        (replies_more (setting_of given backup start now) (histories_in new.state) at_rest (take (length old.replies.items) lines) old.replies.items numbered is.made.reply (replies_still is.replied.turn.grown) reply_to))
+
+    course_new : course_in new.state ≡ course_of at_rest new.replies.items
+    course_new = is.replied.turn.course ∙ ap (λ (c : Course). course_after c is.made.reply.what) course_before ∙ sym (course_more at_rest old.replies.items is.made.reply)
+        ∙ ap (λ (rs : List LineReply). course_of at_rest rs) (sym is.more)
+
+    refused_new : new.refused ≡ has_refusal (histories_in new.state) new.replies.items
+    refused_new = is.refused ∙ ap (λ (b : Bool). b || is.made.refused) (performed.refused ∙ sym ((shown_still is.replied.turn.grown).1))
+        ∙ ap (λ (b : Bool). has_refusal (histories_in new.state) old.replies.items || b) (is.replied.refusal ∙ sym (or_false (is_refusal (histories_in new.state) is.made.reply.what)))
+        ∙ sym (list_any-append (λ r. is_refusal (histories_in new.state) r.what) old.replies.items (is.made.reply ∷ []))
+        ∙ ap (λ (rs : List LineReply). has_refusal (histories_in new.state) rs) (sym is.more)
+      where
+        or_false : (b : Bool) → (b || false) ≡ b
+        or_false true = refl
+        or_false false = refl
+
+    performed_reply : (o : Option Stop) → new.stopped ≡ o → ((f c : Course) → c ≡ f → IsCourse o f c) → IsPerformed (setting_of given backup start now) lines new
+    performed_reply o stop course = record {
+      sized = is.replied.turn.sized;
+      few = omega (arith, one_more, lt);
+      replies = replies_new;
+      course = subst (λ (x : Option Stop). IsCourse x (course_of at_rest new.replies.items) (course_in new.state)) (sym stop) (course (course_of at_rest new.replies.items) (course_in new.state) course_new);
+      losses = losses_add (histories_in old.state) (histories_in new.state) early late performed.losses is.replied.turn.losses;
+      refused = refused_new;
+    }
+
+    text_new : report_text (histories_in new.state) new.replies.items ≡ report_text (histories_in old.state) old.replies.items ++ reply_text (histories_in new.state) is.made.reply
+    text_new = ap (λ (rs : List LineReply). report_text (histories_in new.state) rs) is.more ∙ text_more (histories_in new.state) old.replies.items is.made.reply
+        ∙ ap (λ (t : List ℕ). t ++ reply_text (histories_in new.state) is.made.reply) ((shown_still is.replied.turn.grown).0)
+
+  performed_short : IsUnreplied (setting_of given backup mid now) old.state new.state → new.replies.items ≡ old.replies.items → new.refused ≡ old.refused → new.stopped ≡ Some WantsMemory
+      → IsPerformed (setting_of given backup start now) lines new
+  performed_short none same refused stop = record {
+    sized = none.sized;
+    few = omega (arith, lt, ap (λ (l : List LineReply). length l) same);
+    replies = subst (λ (rs : List LineReply). AreReplies (setting_of given backup start now) (histories_in new.state) at_rest (take (length rs) lines) rs) (sym same) (replies_still none.grown);
+    course = subst (λ (x : Option Stop). IsCourse x (course_of at_rest new.replies.items) (course_in new.state)) (sym stop)
+        (subst (λ (rs : List LineReply). IsCourse (Some WantsMemory) (course_of at_rest rs) (course_in new.state)) (sym same) (by_course none.course));
+    losses = losses_add (histories_in old.state) (histories_in new.state) early late performed.losses none.losses;
+    refused = refused ∙ performed.refused ∙ sym ((shown_still none.grown).1) ∙ ap (λ (rs : List LineReply). has_refusal (histories_in new.state) rs) (sym same);
+  }
+    where
+      by_course : (course_in new.state ≡ course_in old.state) ⊎ ((what : Answered) × (course_in new.state ≡ course_after (course_in old.state) what))
+          → (course_in new.state ≡ course_of at_rest old.replies.items) ⊎ ((what : Answered) × (course_in new.state ≡ course_after (course_of at_rest old.replies.items) what))
+      by_course (inl is) = inl (is ∙ course_before)
+      by_course (inr (what, is)) = inr (what, is ∙ ap (λ (c : Course). course_after c what) course_before)
+
+  module _ {tells : Type 0} {first before : List ℕ} {first_faults before_faults : ℕ} (after : List ℕ) (after_faults : ℕ) (shown : IsShownTo tells old first before first_faults before_faults) where
+    taken_before : tells → before ≡ first ++ report_text (histories_in old.state) old.replies.items
+    taken_before told = subst (λ (o : Option Stop). IsTaken o first before (report_text (histories_in old.state) old.replies.items)) going (shown.taken told)
+
+    shown_before : old.shown ≡ counted (length (report_text (histories_in old.state) old.replies.items))
+    shown_before = subst (λ (o : Option Stop). old.shown ≡ counted (length (report_text (histories_in old.state) (taken_whole o old.replies.items)))) going shown.shown
+
+    -- a line was performed, by whether the run stops there
+    pub step : (o : Option Stop) → new.stopped ≡ o → IsStep tells (setting_of given backup mid now) old new numbered before after o → IsStopCause o before_faults after_faults → before_faults ≤ after_faults
+        → IsPerformed (setting_of given backup start now) lines new × IsShownTo tells new first after first_faults after_faults
+    step None stop is cause le = (
+      performed_reply is.reply None stop (λ f c same. same),
+      record {
+        taken = λ told. subst (λ (o : Option Stop). IsTaken o first after (report_text (histories_in new.state) new.replies.items)) (sym stop)
+            (is.taken told ∙ ap (λ (t : List ℕ). t ++ reply_text (histories_in new.state) is.reply.made.reply) (taken_before told)
+            ∙ append_assoc first (report_text (histories_in old.state) old.replies.items) (reply_text (histories_in new.state) is.reply.made.reply)
+            ∙ ap (λ (t : List ℕ). first ++ t) (sym (text_new is.reply)));
+        shown = subst (λ (o : Option Stop). new.shown ≡ counted (length (report_text (histories_in new.state) (taken_whole o new.replies.items)))) (sym stop)
+            (is.shown ∙ ap (λ (n : ℕ). counted (n + length (reply_text (histories_in new.state) is.reply.made.reply))) shown_before
+            ∙ counted_more (length (report_text (histories_in old.state) old.replies.items)) (length (reply_text (histories_in new.state) is.reply.made.reply))
+            ∙ ap counted (sym (length-append (report_text (histories_in old.state) old.replies.items) (reply_text (histories_in new.state) is.reply.made.reply)))
+            ∙ ap (λ (t : List ℕ). counted (length t)) (sym (text_new is.reply)));
+        cause = subst (λ (o : Option Stop). IsStopCause o first_faults after_faults) (sym stop) tt;
+        never_falls = omega (arith, le, shown.never_falls);
+      },
+    )
+    step (Some WriteFault) stop is cause le = (
+      performed_reply is.reply (Some WriteFault) stop (λ f c same. same),
+      record {
+        taken = λ told. subst (λ (o : Option Stop). IsTaken o first after (report_text (histories_in new.state) new.replies.items)) (sym stop)
+            (part told (is.taken told));
+        shown = subst (λ (o : Option Stop). new.shown ≡ counted (length (report_text (histories_in new.state) (taken_whole o new.replies.items)))) (sym stop)
+            (is.shown ∙ shown_before ∙ ap (λ (t : List ℕ). counted (length t)) (sym ((shown_still is.reply.replied.turn.grown).0))
+            ∙ ap (λ (rs : List LineReply). counted (length (report_text (histories_in new.state) rs))) (sym all_but_last));
+        cause = subst (λ (o : Option Stop). IsStopCause o first_faults after_faults) (sym stop) (risen_since cause);
+        never_falls = omega (arith, le, shown.never_falls);
+      },
+    )
+      where
+        all_but_last : take (length new.replies.items - 1) new.replies.items ≡ old.replies.items
+        all_but_last = ap (λ (rs : List LineReply). take (length new.replies.items - 1) rs) is.reply.more
+            ∙ take_at old.replies.items (is.reply.made.reply ∷ []) (length new.replies.items - 1) (omega (arith, one_more is.reply))
+
+        part : tells → ((n : ℕ) × (after ≡ before ++ take n (reply_text (histories_in new.state) is.reply.made.reply))) → (n : ℕ) × (after ≡ first ++ take n (report_text (histories_in new.state) new.replies.items))
+        part told (n, taken) = (
+          length (report_text (histories_in old.state) old.replies.items) + n,
+          taken ∙ ap (λ (t : List ℕ). t ++ take n (reply_text (histories_in new.state) is.reply.made.reply)) (taken_before told)
+          ∙ append_assoc first (report_text (histories_in old.state) old.replies.items) (take n (reply_text (histories_in new.state) is.reply.made.reply))
+          ∙ ap (λ (t : List ℕ). first ++ t) (sym (take-append-add (report_text (histories_in old.state) old.replies.items) (reply_text (histories_in new.state) is.reply.made.reply) n)
+          ∙ ap (λ (t : List ℕ). take (length (report_text (histories_in old.state) old.replies.items) + n) t) (sym (text_new is.reply))),
+        )
+
+        risen_since : HasRisen before_faults after_faults → HasRisen first_faults after_faults
+        risen_since risen = grind (arith, nat_tests, risen, shown.never_falls)
+    step (Some WantsMemory) stop is cause le = (
+      performed_short is.none is.same is.refused stop,
+      record {
+        taken = λ told. subst (λ (o : Option Stop). IsTaken o first after (report_text (histories_in new.state) new.replies.items)) (sym stop)
+            (is.taken ∙ taken_before told ∙ ap (λ (t : List ℕ). first ++ t) (sym same_text));
+        shown = subst (λ (o : Option Stop). new.shown ≡ counted (length (report_text (histories_in new.state) (taken_whole o new.replies.items)))) (sym stop)
+            (is.shown ∙ shown_before ∙ ap (λ (t : List ℕ). counted (length t)) (sym same_text));
+        cause = subst (λ (o : Option Stop). IsStopCause o first_faults after_faults) (sym stop) tt;
+        never_falls = omega (arith, le, shown.never_falls);
+      },
+    )
+      where
+        same_text : report_text (histories_in new.state) new.replies.items ≡ report_text (histories_in old.state) old.replies.items
+        same_text = ap (λ (rs : List LineReply). report_text (histories_in new.state) rs) is.same ∙ (shown_still is.none.grown).0
+
+-- nothing was performed yet
+pub performed_none : {B : Type 0} {given : Given} {backup : Option ℕ} {start : ℕ → ℕ} (lines : List Numbered) (session : Session B) (bank : B) → session.state ≡ Idle bank → session.replies.items ≡ [] → session.refused ≡ false
+    → session.stopped ≡ None → IsPerformed (setting_of given backup start start) lines session
+performed_none {B = B} {given = given} {backup = backup} {start = start} lines session bank idle none refused going = record {
+  sized = subst (λ (s : State B). IsSized s) (sym idle) tt;
+  few = omega (arith, ap (λ (l : List LineReply). length l) none);
+  replies = subst (λ (rs : List LineReply). AreReplies (setting_of given backup start start) (histories_in session.state) at_rest (take (length rs) lines) rs) (sym none) tt;
+  course = subst (λ (o : Option Stop). IsCourse o (course_of at_rest session.replies.items) (course_in session.state)) (sym going)
+      (ap (λ (s : State B). course_in s) idle ∙ ap (λ (rs : List LineReply). course_of at_rest rs) (sym none));
+  losses = subst (λ (s : State B). AreLossesFrom start start [] (histories_in s)) (sym idle) tt;
+  refused = refused ∙ ap (λ (rs : List LineReply). has_refusal (histories_in session.state) rs) (sym none);
+}
+
+-- a line that went on has one reply more
+pub one_reply : {B : Type 0} (tells : Type 0) (setting : Setting) (old new : Session B) (numbered : Numbered) (before after : List ℕ) (o : Option Stop) → o ≡ None → IsStep tells setting old new numbered before after o
+    → length new.replies.items ≡ length old.replies.items + 1
+one_reply tells setting old new numbered before after None going is = ap (λ (l : List LineReply). length l) is.reply.more ∙ length-append old.replies.items (is.reply.made.reply ∷ [])
+one_reply tells setting old new numbered before after (Some stop) going is = absurd (cc)

@@ -1,0 +1,53 @@
+use Rattle.std.proofs.Common.{rules, ◌≡◌, ◌≢◌, ◌+◌, ◌<◌, ◌≤◌, ℕ, Bool, true, false, [], ◌∷◌, None, length, refl, sym, ◌∙◌, ap, subst, arith, length-append, List, Option, Some}
+use Rattle.std.proofs.Math.ListN.{get_or}
+use Rattle.bank.specs.Given.{Given, NeverFalls}
+use Rattle.script.specs.declared.lines.Numbered.{Numbered}
+use Rattle.script.specs.declared.lines.Line.TheVariants.{Create}
+use Rattle.runner.specs.declared.report.LineReply.{LineReply}
+use Rattle.runner.specs.declared.sessions.Stop.{Stop}
+use Rattle.runner.specs.Replies.{setting_of}
+use Rattle.runner.specs.States.{bank_in}
+use Rattle.runner.specs.Sessions.{IsStep, IsPerformed, IsShownTo}
+use Rattle.runner.proofs.Steps.{step, performed_none, one_reply}
+use Rattle.runner.proofs.sessions.perform.Goals as goal
+
+-- what stands past the end of the lines
+abbrev nothing : Numbered
+nothing = record { number = 0; line = Create record { uuid = []; shape = record { level = 0; layout = 0; chunk = 0; disks = 0 }; size = 0; offset = 0 } }
+
+pub returns-then-is_some-clause-performed : goal.returns-then-is_some-clause-performed
+returns-then-is_some-clause-performed g c =
+    let line : Numbered = get_or c.args.lines.now c.loop-i.i nothing in
+    let was = c.loop-i.invariant in
+    let did = c.perform_line-session.ensures in
+    let each = subst (λ (given : Given). IsStep g.K.Sink.tells (setting_of given c.args.backup (g.B.Bank.faults_of (bank_in c.loop-i.session.state)) (g.B.Bank.faults_of (bank_in c.perform_line-session.result.state))) c.loop-i.session c.perform_line-session.result line (g.K.Sink.taken c.loop-i.out) (g.K.Sink.taken c.perform_line-session.new.out) c.perform_line-session.result.stopped) was.given did.step in
+    (step c.perform_line-session.result nothing line was.never_falls did.never_falls was.going was.performed (omega (arith, was.count, c.loop-i-test.true)) (ap (λ (k : ℕ). get_or c.args.lines.now k nothing) was.count)
+    (g.K.Sink.taken c.perform_line-session.new.out) (g.K.Sink.faults_of c.perform_line-session.new.out) was.shown c.perform_line-session.result.stopped refl each did.cause did.sink_never_falls).0
+
+pub returns-then-is_some-clause-shown : goal.returns-then-is_some-clause-shown
+returns-then-is_some-clause-shown g c =
+    let line : Numbered = get_or c.args.lines.now c.loop-i.i nothing in
+    let was = c.loop-i.invariant in
+    let did = c.perform_line-session.ensures in
+    let each = subst (λ (given : Given). IsStep g.K.Sink.tells (setting_of given c.args.backup (g.B.Bank.faults_of (bank_in c.loop-i.session.state)) (g.B.Bank.faults_of (bank_in c.perform_line-session.result.state))) c.loop-i.session c.perform_line-session.result line (g.K.Sink.taken c.loop-i.out) (g.K.Sink.taken c.perform_line-session.new.out) c.perform_line-session.result.stopped) was.given did.step in
+    (step c.perform_line-session.result nothing line was.never_falls did.never_falls was.going was.performed (omega (arith, was.count, c.loop-i-test.true)) (ap (λ (k : ℕ). get_or c.args.lines.now k nothing) was.count)
+    (g.K.Sink.taken c.perform_line-session.new.out) (g.K.Sink.faults_of c.perform_line-session.new.out) was.shown c.perform_line-session.result.stopped refl each did.cause did.sink_never_falls).1
+
+pub loop-i-preserved : goal.loop-i-preserved
+loop-i-preserved g c =
+    let line : Numbered = get_or c.args.lines.now c.loop-i.i nothing in
+    let was = c.loop-i.invariant in
+    let did = c.perform_line-session.ensures in
+    let each = subst (λ (given : Given). IsStep g.K.Sink.tells (setting_of given c.args.backup (g.B.Bank.faults_of (bank_in c.loop-i.session.state)) (g.B.Bank.faults_of (bank_in c.perform_line-session.result.state))) c.loop-i.session c.perform_line-session.result line (g.K.Sink.taken c.loop-i.out) (g.K.Sink.taken c.perform_line-session.new.out) c.perform_line-session.result.stopped) was.given did.step in
+    let now = step c.perform_line-session.result nothing line was.never_falls did.never_falls was.going was.performed (omega (arith, was.count, c.loop-i-test.true)) (ap (λ (k : ℕ). get_or c.args.lines.now k nothing) was.count)
+    (g.K.Sink.taken c.perform_line-session.new.out) (g.K.Sink.faults_of c.perform_line-session.new.out) was.shown c.perform_line-session.result.stopped refl each did.cause did.sink_never_falls in
+    let going : c.perform_line-session.result.stopped ≡ None = search rules in
+    record {
+      going = going;
+      count = one_reply g.K.Sink.tells (setting_of (g.B.Bank.given c.args.bank) c.args.backup (g.B.Bank.faults_of (bank_in c.loop-i.session.state)) (g.B.Bank.faults_of (bank_in c.perform_line-session.result.state))) c.loop-i.session c.perform_line-session.result line
+          (g.K.Sink.taken c.loop-i.out) (g.K.Sink.taken c.perform_line-session.new.out) c.perform_line-session.result.stopped going each ∙ ap (λ (n : ℕ). n + 1) was.count;
+      performed = now.0;
+      shown = now.1;
+      never_falls = λ s. omega (arith, was.never_falls s, did.never_falls s);
+      given = did.given ∙ was.given;
+    }

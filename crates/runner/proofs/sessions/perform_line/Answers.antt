@@ -1,0 +1,38 @@
+use Rattle.std.proofs.Common.{take, ◌+◌, ◌≡◌, ◌≤◌, ◌||◌, ℕ, [], ◌++◌, ◌∷◌, length, List, Bool, Result, Ok, refl, sym, ◌∙◌, ap, subst, arith}
+use Rattle.std.specs.Prelude.{if◌then◌else◌}
+use Rattle.md_base.specs.declared.answers.NoMemory.{NoMemory}
+use Rattle.runner.specs.declared.report.LineReply.{LineReply}
+use Rattle.runner.specs.declared.sessions.Made.{Made}
+use Rattle.runner.specs.Shown.{reply_text}
+use Rattle.runner.specs.Replies.{setting_of}
+use Rattle.runner.specs.States.{histories_in, bank_in}
+use Rattle.runner.specs.Sessions.{counted, IsRepliedOrNot, IsReplied, IsReplyMore}
+use Rattle.runner.proofs.sessions.perform_line.Goals as goal
+
+pub returns-in-Ok-push-clause-step : goal.returns-in-Ok-push-clause-step
+returns-in-Ok-push-clause-step g c =
+    let setting = setting_of (g.B.Bank.given (bank_in c.args.session.state)) c.args.backup (g.B.Bank.faults_of (bank_in c.args.session.state)) (g.B.Bank.faults_of (bank_in c.reply_to-state.result.0)) in
+    let made : Made = c.in-Ok.made in
+    let replied = subst (λ (r : Result Made NoMemory). IsRepliedOrNot setting c.args.session.state c.reply_to-state.result.0 c.args.numbered c.reply_to-state.new.text.items r) c.in-Ok.is c.reply_to-state.ensures.replied in
+    let items : c.push.new.self.items ≡ c.args.session.replies.items ++ made.reply ∷ [] =
+    c.push.ensures.items ∙ ap (λ (b : Bool). if b then c.reserve.new.self.items ++ made.reply ∷ [] else c.reserve.new.self.items) c.if-is_err-2.ensures.negation ∙ ap (λ (l : List LineReply). l ++ made.reply ∷ []) c.reserve.ensures.items in
+    let piece : c.as_slice-text.result.now ≡ reply_text (histories_in c.reply_to-state.result.0) made.reply = c.as_slice-text.ensures.value ∙ replied.1 in
+    record {
+      reply = record { made = made; replied = replied.0; more = items; refused = refl };
+      taken = λ told. c.in-Ok-push.ensures.pushed.whole told ∙ ap (λ (t : List ℕ). g.K.Sink.taken c.args.out.now ++ t) piece;
+      shown = c.saturating_add-shown.ensures ∙ ap (λ (t : List ℕ). counted (c.args.session.shown + length t)) piece;
+    }
+
+pub returns-in-Err-clause-step : goal.returns-in-Err-clause-step
+returns-in-Err-clause-step g c =
+    let setting = setting_of (g.B.Bank.given (bank_in c.args.session.state)) c.args.backup (g.B.Bank.faults_of (bank_in c.args.session.state)) (g.B.Bank.faults_of (bank_in c.reply_to-state.result.0)) in
+    let made : Made = c.in-Ok.made in
+    let replied = subst (λ (r : Result Made NoMemory). IsRepliedOrNot setting c.args.session.state c.reply_to-state.result.0 c.args.numbered c.reply_to-state.new.text.items r) c.in-Ok.is c.reply_to-state.ensures.replied in
+    let items : c.push.new.self.items ≡ c.args.session.replies.items ++ made.reply ∷ [] =
+    c.push.ensures.items ∙ ap (λ (b : Bool). if b then c.reserve.new.self.items ++ made.reply ∷ [] else c.reserve.new.self.items) c.if-is_err-2.ensures.negation ∙ ap (λ (l : List LineReply). l ++ made.reply ∷ []) c.reserve.ensures.items in
+    let piece : c.as_slice-text.result.now ≡ reply_text (histories_in c.reply_to-state.result.0) made.reply = c.as_slice-text.ensures.value ∙ replied.1 in
+    record {
+      reply = record { made = made; replied = replied.0; more = items; refused = refl };
+      taken = λ told. let part = c.in-Err.ensures.pushed.front told in (part.0, part.1 ∙ ap (λ (t : List ℕ). g.K.Sink.taken c.args.out.now ++ take part.0 t) piece);
+      shown = refl;
+    }
