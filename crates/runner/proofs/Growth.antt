@@ -109,7 +109,7 @@ course_grows course (reply ∷ replies) = step reply.what (course_grows (course_
 -- the histories of a run that made one array at most, in which the script has made so many calls
 abbrev pub Covers : List History → Course → Type 0
 Covers [] course = ⊤
-Covers (h ∷ []) course = (course.opened ≡ 1) × (course.calls ≤ next_number 0 h.entries)
+Covers (h ∷ []) course = (course.opened ≤ 1) × (course.opened ≡ 1 → course.calls ≤ next_number 0 h.entries)
 Covers (h ∷ k ∷ more) course = ⊥
 
 covered : {request : Request} {epoch place : ℕ} (olds : List History) (course : Course) (replies : List LineReply) → (was : IsAnsweredInside olds course epoch place request)
@@ -120,7 +120,8 @@ covered {epoch = epoch} {place = place} (h ∷ []) course replies was covers =
     let within = slice_get_within (h ∷ []) epoch was.history was.there in
     let first : epoch ≡ 0 = omega (arith, within) in
     let same : h ≡ was.history = some_same (sym (ap (λ (k : ℕ). slice_get (h ∷ []) k) first) ∙ was.there) in
-    let calls : course.calls + 1 ≤ next_number 0 h.entries = omega (arith, covers.1, grows.1 (omega (arith, covers.0, was.latest, first))) in
+    let one : (course_of (course_after course (Inside epoch place)) replies).opened ≡ 1 = omega (arith, covers.0, grows.0, was.latest, first) in
+    let calls : course.calls + 1 ≤ next_number 0 h.entries = omega (arith, covers.1 one, grows.1 (omega (arith, one, was.latest, first))) in
     omega (arith, calls, ap (λ (x : History). next_number 0 x.entries) same)
   where
     some_same : {a b : History} → Some a ≡ Some b → a ≡ b
@@ -208,6 +209,16 @@ replies_more setting histories course [] [] line reply was one = (one, was)
 replies_more setting histories course [] (r ∷ replies) line reply was one = absurd was
 replies_more setting histories course (l ∷ lines) [] line reply was one = absurd was
 replies_more setting histories course (l ∷ lines) (r ∷ replies) line reply (first, rest) one = (first, replies_more setting histories (course_after course r.what) lines replies line reply rest one)
+
+-- the first so many replies answer the first so many lines
+pub replies_front : (setting : Setting) (histories : List History) (course : Course) (n : ℕ) (lines : List Numbered) (replies : List LineReply)
+    → AreReplies setting histories course lines replies → AreReplies setting histories course (take n lines) (take n replies)
+replies_front setting histories course zero [] [] was = was
+replies_front setting histories course (suc n) [] [] was = was
+replies_front setting histories course n [] (r ∷ replies) was = absurd was
+replies_front setting histories course n (l ∷ lines) [] was = absurd was
+replies_front setting histories course zero (l ∷ lines) (r ∷ replies) was = tt
+replies_front setting histories course (suc n) (l ∷ lines) (r ∷ replies) (first, rest) = (first, replies_front setting histories (course_after course r.what) n lines replies rest)
 
 pub course_more : (course : Course) (replies : List LineReply) (reply : LineReply) → course_of course (replies ++ reply ∷ []) ≡ course_after (course_of course replies) reply.what
 course_more course [] reply = refl

@@ -1,4 +1,5 @@
 pub mod AskLaws
+pub mod Ends
 pub mod Growth
 pub mod Steps
 pub mod Texts

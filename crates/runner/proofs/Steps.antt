@@ -29,8 +29,8 @@ use Rattle.runner.proofs.Growth.{Covers, IsWider, answer_wider, replies_stay, re
 covers_in : {B : Type 0} (state : State B) (course : Course) → course_in state ≡ course → Covers (histories_in state) course
 covers_in (Idle bank) course is = tt
 covers_in (Running array) course is = (
-  sym (ap (λ (c : Course). c.opened) is),
-  omega (arith, ap (λ (c : Course). c.calls) is),
+  omega (arith, ap (λ (c : Course). c.opened) is),
+  λ one. omega (arith, ap (λ (c : Course). c.calls) is),
 )
 
 losses_add : {first before now : ℕ → ℕ} (olds news : List History) → NeverFalls first before → NeverFalls before now → AreLossesFrom first before [] olds → AreLossesFrom before now olds news → AreLossesFrom first now [] news

@@ -2,6 +2,7 @@ pub mod Asked
 pub mod Histories
 pub mod Pace
 pub mod Replies
+pub mod Runs
 pub mod Sessions
 pub mod Shown
 pub mod Source

@@ -5,6 +5,7 @@
 mod asks;
 mod pace;
 mod report;
+mod runs;
 mod sessions;
 mod states;
 mod text;
