@@ -10,6 +10,8 @@ use Rattle.flat_history.specs.Plain.{IsPlainLegal}
 use Rattle.array.specs.Kept.{IsLossOf}
 use Rattle.script.specs.Script.{script_of}
 use Rattle.script.specs.declared.lines.Numbered.{Numbered}
+use Rattle.runner.specs.declared.words.Command.{Command}
+use Rattle.runner.specs.declared.words.Command.TheVariants.{Memory}
 use Rattle.runner.specs.declared.report.LineReply.{LineReply}
 use Rattle.runner.specs.declared.sessions.Stop.{Stop}
 use Rattle.runner.specs.declared.sessions.Stop.TheVariants.{WriteFault, NoMemory as WantsMemory}
@@ -86,3 +88,23 @@ pub record IsEnded {B : Type 0} (tells : Type 0) (tape : List Operation) (faults
   pub losses : AreLossesFrom faults faults (histories_in state) (histories_of epochs)
   pub legal : tells → AreLegal (length tape) epochs
   pub ended : tells → AreEndedAt (length tape) epochs
+
+-- the statuses of a run that read its script and performed every line that it could
+abbrev pub IsAfterLines : ℕ → Type 0
+IsAfterLines status = (status ≡ 0) ⊎ (status ≡ 1) ⊎ (status ≡ 5)
+
+-- those of a run that performed nothing
+abbrev pub IsBeforeLines : ℕ → Type 0
+IsBeforeLines status = (status ≡ 2) ⊎ (status ≡ 3) ⊎ (status ≡ 4)
+
+-- no line was performed, and no array was made
+abbrev pub IsNothing : List LineReply → List Epoch → Type 0
+IsNothing lines epochs = (lines ≡ []) × (epochs ≡ [])
+
+-- 0 where no reply is a refusal, 1 where one is
+abbrev pub AreTold : ℕ → Bool → Type 0
+AreTold status refused = (status ≡ 0 → refused ≡ false) × (status ≡ 1 → refused ≡ true)
+
+-- a command needs so many slots
+abbrev pub slots_for : Command → ℕ
+slots_for Memory = 8

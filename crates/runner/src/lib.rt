@@ -1,5 +1,4 @@
-//! The parts of a run: the command's words, the script's text, its lines performed on a running array, and the pace of
-//! background work.
+//! A run: the command's words, the script's text, its lines performed on an array, and the text of their replies.
 #![tactic(auto)]
 
 mod asks;
@@ -14,6 +13,7 @@ mod words;
 pub use asks::{ask_read, ask_write};
 pub use pace::Pace;
 pub use report::{Answered, LineReply, Outside, Report};
+pub use runs::run;
 pub use sessions::{Made, Session, Stop, perform};
 pub use states::{State, answer, entry_of};
 pub use text::{LONGEST_TEXT, TextFault, read_text};

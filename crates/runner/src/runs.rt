@@ -7,7 +7,7 @@ ghost use Rattle.text_io.specs.Causes.{HasRisen};
 ghost use Rattle.script.specs.Script.{script_of, is_within_limits};
 ghost use Rattle.runner.specs.Pace.{AnswersSteps, asked_by};
 ghost use Rattle.runner.specs.Replies.{setting_of};
-ghost use Rattle.runner.specs.Runs.{histories_of, status_for, stop_of, AreLinesPerformed, IsScriptPerformed, IsScriptBad, AreLegal, AreLossesFailed, AreEndedAt, IsEnded};
+ghost use Rattle.runner.specs.Runs.{histories_of, status_for, stop_of, slots_for, IsAfterLines, IsBeforeLines, IsNothing, AreTold, AreLinesPerformed, IsScriptPerformed, IsScriptBad, AreLegal, AreLossesFailed, AreEndedAt, IsEnded};
 ghost use Rattle.runner.specs.Sessions.{counted, taken_whole, IsTaken};
 ghost use Rattle.runner.specs.Shown.{report_text, has_refusal};
 ghost use Rattle.runner.specs.Source.{IsTextOf};
@@ -20,7 +20,7 @@ use crate::report::Report;
 use crate::sessions::{Session, Stop, perform};
 use crate::states::State;
 use crate::text::{TextFault, read_text};
-use crate::words::command_of;
+use crate::words::{Command, command_of};
 use bank::Bank;
 use flat_history::Epoch;
 use script::{Numbered, ScriptFault, read_script};
@@ -28,6 +28,9 @@ use std::alloc::Global;
 use std::sync::Wait;
 use std::thread::Threads;
 use text_io::{Sink, Source};
+
+// The backup slot of a bank in memory.
+const BACKUP: u32 = 7;
 
 const DONE: u8 = 0;
 
@@ -138,5 +141,96 @@ fn run_lines<B: Bank, K: Sink>(
         epochs,
         lines: replies,
         shown,
+    }
+}
+
+// A run of the script that the source gives. The backup is the last of the eight slots.
+fn run_script<B: Bank, S: Source, K: Sink>(
+    alloc: Global,
+    script: &mut S,
+    out: &mut K,
+    bank: B,
+) -> Report<B>
+    requires slots { (B.given bank).slots ≡ 8 }
+    ensures status { result.status ≤ 6 }
+    ensures good_words { result.status ≢ 2 }
+    ensures bad_line { result.status ≡ 3 → IsScriptBad S.tells (S.left script.old) (S.left script.new) result.bad_line }
+    ensures read_fault { result.status ≡ 4 → HasRisen (S.faults_of script.old) (S.faults_of script.new) }
+    ensures write_fault { result.status ≡ 5 → HasRisen (K.faults_of out.old) (K.faults_of out.new) }
+    ensures performed { IsAfterLines result.status → IsScriptPerformed S.tells (S.left script.old) (S.left script.new) (setting_of (B.given bank) (Some 7) (B.faults_of bank) (B.faults_of result.bank)) (stop_of result.status) (histories_of result.epochs.items) result.lines.items }
+    ensures short { result.status ≡ 6 → IsScriptPerformed S.tells (S.left script.old) (S.left script.new) (setting_of (B.given bank) (Some 7) (B.faults_of bank) (B.faults_of result.bank)) (stop_of result.status) (histories_of result.epochs.items) result.lines.items
+        ⊎ IsNothing result.lines.items result.epochs.items }
+    ensures nothing { IsBeforeLines result.status → IsNothing result.lines.items result.epochs.items }
+    ensures untouched { IsBeforeLines result.status → result.bank ≡ bank }
+    ensures refusals { AreTold result.status (has_refusal (histories_of result.epochs.items) result.lines.items) }
+    ensures taken { K.tells → IsTaken (stop_of result.status) (K.taken out.old) (K.taken out.new) (report_text (histories_of result.epochs.items) result.lines.items) }
+    ensures shown { result.shown ≡ counted (length (report_text (histories_of result.epochs.items) (taken_whole (stop_of result.status) result.lines.items))) }
+    ensures legal { B.tells → AreLegal (length (B.tape result.bank)) result.epochs.items }
+    ensures ended { B.tells → AreEndedAt (length (B.tape result.bank)) result.epochs.items }
+    ensures losses { AreLossesFailed (B.faults_of bank) (B.faults_of result.bank) result.epochs.items }
+    ensures never_falls { NeverFalls (B.faults_of bank) (B.faults_of result.bank) }
+    ensures source_never_falls { S.faults_of script.old ≤ S.faults_of script.new }
+    ensures sink_never_falls { K.faults_of out.old ≤ K.faults_of out.new }
+    ensures given { B.given result.bank ≡ B.given bank }
+{
+    let text = match read_text(alloc, script) {
+        Ok(text) => text,
+        Err(TextFault::Failed) => return nothing_done(alloc, bank, READ_FAULT, 0),
+        Err(TextFault::NoMemory) => return nothing_done(alloc, bank, NO_MEMORY, 0),
+    };
+    match read_script(alloc, text.as_slice()) {
+        Ok(lines) => run_lines(alloc, bank, Some(BACKUP), lines.as_slice(), out),
+        Err(ScriptFault::BadLine(line)) => nothing_done(alloc, bank, BAD_LINE, line),
+        Err(ScriptFault::NoMemory) => nothing_done(alloc, bank, NO_MEMORY, 0),
+    }
+}
+
+/// Reads the words, then the whole script, and then performs its lines, one after another, on an array that they make on
+/// the bank. Each reply is one piece for the sink, which is pushed before the next line. An array that still runs at the
+/// end is halted. The words are those of the command after the program's name; `memory` wants a bank of eight slots, the
+/// last of which is the backup. The pace is that of background work, of which there is none so far.
+pub fn run<
+    R: Threads + Wait + Sync,
+    B: Bank + Send,
+    S: Source,
+    K: Sink,
+    F: Fn(u64, u64) -> u64 + Sync + Drop,
+>(
+    _rt: &R,
+    alloc: Global,
+    words: &[String],
+    script: &mut S,
+    out: &mut K,
+    bank: B,
+    pace: Pace<F>,
+) -> Report<B>
+    requires slots { IfSome (command_in (map string_bytes words.now)) (λ command. (B.given bank).slots ≡ slots_for command) }
+    requires callable { F.IsAlwaysCallable (asked_by pace) }
+    requires answers { AnswersSteps (F.post (asked_by pace)) }
+    ensures status { result.status ≤ 6 }
+    ensures bad_words { result.status ≡ 2 ↔ command_in (map string_bytes words.now) ≡ None }
+    ensures bad_line { result.status ≡ 3 → IsScriptBad S.tells (S.left script.old) (S.left script.new) result.bad_line }
+    ensures read_fault { result.status ≡ 4 → HasRisen (S.faults_of script.old) (S.faults_of script.new) }
+    ensures write_fault { result.status ≡ 5 → HasRisen (K.faults_of out.old) (K.faults_of out.new) }
+    ensures performed { IsAfterLines result.status → IsScriptPerformed S.tells (S.left script.old) (S.left script.new) (setting_of (B.given bank) (Some 7) (B.faults_of bank) (B.faults_of result.bank)) (stop_of result.status) (histories_of result.epochs.items) result.lines.items }
+    ensures short { result.status ≡ 6 → IsScriptPerformed S.tells (S.left script.old) (S.left script.new) (setting_of (B.given bank) (Some 7) (B.faults_of bank) (B.faults_of result.bank)) (stop_of result.status) (histories_of result.epochs.items) result.lines.items
+        ⊎ IsNothing result.lines.items result.epochs.items }
+    ensures nothing { IsBeforeLines result.status → IsNothing result.lines.items result.epochs.items }
+    ensures untouched { IsBeforeLines result.status → result.bank ≡ bank }
+    ensures refusals { AreTold result.status (has_refusal (histories_of result.epochs.items) result.lines.items) }
+    ensures taken { K.tells → IsTaken (stop_of result.status) (K.taken out.old) (K.taken out.new) (report_text (histories_of result.epochs.items) result.lines.items) }
+    ensures shown { result.shown ≡ counted (length (report_text (histories_of result.epochs.items) (taken_whole (stop_of result.status) result.lines.items))) }
+    ensures legal { B.tells → AreLegal (length (B.tape result.bank)) result.epochs.items }
+    ensures ended { B.tells → AreEndedAt (length (B.tape result.bank)) result.epochs.items }
+    ensures losses { AreLossesFailed (B.faults_of bank) (B.faults_of result.bank) result.epochs.items }
+    ensures never_falls { NeverFalls (B.faults_of bank) (B.faults_of result.bank) }
+    ensures source_never_falls { S.faults_of script.old ≤ S.faults_of script.new }
+    ensures sink_never_falls { K.faults_of out.old ≤ K.faults_of out.new }
+    ensures given { B.given result.bank ≡ B.given bank }
+{
+    let _ = pace;
+    match command_of(words) {
+        None => nothing_done(alloc, bank, BAD_WORDS, 0),
+        Some(Command::Memory) => run_script(alloc, script, out, bank),
     }
 }
