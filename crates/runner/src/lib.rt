@@ -7,6 +7,8 @@ mod report;
 mod runs;
 mod sessions;
 mod states;
+#[cfg(test)]
+mod tests;
 mod text;
 mod words;
 

@@ -1,0 +1,112 @@
+//! The program: makes the source, the sink and the bank that its words ask for, runs, and ends with the run's status.
+#![tactic(auto)]
+
+ghost use Rattle.std.specs.Prelude.{◌≤◌};
+
+use bank::MemoryBank;
+use runner::{Command, Pace, command_of, run};
+use std::alloc::{AllocError, Global};
+use std::env;
+use std::io;
+use std::process::ExitCode;
+use std::rt::Env;
+use std::sync::Wait;
+use std::thread::Threads;
+use text_io::{MemorySource, StdSink, StdSource};
+
+// A bank in memory: seven members and the backup.
+const SLOTS: usize = 8;
+
+// The sectors of each slot.
+const SECTORS: u64 = 6_144;
+
+// The operations that the bank's tape has room for.
+const ROOM: u64 = 262_144;
+
+// How many of the steps that are left a turn of background work does.
+fn steps(_turn: u64, left: u64) -> u64
+    ensures low { 1 ≤ result }
+    ensures high { result ≤ 64 }
+{
+    if left < 16 { 1 } else { 16 }
+}
+
+// How a run ended: its status, and the number of the first bad line, where there is one.
+#[derive(Clone, Copy)]
+struct Ended {
+    status: u8,
+    bad_line: u64,
+}
+
+fn memory_bank(alloc: Global) -> Result<MemoryBank, AllocError> {
+    let lengths = vec![in alloc; SECTORS; SLOTS]?;
+    MemoryBank::new(alloc, lengths, ROOM, Vec::new(alloc))
+}
+
+// Words that are no command's form open nothing.
+fn run_without_command<R: Print + AllocGlobal + Threads + Wait + Sync>(rt: &R, words: &[String]) -> Result<Ended, AllocError> {
+    let alloc = rt.alloc();
+    let mut source = MemorySource::new(Vec::new(alloc), Vec::new(alloc));
+    let mut sink = StdSink::new(io::writer(rt));
+    let bank = MemoryBank::new(alloc, Vec::new(alloc), 0, Vec::new(alloc))?;
+    let pace = Pace::new(|turn, left| steps(turn, left));
+    let report = run(rt, alloc, words, &mut source, &mut sink, bank, pace);
+    Ok(Ended {
+        status: report.status,
+        bad_line: report.bad_line,
+    })
+}
+
+fn run_memory<R: Input + Print + AllocGlobal + Threads + Wait + Sync>(rt: &R, words: &[String]) -> Result<Ended, AllocError> {
+    let alloc = rt.alloc();
+    let mut source = StdSource::new(rt.reader());
+    let mut sink = StdSink::new(io::writer(rt));
+    let bank = memory_bank(alloc)?;
+    let pace = Pace::new(|turn, left| steps(turn, left));
+    let report = run(rt, alloc, words, &mut source, &mut sink, bank, pace);
+    Ok(Ended {
+        status: report.status,
+        bad_line: report.bad_line,
+    })
+}
+
+fn words_of<R: Env + AllocGlobal>(rt: &R) -> io::Result<Vec<String>> {
+    let mut words = Vec::new(rt.alloc());
+    for word in env::args(rt)?.skip(1) {
+        words.push(word)?;
+    }
+    Ok(words)
+}
+
+fn run_words<R: Env + Input + Print + AllocGlobal + Threads + Wait + Sync>(rt: &R) -> io::Result<Ended> {
+    let words = words_of(rt)?;
+    match command_of(&words) {
+        Some(Command::Memory) => Ok(run_memory(rt, &words)?),
+        None => Ok(run_without_command(rt, &words)?),
+    }
+}
+
+// What the status means, on standard error.
+fn tell<R: Eprint>(rt: &R, ended: Ended) -> io::Result<()> {
+    let line = ended.bad_line;
+    match ended.status {
+        2 => eprintln!(rt; "mdgrow: bad words"),
+        3 => eprintln!(rt; "mdgrow: bad line {line}"),
+        4 => eprintln!(rt; "mdgrow: cannot read the script"),
+        5 => eprintln!(rt; "mdgrow: cannot write"),
+        6 => eprintln!(rt; "mdgrow: out of memory"),
+        _ => Ok(()),
+    }
+}
+
+fn main(rt: HostRuntime) -> ExitCode {
+    let ended = match run_words(&rt) {
+        Ok(ended) => ended,
+        Err(_) => Ended {
+            status: 6,
+            bad_line: 0,
+        },
+    };
+    let _ = tell(&rt, ended);
+    ExitCode::from(ended.status)
+}

@@ -1,0 +1,147 @@
+//! Runs whose replies are worked out by hand.
+
+ghost use Rattle.std.specs.Prelude.{◌≤◌};
+
+use crate::{Pace, Report, run};
+use bank::MemoryBank;
+use std::alloc::Global;
+use std::sync::Wait;
+use std::test::Fail;
+use std::thread::Threads;
+use text_io::{MemorySink, MemorySource};
+
+const CREATE: &str =
+    "create 6ba7b810-9dad-11d1-80b4-00c04fd430c8 level=5 disks=3 chunk=8 size=40 offset=16\n";
+
+// What a run is given beside its words: whether the line above stands first, the lines behind it, and the numbers of the
+// calls of bank, source and sink that fail.
+#[derive(Clone, Copy)]
+struct Given<'a> {
+    create: bool,
+    lines: &'a str,
+    calls: &'a [u64],
+    pulls: &'a [u64],
+    pushes: &'a [u64],
+}
+
+fn words_of(alloc: Global, words: &[&str]) -> Result<Vec<String>, Fail> {
+    let mut strings = Vec::new(alloc);
+    for word in words {
+        strings.push(String::from_str(alloc, word)?)?;
+    }
+    Ok(strings)
+}
+
+fn source_of(alloc: Global, given: &Given<'_>) -> Result<MemorySource, Fail> {
+    let mut text = Vec::new(alloc);
+    if given.create {
+        text.extend_from_slice(CREATE.as_bytes())?;
+    }
+    text.extend_from_slice(given.lines.as_bytes())?;
+    let pulls = Vec::from_slice(alloc, given.pulls)?;
+    Ok(MemorySource::new(text, pulls))
+}
+
+fn bank_of(alloc: Global, given: &Given<'_>) -> Result<MemoryBank, Fail> {
+    let lengths = vec![in alloc; 64u64; 8]?;
+    let calls = Vec::from_slice(alloc, given.calls)?;
+    Ok(MemoryBank::new(alloc, lengths, 400, calls)?)
+}
+
+fn steps(_turn: u64, left: u64) -> u64
+    ensures low { 1 ≤ result }
+    ensures high { result ≤ 64 }
+{
+    if left < 16 { 1 } else { 16 }
+}
+
+// The report of a run, and what its sink took.
+fn ran<R: Threads + Wait + Sync>(
+    rt: &R,
+    alloc: Global,
+    words: &[&str],
+    given: &Given<'_>,
+) -> Result<(Report<MemoryBank>, Vec<u8>), Fail> {
+    let words = words_of(alloc, words)?;
+    let mut source = source_of(alloc, given)?;
+    let pushes = Vec::from_slice(alloc, given.pushes)?;
+    let mut sink = MemorySink::new(alloc, 4096, pushes)?;
+    let bank = bank_of(alloc, given)?;
+    let pace = Pace::new(|turn, left| steps(turn, left));
+    let report = run(rt, alloc, &words, &mut source, &mut sink, bank, pace);
+    let taken = Vec::from_slice(alloc, sink.bytes())?;
+    Ok((report, taken))
+}
+
+// The lines behind `create`, the calls of the bank that fail, the status and the replies. The array has 40 rows on three
+// disks; making it takes 3 * (40 writes + 1 flush) = 123 calls.
+#[test]
+fn lines_are_answered_in_their_order(rt: HostRuntime) -> Result<(), Fail> {
+    let rows: [(&str, &[u64], u8, &[u8]); 6] = [
+        (
+            "write 0 1 7\nread 0 2\n",
+            &[],
+            0,
+            b"created\nwrote 0 1\nread 0 2: seed 7 x1 zero x1\n",
+        ),
+        ("read 79 1", &[], 0, b"created\nread 79 1: zero x1\n"),
+        ("read 79 2\n", &[], 1, b"created\nrefused 1 PastEnd 80\n"),
+        // the first read of a device fails
+        (
+            "read 0 1\n",
+            &[123],
+            1,
+            b"created\nrefused 2 TooManyMissing 1 0\n",
+        ),
+        // the first write of the second member fails
+        (
+            "write 0 1 7\nread 0 1\n",
+            &[41],
+            1,
+            b"refused 9 SlotFault 1\nrefused 28 NotRunning\nrefused 28 NotRunning\n",
+        ),
+        ("# nothing\n\n", &[], 0, b"created\n"),
+    ];
+    for (lines, calls, status, output) in rows {
+        let given = Given {
+            create: true,
+            lines,
+            calls,
+            pulls: &[],
+            pushes: &[],
+        };
+        let (report, taken) = ran(&rt, rt.alloc(), &["memory"], &given)?;
+        assert_eq!(rt; report.status, status);
+        assert!(rt; taken.as_slice() == output);
+        assert_eq!(rt; report.shown, output.len() as u64);
+    }
+    Ok(())
+}
+
+// Words, whether there is a script, the pulls and pushes that fail, the status, the first bad line and the replies.
+#[test]
+fn runs_end_with_their_status(rt: HostRuntime) -> Result<(), Fail> {
+    let rows: [(&[&str], bool, &str, &[u64], &[u64], u8, u64, &[u8]); 7] = [
+        (&["run"], true, "", &[], &[], 2, 0, b""),
+        (&[], true, "", &[], &[], 2, 0, b""),
+        (&["memory"], false, "", &[], &[], 0, 0, b""),
+        (&["memory"], false, "read 0 1\n", &[], &[], 3, 1, b""),
+        (&["memory"], true, "\nread 0 129\n", &[], &[], 3, 3, b""),
+        (&["memory"], true, "read 0 1\n", &[0], &[], 4, 0, b""),
+        (&["memory"], true, "write 0 1 7\nread 0 2\n", &[], &[1], 5, 0, b"created\n"),
+    ];
+    for (words, create, lines, pulls, pushes, status, bad_line, output) in rows {
+        let given = Given {
+            create,
+            lines,
+            calls: &[],
+            pulls,
+            pushes,
+        };
+        let (report, taken) = ran(&rt, rt.alloc(), words, &given)?;
+        assert_eq!(rt; report.status, status);
+        assert_eq!(rt; report.bad_line, bad_line);
+        assert!(rt; taken.as_slice() == output);
+    }
+    Ok(())
+}
