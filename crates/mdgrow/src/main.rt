@@ -1,7 +1,8 @@
 //! The program: makes the source, the sink and the bank that its words ask for, runs, and ends with the run's status.
 #![tactic(auto)]
 
-ghost use Rattle.std.specs.Prelude.{◌≤◌};
+ghost use Rattle.std.specs.Prelude.{◌≡◌, ◌≤◌, length, map, string_bytes, None, IfOk};
+ghost use Rattle.runner.specs.Words.{command_in};
 
 use bank::MemoryBank;
 use runner::{Command, Pace, command_of, run};
@@ -38,13 +39,20 @@ struct Ended {
     bad_line: u64,
 }
 
-fn memory_bank(alloc: Global) -> Result<MemoryBank, AllocError> {
+fn memory_bank(alloc: Global) -> Result<MemoryBank, AllocError>
+    ensures { IfOk result (λ bank. length bank.start ≡ 8) }
+{
     let lengths = vec![in alloc; SECTORS; SLOTS]?;
     MemoryBank::new(alloc, lengths, ROOM, Vec::new(alloc))
 }
 
 // Words that are no command's form open nothing.
-fn run_without_command<R: Print + AllocGlobal + Threads + Wait + Sync>(rt: &R, words: &[String]) -> Result<Ended, AllocError> {
+fn run_without_command<R: Print + AllocGlobal + Threads + Wait + Sync>(
+    rt: &R,
+    words: &[String],
+) -> Result<Ended, AllocError>
+    requires { command_in (map string_bytes words.now) ≡ None }
+{
     let alloc = rt.alloc();
     let mut source = MemorySource::new(Vec::new(alloc), Vec::new(alloc));
     let mut sink = StdSink::new(io::writer(rt));
