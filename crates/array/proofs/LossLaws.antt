@@ -1,7 +1,7 @@
 -- What a history tells of losses, and where it ended.
 use Rattle.std.proofs.Common.{◌≡◌, ℕ, inl, inr, ◌^◌, ◌-◌, Bool, true, false, List, [], ◌∷◌, ◌++◌, length, sym, ◌∙◌, ap, subst, arith, append_assoc, append-nil}
 use Rattle.std.proofs.lemmas.Bool.{cases_eq}
-use Rattle.std.proofs.lemmas.List.Elements.{All-nil, All-cons, All-head, All-tail, All-append, All-weaker}
+use Rattle.std.proofs.lemmas.List.Elements.{All-nil, All-append, All-weaker}
 use Rattle.std.specs.List.{All}
 use Rattle.md_base.specs.Sectors.{Sector}
 use Rattle.md_base.specs.declared.answers.Who.{Who}
@@ -16,7 +16,7 @@ use Rattle.flat_history.specs.declared.events.Request.{Request}
 use Rattle.flat_history.specs.Plain.{Opening, entries_of}
 use Rattle.flat_history.specs.Transfers.{last_end_from}
 use Rattle.array.specs.Kept.{failure_events, IsLossOf, AreLossesOf, IsEndOf, IsReplied}
-use Rattle.array.proofs.PlainLaws.{one, last_end-call}
+use Rattle.array.proofs.PlainLaws.{last_end-call}
 
 -- ---- a slot that has failed since some moment
 
@@ -65,31 +65,6 @@ pub losses-whole : {before made now : ℕ → ℕ} {entries : List Entry} → Ne
     → All (λ e. IsLossOf before now e.event) entries
 losses-whole {before = before} {now = now} early late was =
     subst (λ (l : List Entry). All (λ e. IsLossOf before now e.event) l) (sym was.grown) (failed-wider was.more early late (stays now) was.failed)
-
--- ---- one call
-
-entries-losses : (before now : ℕ → ℕ) (who : Who) (end : ℕ) (events : List Event) → All (λ event. IsLossOf before now event) events → All (λ e. IsLossOf before now e.event) (entries_of who end events)
-entries-losses before now who end [] losses = All-nil (λ e. IsLossOf before now e.event)
-entries-losses before now who end (event ∷ events) losses =
-    All-cons (λ e. IsLossOf before now e.event) (one who end event) (entries_of who end events) (All-head (λ e. IsLossOf before now e) event events losses)
-    (entries-losses before now who end events (All-tail (λ e. IsLossOf before now e) event events losses))
-
-pub losses-call : (before now : ℕ → ℕ) {old new : List Entry} (who : Who) (end : ℕ) (events : List Event) → new ≡ old ++ entries_of who end events → All (λ event. IsLossOf before now event) events
-    → AreLossesOf before now old new
-losses-call before now who end events is losses = record { more = entries_of who end events; grown = is; failed = entries-losses before now who end events losses }
-
-pub losses-failure : (before now : ℕ → ℕ) (torn : Bool) (role at : ℕ) (body : List Sector) → IsFaulted role before now → All (λ event. IsLossOf before now event) (failure_events torn role at body)
-losses-failure before now true role at body failed =
-    let P : Event → Type 0 = λ event. IsLossOf before now event in
-    All-cons P (Lost role Fault) (Torn at body ∷ Refused (TooManyMissing 1 0) ∷ []) failed
-    (All-cons P (Torn at body) (Refused (TooManyMissing 1 0) ∷ []) tt (All-cons P (Refused (TooManyMissing 1 0)) [] tt (All-nil P)))
-losses-failure before now false role at body failed =
-    let P : Event → Type 0 = λ event. IsLossOf before now event in
-    All-cons P (Lost role Fault) (Refused (TooManyMissing 1 0) ∷ []) failed (All-cons P (Refused (TooManyMissing 1 0)) [] tt (All-nil P))
-
--- an event that loses nothing
-pub losses-quiet : (before now : ℕ → ℕ) (event : Event) → IsLossOf before now event → All (λ event. IsLossOf before now event) (event ∷ [])
-losses-quiet before now event quiet = All-cons (λ event. IsLossOf before now event) event [] quiet (All-nil (λ event. IsLossOf before now event))
 
 -- ---- where a call ended
 

@@ -1,5 +1,5 @@
 -- What an array keeps, over plain data.
-use Rattle.std.specs.Prelude.{Bool, true, false, ◌≡◌, ℕ, ◌+◌, ◌-◌, ◌*◌, ◌^◌, ◌<◌, ◌≤◌, ◌++◌, List, [], ◌∷◌, length, replicate, Option, Some, None, Result, Ok, Err, MatchOption, IsSome, IsTrue, ⊤}
+use Rattle.std.specs.Prelude.{Bool, true, false, ◌≡◌, ℕ, ◌+◌, ◌-◌, ◌*◌, ◌^◌, ◌<◌, ◌≤◌, ◌++◌, List, [], ◌∷◌, length, drop, replicate, Option, Some, None, Result, Ok, Err, MatchOption, IsSome, IsTrue, ⊤}
 use Rattle.std.specs.List.{list_any, All}
 use Rattle.md_base.specs.declared.places.Shape.{Shape}
 use Rattle.md_base.specs.declared.answers.Who.{Who}
@@ -104,6 +104,14 @@ pub record AreLossesOf (before now : ℕ → ℕ) (old new : List Entry) : Type 
   pub more : List Entry
   pub grown : new ≡ old ++ more
   pub failed : All (λ e. IsLossOf before now e.event) more
+
+-- one of the entries behind the old ones tells of a torn write
+abbrev pub is_torn : Event → Bool
+is_torn (Torn at body) = true
+is_torn event = false
+
+abbrev pub has_torn : List Entry → List Entry → Bool
+has_torn old new = list_any (λ e. is_torn e.event) (drop (length old) new)
 
 -- the tape stands where the last entry ended; at the opening mark, if there is none
 abbrev pub IsEndOf : Type 0 → ℕ → List Entry → List Operation → Type 0

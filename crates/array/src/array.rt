@@ -1,6 +1,6 @@
 //! An array that is read and written, and keeps its history.
 
-ghost use Rattle.std.specs.Prelude.{◌≡◌, ◌≢◌, ◌⊎◌, ◌++◌, [], ◌∷◌, ◌+◌, ◌-◌, ◌*◌, ◌/◌, ◌^◌, ◌<◌, ◌≤◌, ℕ, List, length, Option, Some, None, IfOk, OnOk, IfErr, IfSome, IfNone, IsTrue, vec_len, vec_capacity};
+ghost use Rattle.std.specs.Prelude.{◌≡◌, ◌≢◌, ◌⊎◌, ◌++◌, [], ◌∷◌, ◌+◌, ◌-◌, ◌*◌, ◌/◌, ◌^◌, ◌<◌, ◌≤◌, ℕ, List, length, Option, Some, None, IfOk, OnOk, IfErr, OnErr, IfSome, IfNone, IsTrue, IsFalse, vec_len, vec_capacity};
 ghost use Rattle.bank.specs.Given.{IsFaulted, NeverFalls};
 ghost use Rattle.bank.specs.Tape.{AreSectors};
 ghost use Rattle.md_base.specs.Sectors.{IsWhole, sectors_of};
@@ -11,7 +11,7 @@ ghost use Rattle.flat_history.specs.declared.events.Event.TheVariants.{Read, Wro
 ghost use Rattle.md_base.specs.declared.answers.Fault.TheVariants.{NoMemory as WantsMemory};
 ghost use Rattle.flat_history.specs.declared.events.Request.TheVariants.{Read as AsksRead, Write as AsksWrite};
 ghost use Rattle.array.specs.Rows.{present, AreMembers};
-ghost use Rattle.array.specs.Kept.{opening_of, zero_list, Holds, IsEntered, IsPlaced, IsAnswered, IsCausedBy, IsMade, IsNotMadeFor, IsSameArray, IsRefusalOf, AreLossesOf, IsEndOf, IsHandedBack};
+ghost use Rattle.array.specs.Kept.{opening_of, zero_list, Holds, IsEntered, IsPlaced, IsAnswered, IsCausedBy, IsMade, IsNotMadeFor, IsSameArray, IsRefusalOf, AreLossesOf, IsEndOf, IsHandedBack, has_torn};
 ghost use Rattle.array.specs.Creating.{IsLastSlot, create_refusal};
 
 use crate::calls::{check_number, enter, enter_failure, enter_loss};
@@ -142,8 +142,8 @@ fn room_for(alloc: Global) -> Result<Room, Fault>
     })
 }
 
-/// Makes an array of zeros over the first slots of the bank; no slot but its members is written. Refusals in order:
-/// `BadShape`, `SizeNotMultiple`, `NoSuchSlot`, `SlotTooSmall`, then `NoMemory`, which all write nothing, then `SlotFault`.
+/// Makes an array of zeros over the first slots of the bank. Refusals in order: `BadShape`, `SizeNotMultiple`,
+/// `NoSuchSlot`, `SlotTooSmall`, then `NoMemory`, which all write nothing, then `SlotFault`.
 pub fn create<B: Bank>(
     alloc: Global,
     bank: B,
@@ -226,6 +226,7 @@ impl<B: Bank> Array<B> {
         requires short { at + length into.old / 512 < 2 ^ 63 }
         ensures answered { IsAnswered (opening_of self.old.shape self.old.size self.old.first) (AsksRead at (length into.old / 512)) who self.old.entries self.new.entries (Read at (sectors_of into.new)) result }
         ensures holds { OnOk result (B.tells → AreSectors (now (zero_list self.old.shape self.old.size) self.old.entries) at into.new) }
+        ensures tape { B.tells → B.tape self.new.bank ≡ B.tape self.old.bank }
         ensures caused { IsCausedBy self.old.lost self.new.lost (B.faults_of self.old.bank) (B.faults_of self.new.bank) result }
         ensures losses { AreLossesOf (B.faults_of self.old.bank) (B.faults_of self.new.bank) self.old.entries self.new.entries }
         ensures ended { IsEndOf B.tells self.new.first self.new.entries (B.tape self.new.bank) }
@@ -284,6 +285,7 @@ impl<B: Bank> Array<B> {
         requires few { length from.now / 512 ≤ 128 }
         requires short { at + length from.now / 512 < 2 ^ 63 }
         ensures answered { IsAnswered (opening_of self.old.shape self.old.size self.old.first) (AsksWrite at (sectors_of from.now)) who self.old.entries self.new.entries (Wrote at (sectors_of from.now)) result }
+        ensures untouched { OnErr result (IsFalse (has_torn self.old.entries self.new.entries) → B.tells → B.tape self.new.bank ≡ B.tape self.old.bank) }
         ensures caused { IsCausedBy self.old.lost self.new.lost (B.faults_of self.old.bank) (B.faults_of self.new.bank) result }
         ensures losses { AreLossesOf (B.faults_of self.old.bank) (B.faults_of self.new.bank) self.old.entries self.new.entries }
         ensures ended { IsEndOf B.tells self.new.first self.new.entries (B.tape self.new.bank) }
