@@ -1,4 +1,4 @@
-/* Times `syndromes` of the crates parity and parity_lanes against a plain loop in C, on rows of data with P and Q. */
+/* Times the calls of the crates parity and parity_lanes, and P and Q also against a plain loop in C. */
 #include <stdint.h>
 #include <stdio.h>
 #include <stdlib.h>
@@ -12,6 +12,12 @@ enum { SECTOR = 512, MOST_DISKS = 16, MOST_ROWS = 16, WORK = 10000, RUNS = 25 };
 
 void parity_syndromes(uint8_t *row, size_t length, uint32_t disks, uint32_t p, uint32_t q);
 void parity_lanes_syndromes(uint8_t *row, size_t length, uint32_t disks, uint32_t p, uint32_t q);
+void parity_plain_syndromes(uint8_t *row, size_t length, uint32_t disks, uint32_t p);
+void parity_lanes_plain_syndromes(uint8_t *row, size_t length, uint32_t disks, uint32_t p);
+void parity_fill_one(uint8_t *row, size_t length, uint32_t disks, uint32_t p, uint32_t q, uint32_t missing);
+void parity_lanes_fill_one(uint8_t *row, size_t length, uint32_t disks, uint32_t p, uint32_t q, uint32_t missing);
+void parity_fill_two(uint8_t *row, size_t length, uint32_t disks, uint32_t p, uint32_t q, uint32_t first, uint32_t second);
+void parity_lanes_fill_two(uint8_t *row, size_t length, uint32_t disks, uint32_t p, uint32_t q, uint32_t first, uint32_t second);
 void plain_loop(uint8_t *row, int disks);
 void plain_loop_native(uint8_t *row, int disks);
 
@@ -44,6 +50,17 @@ static void by_lanes(void)
     for (int i = 0; i < count; i++)
         parity_lanes_syndromes(row_at(i), (size_t)disks * SECTOR, disks, disks - 1, 0);
 }
+
+/* The other calls, on one row. */
+static size_t length(void) { return (size_t)disks * SECTOR; }
+static void p_by_parity(void) { parity_plain_syndromes(rows, length(), disks, disks - 1); }
+static void p_by_lanes(void) { parity_lanes_plain_syndromes(rows, length(), disks, disks - 1); }
+static void data_by_parity(void) { parity_fill_one(rows, length(), disks, disks - 1, 0, 1); }
+static void data_by_lanes(void) { parity_lanes_fill_one(rows, length(), disks, disks - 1, 0, 1); }
+static void q_by_parity(void) { parity_fill_one(rows, length(), disks, disks - 1, 0, 0); }
+static void q_by_lanes(void) { parity_lanes_fill_one(rows, length(), disks, disks - 1, 0, 0); }
+static void two_by_parity(void) { parity_fill_two(rows, length(), disks, disks - 1, 0, 1, 2); }
+static void two_by_lanes(void) { parity_lanes_fill_two(rows, length(), disks, disks - 1, 0, 1, 2); }
 
 #ifdef WITH_ISA_L
 static void by_isa_l(void)
@@ -112,6 +129,48 @@ static int measure(struct way *ways, int way_count)
     return 0;
 }
 
+/* One call of both crates on a row, of which these roles are set. */
+static int measure_call(const char *name, void (*make)(void), int first, int second, void (*plain)(void), void (*lanes)(void))
+{
+    static uint8_t expected[sizeof rows];
+    struct way ways[] = {{"parity", plain, 1e18}, {"lanes", lanes, 1e18}};
+    for (size_t i = 0; i < length(); i++)
+        rows[i] = (uint8_t)rand();
+    make();
+    memcpy(expected, rows, length());
+    for (int w = 0; w < 2; w++) {
+        memset(rows + first * SECTOR, 0x5a, SECTOR);
+        memset(rows + second * SECTOR, 0x5a, SECTOR);
+        ways[w].call();
+        if (memcmp(expected, rows, length()) != 0) {
+            printf("%s, %s differs\n", name, ways[w].name);
+            return 1;
+        }
+    }
+    for (int run = 0; run < RUNS; run++)
+        for (int w = 0; w < 2; w++) {
+            double each = timed(ways[w].call);
+            if (each < ways[w].least)
+                ways[w].least = each;
+        }
+    printf("%2d sectors, %-14s parity %5.0f ns, lanes %4.0f ns, parity/lanes %.2f\n", disks, name, ways[0].least,
+           ways[1].least, ways[0].least / ways[1].least);
+    fflush(stdout);
+    return 0;
+}
+
+/* All calls on rows of so many sectors. */
+static int measure_calls(int sectors)
+{
+    disks = sectors;
+    count = 1;
+    return measure_call("P and Q:", by_parity, 0, disks - 1, by_parity, by_lanes)
+        || measure_call("P alone:", p_by_parity, disks - 1, disks - 1, p_by_parity, p_by_lanes)
+        || measure_call("missing data:", by_parity, 1, 1, data_by_parity, data_by_lanes)
+        || measure_call("missing Q:", by_parity, 0, 0, q_by_parity, q_by_lanes)
+        || measure_call("missing two:", by_parity, 1, 2, two_by_parity, two_by_lanes);
+}
+
 int main(void)
 {
     static const struct { int data, count; } cases[] = {{8, 1}, {8, 6}, {8, 16}, {4, 1}, {14, 1}};
@@ -141,5 +200,5 @@ int main(void)
         printf("\n");
         fflush(stdout);
     }
-    return 0;
+    return measure_calls(6) || measure_calls(16);
 }

@@ -1,10 +1,10 @@
-//! `syndromes` for a caller in C: of the crate `parity`, and of `parity_lanes`.
+//! The calls of the crates `parity` and `parity_lanes` for a caller in C.
 #![tactic(auto)]
 
-ghost use Rattle.std.specs.Prelude.{◌≡◌, ◌≢◌, ◌<◌, ◌≤◌, ℕ, Some, IsTrue};
+ghost use Rattle.std.specs.Prelude.{◌≡◌, ◌≢◌, ◌==◌, ◌<◌, ◌≤◌, ◌||◌, ℕ, Some, None, IsTrue, if◌then◌else◌};
 ghost use Rattle.parity.specs.Exponents.{is_data};
-ghost use Rattle.parity.specs.Parity.{AreEquationsMet};
-ghost use Rattle.parity.specs.Rows.{IsRowOf, sector_of, whole_row};
+ghost use Rattle.parity.specs.Parity.{AreEquationsMet, fill};
+ghost use Rattle.parity.specs.Rows.{IsRowOf, sector_of, row_without, whole_row};
 
 use md_base::RowRoles;
 
@@ -28,7 +28,74 @@ pub extern "C" fn parity_syndromes(row: &mut [u8], disks: u32, p: u32, q: u32)
     );
 }
 
-/// The same by vectors.
+/// Sets P alone, of a row without Q.
+#[unsafe(no_mangle)]
+pub extern "C" fn parity_plain_syndromes(row: &mut [u8], disks: u32, p: u32)
+    requires disks { disks ≤ 16 }
+    requires p { p < disks }
+    requires whole { IsRowOf disks row.old }
+    ensures good { AreEquationsMet (record { disks = disks; p = p; q = None }) (whole_row disks (sector_of row.new)) }
+    ensures data { (role : ℕ) → IsTrue (is_data (record { disks = disks; p = p; q = None }) role) → sector_of row.new role ≡ sector_of row.old role }
+{
+    parity::syndromes(row, &RowRoles { disks, p, q: None });
+}
+
+/// Sets the sector of one missing role.
+#[unsafe(no_mangle)]
+pub extern "C" fn parity_fill_one(row: &mut [u8], disks: u32, p: u32, q: u32, missing: u32)
+    requires disks { disks ≤ 16 }
+    requires p { p < disks }
+    requires q { (q < disks) × (q ≢ p) }
+    requires whole { IsRowOf disks row.old }
+    requires missing { missing < disks }
+    ensures filled { sector_of row.new missing ≡ fill (record { disks = disks; p = p; q = Some q }) (row_without (λ role. role == missing) disks (sector_of row.old)) missing }
+    ensures others { (role : ℕ) → role ≢ missing → sector_of row.new role ≡ sector_of row.old role }
+{
+    parity::fill_one(
+        row,
+        &RowRoles {
+            disks,
+            p,
+            q: Some(q),
+        },
+        missing,
+    );
+}
+
+/// Sets the sectors of two missing roles.
+#[unsafe(no_mangle)]
+pub extern "C" fn parity_fill_two(
+    row: &mut [u8],
+    disks: u32,
+    p: u32,
+    q: u32,
+    first: u32,
+    second: u32,
+)
+    requires disks { disks ≤ 16 }
+    requires p { p < disks }
+    requires q { (q < disks) × (q ≢ p) }
+    requires whole { IsRowOf disks row.old }
+    requires first { first < disks }
+    requires second { second < disks }
+    requires differ { first ≢ second }
+    ensures first { sector_of row.new first ≡ fill (record { disks = disks; p = p; q = Some q }) (row_without (λ role. (role == first) || (role == second)) disks (sector_of row.old)) first }
+    ensures second { sector_of row.new second ≡ fill (record { disks = disks; p = p; q = Some q }) (row_without (λ role. (role == first) || (role == second)) disks (sector_of row.old)) second }
+    ensures others { (role : ℕ) → role ≢ first → role ≢ second → sector_of row.new role ≡ sector_of row.old role }
+{
+    parity::fill_two(
+        row,
+        &RowRoles {
+            disks,
+            p,
+            q: Some(q),
+        },
+        first,
+        second,
+    );
+}
+
+/// Sets P and Q by vectors.
 #[unsafe(no_mangle)]
 pub extern "C" fn parity_lanes_syndromes(row: &mut [u8], disks: u32, p: u32, q: u32)
     requires disks { disks ≤ 16 }
@@ -45,5 +112,72 @@ pub extern "C" fn parity_lanes_syndromes(row: &mut [u8], disks: u32, p: u32, q: 
             p,
             q: Some(q),
         },
+    );
+}
+
+/// Sets P alone, by vectors.
+#[unsafe(no_mangle)]
+pub extern "C" fn parity_lanes_plain_syndromes(row: &mut [u8], disks: u32, p: u32)
+    requires disks { disks ≤ 16 }
+    requires p { p < disks }
+    requires whole { IsRowOf disks row.old }
+    ensures good { AreEquationsMet (record { disks = disks; p = p; q = None }) (whole_row disks (sector_of row.new)) }
+    ensures data { (role : ℕ) → IsTrue (is_data (record { disks = disks; p = p; q = None }) role) → sector_of row.new role ≡ sector_of row.old role }
+{
+    parity_lanes::syndromes(row, &RowRoles { disks, p, q: None });
+}
+
+/// Sets the sector of one missing role by vectors.
+#[unsafe(no_mangle)]
+pub extern "C" fn parity_lanes_fill_one(row: &mut [u8], disks: u32, p: u32, q: u32, missing: u32)
+    requires disks { disks ≤ 16 }
+    requires p { p < disks }
+    requires q { (q < disks) × (q ≢ p) }
+    requires whole { IsRowOf disks row.old }
+    requires missing { missing < disks }
+    ensures filled { sector_of row.new missing ≡ fill (record { disks = disks; p = p; q = Some q }) (row_without (λ role. role == missing) disks (sector_of row.old)) missing }
+    ensures others { (role : ℕ) → role ≢ missing → sector_of row.new role ≡ sector_of row.old role }
+{
+    parity_lanes::fill_one(
+        row,
+        &RowRoles {
+            disks,
+            p,
+            q: Some(q),
+        },
+        missing,
+    );
+}
+
+/// Sets the sectors of two missing roles by vectors.
+#[unsafe(no_mangle)]
+pub extern "C" fn parity_lanes_fill_two(
+    row: &mut [u8],
+    disks: u32,
+    p: u32,
+    q: u32,
+    first: u32,
+    second: u32,
+)
+    requires disks { disks ≤ 16 }
+    requires p { p < disks }
+    requires q { (q < disks) × (q ≢ p) }
+    requires whole { IsRowOf disks row.old }
+    requires first { first < disks }
+    requires second { second < disks }
+    requires differ { first ≢ second }
+    ensures first { sector_of row.new first ≡ fill (record { disks = disks; p = p; q = Some q }) (row_without (λ role. (role == first) || (role == second)) disks (sector_of row.old)) first }
+    ensures second { sector_of row.new second ≡ fill (record { disks = disks; p = p; q = Some q }) (row_without (λ role. (role == first) || (role == second)) disks (sector_of row.old)) second }
+    ensures others { (role : ℕ) → role ≢ first → role ≢ second → sector_of row.new role ≡ sector_of row.old role }
+{
+    parity_lanes::fill_two(
+        row,
+        &RowRoles {
+            disks,
+            p,
+            q: Some(q),
+        },
+        first,
+        second,
     );
 }

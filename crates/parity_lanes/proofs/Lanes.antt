@@ -1,11 +1,12 @@
 -- Facts about one block of 64 lanes, stored at its place in a sector.
 use Rattle.std.proofs.Common.{◌≡◌, ℕ, suc, ◌+◌, ◌-◌, ◌*◌, ◌/◌, ◌<◌, ◌≤◌, inl, inr, List, [], ◌∷◌, length, get_or, refl, sym, ap, ap₂, ◌∙◌, arith}
-use Rattle.std.specs.Int.Bits.{bit_xor, xor_assoc, xor_zero_l}
+use Rattle.std.specs.Int.Bits.{bit_xor, xor_assoc, xor_comm, xor_zero_l}
 use Rattle.std.specs.Simd.Lanes.{zip2, chunk, put_chunk}
 use Rattle.std.proofs.Common.{Bool, true, false, cond, leb, nat_eq, eqb-true, ◌%◌, ◌^◌, map, replicate, w8}
 use lib.Lanes.{sel_l, top, Each1}
 use mir.Val.{bits, hbits}
 use Rattle.gf256.specs.Field.{double, product_of_bits}
+use Rattle.parity.specs.Rows.{byte_of}
 use Rattle.gf256.proofs.FieldLaws.{double-lt, bits-suc}
 use Rattle.std.proofs.Math.Nat.{zero-mul, one-mul}
 use Rattle.std.proofs.lemmas.Bool.{cases_lt, agree_below_at}
@@ -40,6 +41,12 @@ xor_lane v w i hv hw lt = get_or-zip2 bit_xor v w i 0 0 0 (omega arith) (omega a
 -- a vector that was loaded
 pub loaded_lane : (at : ℕ) (xs v : List ℕ) (j : ℕ) → v ≡ chunk at 64 xs → j < 64 → get_or v j 0 ≡ get_or xs (at + j) 0
 loaded_lane at xs v j e lt = ap (λ (u : List ℕ). get_or u j 0) e ∙ get_or-chunk at 64 xs j 0 lt
+
+-- one that was loaded from a role's sector
+pub loaded_byte : (row v : List ℕ) (role at i : ℕ) → v ≡ chunk (512 * role + at) 64 row → i < 64 → get_or v i 0 ≡ byte_of row role (at + i)
+loaded_byte row v role at i e lt =
+    let places : 512 * role + at + i ≡ 512 * role + (at + i) = omega arith in
+    loaded_lane (512 * role + at) row v i e lt ∙ ap (λ (k : ℕ). get_or row k 0) places
 
 pub lanes_below : (xs : List ℕ) → ((i : ℕ) → i < length xs → get_or xs i 0 < 256) → Each1 (λ x. x < 256) xs
 lanes_below [] small = tt
@@ -104,6 +111,34 @@ pub doubled_below : (v : List ℕ) → length v ≡ 64 → Each1 (λ x. x < 256)
 doubled_below v h each = lanes_below (doubled_lanes v) (λ i lt.
     let below : i < 64 = omega (arith, lt, doubled_len v h) in
     rw (doubled_at v i h each below) (double-lt (get_or v i 0) (Each1-get_or (λ (x : ℕ). x < 256) v i 0 (omega arith) each)))
+
+-- ---- doubling with another vector added
+
+abbrev twice : List ℕ → List ℕ
+twice v = zip2 (λ (a b : ℕ). (a + b) % 256) v v
+
+abbrev pub doubled_with : List ℕ → List ℕ → List ℕ
+doubled_with v w = zip2 bit_xor (zip2 bit_xor w (returned v)) (twice v)
+
+twice-len : (v : List ℕ) → length v ≡ 64 → length (twice v) ≡ 64
+twice-len v h = length-zip2 (λ (a b : ℕ). (a + b) % 256) v v refl ∙ h
+
+pub doubled_with-len : (v w : List ℕ) → length v ≡ 64 → length w ≡ 64 → length (doubled_with v w) ≡ 64
+doubled_with-len v w hv hw = xor-len (zip2 bit_xor w (returned v)) (twice v) (xor-len w (returned v) hw (returned_len v hv)) (twice-len v hv)
+
+regrouped : (w r t : ℕ) → bit_xor (bit_xor w r) t ≡ bit_xor (bit_xor t r) w
+regrouped w r t = xor_assoc w r t ∙ ap (bit_xor w) (xor_comm r t) ∙ xor_comm w (bit_xor t r)
+
+pub doubled_with_at : (v w : List ℕ) (i : ℕ) → length v ≡ 64 → length w ≡ 64 → Each1 (λ x. x < 256) v → i < 64
+    → get_or (doubled_with v w) i 0 ≡ bit_xor (double (get_or v i 0)) (get_or w i 0)
+doubled_with_at v w i hv hw each lt =
+    let at : i < length v = omega arith in
+    let x : ℕ = get_or v i 0 in
+    xor_lane (zip2 bit_xor w (returned v)) (twice v) i (xor-len w (returned v) hw (returned_len v hv)) (twice-len v hv) lt
+    ∙ ap₂ bit_xor (xor_lane w (returned v) i hw (returned_len v hv) lt ∙ ap (bit_xor (get_or w i 0)) (returned_at v i hv lt))
+    (get_or-zip2 (λ (a b : ℕ). (a + b) % 256) v v i 0 0 0 at at)
+    ∙ regrouped (get_or w i 0) (cond (leb 128 x) 29 0) ((x + x) % 256)
+    ∙ ap (λ (k : ℕ). bit_xor k (get_or w i 0)) (doubles_at x (Each1-get_or (λ (k : ℕ). k < 256) v i 0 at each))
 
 -- ---- a factor, bit by bit
 

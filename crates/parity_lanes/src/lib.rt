@@ -1,6 +1,7 @@
 //! The parity of a row by vectors of bytes: the calls of `parity`, with the same clauses.
 #![tactic(auto)]
 
+mod order;
 mod row;
 mod sectors;
 mod sums;

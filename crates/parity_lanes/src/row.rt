@@ -1,12 +1,12 @@
 //! The parity of a row, and its lacking roles.
 ghost use Rattle.std.specs.Prelude.{◌≡◌, ◌≢◌, ◌==◌, ℕ, ◌<◌, ◌||◌, false, IsTrue, IsSome, if◌then◌else◌, slice_index};
 ghost use Rattle.std.specs.Int.Bits.{bit_xor};
-ghost use Rattle.parity.specs.Exponents.{is_data, is_q};
-ghost use Rattle.parity.specs.Parity.{p_byte, q_byte, fill, AreEquationsMet};
-ghost use Rattle.parity.specs.Rows.{IsRowRoles, IsRowOf, byte_of, bytes_at, sector_of, row_without, whole_row};
+ghost use Rattle.parity.specs.Exponents.{is_data};
+ghost use Rattle.parity.specs.Parity.{fill, AreEquationsMet};
+ghost use Rattle.parity.specs.Rows.{IsRowRoles, IsRowOf, sector_of, row_without, whole_row};
 
-use crate::sectors::{add_sector, combination, put_sector, sector};
-use crate::sums::{Sums, both_sums, plain_sum, rests, weights_of};
+use crate::sectors::{combination, put_sector};
+use crate::sums::{Sums, rests, set_both, set_q, set_rest, weights_of};
 use gf256::{inv, mul};
 use md_base::RowRoles;
 
@@ -18,34 +18,9 @@ pub fn syndromes(row: &mut [u8], roles: &RowRoles)
     ensures data { (role : ℕ) → IsTrue (is_data roles.now role) → sector_of row.new role ≡ sector_of row.old role }
 {
     match roles.q {
-        None => {
-            let sum = plain_sum(row, roles);
-            put_sector(row, roles.p, &sum);
-        }
-        Some(q) => {
-            let Sums { plain, weighed } = both_sums(row, roles, q);
-            put_sector(row, roles.p, &plain);
-            put_sector(row, q, &weighed);
-        }
+        None => set_rest(row, roles, roles.p),
+        Some(q) => set_both(row, roles, q),
     }
-}
-
-// The sector of a role that is missing alone, from a row that has zeros there.
-fn missing_sector(row: &[u8], roles: &RowRoles, missing: u32) -> [u8; 512]
-    requires roles { IsRowRoles roles.now }
-    requires whole { IsRowOf roles.now.disks row.now }
-    ensures q { IsTrue (is_q roles.now missing) → (at : ℕ) → at < 512 → slice_index result at ≡ q_byte roles.now missing (bytes_at roles.now.disks row.now at) }
-    ensures other { is_q roles.now missing ≡ false → (at : ℕ) → at < 512 → slice_index result at ≡ bit_xor (p_byte roles.now (bytes_at roles.now.disks row.now at)) (byte_of row.now roles.now.p at) }
-{
-    if let Some(q) = roles.q {
-        if q == missing {
-            let Sums { plain: _, weighed } = both_sums(row, roles, q);
-            return weighed;
-        }
-    }
-    let mut sum = plain_sum(row, roles);
-    add_sector(&mut sum, sector(row, roles.p));
-    sum
 }
 
 /// Sets the sector of one missing role from those of the others: Q from the data, any other from the data and P.
@@ -56,9 +31,13 @@ pub fn fill_one(row: &mut [u8], roles: &RowRoles, missing: u32)
     ensures filled { sector_of row.new missing ≡ fill roles.now (row_without (λ role. role == missing) roles.now.disks (sector_of row.old)) missing }
     ensures others { (role : ℕ) → role ≢ missing → sector_of row.new role ≡ sector_of row.old role }
 {
-    put_sector(row, missing, &[0; 512]);
-    let sector = missing_sector(row, roles, missing);
-    put_sector(row, missing, &sector);
+    if let Some(q) = roles.q {
+        if q == missing {
+            set_q(row, roles, q);
+            return;
+        }
+    }
+    set_rest(row, roles, missing);
 }
 
 /// Sets the sectors of two missing roles of a row that has a Q, from those of the others.

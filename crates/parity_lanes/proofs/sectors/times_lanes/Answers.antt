@@ -1,5 +1,5 @@
-use Rattle.std.proofs.Common.{◌≡◌, ℕ, suc, ◌+◌, ◌-◌, ◌/◌, ◌%◌, List, length, get_or, refl, sym, ap, ◌∙◌, arith}
-use Rattle.std.proofs.lemmas.Simd.{get_or-replicate}
+use Rattle.std.proofs.Common.{◌≡◌, ℕ, suc, ◌+◌, ◌-◌, ◌/◌, ◌%◌, List, length, get_or, refl, sym, ap, ◌∙◌, arith, w8}
+use Rattle.std.proofs.lemmas.Simd.{get_or-replicate, below_from_Fits}
 use Rattle.std.specs.Int.Bits.{bit_xor, xor_zero_l, xor_zero_r}
 use Rattle.gf256.specs.Field.{double, product, product_of_bits}
 use Rattle.parity_lanes.proofs.Lanes.{xor-len, xor_lane, bit_taken, bit_left, bits_none}
@@ -10,8 +10,8 @@ pub loop-bit-init : goal.loop-bit-init
 unfolding product
 loop-bit-init c = record {
   lanes = refl;
-  terms = c.requires.lanes;
-  bytes = c.requires.bytes;
+  terms = c.fits-v.0;
+  bytes = below_from_Fits w8 c.args.v c.fits-v.1;
   value = λ i lt.
       ap (λ (x : ℕ). bit_xor x (product_of_bits 8 c.args.factor (get_or c.args.v i 0))) (get_or-replicate 64 i 0 0 lt)
       ∙ xor_zero_l (product_of_bits 8 c.args.factor (get_or c.args.v i 0));

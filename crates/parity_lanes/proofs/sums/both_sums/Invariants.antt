@@ -1,15 +1,11 @@
-use Rattle.std.proofs.Common.{◌≡◌, ℕ, ◌-◌, ◌<◌, get_or}
-use Rattle.parity.specs.Exponents.{steps_behind}
-use Rattle.parity.specs.Rows.{byte_of}
-use Rattle.parity.proofs.Totals.{total}
-use Rattle.parity.proofs.Parts.{plain_part, weighed_part}
+use Rattle.std.proofs.Common.{◌≡◌, ℕ, ◌*◌, ◌<◌, get_or}
+use Rattle.parity.specs.Parity.{p_byte, q_byte}
+use Rattle.parity.specs.Rows.{bytes_at}
 use Rattle.parity_lanes.proofs.sums.both_sums.Given as goal
 
--- the sums of the data from the role's steps behind Q on
-abbrev pub invariant-loop-passed : goal.invariant-loop-passed
-invariant-loop-passed l = record {
-  within : l.role < l.roles.disks;
-  steps : steps_behind l.roles l.q l.role ≡ l.roles.disks - l._passed;
-  plain : (at : ℕ) → at < 512 → get_or l.plain at 0 ≡ total l.roles.disks (plain_part l.roles l.q (λ r. byte_of l.row r at) (l.roles.disks - l._passed));
-  weighed : (at : ℕ) → at < 512 → get_or l.weighed at 0 ≡ total l.roles.disks (weighed_part l.roles l.q (λ r. byte_of l.row r at) (l.roles.disks - l._passed));
+-- the blocks that were summed
+abbrev pub invariant-loop-block : goal.invariant-loop-block
+invariant-loop-block l = record {
+  plain : (k : ℕ) → k < l.block * 64 → get_or l.plain k 0 ≡ p_byte l.roles (bytes_at l.roles.disks l.row k);
+  weighed : (k : ℕ) → k < l.block * 64 → get_or l.weighed k 0 ≡ q_byte l.roles l.q (bytes_at l.roles.disks l.row k);
 }
