@@ -88,6 +88,11 @@ IsCausedBy lost after before now (Ok x) = (lost ≡ None) × (after ≡ None)
 IsCausedBy lost after before now (Err (IsRefusedWith refusal)) = IsRefusedBy lost after before now refusal
 IsCausedBy lost after before now (Err NoMemory) = after ≡ lost
 
+-- a fact that holds where memory was short
+abbrev pub OnNoMemory : {T : Type 0} → Result T Fault → Type 0 → Type 0
+OnNoMemory (Err NoMemory) fact = fact
+OnNoMemory result fact = ⊤
+
 -- the reply of a read or write by its answer, with the event of an Ok
 abbrev pub IsAnswered : {T : Type 0} → Opening → Request → Who → List Entry → List Entry → Event → Result T Fault → Type 0
 IsAnswered opening request who old new event (Ok x) = IsReplied opening request who old new event

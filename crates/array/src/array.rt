@@ -11,7 +11,7 @@ ghost use Rattle.flat_history.specs.declared.events.Event.TheVariants.{Read, Wro
 ghost use Rattle.md_base.specs.declared.answers.Fault.TheVariants.{NoMemory as WantsMemory};
 ghost use Rattle.flat_history.specs.declared.events.Request.TheVariants.{Read as AsksRead, Write as AsksWrite};
 ghost use Rattle.array.specs.Rows.{present, AreMembers};
-ghost use Rattle.array.specs.Kept.{opening_of, zero_list, Holds, IsEntered, IsPlaced, IsAnswered, IsCausedBy, IsMade, IsNotMadeFor, IsSameArray, IsRefusalOf, AreLossesOf, IsEndOf, IsHandedBack, has_torn};
+ghost use Rattle.array.specs.Kept.{opening_of, zero_list, Holds, IsEntered, IsPlaced, IsAnswered, IsCausedBy, IsMade, IsNotMadeFor, IsSameArray, IsRefusalOf, AreLossesOf, IsEndOf, IsHandedBack, OnNoMemory, has_torn};
 ghost use Rattle.array.specs.Creating.{IsLastSlot, create_refusal};
 
 use crate::calls::{check_number, enter, enter_failure, enter_loss};
@@ -226,6 +226,8 @@ impl<B: Bank> Array<B> {
         requires short { at + length into.old / 512 < 2 ^ 63 }
         ensures answered { IsAnswered (opening_of self.old.shape self.old.size self.old.first) (AsksRead at (length into.old / 512)) who self.old.entries self.new.entries (Read at (sectors_of into.new)) result }
         ensures holds { OnOk result (B.tells → AreSectors (now (zero_list self.old.shape self.old.size) self.old.entries) at into.new) }
+        ensures unread { OnErr result (into.new ≡ into.old) }
+        ensures unchanged { OnNoMemory result (self.new ≡ self.old) }
         ensures tape { B.tells → B.tape self.new.bank ≡ B.tape self.old.bank }
         ensures caused { IsCausedBy self.old.lost self.new.lost (B.faults_of self.old.bank) (B.faults_of self.new.bank) result }
         ensures losses { AreLossesOf (B.faults_of self.old.bank) (B.faults_of self.new.bank) self.old.entries self.new.entries }
@@ -285,6 +287,7 @@ impl<B: Bank> Array<B> {
         requires few { length from.now / 512 ≤ 128 }
         requires short { at + length from.now / 512 < 2 ^ 63 }
         ensures answered { IsAnswered (opening_of self.old.shape self.old.size self.old.first) (AsksWrite at (sectors_of from.now)) who self.old.entries self.new.entries (Wrote at (sectors_of from.now)) result }
+        ensures unchanged { OnNoMemory result (self.new ≡ self.old) }
         ensures untouched { OnErr result (IsFalse (has_torn self.old.entries self.new.entries) → B.tells → B.tape self.new.bank ≡ B.tape self.old.bank) }
         ensures caused { IsCausedBy self.old.lost self.new.lost (B.faults_of self.old.bank) (B.faults_of self.new.bank) result }
         ensures losses { AreLossesOf (B.faults_of self.old.bank) (B.faults_of self.new.bank) self.old.entries self.new.entries }
