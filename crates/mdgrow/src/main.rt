@@ -7,12 +7,11 @@ ghost use Rattle.runner.specs.Words.{command_in};
 use bank::MemoryBank;
 use runner::{Command, Pace, command_of, run};
 use std::alloc::{AllocError, Global};
-use std::env;
-use std::io;
 use std::process::ExitCode;
 use std::rt::Env;
 use std::sync::Wait;
 use std::thread::Threads;
+use std::{env, io};
 use text_io::{MemorySource, StdSink, StdSource};
 
 // A bank in memory: seven members and the backup.
@@ -65,7 +64,10 @@ fn run_without_command<R: Print + AllocGlobal + Threads + Wait + Sync>(
     })
 }
 
-fn run_memory<R: Input + Print + AllocGlobal + Threads + Wait + Sync>(rt: &R, words: &[String]) -> Result<Ended, AllocError> {
+fn run_memory<R: Input + Print + AllocGlobal + Threads + Wait + Sync>(
+    rt: &R,
+    words: &[String],
+) -> Result<Ended, AllocError> {
     let alloc = rt.alloc();
     let mut source = StdSource::new(rt.reader());
     let mut sink = StdSink::new(io::writer(rt));
@@ -86,7 +88,9 @@ fn words_of<R: Env + AllocGlobal>(rt: &R) -> io::Result<Vec<String>> {
     Ok(words)
 }
 
-fn run_words<R: Env + Input + Print + AllocGlobal + Threads + Wait + Sync>(rt: &R) -> io::Result<Ended> {
+fn run_words<R: Env + Input + Print + AllocGlobal + Threads + Wait + Sync>(
+    rt: &R,
+) -> io::Result<Ended> {
     let words = words_of(rt)?;
     match command_of(&words) {
         Some(Command::Memory) => Ok(run_memory(rt, &words)?),

@@ -47,17 +47,17 @@ module _ {B : Type 0} {tells : Type 0} {tape : List Operation} (array : Parts B)
       → (tells → IsPlainLegal (opening_of array.shape array.size array.first) (length tape) epoch.entries.items) → (tells → epoch.last ≡ length tape)
       → IsEnded tells tape faults (Running array) array.bank (epoch ∷ [])
   ended_running faults first sized losses legal last =
-    let grown = grown_by_call array.first array.entries epoch.entries.items entered.end (Halted ∷ []) entered.is in record {
-    same_bank = refl;
-    grown = (record { first = first; more = grown.more; grown = grown.grown; later = grown.later }, tt);
-    halted = (refl, subst (λ (o : Option Entry). MatchOption o ⊥ (λ e. (e.caller ≡ 0) × (e.number ≡ next_number 0 array.entries) × (e.event ≡ Halted))) (sym halted_last) (refl, refl, refl));
-    losses = (losses, tt);
-    legal = λ told. All-cons (λ e. IsPlainLegal (opening_at (history_of e)) (length tape) e.entries.items) epoch []
-        (subst (λ (o : Opening). IsPlainLegal o (length tape) epoch.entries.items)
-        (ap (λ (n : ℕ). record { list = replicate n zero_sector; first = array.first }) sized ∙ ap (λ (n : ℕ). record { list = replicate 80 zero_sector; first = n }) (sym first)) (legal told))
-        (All-nil (λ e. IsPlainLegal (opening_at (history_of e)) (length tape) e.entries.items));
-    ended = λ told. All-cons (λ e. e.last ≡ length tape) epoch [] (last told) (All-nil (λ e. e.last ≡ length tape));
-  }
+      let grown = grown_by_call array.first array.entries epoch.entries.items entered.end (Halted ∷ []) entered.is in record {
+        same_bank = refl;
+        grown = (record { first = first; more = grown.more; grown = grown.grown; later = grown.later }, tt);
+        halted = (refl, subst (λ (o : Option Entry). MatchOption o ⊥ (λ e. (e.caller ≡ 0) × (e.number ≡ next_number 0 array.entries) × (e.event ≡ Halted))) (sym halted_last) (refl, refl, refl));
+        losses = (losses, tt);
+        legal = λ told. All-cons (λ e. IsPlainLegal (opening_at (history_of e)) (length tape) e.entries.items) epoch []
+            (subst (λ (o : Opening). IsPlainLegal o (length tape) epoch.entries.items)
+            (ap (λ (n : ℕ). record { list = replicate n zero_sector; first = array.first }) sized ∙ ap (λ (n : ℕ). record { list = replicate 80 zero_sector; first = n }) (sym first)) (legal told))
+            (All-nil (λ e. IsPlainLegal (opening_at (history_of e)) (length tape) e.entries.items));
+        ended = λ told. All-cons (λ e. e.last ≡ length tape) epoch [] (last told) (All-nil (λ e. e.last ≡ length tape));
+      }
 
 -- nothing ran
 pub ended_idle : {B : Type 0} (tells : Type 0) (tape : List Operation) (faults : ℕ → ℕ) (bank : B) → IsEnded tells tape faults (Idle bank) bank []

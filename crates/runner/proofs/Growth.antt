@@ -253,8 +253,7 @@ shown_stays setting olds news course [] (reply ∷ replies) grown was = absurd w
 shown_stays setting olds news course (line ∷ lines) [] grown was = absurd was
 shown_stays setting olds news course (line ∷ lines) (reply ∷ replies) grown (one, rest) =
     let first = answer_shown olds news reply.what grown (answer_named setting olds course line.line reply.what one.answer) in
-    let others = shown_stays setting olds news (course_after course reply.what) lines replies grown rest in
-    (
+    let others = shown_stays setting olds news (course_after course reply.what) lines replies grown rest in (
       ap (λ (t : List ℕ). (lane_text reply.lane ++ t ++ 10 ∷ []) ++ report_text news replies) (first.0) ∙ ap (λ (t : List ℕ). reply_text olds reply ++ t) (others.0),
-      ap (λ (b : Bool). b || has_refusal news replies) (first.1) ∙ ap (λ (b : Bool). is_refusal olds reply.what || b) (others.1)
+      ap (λ (b : Bool). b || has_refusal news replies) (first.1) ∙ ap (λ (b : Bool). is_refusal olds reply.what || b) (others.1),
     )

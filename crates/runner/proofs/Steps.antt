@@ -48,7 +48,6 @@ text_more : (histories : List History) (replies : List LineReply) (reply : LineR
 text_more histories replies reply =
     flat_map-append (λ r. reply_text histories r) replies (reply ∷ []) ∙ ap (λ (t : List ℕ). report_text histories replies ++ t) (append-nil (reply_text histories reply))
 
-
 module _ {B : Type 0} {given : Given} {backup : Option ℕ} {start mid now : ℕ → ℕ} {lines : List Numbered} {old : Session B} (new : Session B) (nothing numbered : Numbered)
     (early : NeverFalls start mid) (late : NeverFalls mid now) (going : old.stopped ≡ None) (performed : IsPerformed (setting_of given backup start mid) lines old)
     (lt : length old.replies.items < length lines) (here : get_or lines (length old.replies.items) nothing ≡ numbered) where
@@ -189,9 +188,9 @@ module _ {B : Type 0} {given : Given} {backup : Option ℕ} {start mid now : ℕ
         part told (n, taken) = (
           length (report_text (histories_in old.state) old.replies.items) + n,
           taken ∙ ap (λ (t : List ℕ). t ++ take n (reply_text (histories_in new.state) is.reply.made.reply)) (taken_before told)
-          ∙ append_assoc first (report_text (histories_in old.state) old.replies.items) (take n (reply_text (histories_in new.state) is.reply.made.reply))
-          ∙ ap (λ (t : List ℕ). first ++ t) (sym (take-append-add (report_text (histories_in old.state) old.replies.items) (reply_text (histories_in new.state) is.reply.made.reply) n)
-          ∙ ap (λ (t : List ℕ). take (length (report_text (histories_in old.state) old.replies.items) + n) t) (sym (text_new is.reply))),
+              ∙ append_assoc first (report_text (histories_in old.state) old.replies.items) (take n (reply_text (histories_in new.state) is.reply.made.reply))
+              ∙ ap (λ (t : List ℕ). first ++ t) (sym (take-append-add (report_text (histories_in old.state) old.replies.items) (reply_text (histories_in new.state) is.reply.made.reply) n)
+              ∙ ap (λ (t : List ℕ). take (length (report_text (histories_in old.state) old.replies.items) + n) t) (sym (text_new is.reply))),
         )
 
         risen_since : HasRisen before_faults after_faults → HasRisen first_faults after_faults

@@ -53,13 +53,7 @@ fn status_of(stopped: Option<Stop>, refused: bool) -> u8
     match stopped {
         Some(Stop::WriteFault) => WRITE_FAULT,
         Some(Stop::NoMemory) => NO_MEMORY,
-        None => {
-            if refused {
-                REFUSED
-            } else {
-                DONE
-            }
-        }
+        None => { if refused { REFUSED } else { DONE } }
     }
 }
 

@@ -128,7 +128,16 @@ fn runs_end_with_their_status(rt: HostRuntime) -> Result<(), Fail> {
         (&["memory"], false, "read 0 1\n", &[], &[], 3, 1, b""),
         (&["memory"], true, "\nread 0 129\n", &[], &[], 3, 3, b""),
         (&["memory"], true, "read 0 1\n", &[0], &[], 4, 0, b""),
-        (&["memory"], true, "write 0 1 7\nread 0 2\n", &[], &[1], 5, 0, b"created\n"),
+        (
+            &["memory"],
+            true,
+            "write 0 1 7\nread 0 2\n",
+            &[],
+            &[1],
+            5,
+            0,
+            b"created\n",
+        ),
     ];
     for (words, create, lines, pulls, pushes, status, bad_line, output) in rows {
         let given = Given {
