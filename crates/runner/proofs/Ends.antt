@@ -44,13 +44,14 @@ module _ {B : Type 0} {tells : Type 0} {tape : List Operation} (array : Parts B)
   halted_last = ap (λ (l : List Entry). last_of l) entered.is ∙ last-snoc array.entries (one (script_who array.entries) entered.end Halted)
 
   pub ended_running : (faults : ℕ → ℕ) → epoch.first ≡ array.first → IsSized (Running array) → AreLossesOf faults faults array.entries epoch.entries.items
-      → (tells → IsPlainLegal (opening_of array.shape array.size array.first) (length tape) epoch.entries.items) → (tells → epoch.last ≡ length tape)
+      → epoch.uuid ≡ array.uuid → epoch.given ≡ array.given → (tells → IsPlainLegal (opening_of array.shape array.size array.first) (length tape) epoch.entries.items) → (tells → epoch.last ≡ length tape)
       → IsEnded tells tape faults (Running array) array.bank (epoch ∷ [])
-  ended_running faults first sized losses legal last =
+  ended_running faults first sized losses uuid given legal last =
       let grown = grown_by_call array.first array.entries epoch.entries.items entered.end (Halted ∷ []) entered.is in record {
         same_bank = refl;
         grown = (record { first = first; more = grown.more; grown = grown.grown; later = grown.later }, tt);
         halted = (refl, subst (λ (o : Option Entry). MatchOption o ⊥ (λ e. (e.caller ≡ 0) × (e.number ≡ next_number 0 array.entries) × (e.event ≡ Halted))) (sym halted_last) (refl, refl, refl));
+        opened = ap (λ (u : List ℕ). record { uuid = u; given = epoch.given } ∷ []) uuid ∙ ap (λ (n : ℕ). record { uuid = array.uuid; given = n } ∷ []) given;
         losses = (losses, tt);
         legal = λ told. All-cons (λ e. IsPlainLegal (opening_at (history_of e)) (length tape) e.entries.items) epoch []
             (subst (λ (o : Opening). IsPlainLegal o (length tape) epoch.entries.items)
@@ -65,6 +66,7 @@ ended_idle tells tape faults bank = record {
   same_bank = refl;
   grown = tt;
   halted = (refl, tt);
+  opened = refl;
   losses = tt;
   legal = λ told. All-nil (λ e. IsPlainLegal (opening_at (history_of e)) (length tape) e.entries.items);
   ended = λ told. All-nil (λ e. e.last ≡ length tape);
@@ -134,7 +136,7 @@ module _ {B : Type 0} {given : Given} {backup : Option ℕ} {start now : ℕ →
   pub end_status : status ≡ status_for (stop_of status) (has_refusal (histories_of epochs) session.replies.items)
   end_status = told ∙ ap (λ (b : Bool). status_for session.stopped b) (performed.refused ∙ sym (shown_end.1)) ∙ ap (λ (o : Option Stop). status_for o (has_refusal (histories_of epochs) session.replies.items)) (sym is_stop)
 
-  pub end_performed : (session.stopped ≡ None → length session.replies.items ≡ length lines) → AreLinesPerformed (setting_of given backup start now) lines (stop_of status) (histories_of epochs) session.replies.items
+  pub end_performed : (session.stopped ≡ None → length session.replies.items ≡ length lines) → AreLinesPerformed (setting_of given backup start now) lines (stop_of status) epochs session.replies.items
   end_performed all = record {
     few = performed.few;
     all = λ going. all (sym is_stop ∙ going);
@@ -143,6 +145,7 @@ module _ {B : Type 0} {given : Given} {backup : Option ℕ} {start now : ℕ →
     course = course_in session.state;
     told = subst (λ (o : Option Stop). IsCourse o (course_of at_rest session.replies.items) (course_in session.state)) (sym is_stop) performed.course;
     halted = ended.halted;
+    opened = λ not. ended.opened ∙ performed.opened (λ stopped. not (is_stop ∙ stopped));
   }
 
   pub end_losses : AreLossesFailed start now epochs
@@ -158,9 +161,9 @@ module _ {B : Type 0} {given : Given} {backup : Option ℕ} {start now : ℕ →
         ∙ ap (λ (o : Option Stop). counted (length (report_text (histories_of epochs) (taken_whole o session.replies.items)))) (sym is_stop)
 
 -- nothing was performed, for want of memory
-pub performed_nothing : (setting : Setting) (asked : List Numbered) (status : ℕ) (epochs : List Epoch) (lines : List LineReply) → status ≡ 6 → epochs ≡ [] → lines ≡ [] → AreLinesPerformed setting asked (stop_of status) (histories_of epochs) lines
+pub performed_nothing : (setting : Setting) (asked : List Numbered) (status : ℕ) (epochs : List Epoch) (lines : List LineReply) → status ≡ 6 → epochs ≡ [] → lines ≡ [] → AreLinesPerformed setting asked (stop_of status) epochs lines
 performed_nothing setting asked status epochs lines short no_epochs no_lines =
-    subst (λ (s : ℕ). AreLinesPerformed setting asked (stop_of s) (histories_of epochs) lines) (sym short)
-    (subst (λ (es : List Epoch). AreLinesPerformed setting asked (Some WantsMemory) (histories_of es) lines) (sym no_epochs)
+    subst (λ (s : ℕ). AreLinesPerformed setting asked (stop_of s) epochs lines) (sym short)
+    (subst (λ (es : List Epoch). AreLinesPerformed setting asked (Some WantsMemory) es lines) (sym no_epochs)
     (subst (λ (ls : List LineReply). AreLinesPerformed setting asked (Some WantsMemory) [] ls) (sym no_lines)
-    (record { few = omega arith; all = λ going. absurd (cc); replies = tt; course = at_rest; told = inl refl; halted = (refl, tt) })))
+    (record { few = omega arith; all = λ going. absurd (cc); replies = tt; course = at_rest; told = inl refl; halted = (refl, tt); opened = λ not. refl })))

@@ -27,8 +27,8 @@ use Rattle.runner.specs.declared.report.Outside.TheVariants.{Created, Assembled,
 use Rattle.runner.specs.declared.report.Answered.{Answered}
 use Rattle.runner.specs.declared.report.Answered.TheVariants.{Inside, Outside as IsOutside}
 use Rattle.runner.specs.declared.report.LineReply.{LineReply}
-use Rattle.runner.specs.Histories.{History, opening_at, entry_at}
-use Rattle.runner.specs.Replies.{Course, Setting, spec_of, unmade, IsMadeBy, IsRefusedOutside, asked_of, course_after, course_of, IsReplyAt, IsAnsweredInside, IsAnswer, IsEnd, IsReplyTo, AreReplies}
+use Rattle.runner.specs.Histories.{History, Opened, opening_at, entry_at}
+use Rattle.runner.specs.Replies.{Course, Setting, spec_of, unmade, IsMadeBy, IsRefusedOutside, asked_of, course_after, course_of, IsReplyAt, IsAnsweredInside, IsAnswer, IsEnd, IsReplyTo, AreReplies, opened_by, all_opened}
 use Rattle.runner.specs.Shown.{answer_text, reply_text, report_text, tells_refusal, is_refusal, has_refusal}
 use Rattle.runner.specs.States.{IsGrown, AreGrown, IsNamed}
 
@@ -257,3 +257,13 @@ shown_stays setting olds news course (line ∷ lines) (reply ∷ replies) grown 
       ap (λ (t : List ℕ). (lane_text reply.lane ++ t ++ 10 ∷ []) ++ report_text news replies) (first.0) ∙ ap (λ (t : List ℕ). reply_text olds reply ++ t) (others.0),
       ap (λ (b : Bool). b || has_refusal news replies) (first.1) ∙ ap (λ (b : Bool). is_refusal olds reply.what || b) (others.1),
     )
+
+-- one line more
+pub opened_more : (slots : ℕ) (lines : List Numbered) (replies : List LineReply) (line : Numbered) (reply : LineReply) → length lines ≡ length replies
+    → all_opened slots (lines ++ line ∷ []) (replies ++ reply ∷ []) ≡ all_opened slots lines replies ++ opened_by slots line.line reply.what
+opened_more slots [] [] line reply same = append-nil (opened_by slots line.line reply.what)
+opened_more slots [] (r ∷ replies) line reply same = absurd (omega (arith, same))
+opened_more slots (l ∷ lines) [] line reply same = absurd (omega (arith, same))
+opened_more slots (l ∷ lines) (r ∷ replies) line reply same =
+    ap (λ (o : List Opened). opened_by slots l.line r.what ++ o) (opened_more slots lines replies line reply (omega (arith, same)))
+    ∙ sym (append_assoc (opened_by slots l.line r.what) (all_opened slots lines replies) (opened_by slots line.line reply.what))

@@ -1,7 +1,7 @@
 -- One line more was performed and shown.
 use Rattle.std.proofs.Common.{◌≡◌, ℕ, zero, suc, ◌+◌, ◌-◌, ◌^◌, ◌<◌, ◌≤◌, ◌||◌, ◌⊎◌, inl, inr, Bool, true, false, Option, Some, None, List, [], ◌∷◌, ◌++◌, length, take, min, refl, sym, ◌∙◌, ap, subst, arith, append_assoc, append-nil, length-append}
 use Rattle.std.proofs.lemmas.Bool.Decides.{nat_tests}
-use Rattle.std.proofs.lemmas.List.{take_at}
+use Rattle.std.proofs.lemmas.List.{take_at, length-take-le}
 use Rattle.std.proofs.lemmas.List.Folds.{list_any-append}
 use Rattle.std.proofs.lemmas.Grind.{flat_map-append}
 use Rattle.std.proofs.Math.Seq.{take-suc, take-append-add}
@@ -18,12 +18,12 @@ use Rattle.runner.specs.declared.states.State.TheVariants.{Idle, Running}
 use Rattle.runner.specs.declared.sessions.Stop.{Stop}
 use Rattle.runner.specs.declared.sessions.Stop.TheVariants.{WriteFault, NoMemory as WantsMemory}
 use Rattle.runner.specs.declared.sessions.Session.{Session}
-use Rattle.runner.specs.Histories.{History}
-use Rattle.runner.specs.Replies.{Course, Setting, setting_of, at_rest, course_after, course_of, IsAnswer, IsReplyTo, AreReplies}
+use Rattle.runner.specs.Histories.{History, Opened}
+use Rattle.runner.specs.Replies.{Course, Setting, setting_of, at_rest, course_after, course_of, IsAnswer, IsReplyTo, AreReplies, opened_by, all_opened}
 use Rattle.runner.specs.Shown.{reply_text, report_text, is_refusal, has_refusal}
-use Rattle.runner.specs.States.{histories_in, course_in, IsSized, AreLossesFrom, AreGrown, IsTurn}
+use Rattle.runner.specs.States.{histories_in, opened_in, course_in, IsSized, AreLossesFrom, AreGrown, IsTurn}
 use Rattle.runner.specs.Sessions.{counted, IsReplied, IsUnreplied, IsReplyMore, IsShownWhole, IsShownInPart, IsUnshown, IsStep, IsCourse, taken_whole, IsTaken, IsStopCause, IsPerformed, IsShownTo}
-use Rattle.runner.proofs.Growth.{Covers, IsWider, answer_wider, replies_stay, replies_more, course_more, shown_stays}
+use Rattle.runner.proofs.Growth.{Covers, IsWider, answer_wider, replies_stay, replies_more, course_more, opened_more, shown_stays}
 
 -- a run covers its own replies
 covers_in : {B : Type 0} (state : State B) (course : Course) → course_in state ≡ course → Covers (histories_in state) course
@@ -110,12 +110,22 @@ module _ {B : Type 0} {given : Given} {backup : Option ℕ} {start mid now : ℕ
         or_false true = refl
         or_false false = refl
 
+    opened_new : opened_in new.state ≡ all_opened given.slots (take (length new.replies.items) lines) new.replies.items
+    opened_new = is.replied.turn.opened ∙ ap (λ (l : List Opened). l ++ opened_by given.slots numbered.line is.made.reply.what) (performed.opened (λ stopped. no_stop (sym going ∙ stopped)))
+        ∙ sym (opened_more given.slots (take (length old.replies.items) lines) old.replies.items numbered is.made.reply (length-take-le (length old.replies.items) lines (omega (arith, lt))))
+        ∙ ap (λ (ls : List Numbered). all_opened given.slots ls (old.replies.items ++ is.made.reply ∷ [])) (sym lines_taken)
+        ∙ ap (λ (rs : List LineReply). all_opened given.slots (take (length new.replies.items) lines) rs) (sym is.more)
+      where
+        no_stop : ◌≡◌ {A = Option Stop} None (Some WantsMemory) → ⊥
+        no_stop is = cc
+
     performed_reply : (o : Option Stop) → new.stopped ≡ o → ((f c : Course) → c ≡ f → IsCourse o f c) → IsPerformed (setting_of given backup start now) lines new
     performed_reply o stop course = record {
       sized = is.replied.turn.sized;
       few = omega (arith, one_more, lt);
       replies = replies_new;
       course = subst (λ (x : Option Stop). IsCourse x (course_of at_rest new.replies.items) (course_in new.state)) (sym stop) (course (course_of at_rest new.replies.items) (course_in new.state) course_new);
+      opened = λ _. opened_new;
       losses = losses_add (histories_in old.state) (histories_in new.state) early late performed.losses is.replied.turn.losses;
       refused = refused_new;
     }
@@ -132,6 +142,7 @@ module _ {B : Type 0} {given : Given} {backup : Option ℕ} {start mid now : ℕ
     replies = subst (λ (rs : List LineReply). AreReplies (setting_of given backup start now) (histories_in new.state) at_rest (take (length rs) lines) rs) (sym same) (replies_still none.grown);
     course = subst (λ (x : Option Stop). IsCourse x (course_of at_rest new.replies.items) (course_in new.state)) (sym stop)
         (subst (λ (rs : List LineReply). IsCourse (Some WantsMemory) (course_of at_rest rs) (course_in new.state)) (sym same) (by_course none.course));
+    opened = λ not. absurd (not stop);
     losses = losses_add (histories_in old.state) (histories_in new.state) early late performed.losses none.losses;
     refused = refused ∙ performed.refused ∙ sym ((shown_still none.grown).1) ∙ ap (λ (rs : List LineReply). has_refusal (histories_in new.state) rs) (sym same);
   }
@@ -219,6 +230,7 @@ performed_none {B = B} {given = given} {backup = backup} {start = start} lines s
   replies = subst (λ (rs : List LineReply). AreReplies (setting_of given backup start start) (histories_in session.state) at_rest (take (length rs) lines) rs) (sym none) tt;
   course = subst (λ (o : Option Stop). IsCourse o (course_of at_rest session.replies.items) (course_in session.state)) (sym going)
       (ap (λ (s : State B). course_in s) idle ∙ ap (λ (rs : List LineReply). course_of at_rest rs) (sym none));
+  opened = λ _. ap (λ (s : State B). opened_in s) idle ∙ ap (λ (rs : List LineReply). all_opened given.slots (take (length rs) lines) rs) (sym none);
   losses = subst (λ (s : State B). AreLossesFrom start start [] (histories_in s)) (sym idle) tt;
   refused = refused ∙ ap (λ (rs : List LineReply). has_refusal (histories_in session.state) rs) (sym none);
 }

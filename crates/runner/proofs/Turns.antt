@@ -33,9 +33,9 @@ use Rattle.runner.specs.declared.report.Answered.TheVariants.{Inside, Outside as
 use Rattle.runner.specs.declared.states.State.{State}
 use Rattle.runner.specs.declared.states.State.TheVariants.{Idle, Running}
 use Rattle.runner.specs.Asked.{script_who, IsAskedAt, IsPerformedLine}
-use Rattle.runner.specs.Histories.{History, opening_at}
-use Rattle.runner.specs.Replies.{Course, Setting, spec_of, unmade, asked_of, course_after, IsReplyAt, IsAnsweredInside, IsAnswer, IsRefusedOutside}
-use Rattle.runner.specs.States.{running_history, IsGrown, AreGrown, IsTurn, IsNoTurn, IsTurnOrNone, IsSized}
+use Rattle.runner.specs.Histories.{History, Opened, opening_at}
+use Rattle.runner.specs.Replies.{Course, Setting, spec_of, unmade, asked_of, course_after, IsReplyAt, IsAnsweredInside, IsAnswer, IsRefusedOutside, opened_by}
+use Rattle.runner.specs.States.{running_history, opened_in, IsGrown, AreGrown, IsTurn, IsNoTurn, IsTurnOrNone, IsSized}
 use Rattle.runner.proofs.AskLaws.{with_reply, reply_at}
 
 both_false : (a b : Bool) → b ≡ false → (a && b) ≡ false
@@ -88,6 +88,10 @@ module _ {B : Type 0} (setting : Setting) {old new : Parts B} (same : IsSameArra
   course_still : new.entries ≡ old.entries → ◌≡◌ {A = Course} (record { opened = 1; running = true; calls = next_number 0 new.entries }) (record { opened = 1; running = true; calls = next_number 0 old.entries })
   course_still is = ap (λ (l : List Entry). record { opened = 1; running = true; calls = next_number 0 l }) is
 
+  opened_still : (line : Line) (what : Answered) → opened_by setting.given.slots line what ≡ [] → opened_in (Running new) ≡ opened_in (Running old) ++ opened_by setting.given.slots line what
+  opened_still line what nothing = ap (λ (u : List ℕ). record { uuid = u; given = new.given } ∷ []) same.uuid ∙ ap (λ (n : ℕ). record { uuid = old.uuid; given = n } ∷ []) same.given
+      ∙ ap (λ (l : List Opened). record { uuid = old.uuid; given = old.given } ∷ l) (sym nothing)
+
   -- a request of the script was answered
   turn_inside : (line : Line) (epoch place : ℕ) (request : Request) → asked_of line ≡ Some request → epoch ≡ 0 → IsAskedAt (opening_of old.shape old.size old.first) request old.entries new.entries place
       → IsTurn setting (Running old) (Running new) line (Inside epoch place)
@@ -105,7 +109,13 @@ module _ {B : Type 0} (setting : Setting) {old new : Parts B} (same : IsSameArra
               (same_opening old.shape old.size old.first sized ∙ ap (λ (n : ℕ). opening_at (record { first = n; entries = [] })) (sym same.first)) (reply_at asked);
         });
     course = ap (λ (n : ℕ). record { opened = 1; running = true; calls = n }) (number_entered asked);
+    opened = opened_still line (Inside epoch place) (nothing_inside line);
   }
+    where
+      nothing_inside : (line : Line) → opened_by setting.given.slots line (Inside epoch place) ≡ []
+      nothing_inside (Create spec) = refl
+      nothing_inside (Read at count) = refl
+      nothing_inside (Write at count seed) = refl
 
   -- a create is refused
   turn_refused : (line : Line) (refusal : Refusal) → asked_of line ≡ None → refusal ≡ IsRunning → new.entries ≡ old.entries → IsTurn setting (Running old) (Running new) line (IsOutside (Refused refusal))
@@ -115,8 +125,14 @@ module _ {B : Type 0} (setting : Setting) {old new : Parts B} (same : IsSameArra
     grown = (refirst (grown_same old.first old.entries new.entries entries), tt);
     answer = by_line line is;
     course = course_still entries;
+    opened = opened_still line (IsOutside (Refused refusal)) (nothing_refused line);
   }
     where
+      nothing_refused : (line : Line) → opened_by setting.given.slots line (IsOutside (Refused refusal)) ≡ []
+      nothing_refused (Create spec) = refl
+      nothing_refused (Read at count) = refl
+      nothing_refused (Write at count seed) = refl
+
       by_line : (line : Line) → asked_of line ≡ None → IsRefusedOutside setting true line refusal
       by_line (Create spec) is = running
       by_line (Read at count) is = absurd (cc)
@@ -147,7 +163,7 @@ first_size : (line : CreateLine) → IsTrue (is_first_array line) → data_disks
 first_size line is = grind (arith, nat_tests, is)
 
 -- an array was made as the line asks
-pub turn_created : {B : Type 0} {tells : Type 0} {ops slots : ℕ} {made : Parts B} (setting : Setting) (bank : B) (line : CreateLine) → IsMade tells ops slots (spec_of line) made
+pub turn_created : {B : Type 0} {tells : Type 0} {ops : ℕ} {made : Parts B} (setting : Setting) (bank : B) (line : CreateLine) → IsMade tells ops setting.given.slots (spec_of line) made
     → unmade setting line ≡ None → IsTrue (is_first_array line) → IsTurn setting (Idle bank) (Running made) (Create line) (IsOutside Created)
 turn_created {made = made} setting bank line was unrefused first = record {
   sized = ap (λ (s : Shape). data_disks s * made.size) was.shape ∙ ap (λ (n : ℕ). data_disks line.shape * n) was.size ∙ first_size line first;
@@ -155,11 +171,17 @@ turn_created {made = made} setting bank line was unrefused first = record {
   grown = tt;
   answer = (refl, unrefused);
   course = ap (λ (l : List Entry). record { opened = 1; running = true; calls = next_number 0 l }) was.entries;
+  opened = ap (λ (u : List ℕ). record { uuid = u; given = made.given } ∷ []) was.uuid ∙ ap (λ (n : ℕ). record { uuid = line.uuid; given = n } ∷ []) was.given;
 }
 
 -- where no array runs, a line is refused
 pub turn_idle : {B : Type 0} (setting : Setting) (old new : B) (line : Line) (refusal : Refusal) → IsRefusedOutside setting false line refusal → IsTurn setting (Idle old) (Idle new) line (IsOutside (Refused refusal))
-turn_idle setting old new line refusal is = record { sized = tt; losses = tt; grown = tt; answer = is; course = refl }
+turn_idle setting old new line refusal is = record { sized = tt; losses = tt; grown = tt; answer = is; course = refl; opened = by_line line }
+  where
+    by_line : (line : Line) → [] ≡ opened_by setting.given.slots line (IsOutside (Refused refusal))
+    by_line (Create spec) = refl
+    by_line (Read at count) = refl
+    by_line (Write at count seed) = refl
 
 pub no_turn_idle : {B : Type 0} (setting : Setting) (old new : B) → IsNoTurn setting (Idle old) (Idle new)
 no_turn_idle setting old new = record { sized = tt; losses = tt; grown = tt; course = refl }

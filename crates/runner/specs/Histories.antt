@@ -19,6 +19,14 @@ history_of epoch = record { first = epoch.first; entries = epoch.entries.items }
 abbrev pub opening_at : History → Opening
 opening_at history = record { list = replicate 80 zero_sector; first = history.first }
 
+-- how an array was opened: its uuid, and a bit for each slot that did not fail
+pub record Opened : Type 0 where
+  pub uuid : List ℕ
+  pub given : ℕ
+
+abbrev pub opened_as : Epoch → Opened
+opened_as epoch = record { uuid = epoch.uuid; given = epoch.given }
+
 -- the entry at a place of the history with this number
 abbrev pub entry_at : List History → ℕ → ℕ → Option Entry
 entry_at histories epoch place = option_and_then (λ h. slice_get h.entries place) (slice_get histories epoch)

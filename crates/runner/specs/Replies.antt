@@ -1,5 +1,5 @@
 -- The replies to the lines of a script, over the histories of its arrays.
-use Rattle.std.specs.Prelude.{◌≡◌, ◌⊎◌, ℕ, ◌+◌, ◌≤◌, Bool, true, false, List, [], ◌∷◌, ◌++◌, length, drop, take, slice_get, Option, Some, None, MatchOption, IsTrue, IsFalse, ⊤}
+use Rattle.std.specs.Prelude.{◌≡◌, ◌⊎◌, ℕ, ◌+◌, ◌-◌, ◌^◌, ◌≤◌, Bool, true, false, List, [], ◌∷◌, ◌++◌, length, drop, take, slice_get, Option, Some, None, MatchOption, IsTrue, IsFalse, ⊤}
 use Rattle.md_base.specs.declared.answers.Refusal.{Refusal}
 use Rattle.md_base.specs.declared.answers.Refusal.TheVariants.{Running, NotRunning}
 use Rattle.md_base.specs.declared.answers.Fault.TheVariants.{Refused as IsRefusedWith}
@@ -23,7 +23,7 @@ use Rattle.runner.specs.declared.report.Outside.TheVariants.{Created, Assembled,
 use Rattle.runner.specs.declared.report.Answered.{Answered}
 use Rattle.runner.specs.declared.report.Answered.TheVariants.{Inside, Outside as IsOutside}
 use Rattle.runner.specs.declared.report.LineReply.{LineReply}
-use Rattle.runner.specs.Histories.{History, opening_at, entry_at}
+use Rattle.runner.specs.Histories.{History, Opened, opening_at, entry_at}
 
 -- what a line asks of a running array: a create asks nothing
 abbrev pub asked_of : Line → Option Request
@@ -120,6 +120,16 @@ pub record IsReplyTo (setting : Setting) (histories : List History) (course : Co
   pub lane : reply.lane ≡ InScript
   pub end : IsEnd histories reply reply.what
   pub answer : IsAnswer setting histories course numbered.line reply.what
+
+-- how the arrays of these lines were opened: each with the uuid that its line asks for, over all slots
+abbrev pub opened_by : ℕ → Line → Answered → List Opened
+opened_by slots (Create line) (IsOutside Created) = record { uuid = line.uuid; given = 2 ^ slots - 1 } ∷ []
+opened_by slots line what = []
+
+abbrev pub all_opened : ℕ → List Numbered → List LineReply → List Opened
+all_opened slots [] replies = []
+all_opened slots (line ∷ lines) [] = []
+all_opened slots (line ∷ lines) (reply ∷ replies) = opened_by slots line.line reply.what ++ all_opened slots lines replies
 
 -- the replies answer the lines, one after another
 abbrev pub AreReplies : Setting → List History → Course → List Numbered → List LineReply → Type 0

@@ -16,11 +16,11 @@ use Rattle.runner.specs.declared.report.LineReply.{LineReply}
 use Rattle.runner.specs.declared.sessions.Stop.{Stop}
 use Rattle.runner.specs.declared.sessions.Stop.TheVariants.{WriteFault, NoMemory as WantsMemory}
 use Rattle.runner.specs.declared.states.State.{State}
-use Rattle.runner.specs.Histories.{History, history_of, opening_at}
-use Rattle.runner.specs.Replies.{Course, Setting, at_rest, course_of, AreReplies}
+use Rattle.runner.specs.Histories.{History, history_of, opened_as, opening_at}
+use Rattle.runner.specs.Replies.{Course, Setting, at_rest, course_of, AreReplies, all_opened}
 use Rattle.runner.specs.Sessions.{IsCourse}
 use Rattle.runner.specs.Source.{IsTextOf}
-use Rattle.runner.specs.States.{histories_in, bank_in, course_in, AreGrown, AreLossesFrom}
+use Rattle.runner.specs.States.{histories_in, opened_in, bank_in, course_in, AreGrown, AreLossesFrom}
 
 abbrev pub histories_of : List Epoch → List History
 histories_of epochs = map history_of epochs
@@ -46,21 +46,22 @@ AreHalted course histories = (length histories ≡ course.opened) × MatchOption
 
 -- The lines were performed one after another, up to the last or to where the run stopped, and the array was halted. The replies are
 -- there but for that of a line for which memory was short.
-pub record AreLinesPerformed (setting : Setting) (asked : List Numbered) (stopped : Option Stop) (histories : List History) (lines : List LineReply) : Type 0 where
+pub record AreLinesPerformed (setting : Setting) (asked : List Numbered) (stopped : Option Stop) (epochs : List Epoch) (lines : List LineReply) : Type 0 where
   pub few : length lines ≤ length asked
   pub all : stopped ≡ None → length lines ≡ length asked
-  pub replies : AreReplies setting histories at_rest (take (length lines) asked) lines
+  pub replies : AreReplies setting (histories_of epochs) at_rest (take (length lines) asked) lines
   pub course : Course
   pub told : IsCourse stopped (course_of at_rest lines) course
-  pub halted : AreHalted course histories
+  pub halted : AreHalted course (histories_of epochs)
+  pub opened : stopped ≢ Some WantsMemory → map opened_as epochs ≡ all_opened setting.given.slots (take (length lines) asked) lines
 
 -- the whole text of the script was read, and then its lines were performed
-pub record IsScriptPerformed (tells : Type 0) (old new : List ℕ) (setting : Setting) (stopped : Option Stop) (histories : List History) (lines : List LineReply) : Type 0 where
+pub record IsScriptPerformed (tells : Type 0) (old new : List ℕ) (setting : Setting) (stopped : Option Stop) (epochs : List Epoch) (lines : List LineReply) : Type 0 where
   pub text : List ℕ
   pub read : IsTextOf tells old new text
   pub asked : List Numbered
   pub parsed : script_of text ≡ Ok asked
-  pub performed : AreLinesPerformed setting asked stopped histories lines
+  pub performed : AreLinesPerformed setting asked stopped epochs lines
 
 -- the whole text was read, or one byte more than it may have, and this is its first bad line
 pub record IsScriptBad (tells : Type 0) (old new : List ℕ) (line : ℕ) : Type 0 where
@@ -85,6 +86,7 @@ pub record IsEnded {B : Type 0} (tells : Type 0) (tape : List Operation) (faults
   pub same_bank : bank ≡ bank_in state
   pub grown : AreGrown (histories_in state) (histories_of epochs)
   pub halted : AreHalted (course_in state) (histories_of epochs)
+  pub opened : map opened_as epochs ≡ opened_in state
   pub losses : AreLossesFrom faults faults (histories_in state) (histories_of epochs)
   pub legal : tells → AreLegal (length tape) epochs
   pub ended : tells → AreEndedAt (length tape) epochs

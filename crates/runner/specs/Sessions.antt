@@ -1,5 +1,5 @@
 -- The lines of a script performed one after another, and what was shown of it.
-use Rattle.std.specs.Prelude.{◌≡◌, ◌⊎◌, ℕ, ◌+◌, ◌-◌, ◌^◌, ◌<◌, ◌≤◌, ◌||◌, Bool, List, [], ◌∷◌, ◌++◌, length, take, min, Option, Some, None, Result, Ok, Err, ⊤}
+use Rattle.std.specs.Prelude.{◌≡◌, ◌≢◌, ◌⊎◌, ℕ, ◌+◌, ◌-◌, ◌^◌, ◌<◌, ◌≤◌, ◌||◌, Bool, List, [], ◌∷◌, ◌++◌, length, take, min, Option, Some, None, Result, Ok, Err, ⊤}
 use Rattle.md_base.specs.declared.answers.NoMemory.{NoMemory}
 use Rattle.script.specs.declared.lines.Numbered.{Numbered}
 use Rattle.script.specs.declared.reply.Lane.TheVariants.{Script as InScript}
@@ -12,9 +12,9 @@ use Rattle.runner.specs.declared.sessions.Stop.{Stop}
 use Rattle.runner.specs.declared.sessions.Stop.TheVariants.{WriteFault, NoMemory as WantsMemory}
 use Rattle.runner.specs.declared.sessions.Session.{Session}
 use Rattle.runner.specs.Histories.{History}
-use Rattle.runner.specs.Replies.{Course, Setting, at_rest, course_after, course_of, IsEnd, AreReplies}
+use Rattle.runner.specs.Replies.{Course, Setting, at_rest, course_after, course_of, IsEnd, AreReplies, all_opened}
 use Rattle.runner.specs.Shown.{reply_text, report_text, is_refusal, has_refusal}
-use Rattle.runner.specs.States.{histories_in, course_in, IsSized, AreLossesFrom, AreGrown, IsTurn}
+use Rattle.runner.specs.States.{histories_in, opened_in, course_in, IsSized, AreLossesFrom, AreGrown, IsTurn}
 
 -- so many bytes, as far as a u64 can count
 abbrev pub counted : ℕ → ℕ
@@ -101,6 +101,7 @@ pub record IsPerformed {B : Type 0} (setting : Setting) (lines : List Numbered) 
   pub few : length session.replies.items ≤ length lines
   pub replies : AreReplies setting (histories_in session.state) at_rest (take (length session.replies.items) lines) session.replies.items
   pub course : IsCourse session.stopped (course_of at_rest session.replies.items) (course_in session.state)
+  pub opened : session.stopped ≢ Some WantsMemory → opened_in session.state ≡ all_opened setting.given.slots (take (length session.replies.items) lines) session.replies.items
   pub losses : AreLossesFrom setting.before setting.now [] (histories_in session.state)
   pub refused : session.refused ≡ has_refusal (histories_in session.state) session.replies.items
 

@@ -13,8 +13,8 @@ use Rattle.runner.specs.declared.report.Answered.{Answered}
 use Rattle.runner.specs.declared.report.Answered.TheVariants.{Inside, Outside}
 use Rattle.runner.specs.declared.states.State.{State}
 use Rattle.runner.specs.declared.states.State.TheVariants.{Idle, Running}
-use Rattle.runner.specs.Histories.{History, entry_at}
-use Rattle.runner.specs.Replies.{Course, Setting, at_rest, course_after, IsAnswer}
+use Rattle.runner.specs.Histories.{History, Opened, entry_at}
+use Rattle.runner.specs.Replies.{Course, Setting, at_rest, course_after, IsAnswer, opened_by}
 
 -- the history of an array that runs
 abbrev pub running_history : {B : Type 0} → Parts B → History
@@ -27,6 +27,11 @@ histories_in (Running array) = running_history array ∷ []
 abbrev pub bank_in : {B : Type 0} → State B → B
 bank_in (Idle bank) = bank
 bank_in (Running array) = array.bank
+
+-- how the array that runs was opened
+abbrev pub opened_in : {B : Type 0} → State B → List Opened
+opened_in (Idle bank) = []
+opened_in (Running array) = record { uuid = array.uuid; given = array.given } ∷ []
 
 -- where the run stands
 abbrev pub course_in : {B : Type 0} → State B → Course
@@ -69,6 +74,7 @@ pub record IsTurn {B : Type 0} (setting : Setting) (old new : State B) (line : L
   pub grown : AreGrown (histories_in old) (histories_in new)
   pub answer : IsAnswer setting (histories_in new) (course_in old) line what
   pub course : course_in new ≡ course_after (course_in old) what
+  pub opened : opened_in new ≡ opened_in old ++ opened_by setting.given.slots line what
 
 -- memory was short, and nothing was entered
 pub record IsNoTurn {B : Type 0} (setting : Setting) (old new : State B) : Type 0 where

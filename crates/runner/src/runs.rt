@@ -105,7 +105,7 @@ fn run_lines<B: Bank, K: Sink>(
     requires limits { AllPass (λ numbered. is_within_limits numbered.line) lines.now }
     requires bank { IsFitBank (B.given bank) backup }
     ensures status { result.status ≡ status_for (stop_of result.status) (has_refusal (histories_of result.epochs.items) result.lines.items) }
-    ensures performed { AreLinesPerformed (setting_of (B.given bank) backup (B.faults_of bank) (B.faults_of result.bank)) lines.now (stop_of result.status) (histories_of result.epochs.items) result.lines.items }
+    ensures performed { AreLinesPerformed (setting_of (B.given bank) backup (B.faults_of bank) (B.faults_of result.bank)) lines.now (stop_of result.status) result.epochs.items result.lines.items }
     ensures taken { K.tells → IsTaken (stop_of result.status) (K.taken out.old) (K.taken out.new) (report_text (histories_of result.epochs.items) result.lines.items) }
     ensures shown { result.shown ≡ counted (length (report_text (histories_of result.epochs.items) (taken_whole (stop_of result.status) result.lines.items))) }
     ensures write_fault { result.status ≡ 5 → HasRisen (K.faults_of out.old) (K.faults_of out.new) }
@@ -151,8 +151,8 @@ fn run_script<B: Bank, S: Source, K: Sink>(
     ensures bad_line { result.status ≡ 3 → IsScriptBad S.tells (S.left script.old) (S.left script.new) result.bad_line }
     ensures read_fault { result.status ≡ 4 → HasRisen (S.faults_of script.old) (S.faults_of script.new) }
     ensures write_fault { result.status ≡ 5 → HasRisen (K.faults_of out.old) (K.faults_of out.new) }
-    ensures performed { IsAfterLines result.status → IsScriptPerformed S.tells (S.left script.old) (S.left script.new) (setting_of (B.given bank) (Some 7) (B.faults_of bank) (B.faults_of result.bank)) (stop_of result.status) (histories_of result.epochs.items) result.lines.items }
-    ensures short { result.status ≡ 6 → IsScriptPerformed S.tells (S.left script.old) (S.left script.new) (setting_of (B.given bank) (Some 7) (B.faults_of bank) (B.faults_of result.bank)) (stop_of result.status) (histories_of result.epochs.items) result.lines.items
+    ensures performed { IsAfterLines result.status → IsScriptPerformed S.tells (S.left script.old) (S.left script.new) (setting_of (B.given bank) (Some 7) (B.faults_of bank) (B.faults_of result.bank)) (stop_of result.status) result.epochs.items result.lines.items }
+    ensures short { result.status ≡ 6 → IsScriptPerformed S.tells (S.left script.old) (S.left script.new) (setting_of (B.given bank) (Some 7) (B.faults_of bank) (B.faults_of result.bank)) (stop_of result.status) result.epochs.items result.lines.items
         ⊎ IsNothing result.lines.items result.epochs.items }
     ensures nothing { IsBeforeLines result.status → IsNothing result.lines.items result.epochs.items }
     ensures untouched { IsBeforeLines result.status → result.bank ≡ bank }
@@ -206,8 +206,8 @@ pub fn run<
     ensures bad_line { result.status ≡ 3 → IsScriptBad S.tells (S.left script.old) (S.left script.new) result.bad_line }
     ensures read_fault { result.status ≡ 4 → HasRisen (S.faults_of script.old) (S.faults_of script.new) }
     ensures write_fault { result.status ≡ 5 → HasRisen (K.faults_of out.old) (K.faults_of out.new) }
-    ensures performed { IsAfterLines result.status → IsScriptPerformed S.tells (S.left script.old) (S.left script.new) (setting_of (B.given bank) (Some 7) (B.faults_of bank) (B.faults_of result.bank)) (stop_of result.status) (histories_of result.epochs.items) result.lines.items }
-    ensures short { result.status ≡ 6 → IsScriptPerformed S.tells (S.left script.old) (S.left script.new) (setting_of (B.given bank) (Some 7) (B.faults_of bank) (B.faults_of result.bank)) (stop_of result.status) (histories_of result.epochs.items) result.lines.items
+    ensures performed { IsAfterLines result.status → IsScriptPerformed S.tells (S.left script.old) (S.left script.new) (setting_of (B.given bank) (Some 7) (B.faults_of bank) (B.faults_of result.bank)) (stop_of result.status) result.epochs.items result.lines.items }
+    ensures short { result.status ≡ 6 → IsScriptPerformed S.tells (S.left script.old) (S.left script.new) (setting_of (B.given bank) (Some 7) (B.faults_of bank) (B.faults_of result.bank)) (stop_of result.status) result.epochs.items result.lines.items
         ⊎ IsNothing result.lines.items result.epochs.items }
     ensures nothing { IsBeforeLines result.status → IsNothing result.lines.items result.epochs.items }
     ensures untouched { IsBeforeLines result.status → result.bank ≡ bank }

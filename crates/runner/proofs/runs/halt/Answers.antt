@@ -21,4 +21,4 @@ returns-in-Running g c =
     (subst (λ (b : g.row.B.Denot). IsEnded g.B.Bank.tells (g.B.Bank.tape b) (g.B.Bank.faults_of b) (Running array) b (epoch ∷ [])) (sym did.bank)
     (ended_running array epoch
     (subst (λ (who : Who). IsEntered g.B.Bank.tells (g.B.Bank.tape array.bank) who array.entries epoch.entries.items (Halted ∷ [])) c.script_call-who.ensures did.entered)
-    (g.B.Bank.faults_of array.bank) did.first (subst (λ (s : State g.row.B.Denot). IsSized s) c.in-Running.is c.requires.sized) did.losses did.legal did.last)))
+    (g.B.Bank.faults_of array.bank) did.first (subst (λ (s : State g.row.B.Denot). IsSized s) c.in-Running.is c.requires.sized) did.losses did.uuid did.given did.legal did.last)))

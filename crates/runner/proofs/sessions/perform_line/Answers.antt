@@ -1,4 +1,4 @@
-use Rattle.std.proofs.Common.{take, ◌+◌, ◌≡◌, ◌≤◌, ◌||◌, ℕ, [], ◌++◌, ◌∷◌, length, List, Bool, Result, Ok, refl, sym, ◌∙◌, ap, subst, arith}
+use Rattle.std.proofs.Common.{take, ◌+◌, ◌≡◌, ℕ, [], ◌++◌, ◌∷◌, length, List, Bool, Result, refl, ◌∙◌, ap, subst}
 use Rattle.std.specs.Prelude.{if◌then◌else◌}
 use Rattle.md_base.specs.declared.answers.NoMemory.{NoMemory}
 use Rattle.runner.specs.declared.report.LineReply.{LineReply}
@@ -6,7 +6,7 @@ use Rattle.runner.specs.declared.sessions.Made.{Made}
 use Rattle.runner.specs.Shown.{reply_text}
 use Rattle.runner.specs.Replies.{setting_of}
 use Rattle.runner.specs.States.{histories_in, bank_in}
-use Rattle.runner.specs.Sessions.{counted, IsRepliedOrNot, IsReplied, IsReplyMore}
+use Rattle.runner.specs.Sessions.{counted, IsRepliedOrNot}
 use Rattle.runner.proofs.sessions.perform_line.Goals as goal
 
 pub returns-in-Ok-push-clause-step : goal.returns-in-Ok-push-clause-step
