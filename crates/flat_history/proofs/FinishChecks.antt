@@ -1,0 +1,84 @@
+-- A reshape that moves the data and leaves the parity of the new rows is found out where it finishes.
+use Rattle.std.proofs.Common.{◌≡◌, ℕ, ◌<◌, ◌≤◌, inl, inr, List, [], ◌∷◌, ◌++◌, replicate, refl, subst, option_map, MatchOption, Some, None, Option, lit≤, arith}
+use Rattle.md_base.specs.declared.places.Shape.{Shape}
+use Rattle.md_base.specs.Sectors.{Sector}
+use Rattle.md_base.specs.Search.{tabulate, count_below}
+use Rattle.bank.specs.declared.bank.Operation.{Operation}
+use Rattle.bank.specs.declared.bank.Operation.TheVariants.{Write, Flush}
+use Rattle.bank.specs.Tape.{Contents}
+use Rattle.bank.proofs.Listed.{Slot, listed}
+use Rattle.superblocks.specs.Reading.{Reading, reading}
+use Rattle.flat_history.specs.declared.events.Event.TheVariants.{Step}
+use Rattle.flat_history.specs.declared.events.StepKind.TheVariants.{Finished}
+use Rattle.flat_history.specs.declared.events.Entry.{Entry}
+use Rattle.flat_history.specs.World.{World, contents_at, reading_at}
+use Rattle.flat_history.specs.Losses.{is_gone_after}
+use Rattle.flat_history.specs.Legal.{target_at}
+use Rattle.flat_history.specs.Reshaped.{IsReshaped, IsConsistentAt, IsConsistentBy, AreTooManyGone}
+use Rattle.flat_history.specs.Stands.{held_row}
+use Rattle.layout.specs.Layout.{row_roles}
+use Rattle.parity.specs.Parity.{Row, AreEquationsMet}
+use Rattle.parity.proofs.ParityChecks.{left_behind}
+use Rattle.flat_history.proofs.SmallReshape.{reshaping, three, superblock, member, scope}
+
+-- At the end of the windows. Row 0 of the new shape has a one on role 0, and nothing on role 1 and on role 2, its P.
+abbrev slots : List Slot
+slots = member (superblock (reshaping 32 255) 0 5) ((1 ∷ []) ∷ replicate 31 []) ∷ member (superblock (reshaping 32 255) 1 5) (replicate 32 [])
+    ∷ member (superblock (reshaping 32 255) 2 5) (replicate 32 []) ∷ replicate 24 [] ∷ []
+
+abbrev world : World
+world = record {
+  start = listed slots;
+  tape = Write 0 8 (superblock three 0 6) ∷ Flush 0 ∷ Write 1 8 (superblock three 1 6) ∷ Flush 1 ∷ Write 2 8 (superblock three 2 6) ∷ Flush 2 ∷ [];
+  scope = scope slots;
+  first = 0;
+}
+
+abbrev entries : List Entry
+entries = record { caller = 0; number = 0; end = 6; event = Step Finished 0 } ∷ []
+
+abbrev shape : Shape
+shape = record { level = 5; layout = 2; chunk = 8; disks = 3 }
+
+goes-to : target_at world 0 ≡ Some shape
+unfolding tabulate reading reading_at
+goes-to = refl
+
+-- what the slots hold in the end
+abbrev finished : Contents
+finished = contents_at world 6
+
+size-is : option_map (λ r. r.newest.size) (reading (scope slots) finished) ≡ Some 32
+unfolding tabulate reading
+size-is = refl
+
+row-is : option_map (λ r. held_row finished r shape 0) (reading (scope slots) finished) ≡ Some (Some (1 ∷ []) ∷ Some [] ∷ Some [] ∷ [])
+unfolding tabulate reading
+row-is = refl
+
+same-row : (a b : Row) → ◌≡◌ {A = Option Row} (Some a) (Some b) → a ≡ b
+same-row a b same = cc
+
+same-size : (a b : ℕ) → ◌≡◌ {A = Option ℕ} (Some a) (Some b) → a ≡ b
+same-size a b same = cc
+
+not-good : (found : Option Reading) → option_map (λ r. r.newest.size) found ≡ Some 32
+    → option_map (λ r. held_row finished r shape 0) found ≡ Some (Some (1 ∷ []) ∷ Some [] ∷ Some [] ∷ [])
+    → MatchOption found ⊥ (IsConsistentBy finished shape) → ⊥
+not-good None size row consistent = consistent
+not-good (Some r) size row consistent =
+    let rows : r.newest.size ≡ 32 = same-size r.newest.size 32 size in
+    let held : held_row finished r shape 0 ≡ Some (1 ∷ []) ∷ Some [] ∷ Some [] ∷ [] =
+    same-row (held_row finished r shape 0) (Some (1 ∷ []) ∷ Some [] ∷ Some [] ∷ []) row in
+    left_behind (subst (λ (row : Row). AreEquationsMet (row_roles shape 0) row) held (consistent.rows 0 (omega (arith, rows))).parity)
+
+none-gone : AreTooManyGone world entries shape → ⊥
+unfolding count_below is_gone_after
+none-gone too_many = absurd (omega (arith, too_many))
+
+not-right : IsReshaped world entries → ⊥
+not-right reshaped = by_kind (subst (λ to. MatchOption to ⊥ (IsConsistentAt world entries 6)) goes-to reshaped.0.finished)
+  where
+    by_kind : IsConsistentAt world entries 6 shape → ⊥
+    by_kind (inl consistent) = not-good (reading (scope slots) finished) size-is row-is consistent
+    by_kind (inr too_many) = none-gone too_many
