@@ -35,7 +35,7 @@ still-there : is_all_gone world 0 (begun ∷ shortened 0 ∷ []) ≡ true → �
 still-there all = absurd (cc (all, not-gone))
 
 not-begun : IsLegal world (begun ∷ shortened 0 ∷ []) → ⊥
-not-begun is_legal = elim is_legal.1.0.event.kept [
+not-begun is_legal = elim is_legal.1.0.event.1.kept [
   | inl same ↦ absurd (omega (arith, same, length-is))
   | inr gone ↦ still-there gone.0
 ]
@@ -49,4 +49,11 @@ unfolding tabulate opening_list stands reading
 length-before = refl
 
 not-finished : IsLegal world (finished ∷ shortened 0 ∷ []) → ⊥
-not-finished is_legal = absurd (omega (arith, is_legal.1.0.event.changes, length-before))
+not-finished is_legal = absurd (omega (arith, is_legal.1.0.event.1.changes, length-before))
+
+-- nor can a step of another call change it
+not-of-another-call : IsLegal world (begun ∷ shortened 1 ∷ []) → ⊥
+not-of-another-call is_legal = other is_legal.1.0.event.0
+  where
+    other : false ≡ true → ⊥
+    other same = absurd (cc)
