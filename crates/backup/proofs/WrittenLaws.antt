@@ -1,13 +1,12 @@
 -- What a written header is read as.
-use Rattle.std.proofs.Common.{◌≡◌, ℕ, zero, suc, ◌+◌, ◌-◌, ◌*◌, ◌/◌, ◌%◌, ◌^◌, ◌<◌, Bool, true, false, ◌&&◌, ◌==◌, List, [], ◌∷◌, ◌++◌, length, take, drop, replicate, refl, sym, ap, ◌∙◌, subst, arith, length-append, bytes_eq, codes, ltb, eqb, eqb-true, eq-eqb, ltb-true}
+use Rattle.std.proofs.Common.{◌≡◌, ℕ, zero, suc, ◌+◌, ◌-◌, ◌*◌, ◌/◌, ◌^◌, ◌<◌, Bool, true, false, ◌&&◌, ◌==◌, List, ◌++◌, length, take, drop, refl, ap, ◌∙◌, subst, arith, length-append, ltb, eqb-true, ltb-true}
 use Rattle.std.proofs.Math.Seq.{take-append_seam, drop-append-add}
 use Rattle.std.proofs.lemmas.Bool.Decides.{nat_tests}
 use Rattle.std.proofs.lemmas.Slice.Eq.{bytes_eq-Decides}
 use Rattle.md_base.specs.declared.places.Span.{Span}
 use Rattle.md_base.specs.Bytes.{little, field}
-use Rattle.md_base.specs.Sectors.{Sector}
-use Rattle.backup.specs.Section.{is_header_of, names_span}
-use Rattle.backup.specs.Written.{bytes_of, fields_of, header_with, header_of, cleared_header, IsHeaderFor, HeadersNameTheirSpan, ClearedHeadersNameNone}
+use Rattle.backup.specs.Section.{is_header_of}
+use Rattle.backup.specs.Written.{bytes_of, fields_of, header_with, header_of, cleared_header, HeadersNameTheirSpan, ClearedHeadersNameNone}
 
 -- how many numbers so many bytes have
 abbrev numbers : ℕ → ℕ

@@ -1,6 +1,6 @@
 -- A checkpoint that records the position before the copied rows are flushed is found out: where a stop leaves the first new
 -- superblock and not the copy, the new region is read where nothing was written. With the flush that mark is safe.
-use Rattle.std.proofs.Common.{◌≡◌, ◌⊎◌, ℕ, zero, suc, ◌+◌, ◌-◌, ◌<◌, ◌≤◌, inl, inr, List, [], ◌∷◌, ◌++◌, length, get_or, take, drop, replicate, refl, sym, ap, ◌∙◌, subst, Bool, true, false, ◌&&◌, ◌==◌, cond, Some, None, lit≤, arith}
+use Rattle.std.proofs.Common.{◌≡◌, ℕ, zero, suc, ◌+◌, ◌-◌, ◌<◌, ◌≤◌, inl, inr, List, [], ◌∷◌, ◌++◌, length, get_or, take, drop, replicate, refl, sym, ap, ◌∙◌, subst, Bool, true, false, ◌&&◌, ◌==◌, cond, None, lit≤, arith}
 use Rattle.md_base.specs.Sectors.{Sector}
 use Rattle.md_base.specs.Search.{tabulate, least_below, count_below, any_below}
 use Rattle.bank.specs.declared.bank.Operation.TheVariants.{Write, Flush}

@@ -1,6 +1,6 @@
 -- A write into a degraded array that is begun before the superblocks say dirty is found out: where a stop leaves its first
 -- half, the absent role is filled with what never stood there. Behind the dirty mark such an image is refused, with its cause.
-use Rattle.std.proofs.Common.{◌≡◌, ◌⊎◌, ℕ, suc, ◌<◌, ◌≤◌, inl, inr, List, [], ◌∷◌, length, get_or, take, refl, sym, ap, ◌∙◌, subst, Bool, true, false, cond, ◌&&◌, ◌==◌, replicate, Option, Some, None, lit≤, arith}
+use Rattle.std.proofs.Common.{◌≡◌, ◌⊎◌, ℕ, ◌<◌, ◌≤◌, inl, inr, List, [], ◌∷◌, length, get_or, take, refl, sym, ap, ◌∙◌, subst, Bool, true, false, cond, ◌&&◌, ◌==◌, replicate, Some, None, lit≤, arith}
 use Rattle.md_base.specs.declared.places.RowRoles.{RowRoles}
 use Rattle.md_base.specs.Sectors.{Sector}
 use Rattle.md_base.specs.Search.{tabulate, least_below, count_below, any_below}

@@ -1,12 +1,10 @@
 -- A reshape that moves the data and leaves the parity of the new rows is found out where it finishes; one with parity that
 -- fits is right.
-use Rattle.std.proofs.Common.{◌≡◌, ℕ, ◌<◌, ◌≤◌, inl, inr, List, [], ◌∷◌, ◌++◌, replicate, length, get_or, ◌/◌, refl, sym, ap, ◌∙◌, subst, option_map, MatchOption, Some, None, Option, lit≤, arith}
+use Rattle.std.proofs.Common.{◌≡◌, ℕ, ◌<◌, ◌≤◌, inl, inr, List, [], ◌∷◌, replicate, length, get_or, ◌/◌, refl, sym, ap, ◌∙◌, subst, option_map, MatchOption, Some, None, Option, lit≤, arith}
 use Rattle.md_base.specs.declared.places.Shape.{Shape}
-use Rattle.md_base.specs.Sectors.{Sector}
 use Rattle.md_base.specs.Search.{tabulate, count_below}
 use Rattle.md_base.proofs.Tabulated.{get_or-tabulate}
 use Rattle.std.proofs.lemmas.List.{get_or-replicate}
-use Rattle.bank.specs.declared.bank.Operation.{Operation}
 use Rattle.bank.specs.declared.bank.Operation.TheVariants.{Write, Flush}
 use Rattle.bank.specs.Tape.{Contents}
 use Rattle.bank.proofs.Listed.{Slot, listed}

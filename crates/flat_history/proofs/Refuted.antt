@@ -1,11 +1,11 @@
 -- How an example is refuted: an image that a stop may leave, and a sector of it that no entries allow.
-use Rattle.std.proofs.Common.{◌≡◌, ◌⊎◌, ℕ, ◌<◌, ◌≤◌, inl, inr, Bool, true, false, ◌&&◌, ◌==◌, cond, List, [], ◌∷◌, length, get_or, take, refl, sym, subst, ◌∙◌, Option, Some, None, le_refl}
+use Rattle.std.proofs.Common.{◌≡◌, ◌⊎◌, ℕ, ◌<◌, ◌≤◌, inl, inr, Bool, true, false, ◌&&◌, ◌==◌, cond, List, [], ◌∷◌, length, get_or, take, refl, sym, subst, ◌∙◌, Option, Some, None}
 use Rattle.md_base.specs.declared.answers.Refusal.{Refusal}
 use Rattle.md_base.specs.declared.answers.Refusal.TheVariants.{DirtyDegraded, MembersMissing}
 use Rattle.md_base.specs.Sectors.{Sector}
 use Rattle.bank.specs.declared.bank.Operation.{Operation}
 use Rattle.bank.specs.declared.bank.Operation.TheVariants.{Write}
-use Rattle.bank.specs.Tape.{Contents, IsImage, IsDrawn, IsIn, with_one, value_after, disk, run}
+use Rattle.bank.specs.Tape.{Contents, IsImage, IsDrawn, IsIn, with_one, value_after, run}
 use Rattle.bank.proofs.Images.{now-image, disk-some}
 use Rattle.flat_history.specs.declared.events.Entry.{Entry}
 use Rattle.flat_history.specs.World.{World, opening_list}

@@ -1,8 +1,8 @@
 -- The superblocks of a small array: level 5 on two disks that goes to three, chunk 8, size 32. The unit is 16.
-use Rattle.std.proofs.Common.{ℕ, zero, suc, ◌/◌, ◌%◌, List, [], ◌∷◌, ◌++◌, replicate, Some}
+use Rattle.std.proofs.Common.{ℕ, zero, suc, List, [], ◌∷◌, ◌++◌, replicate, Some}
 use Rattle.md_base.specs.Sectors.{Sector}
 use Rattle.sb1.specs.Superblock.{checksum}
-use Rattle.bank.proofs.Listed.{Slot, listed, listed_sizes}
+use Rattle.bank.proofs.Listed.{Slot, listed_sizes}
 use Rattle.superblocks.specs.Reading.{Scope}
 use Rattle.backup.specs.Written.{bytes_of}
 

@@ -1,6 +1,6 @@
 -- A write into an entered critical window that goes to the old place is found out: after a flush the section of the backup
 -- still gives the older value.
-use Rattle.std.proofs.Common.{◌≡◌, ℕ, ◌+◌, ◌<◌, ◌≤◌, inl, inr, List, [], ◌∷◌, ◌++◌, length, get_or, take, replicate, refl, subst, Some, None, lit≤, arith, option_and_then, Option}
+use Rattle.std.proofs.Common.{◌≡◌, ℕ, ◌<◌, ◌≤◌, inl, inr, List, [], ◌∷◌, ◌++◌, length, get_or, take, replicate, refl, subst, Some, None, lit≤, arith, option_and_then}
 use Rattle.md_base.specs.declared.places.Span.{Span}
 use Rattle.md_base.specs.Sectors.{Sector}
 use Rattle.md_base.specs.Search.{tabulate, least_below, count_below, any_below}

@@ -1,5 +1,5 @@
 -- The laws of the fill.
-use Rattle.std.proofs.Common.{◌≡◌, ℕ, Bool, true, false, cond, Option, Some, None, refl, sym, ap, ◌∙◌}
+use Rattle.std.proofs.Common.{◌≡◌, Bool, true, false, cond, Option, Some, None, refl, sym, ap, ◌∙◌}
 use Rattle.md_base.specs.Sectors.{Sector}
 use Rattle.parity.specs.Parity.{Row, fill}
 use Rattle.parity.specs.Fills.{FillsAreOwn, FillsAreUnique, GoodRowsStayGood}
