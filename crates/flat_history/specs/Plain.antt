@@ -1,6 +1,6 @@
 -- What a history must be for an array that keeps no superblocks and can do without no member, over a flat list that is
 -- given.
-use Rattle.std.specs.Prelude.{◌≡◌, ℕ, ◌+◌, ◌<◌, ◌≤◌, Bool, true, false, ◌==◌, if◌then◌else◌, List, [], ◌∷◌, ◌++◌, length, IsTrue, IsFalse, ⊤}
+use Rattle.std.specs.Prelude.{◌≡◌, ℕ, ◌+◌, ◌<◌, ◌≤◌, Bool, false, ◌==◌, List, [], ◌∷◌, ◌++◌, length, IsFalse, ⊤}
 use Rattle.std.specs.List.{list_any}
 use Rattle.md_base.specs.Search.{count_below}
 use Rattle.md_base.specs.Sectors.{Sector}
@@ -13,7 +13,7 @@ use Rattle.flat_history.specs.declared.events.LostCause.TheVariants.{Fault}
 use Rattle.flat_history.specs.declared.events.Entry.{Entry}
 use Rattle.flat_history.specs.declared.events.Request.{Request}
 use Rattle.flat_history.specs.declared.events.Request.TheVariants.{Read as AsksRead, Write as AsksWrite}
-use Rattle.flat_history.specs.Flat.{rest_of_call, last_of, visible_of}
+use Rattle.flat_history.specs.Flat.{rest_of_call, visible_of}
 use Rattle.flat_history.specs.Transfers.{IsTimedBetween, IsReadOver, EndsWithinOver, IsTornOver, IsRefusedAt}
 use Rattle.flat_history.specs.Legal.{IsNumbered, IsInnerOrLast, call_before}
 use Rattle.flat_history.specs.Fits.{AreTornOf, IsReadRefused, IsWriteRefused}
