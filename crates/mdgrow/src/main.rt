@@ -114,8 +114,12 @@ fn tell<R: Eprint>(rt: &R, ended: Ended) -> io::Result<()> {
 fn main(rt: HostRuntime) -> ExitCode {
     let ended = match run_words(&rt) {
         Ok(ended) => ended,
-        Err(_) => Ended {
-            status: 6,
+        Err(error) => Ended {
+            status: if error.kind() == io::ErrorKind::OutOfMemory {
+                6
+            } else {
+                2
+            },
             bad_line: 0,
         },
     };

@@ -1,6 +1,6 @@
 //! Runs whose replies are worked out by hand.
 
-ghost use Rattle.std.specs.Prelude.{◌≤◌};
+ghost use Rattle.std.specs.Prelude.{◌≡◌, ◌≤◌, length, IfOk};
 
 use crate::{Pace, Report, run};
 use bank::MemoryBank;
@@ -42,7 +42,9 @@ fn source_of(alloc: Global, given: &Given<'_>) -> Result<MemorySource, Fail> {
     Ok(MemorySource::new(text, pulls))
 }
 
-fn bank_of(alloc: Global, given: &Given<'_>) -> Result<MemoryBank, Fail> {
+fn bank_of(alloc: Global, given: &Given<'_>) -> Result<MemoryBank, Fail>
+    ensures { IfOk result (λ bank. length bank.start ≡ 8) }
+{
     let lengths = vec![in alloc; 64u64; 8]?;
     let calls = Vec::from_slice(alloc, given.calls)?;
     Ok(MemoryBank::new(alloc, lengths, 400, calls)?)
