@@ -1,13 +1,12 @@
 -- A request that was answered, and its place in the history.
-use Rattle.std.proofs.Common.{◌≡◌, ◌≢◌, ℕ, zero, suc, ◌+◌, ◌-◌, ◌*◌, ◌/◌, ◌<◌, ◌≤◌, ◌==◌, ◌&&◌, Bool, true, false, cond, Option, Some, None, List, [], ◌∷◌, ◌++◌, length, take, drop, refl, sym, ◌∙◌, ap, subst, arith, append_assoc, length-append}
-use Rattle.std.proofs.lemmas.List.{take-append-le, take_all, take_at}
-use Rattle.std.proofs.lemmas.Bool.Decides.{nat_tests}
+use Rattle.std.proofs.Common.{◌≡◌, ◌≢◌, ℕ, zero, suc, ◌+◌, ◌/◌, ◌≤◌, Some, List, [], ◌∷◌, ◌++◌, length, take, drop, refl, sym, ◌∙◌, ap, subst, arith, append_assoc, length-append}
+use Rattle.std.proofs.lemmas.List.{take_at}
 use Rattle.std.specs.Prelude.{slice_get}
 use Rattle.md_base.specs.declared.answers.Who.{Who}
 use Rattle.flat_history.specs.declared.events.Entry.{Entry}
 use Rattle.flat_history.specs.declared.events.Event.{Event}
 use Rattle.flat_history.specs.declared.events.Request.{Request}
-use Rattle.flat_history.specs.Flat.{rest_of_call, is_same_call, next_number}
+use Rattle.flat_history.specs.Flat.{rest_of_call, next_number}
 use Rattle.flat_history.specs.Plain.{Opening, PlainFits, entries_of}
 use Rattle.array.specs.Kept.{IsReplied, IsAnswered}
 use Rattle.std.proofs.Common.{Result, Ok, Err}

@@ -1,10 +1,8 @@
 -- The end of a run: the array is halted, and the replies stay what they were.
-use Rattle.std.proofs.Common.{◌≡◌, ◌≢◌, ℕ, zero, suc, ◌+◌, ◌*◌, ◌-◌, ◌<◌, ◌≤◌, ◌⊎◌, inl, inr, Bool, true, false, Option, Some, None, List, [], ◌∷◌, ◌++◌, length, take, replicate, refl, sym, ◌∙◌, ap, subst, arith}
-use Rattle.std.specs.Prelude.{MatchOption, IfSome}
+use Rattle.std.proofs.Common.{◌≡◌, ℕ, ◌-◌, ◌≤◌, inl, inr, Bool, true, false, Option, Some, None, List, [], ◌∷◌, length, take, replicate, refl, sym, ◌∙◌, ap, subst, arith}
+use Rattle.std.specs.Prelude.{MatchOption}
 use Rattle.std.specs.List.{All}
 use Rattle.std.proofs.lemmas.List.Elements.{All-nil, All-cons}
-use Rattle.md_base.specs.declared.answers.Who.{Who}
-use Rattle.md_base.specs.Shapes.{data_disks}
 use Rattle.md_base.specs.Sectors.{zero_sector}
 use Rattle.bank.specs.Given.{Given, NeverFalls}
 use Rattle.bank.specs.declared.bank.Operation.{Operation}
@@ -12,13 +10,12 @@ use Rattle.flat_history.specs.declared.events.Entry.{Entry}
 use Rattle.flat_history.specs.declared.events.Epoch.{Epoch}
 use Rattle.flat_history.specs.declared.events.Event.TheVariants.{Halted}
 use Rattle.flat_history.specs.Flat.{next_number, last_of}
-use Rattle.flat_history.specs.Plain.{Opening, IsPlainLegal, entries_of}
+use Rattle.flat_history.specs.Plain.{Opening, IsPlainLegal}
 use Rattle.array.specs.Parts.{Parts}
 use Rattle.array.specs.Kept.{opening_of, IsEntered, IsLossOf, AreLossesOf}
 use Rattle.array.proofs.PlainLaws.{one, last-snoc}
 use Rattle.array.proofs.LossLaws.{losses-then, losses-whole}
 use Rattle.script.specs.declared.lines.Numbered.{Numbered}
-use Rattle.runner.specs.declared.report.Outside.{Outside}
 use Rattle.runner.specs.declared.report.Outside.TheVariants.{Created, Assembled, Refused}
 use Rattle.runner.specs.declared.report.Answered.{Answered}
 use Rattle.runner.specs.declared.report.Answered.TheVariants.{Inside, Outside as IsOutside}
@@ -30,32 +27,33 @@ use Rattle.runner.specs.declared.states.State.{State}
 use Rattle.runner.specs.declared.states.State.TheVariants.{Idle, Running}
 use Rattle.runner.specs.Asked.{script_who}
 use Rattle.runner.specs.Histories.{History, history_of, opening_at}
-use Rattle.runner.specs.Replies.{Course, Setting, setting_of, at_rest, course_after, course_of, AreReplies}
-use Rattle.runner.specs.Runs.{histories_of, status_for, stop_of, AreHalted, AreLinesPerformed, AreLegal, AreLossesFailed, AreEndedAt, IsEnded}
+use Rattle.runner.specs.Replies.{Course, Setting, setting_of, at_rest, course_after, course_of}
+use Rattle.runner.specs.Runs.{histories_of, status_for, stop_of, AreLinesPerformed, AreLossesFailed, IsEnded}
 use Rattle.runner.specs.Sessions.{counted, IsCourse, taken_whole, IsTaken, IsPerformed, IsShownTo}
 use Rattle.runner.specs.Shown.{report_text, has_refusal}
-use Rattle.runner.specs.States.{running_history, histories_in, bank_in, course_in, IsSized, AreGrown, AreLossesFrom}
+use Rattle.runner.specs.States.{running_history, histories_in, course_in, IsOwn, AreByScript, AreLossesFrom}
 use Rattle.runner.proofs.Growth.{Covers, IsWider, replies_stay, replies_front, shown_stays}
-use Rattle.runner.proofs.Turns.{grown_by_call}
+use Rattle.runner.proofs.Turns.{grown_by_call, by_script_more}
 
 -- the array that ran was halted
 module _ {B : Type 0} {tells : Type 0} {tape : List Operation} (array : Parts B) (epoch : Epoch) (entered : IsEntered tells tape (script_who array.entries) array.entries epoch.entries.items (Halted ∷ [])) where
   halted_last : last_of epoch.entries.items ≡ Some (one (script_who array.entries) entered.end Halted)
   halted_last = ap (λ (l : List Entry). last_of l) entered.is ∙ last-snoc array.entries (one (script_who array.entries) entered.end Halted)
 
-  pub ended_running : (faults : ℕ → ℕ) → epoch.first ≡ array.first → IsSized (Running array) → AreLossesOf faults faults array.entries epoch.entries.items
+  pub ended_running : (faults : ℕ → ℕ) → epoch.first ≡ array.first → IsOwn array → AreLossesOf faults faults array.entries epoch.entries.items
       → epoch.uuid ≡ array.uuid → epoch.given ≡ array.given → (tells → IsPlainLegal (opening_of array.shape array.size array.first) (length tape) epoch.entries.items) → (tells → epoch.last ≡ length tape)
       → IsEnded tells tape faults (Running array) array.bank (epoch ∷ [])
-  ended_running faults first sized losses uuid given legal last =
+  ended_running faults first own losses uuid given legal last =
       let grown = grown_by_call array.first array.entries epoch.entries.items entered.end (Halted ∷ []) entered.is in record {
         same_bank = refl;
         grown = (record { first = first; more = grown.more; grown = grown.grown; later = grown.later }, tt);
+        script = All-cons (λ h. AreByScript h.entries) (history_of epoch) [] (by_script_more array.entries epoch.entries.items entered.end (Halted ∷ []) entered.is own.script) (All-nil (λ (h : History). AreByScript h.entries));
         halted = (refl, subst (λ (o : Option Entry). MatchOption o ⊥ (λ e. (e.caller ≡ 0) × (e.number ≡ next_number 0 array.entries) × (e.event ≡ Halted))) (sym halted_last) (refl, refl, refl));
         opened = ap (λ (u : List ℕ). record { uuid = u; given = epoch.given } ∷ []) uuid ∙ ap (λ (n : ℕ). record { uuid = array.uuid; given = n } ∷ []) given;
         losses = (losses, tt);
         legal = λ told. All-cons (λ e. IsPlainLegal (opening_at (history_of e)) (length tape) e.entries.items) epoch []
             (subst (λ (o : Opening). IsPlainLegal o (length tape) epoch.entries.items)
-            (ap (λ (n : ℕ). record { list = replicate n zero_sector; first = array.first }) sized ∙ ap (λ (n : ℕ). record { list = replicate 80 zero_sector; first = n }) (sym first)) (legal told))
+            (ap (λ (n : ℕ). record { list = replicate n zero_sector; first = array.first }) own.sized ∙ ap (λ (n : ℕ). record { list = replicate 80 zero_sector; first = n }) (sym first)) (legal told))
             (All-nil (λ e. IsPlainLegal (opening_at (history_of e)) (length tape) e.entries.items));
         ended = λ told. All-cons (λ e. e.last ≡ length tape) epoch [] (last told) (All-nil (λ e. e.last ≡ length tape));
       }
@@ -66,6 +64,7 @@ ended_idle tells tape faults bank = record {
   same_bank = refl;
   grown = tt;
   halted = (refl, tt);
+  script = All-nil (λ (h : History). AreByScript h.entries);
   opened = refl;
   losses = tt;
   legal = λ told. All-nil (λ e. IsPlainLegal (opening_at (history_of e)) (length tape) e.entries.items);
@@ -145,6 +144,7 @@ module _ {B : Type 0} {given : Given} {backup : Option ℕ} {start now : ℕ →
     course = course_in session.state;
     told = subst (λ (o : Option Stop). IsCourse o (course_of at_rest session.replies.items) (course_in session.state)) (sym is_stop) performed.course;
     halted = ended.halted;
+    script = ended.script;
     opened = λ not. ended.opened ∙ performed.opened (λ stopped. not (is_stop ∙ stopped));
   }
 
@@ -166,4 +166,4 @@ performed_nothing setting asked status epochs lines short no_epochs no_lines =
     subst (λ (s : ℕ). AreLinesPerformed setting asked (stop_of s) epochs lines) (sym short)
     (subst (λ (es : List Epoch). AreLinesPerformed setting asked (Some WantsMemory) es lines) (sym no_epochs)
     (subst (λ (ls : List LineReply). AreLinesPerformed setting asked (Some WantsMemory) [] ls) (sym no_lines)
-    (record { few = omega arith; all = λ going. absurd (cc); replies = tt; course = at_rest; told = inl refl; halted = (refl, tt); opened = λ not. refl })))
+    (record { few = omega arith; all = λ going. absurd (cc); replies = tt; course = at_rest; told = inl refl; halted = (refl, tt); script = All-nil (λ (h : History). AreByScript h.entries); opened = λ not. refl })))

@@ -1,5 +1,5 @@
 -- One line more was performed and shown.
-use Rattle.std.proofs.Common.{◌≡◌, ℕ, zero, suc, ◌+◌, ◌-◌, ◌^◌, ◌<◌, ◌≤◌, ◌||◌, ◌⊎◌, inl, inr, Bool, true, false, Option, Some, None, List, [], ◌∷◌, ◌++◌, length, take, min, refl, sym, ◌∙◌, ap, subst, arith, append_assoc, append-nil, length-append}
+use Rattle.std.proofs.Common.{◌≡◌, ℕ, suc, ◌+◌, ◌-◌, ◌<◌, ◌≤◌, ◌||◌, ◌⊎◌, inl, inr, Bool, true, false, Option, Some, None, List, [], ◌∷◌, ◌++◌, length, take, refl, sym, ◌∙◌, ap, subst, arith, append_assoc, append-nil, length-append}
 use Rattle.std.proofs.lemmas.Bool.Decides.{nat_tests}
 use Rattle.std.proofs.lemmas.List.{take_at, length-take-le}
 use Rattle.std.proofs.lemmas.List.Folds.{list_any-append}
@@ -8,7 +8,6 @@ use Rattle.std.proofs.Math.Seq.{take-suc, take-append-add}
 use Rattle.std.proofs.Math.ListN.{get_or}
 use Rattle.bank.specs.Given.{Given, NeverFalls}
 use Rattle.text_io.specs.Causes.{HasRisen}
-use Rattle.flat_history.specs.Flat.{next_number}
 use Rattle.array.proofs.LossLaws.{losses-none, losses-then}
 use Rattle.script.specs.declared.lines.Numbered.{Numbered}
 use Rattle.runner.specs.declared.report.Answered.{Answered}
@@ -21,8 +20,8 @@ use Rattle.runner.specs.declared.sessions.Session.{Session}
 use Rattle.runner.specs.Histories.{History, Opened}
 use Rattle.runner.specs.Replies.{Course, Setting, setting_of, at_rest, course_after, course_of, IsAnswer, IsReplyTo, AreReplies, opened_by, all_opened}
 use Rattle.runner.specs.Shown.{reply_text, report_text, is_refusal, has_refusal}
-use Rattle.runner.specs.States.{histories_in, opened_in, course_in, IsSized, AreLossesFrom, AreGrown, IsTurn}
-use Rattle.runner.specs.Sessions.{counted, IsReplied, IsUnreplied, IsReplyMore, IsShownWhole, IsShownInPart, IsUnshown, IsStep, IsCourse, taken_whole, IsTaken, IsStopCause, IsPerformed, IsShownTo}
+use Rattle.runner.specs.States.{histories_in, opened_in, course_in, RunsOwn, AreLossesFrom, AreGrown}
+use Rattle.runner.specs.Sessions.{counted, IsUnreplied, IsReplyMore, IsStep, IsCourse, taken_whole, IsTaken, IsStopCause, IsPerformed, IsShownTo}
 use Rattle.runner.proofs.Growth.{Covers, IsWider, answer_wider, replies_stay, replies_more, course_more, opened_more, shown_stays}
 
 -- a run covers its own replies
@@ -121,7 +120,7 @@ module _ {B : Type 0} {given : Given} {backup : Option ℕ} {start mid now : ℕ
 
     performed_reply : (o : Option Stop) → new.stopped ≡ o → ((f c : Course) → c ≡ f → IsCourse o f c) → IsPerformed (setting_of given backup start now) lines new
     performed_reply o stop course = record {
-      sized = is.replied.turn.sized;
+      own = is.replied.turn.own;
       few = omega (arith, one_more, lt);
       replies = replies_new;
       course = subst (λ (x : Option Stop). IsCourse x (course_of at_rest new.replies.items) (course_in new.state)) (sym stop) (course (course_of at_rest new.replies.items) (course_in new.state) course_new);
@@ -137,7 +136,7 @@ module _ {B : Type 0} {given : Given} {backup : Option ℕ} {start mid now : ℕ
   performed_short : IsUnreplied (setting_of given backup mid now) old.state new.state → new.replies.items ≡ old.replies.items → new.refused ≡ old.refused → new.stopped ≡ Some WantsMemory
       → IsPerformed (setting_of given backup start now) lines new
   performed_short none same refused stop = record {
-    sized = none.sized;
+    own = none.own;
     few = omega (arith, lt, ap (λ (l : List LineReply). length l) same);
     replies = subst (λ (rs : List LineReply). AreReplies (setting_of given backup start now) (histories_in new.state) at_rest (take (length rs) lines) rs) (sym same) (replies_still none.grown);
     course = subst (λ (x : Option Stop). IsCourse x (course_of at_rest new.replies.items) (course_in new.state)) (sym stop)
@@ -225,7 +224,7 @@ module _ {B : Type 0} {given : Given} {backup : Option ℕ} {start mid now : ℕ
 pub performed_none : {B : Type 0} {given : Given} {backup : Option ℕ} {start : ℕ → ℕ} (lines : List Numbered) (session : Session B) (bank : B) → session.state ≡ Idle bank → session.replies.items ≡ [] → session.refused ≡ false
     → session.stopped ≡ None → IsPerformed (setting_of given backup start start) lines session
 performed_none {B = B} {given = given} {backup = backup} {start = start} lines session bank idle none refused going = record {
-  sized = subst (λ (s : State B). IsSized s) (sym idle) tt;
+  own = subst (λ (s : State B). RunsOwn s) (sym idle) tt;
   few = omega (arith, ap (λ (l : List LineReply). length l) none);
   replies = subst (λ (rs : List LineReply). AreReplies (setting_of given backup start start) (histories_in session.state) at_rest (take (length rs) lines) rs) (sym none) tt;
   course = subst (λ (o : Option Stop). IsCourse o (course_of at_rest session.replies.items) (course_in session.state)) (sym going)

@@ -1,23 +1,21 @@
 -- What one line does to a run, by the answer that it got.
-use Rattle.std.proofs.Common.{◌≡◌, ◌≢◌, ℕ, zero, suc, ◌+◌, ◌*◌, ◌<◌, ◌≤◌, ◌==◌, ◌&&◌, Bool, true, false, Option, Some, None, List, [], ◌∷◌, ◌++◌, length, take, drop, refl, sym, ◌∙◌, ap, subst, arith, append-nil, replicate, Result, Ok, Err}
+use Rattle.std.proofs.Common.{◌≡◌, ℕ, ◌+◌, ◌*◌, ◌<◌, ◌==◌, ◌&&◌, Bool, true, false, Option, Some, None, List, [], ◌∷◌, ◌++◌, refl, sym, ◌∙◌, ap, subst, arith, append-nil, replicate, Result, Ok, Err}
 use Rattle.std.proofs.lemmas.List.Sums.{fold-append}
 use Rattle.std.proofs.lemmas.Bool.Decides.{nat_tests}
-use Rattle.std.specs.Prelude.{slice_get, MatchOption, if◌then◌else◌, IsTrue, ⊤}
+use Rattle.std.specs.Prelude.{slice_get, MatchOption, if◌then◌else◌, IsTrue}
+use Rattle.std.proofs.lemmas.List.Elements.{All-nil, All-cons, All-append}
 use Rattle.md_base.specs.declared.places.Shape.{Shape}
 use Rattle.md_base.specs.declared.answers.NoMemory.{NoMemory}
 use Rattle.md_base.specs.Sectors.{zero_sector}
 use Rattle.md_base.specs.declared.answers.Refusal.{Refusal}
-use Rattle.md_base.specs.declared.answers.Refusal.TheVariants.{Running as IsRunning, NotRunning, SlotFault}
-use Rattle.md_base.specs.declared.answers.Fault.{Fault}
-use Rattle.md_base.specs.declared.answers.Fault.TheVariants.{Refused as IsRefusedWith, NoMemory as WantsMemory}
+use Rattle.md_base.specs.declared.answers.Refusal.TheVariants.{Running as IsRunning}
 use Rattle.md_base.specs.declared.answers.Who.{Who}
 use Rattle.md_base.specs.Shapes.{data_disks}
 use Rattle.array.specs.Parts.{Parts}
 use Rattle.array.specs.Kept.{opening_of, IsSameArray, IsMade, AreLossesOf}
 use Rattle.array.proofs.LossLaws.{losses-same}
-use Rattle.array.specs.declared.spec.CreateSpec.{CreateSpec}
 use Rattle.script.specs.declared.lines.CreateLine.{CreateLine}
-use Rattle.script.specs.Script.{is_first_array, is_create}
+use Rattle.script.specs.Script.{is_first_array}
 use Rattle.array.proofs.PlainLaws.{one}
 use Rattle.flat_history.specs.declared.events.Entry.{Entry}
 use Rattle.flat_history.specs.declared.events.Event.{Event}
@@ -26,16 +24,14 @@ use Rattle.flat_history.specs.Flat.{rest_of_call, is_same_call, next_number, num
 use Rattle.flat_history.specs.Plain.{Opening, entries_of}
 use Rattle.script.specs.declared.lines.Line.{Line}
 use Rattle.script.specs.declared.lines.Line.TheVariants.{Create, Read, Write}
-use Rattle.runner.specs.declared.report.Outside.{Outside}
 use Rattle.runner.specs.declared.report.Outside.TheVariants.{Created, Assembled, Refused}
 use Rattle.runner.specs.declared.report.Answered.{Answered}
 use Rattle.runner.specs.declared.report.Answered.TheVariants.{Inside, Outside as IsOutside}
-use Rattle.runner.specs.declared.states.State.{State}
 use Rattle.runner.specs.declared.states.State.TheVariants.{Idle, Running}
 use Rattle.runner.specs.Asked.{script_who, IsAskedAt, IsPerformedLine}
-use Rattle.runner.specs.Histories.{History, Opened, opening_at}
-use Rattle.runner.specs.Replies.{Course, Setting, spec_of, unmade, asked_of, course_after, IsReplyAt, IsAnsweredInside, IsAnswer, IsRefusedOutside, opened_by}
-use Rattle.runner.specs.States.{running_history, opened_in, IsGrown, AreGrown, IsTurn, IsNoTurn, IsTurnOrNone, IsSized}
+use Rattle.runner.specs.Histories.{Opened, opening_at}
+use Rattle.runner.specs.Replies.{Course, Setting, spec_of, unmade, asked_of, IsReplyAt, IsAnsweredInside, IsRefusedOutside, opened_by}
+use Rattle.runner.specs.States.{running_history, opened_in, IsGrown, IsTurn, IsNoTurn, IsTurnOrNone, RunsOwn, AreByScript}
 use Rattle.runner.proofs.AskLaws.{with_reply, reply_at}
 
 both_false : (a b : Bool) → b ≡ false → (a && b) ≡ false
@@ -63,6 +59,15 @@ grown_by_call first old new end events is = record {
   later = λ e lt. later_call e (script_who old) end events lt;
 }
 
+-- the entries of a call of the script are the script's
+by_script_call : (who : Who) (end : ℕ) (events : List Event) → who.caller ≡ 0 → AreByScript (entries_of who end events)
+by_script_call who end [] is = All-nil (λ e. e.caller ≡ 0)
+by_script_call who end (event ∷ events) is = All-cons (λ e. e.caller ≡ 0) (one who end event) (entries_of who end events) is (by_script_call who end events is)
+
+pub by_script_more : (old new : List Entry) (end : ℕ) (events : List Event) → new ≡ old ++ entries_of (script_who old) end events → AreByScript old → AreByScript new
+by_script_more old new end events is was = subst (λ (l : List Entry). AreByScript l) (sym is)
+    (All-append (λ e. e.caller ≡ 0) old (entries_of (script_who old) end events) was (by_script_call (script_who old) end events refl))
+
 grown_same : (first : ℕ) (old new : List Entry) → new ≡ old → IsGrown (record { first = first; entries = old }) (record { first = first; entries = new })
 grown_same first old new is = record {
   first = refl;
@@ -78,9 +83,12 @@ number_entered {old = old} asked = ap (λ (l : List Entry). next_number 0 l) (wi
 same_opening : (shape : Shape) (size first : ℕ) → data_disks shape * size ≡ 80 → opening_of shape size first ≡ opening_at (record { first = first; entries = [] })
 same_opening shape size first is = ap (λ (n : ℕ). record { list = replicate n zero_sector; first = first }) is
 
-module _ {B : Type 0} (setting : Setting) {old new : Parts B} (same : IsSameArray old new) (lost : AreLossesOf setting.before setting.now old.entries new.entries) (sized : IsSized (Running old)) where
-  sized_still : IsSized (Running new)
-  sized_still = ap (λ (s : Shape). data_disks s * new.size) same.shape ∙ ap (λ (n : ℕ). data_disks old.shape * n) same.size ∙ sized
+module _ {B : Type 0} (setting : Setting) {old new : Parts B} (same : IsSameArray old new) (lost : AreLossesOf setting.before setting.now old.entries new.entries) (own : RunsOwn (Running old)) where
+  sized_still : data_disks new.shape * new.size ≡ 80
+  sized_still = ap (λ (s : Shape). data_disks s * new.size) same.shape ∙ ap (λ (n : ℕ). data_disks old.shape * n) same.size ∙ own.sized
+
+  own_same : new.entries ≡ old.entries → RunsOwn (Running new)
+  own_same is = record { sized = sized_still; script = subst (λ (l : List Entry). AreByScript l) (sym is) own.script }
 
   refirst : IsGrown (record { first = old.first; entries = old.entries }) (record { first = old.first; entries = new.entries }) → IsGrown (running_history old) (running_history new)
   refirst is = record { first = same.first; more = is.more; grown = is.grown; later = is.later }
@@ -96,7 +104,7 @@ module _ {B : Type 0} (setting : Setting) {old new : Parts B} (same : IsSameArra
   turn_inside : (line : Line) (epoch place : ℕ) (request : Request) → asked_of line ≡ Some request → epoch ≡ 0 → IsAskedAt (opening_of old.shape old.size old.first) request old.entries new.entries place
       → IsTurn setting (Running old) (Running new) line (Inside epoch place)
   turn_inside line epoch place request is first asked = record {
-    sized = sized_still;
+    own = record { sized = sized_still; script = by_script_more old.entries new.entries asked.replied.end _ asked.replied.is own.script };
     losses = (lost, tt);
     grown = (refirst (grown_by_call old.first old.entries new.entries asked.replied.end _ asked.replied.is), tt);
     answer = subst (λ (o : Option Request). MatchOption o ⊥ (λ r. IsAnsweredInside (running_history new ∷ []) (record { opened = 1; running = true; calls = next_number 0 old.entries }) epoch place r)) (sym is)
@@ -106,7 +114,7 @@ module _ {B : Type 0} (setting : Setting) {old new : Parts B} (same : IsSameArra
           history = running_history new;
           there = ap (λ (k : ℕ). slice_get (running_history new ∷ []) k) first;
           replied = subst (λ (o : Opening). IsReplyAt o new.entries place (next_number 0 old.entries) request)
-              (same_opening old.shape old.size old.first sized ∙ ap (λ (n : ℕ). opening_at (record { first = n; entries = [] })) (sym same.first)) (reply_at asked);
+              (same_opening old.shape old.size old.first own.sized ∙ ap (λ (n : ℕ). opening_at (record { first = n; entries = [] })) (sym same.first)) (reply_at asked);
         });
     course = ap (λ (n : ℕ). record { opened = 1; running = true; calls = n }) (number_entered asked);
     opened = opened_still line (Inside epoch place) (nothing_inside line);
@@ -120,7 +128,7 @@ module _ {B : Type 0} (setting : Setting) {old new : Parts B} (same : IsSameArra
   -- a create is refused
   turn_refused : (line : Line) (refusal : Refusal) → asked_of line ≡ None → refusal ≡ IsRunning → new.entries ≡ old.entries → IsTurn setting (Running old) (Running new) line (IsOutside (Refused refusal))
   turn_refused line refusal is running entries = record {
-    sized = sized_still;
+    own = own_same entries;
     losses = (lost, tt);
     grown = (refirst (grown_same old.first old.entries new.entries entries), tt);
     answer = by_line line is;
@@ -140,7 +148,7 @@ module _ {B : Type 0} (setting : Setting) {old new : Parts B} (same : IsSameArra
 
   no_turn : new.entries ≡ old.entries → IsNoTurn setting (Running old) (Running new)
   no_turn entries = record {
-    sized = sized_still;
+    own = own_same entries;
     losses = (lost, tt);
     grown = (refirst (grown_same old.first old.entries new.entries entries), tt);
     course = course_still entries;
@@ -166,7 +174,10 @@ first_size line is = grind (arith, nat_tests, is)
 pub turn_created : {B : Type 0} {tells : Type 0} {ops : ℕ} {made : Parts B} (setting : Setting) (bank : B) (line : CreateLine) → IsMade tells ops setting.given.slots (spec_of line) made
     → unmade setting line ≡ None → IsTrue (is_first_array line) → IsTurn setting (Idle bank) (Running made) (Create line) (IsOutside Created)
 turn_created {made = made} setting bank line was unrefused first = record {
-  sized = ap (λ (s : Shape). data_disks s * made.size) was.shape ∙ ap (λ (n : ℕ). data_disks line.shape * n) was.size ∙ first_size line first;
+  own = record {
+    sized = ap (λ (s : Shape). data_disks s * made.size) was.shape ∙ ap (λ (n : ℕ). data_disks line.shape * n) was.size ∙ first_size line first;
+    script = subst (λ (l : List Entry). AreByScript l) (sym was.entries) (All-nil (λ e. e.caller ≡ 0));
+  };
   losses = (losses-same setting.before setting.now [] made.entries was.entries, tt);
   grown = tt;
   answer = (refl, unrefused);
@@ -176,7 +187,7 @@ turn_created {made = made} setting bank line was unrefused first = record {
 
 -- where no array runs, a line is refused
 pub turn_idle : {B : Type 0} (setting : Setting) (old new : B) (line : Line) (refusal : Refusal) → IsRefusedOutside setting false line refusal → IsTurn setting (Idle old) (Idle new) line (IsOutside (Refused refusal))
-turn_idle setting old new line refusal is = record { sized = tt; losses = tt; grown = tt; answer = is; course = refl; opened = by_line line }
+turn_idle setting old new line refusal is = record { own = tt; losses = tt; grown = tt; answer = is; course = refl; opened = by_line line }
   where
     by_line : (line : Line) → [] ≡ opened_by setting.given.slots line (IsOutside (Refused refusal))
     by_line (Create spec) = refl
@@ -184,4 +195,4 @@ turn_idle setting old new line refusal is = record { sized = tt; losses = tt; gr
     by_line (Write at count seed) = refl
 
 pub no_turn_idle : {B : Type 0} (setting : Setting) (old new : B) → IsNoTurn setting (Idle old) (Idle new)
-no_turn_idle setting old new = record { sized = tt; losses = tt; grown = tt; course = refl }
+no_turn_idle setting old new = record { own = tt; losses = tt; grown = tt; course = refl }

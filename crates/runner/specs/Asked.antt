@@ -1,5 +1,5 @@
 -- One request of the script to a running array.
-use Rattle.std.specs.Prelude.{◌≡◌, ℕ, ◌+◌, List, length, Option, None, MatchOption, Result, Ok, Err}
+use Rattle.std.specs.Prelude.{◌≡◌, ℕ, ◌+◌, List, length, None, MatchOption, Result, Ok, Err}
 use Rattle.md_base.specs.declared.answers.Refusal.TheVariants.{Running}
 use Rattle.md_base.specs.declared.answers.NoMemory.{NoMemory}
 use Rattle.md_base.specs.declared.answers.Who.{Who}

@@ -1,10 +1,9 @@
 -- The histories of a run's arrays, in the order in which these were made.
-use Rattle.std.specs.Prelude.{◌≡◌, ℕ, List, [], ◌∷◌, ◌++◌, replicate, slice_get, Option, ⊤}
+use Rattle.std.specs.Prelude.{ℕ, List, replicate, slice_get, Option}
 use Rattle.std.specs.Option.{option_and_then}
 use Rattle.md_base.specs.Sectors.{zero_sector}
 use Rattle.flat_history.specs.declared.events.Entry.{Entry}
 use Rattle.flat_history.specs.declared.events.Epoch.{Epoch}
-use Rattle.flat_history.specs.Flat.{rest_of_call, next_number}
 use Rattle.flat_history.specs.Plain.{Opening}
 
 -- the mark at which an array opened, and its entries

@@ -1,5 +1,5 @@
 -- The replies to the lines of a script, over the histories of its arrays.
-use Rattle.std.specs.Prelude.{◌≡◌, ◌⊎◌, ℕ, ◌+◌, ◌-◌, ◌^◌, ◌≤◌, Bool, true, false, List, [], ◌∷◌, ◌++◌, length, drop, take, slice_get, Option, Some, None, MatchOption, IsTrue, IsFalse, ⊤}
+use Rattle.std.specs.Prelude.{◌≡◌, ℕ, ◌+◌, ◌-◌, ◌^◌, Bool, true, false, List, [], ◌∷◌, ◌++◌, drop, take, slice_get, Option, Some, None, MatchOption, IsTrue, IsFalse, ⊤}
 use Rattle.md_base.specs.declared.answers.Refusal.{Refusal}
 use Rattle.md_base.specs.declared.answers.Refusal.TheVariants.{Running, NotRunning}
 use Rattle.md_base.specs.declared.answers.Fault.TheVariants.{Refused as IsRefusedWith}
@@ -11,14 +11,13 @@ use Rattle.script.specs.declared.lines.CreateLine.{CreateLine}
 use Rattle.flat_history.specs.declared.events.Entry.{Entry}
 use Rattle.flat_history.specs.declared.events.Request.{Request}
 use Rattle.flat_history.specs.declared.events.Request.TheVariants.{Read as AsksRead, Write as AsksWrite}
-use Rattle.flat_history.specs.Flat.{rest_of_call, next_number}
+use Rattle.flat_history.specs.Flat.{rest_of_call}
 use Rattle.flat_history.specs.Plain.{Opening, PlainFits}
 use Rattle.script.specs.declared.lines.Line.{Line}
 use Rattle.script.specs.declared.lines.Line.TheVariants.{Create, Read, Write}
 use Rattle.script.specs.declared.lines.Numbered.{Numbered}
 use Rattle.script.specs.declared.reply.Lane.TheVariants.{Script as InScript}
 use Rattle.script.specs.Seeds.{seeded}
-use Rattle.runner.specs.declared.report.Outside.{Outside}
 use Rattle.runner.specs.declared.report.Outside.TheVariants.{Created, Assembled, Refused}
 use Rattle.runner.specs.declared.report.Answered.{Answered}
 use Rattle.runner.specs.declared.report.Answered.TheVariants.{Inside, Outside as IsOutside}

@@ -1,8 +1,7 @@
 -- A whole run: what was read, done and shown, by the status that it ended with.
-use Rattle.std.specs.Prelude.{◌≡◌, ◌≢◌, ◌⊎◌, ℕ, ◌+◌, ◌-◌, ◌<◌, ◌≤◌, ◌==◌, Bool, true, false, if◌then◌else◌, List, [], ◌∷◌, length, map, take, slice_get, Option, Some, None, MatchOption, Err, Ok, ⊤}
+use Rattle.std.specs.Prelude.{◌≡◌, ◌≢◌, ◌⊎◌, ℕ, ◌-◌, ◌≤◌, ◌==◌, Bool, true, false, if◌then◌else◌, List, [], length, map, take, slice_get, Option, Some, None, MatchOption, Err, Ok, ⊤}
 use Rattle.std.specs.List.{All}
 use Rattle.bank.specs.declared.bank.Operation.{Operation}
-use Rattle.flat_history.specs.declared.events.Entry.{Entry}
 use Rattle.flat_history.specs.declared.events.Epoch.{Epoch}
 use Rattle.flat_history.specs.declared.events.Event.TheVariants.{Halted}
 use Rattle.flat_history.specs.Flat.{last_of}
@@ -20,7 +19,7 @@ use Rattle.runner.specs.Histories.{History, history_of, opened_as, opening_at}
 use Rattle.runner.specs.Replies.{Course, Setting, at_rest, course_of, AreReplies, all_opened}
 use Rattle.runner.specs.Sessions.{IsCourse}
 use Rattle.runner.specs.Source.{IsTextOf}
-use Rattle.runner.specs.States.{histories_in, opened_in, bank_in, course_in, AreGrown, AreLossesFrom}
+use Rattle.runner.specs.States.{histories_in, opened_in, bank_in, course_in, AreByScript, AreGrown, AreLossesFrom}
 
 abbrev pub histories_of : List Epoch → List History
 histories_of epochs = map history_of epochs
@@ -40,6 +39,10 @@ stop_of status = if status == 5 then Some WriteFault else if status == 6 then So
 abbrev pub IsHalted : ℕ → History → Type 0
 IsHalted number history = MatchOption (last_of history.entries) ⊥ (λ e. (e.caller ≡ 0) × (e.number ≡ number) × (e.event ≡ Halted))
 
+-- no history holds a call of another than the script
+abbrev pub AreOfScript : List History → Type 0
+AreOfScript histories = All (λ history. AreByScript history.entries) histories
+
 -- there are as many histories as arrays were made, and the last array was halted by the call behind the script's others
 abbrev pub AreHalted : Course → List History → Type 0
 AreHalted course histories = (length histories ≡ course.opened) × MatchOption (slice_get histories (length histories - 1)) ⊤ (λ history. IsHalted course.calls history)
@@ -53,6 +56,7 @@ pub record AreLinesPerformed (setting : Setting) (asked : List Numbered) (stoppe
   pub course : Course
   pub told : IsCourse stopped (course_of at_rest lines) course
   pub halted : AreHalted course (histories_of epochs)
+  pub script : AreOfScript (histories_of epochs)
   pub opened : stopped ≢ Some WantsMemory → map opened_as epochs ≡ all_opened setting.given.slots (take (length lines) asked) lines
 
 -- the whole text of the script was read, and then its lines were performed
@@ -86,6 +90,7 @@ pub record IsEnded {B : Type 0} (tells : Type 0) (tape : List Operation) (faults
   pub same_bank : bank ≡ bank_in state
   pub grown : AreGrown (histories_in state) (histories_of epochs)
   pub halted : AreHalted (course_in state) (histories_of epochs)
+  pub script : AreOfScript (histories_of epochs)
   pub opened : map opened_as epochs ≡ opened_in state
   pub losses : AreLossesFrom faults faults (histories_in state) (histories_of epochs)
   pub legal : tells → AreLegal (length tape) epochs

@@ -1,5 +1,5 @@
 -- The lines of a script performed one after another, and what was shown of it.
-use Rattle.std.specs.Prelude.{◌≡◌, ◌≢◌, ◌⊎◌, ℕ, ◌+◌, ◌-◌, ◌^◌, ◌<◌, ◌≤◌, ◌||◌, Bool, List, [], ◌∷◌, ◌++◌, length, take, min, Option, Some, None, Result, Ok, Err, ⊤}
+use Rattle.std.specs.Prelude.{◌≡◌, ◌≢◌, ◌⊎◌, ℕ, ◌+◌, ◌-◌, ◌^◌, ◌≤◌, ◌||◌, Bool, List, [], ◌∷◌, ◌++◌, length, take, min, Option, Some, None, Result, Ok, Err, ⊤}
 use Rattle.md_base.specs.declared.answers.NoMemory.{NoMemory}
 use Rattle.script.specs.declared.lines.Numbered.{Numbered}
 use Rattle.script.specs.declared.reply.Lane.TheVariants.{Script as InScript}
@@ -11,10 +11,9 @@ use Rattle.runner.specs.declared.sessions.Made.{Made}
 use Rattle.runner.specs.declared.sessions.Stop.{Stop}
 use Rattle.runner.specs.declared.sessions.Stop.TheVariants.{WriteFault, NoMemory as WantsMemory}
 use Rattle.runner.specs.declared.sessions.Session.{Session}
-use Rattle.runner.specs.Histories.{History}
 use Rattle.runner.specs.Replies.{Course, Setting, at_rest, course_after, course_of, IsEnd, AreReplies, all_opened}
 use Rattle.runner.specs.Shown.{reply_text, report_text, is_refusal, has_refusal}
-use Rattle.runner.specs.States.{histories_in, opened_in, course_in, IsSized, AreLossesFrom, AreGrown, IsTurn}
+use Rattle.runner.specs.States.{histories_in, opened_in, course_in, RunsOwn, AreLossesFrom, AreGrown, IsTurn}
 
 -- so many bytes, as far as a u64 can count
 abbrev pub counted : ℕ → ℕ
@@ -30,7 +29,7 @@ pub record IsReplied {B : Type 0} (setting : Setting) (old new : State B) (numbe
 
 -- no reply was made, for want of memory: the line was not performed, or it was the last one
 pub record IsUnreplied {B : Type 0} (setting : Setting) (old new : State B) : Type 0 where
-  pub sized : IsSized new
+  pub own : RunsOwn new
   pub losses : AreLossesFrom setting.before setting.now (histories_in old) (histories_in new)
   pub grown : AreGrown (histories_in old) (histories_in new)
   pub course : (course_in new ≡ course_in old) ⊎ ((what : Answered) × (course_in new ≡ course_after (course_in old) what))
@@ -97,7 +96,7 @@ IsStopCause (Some WantsMemory) before now = ⊤
 
 -- The first lines were performed, from a bank without an array on, and each got its reply.
 pub record IsPerformed {B : Type 0} (setting : Setting) (lines : List Numbered) (session : Session B) : Type 0 where
-  pub sized : IsSized session.state
+  pub own : RunsOwn session.state
   pub few : length session.replies.items ≤ length lines
   pub replies : AreReplies setting (histories_in session.state) at_rest (take (length session.replies.items) lines) session.replies.items
   pub course : IsCourse session.stopped (course_of at_rest session.replies.items) (course_in session.state)

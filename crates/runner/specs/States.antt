@@ -1,5 +1,6 @@
 -- The bank of a run with or without an array on it, and what a line does to it.
-use Rattle.std.specs.Prelude.{◌≡◌, ℕ, ◌+◌, ◌<◌, ◌≤◌, ◌*◌, ◌++◌, Bool, true, false, List, [], ◌∷◌, Result, Ok, Err, Option, IsSome, ⊤}
+use Rattle.std.specs.Prelude.{◌≡◌, ℕ, ◌<◌, ◌≤◌, ◌*◌, ◌++◌, true, List, [], ◌∷◌, Result, Ok, Err, Option, IsSome, ⊤}
+use Rattle.std.specs.List.{All}
 use Rattle.md_base.specs.declared.answers.NoMemory.{NoMemory}
 use Rattle.md_base.specs.Shapes.{data_disks}
 use Rattle.bank.specs.Given.{Given}
@@ -38,10 +39,18 @@ abbrev pub course_in : {B : Type 0} → State B → Course
 course_in (Idle bank) = at_rest
 course_in (Running array) = record { opened = 1; running = true; calls = next_number 0 array.entries }
 
--- the array has the size of the one that can be made so far
-abbrev pub IsSized : {B : Type 0} → State B → Type 0
-IsSized (Idle bank) = ⊤
-IsSized (Running array) = data_disks array.shape * array.size ≡ 80
+-- all entries are of calls of the script
+abbrev pub AreByScript : List Entry → Type 0
+AreByScript entries = All (λ e. e.caller ≡ 0) entries
+
+-- an array of a run: it has the size of the one that can be made so far, and none but the script has called it
+pub record IsOwn {B : Type 0} (array : Parts B) : Type 0 where
+  pub sized : data_disks array.shape * array.size ≡ 80
+  pub script : AreByScript array.entries
+
+abbrev pub RunsOwn : {B : Type 0} → State B → Type 0
+RunsOwn (Idle bank) = ⊤
+RunsOwn (Running array) = IsOwn array
 
 -- the bank has few slots, and the backup is the last
 pub record IsFitBank (given : Given) (backup : Option ℕ) : Type 0 where
@@ -69,7 +78,7 @@ AreLossesFrom before now (old ∷ olds) (new ∷ news) = AreLossesOf before now 
 
 -- one line was answered
 pub record IsTurn {B : Type 0} (setting : Setting) (old new : State B) (line : Line) (what : Answered) : Type 0 where
-  pub sized : IsSized new
+  pub own : RunsOwn new
   pub losses : AreLossesFrom setting.before setting.now (histories_in old) (histories_in new)
   pub grown : AreGrown (histories_in old) (histories_in new)
   pub answer : IsAnswer setting (histories_in new) (course_in old) line what
@@ -78,7 +87,7 @@ pub record IsTurn {B : Type 0} (setting : Setting) (old new : State B) (line : L
 
 -- memory was short, and nothing was entered
 pub record IsNoTurn {B : Type 0} (setting : Setting) (old new : State B) : Type 0 where
-  pub sized : IsSized new
+  pub own : RunsOwn new
   pub losses : AreLossesFrom setting.before setting.now (histories_in old) (histories_in new)
   pub grown : AreGrown (histories_in old) (histories_in new)
   pub course : course_in new ≡ course_in old

@@ -11,7 +11,7 @@ ghost use Rattle.runner.specs.Runs.{histories_of, status_for, stop_of, slots_for
 ghost use Rattle.runner.specs.Sessions.{counted, taken_whole, IsTaken};
 ghost use Rattle.runner.specs.Shown.{report_text, has_refusal};
 ghost use Rattle.runner.specs.Source.{IsTextOf};
-ghost use Rattle.runner.specs.States.{bank_in, IsSized, IsFitBank};
+ghost use Rattle.runner.specs.States.{bank_in, RunsOwn, IsFitBank};
 ghost use Rattle.runner.specs.Words.{command_in};
 
 use crate::asks::script_call;
@@ -59,7 +59,7 @@ fn status_of(stopped: Option<Stop>, refused: bool) -> u8
 
 // Halts the array, if one runs, and puts its epoch into the list. It takes no memory.
 fn halt<B: Bank>(state: State<B>, epochs: &mut Vec<Epoch>) -> B
-    requires sized { IsSized state }
+    requires own { RunsOwn state }
     requires none { epochs.old.items ≡ [] }
     requires room { vec_len epochs.old < vec_capacity epochs.old }
     ensures { IsEnded B.tells (B.tape result) (B.faults_of result) state result epochs.new.items }

@@ -6,7 +6,7 @@ ghost use Rattle.bank.specs.Given.{NeverFalls};
 ghost use Rattle.text_io.specs.Causes.{HasRisen};
 ghost use Rattle.script.specs.Script.{is_within_limits};
 ghost use Rattle.runner.specs.Shown.{outside_text, answer_text, reply_text, is_refused_outside, is_refusal, tells_refusal};
-ghost use Rattle.runner.specs.States.{histories_in, bank_in, IsSized, IsFitBank, IsNamed};
+ghost use Rattle.runner.specs.States.{histories_in, bank_in, RunsOwn, IsFitBank, IsNamed};
 ghost use Rattle.runner.specs.Sessions.{IsRepliedOrNot, IsStep, IsStopCause, IsPerformed, IsShownTo};
 ghost use Rattle.runner.specs.Replies.{setting_of, IsEnd};
 ghost use Rattle.script.specs.declared.reply.Lane.TheVariants.{Script as InScript};
@@ -147,7 +147,7 @@ fn reply_to<B: Bank>(
 ) -> (State<B>, Result<Made, NoMemory>)
     requires limits { IsTrue (is_within_limits numbered.line) }
     requires bank { IsFitBank (B.given (bank_in state)) backup }
-    requires sized { IsSized state }
+    requires own { RunsOwn state }
     ensures replied { IsRepliedOrNot (setting_of (B.given (bank_in state)) backup (B.faults_of (bank_in state)) (B.faults_of (bank_in result.0))) state result.0 numbered text.new.items result.1 }
     ensures never_falls { NeverFalls (B.faults_of (bank_in state)) (B.faults_of (bank_in result.0)) }
     ensures given { B.given (bank_in result.0) ≡ B.given (bank_in state) }
@@ -175,7 +175,7 @@ fn perform_line<B: Bank, K: Sink>(
 ) -> Session<B>
     requires limits { IsTrue (is_within_limits numbered.line) }
     requires bank { IsFitBank (B.given (bank_in session.state)) backup }
-    requires sized { IsSized session.state }
+    requires own { RunsOwn session.state }
     ensures step { IsStep K.tells (setting_of (B.given (bank_in session.state)) backup (B.faults_of (bank_in session.state)) (B.faults_of (bank_in result.state))) session result numbered (K.taken out.old) (K.taken out.new) result.stopped }
     ensures cause { IsStopCause result.stopped (K.faults_of out.old) (K.faults_of out.new) }
     ensures sink_never_falls { K.faults_of out.old ≤ K.faults_of out.new }

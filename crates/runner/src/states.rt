@@ -8,7 +8,7 @@ ghost use Rattle.script.specs.Script.{is_within_limits};
 ghost use Rattle.runner.specs.Asked.{IsPerformedLine};
 ghost use Rattle.runner.specs.Histories.{entry_at};
 ghost use Rattle.runner.specs.Replies.{setting_of};
-ghost use Rattle.runner.specs.States.{running_history, histories_in, bank_in, IsSized, IsFitBank, IsTurnOrNone, IsNamed};
+ghost use Rattle.runner.specs.States.{running_history, histories_in, bank_in, RunsOwn, IsFitBank, IsTurnOrNone, IsNamed};
 ghost use Rattle.runner.specs.declared.report.Answered.TheVariants.{Outside as AnsweredOutside};
 ghost use Rattle.runner.specs.declared.report.Outside.TheVariants.{Refused as IsRefused};
 ghost use Rattle.runner.specs.declared.states.State.TheVariants.{Idle as IsIdle};
@@ -109,7 +109,7 @@ pub fn answer<B: Bank>(
 ) -> (State<B>, Result<Answered, NoMemory>)
     requires limits { IsTrue (is_within_limits line) }
     requires bank { IsFitBank (B.given (bank_in state)) backup }
-    requires sized { IsSized state }
+    requires own { RunsOwn state }
     ensures answered { IsTurnOrNone (setting_of (B.given (bank_in state)) backup (B.faults_of (bank_in state)) (B.faults_of (bank_in result.0))) state result.0 line result.1 }
     ensures never_falls { NeverFalls (B.faults_of (bank_in state)) (B.faults_of (bank_in result.0)) }
     ensures given { B.given (bank_in result.0) ≡ B.given (bank_in state) }

@@ -1,9 +1,9 @@
-use Rattle.std.proofs.Common.{rules, sym, subst, ◌≡◌, ◌∙◌, ap, List, [], ◌∷◌, ◌++◌}
+use Rattle.std.proofs.Common.{rules, sym, subst, ◌≡◌, List, [], ◌∷◌}
 use Rattle.md_base.specs.declared.answers.Who.{Who}
 use Rattle.flat_history.specs.declared.events.Epoch.{Epoch}
 use Rattle.flat_history.specs.declared.events.Event.TheVariants.{Halted}
 use Rattle.array.specs.Kept.{IsEntered}
-use Rattle.runner.specs.States.{IsSized}
+use Rattle.runner.specs.States.{RunsOwn}
 use Rattle.runner.specs.Runs.{IsEnded}
 use Rattle.runner.specs.declared.states.State.{State}
 use Rattle.runner.specs.declared.states.State.TheVariants.{Running}
@@ -21,4 +21,4 @@ returns-in-Running g c =
     (subst (λ (b : g.row.B.Denot). IsEnded g.B.Bank.tells (g.B.Bank.tape b) (g.B.Bank.faults_of b) (Running array) b (epoch ∷ [])) (sym did.bank)
     (ended_running array epoch
     (subst (λ (who : Who). IsEntered g.B.Bank.tells (g.B.Bank.tape array.bank) who array.entries epoch.entries.items (Halted ∷ [])) c.script_call-who.ensures did.entered)
-    (g.B.Bank.faults_of array.bank) did.first (subst (λ (s : State g.row.B.Denot). IsSized s) c.in-Running.is c.requires.sized) did.losses did.uuid did.given did.legal did.last)))
+    (g.B.Bank.faults_of array.bank) did.first (subst (λ (s : State g.row.B.Denot). RunsOwn s) c.in-Running.is c.requires.own) did.losses did.uuid did.given did.legal did.last)))

@@ -1,10 +1,7 @@
-use Rattle.std.proofs.Common.{rules, ◌≡◌, ℕ, List, Option, Some, None, sym, subst, ◌∙◌, ap, length, refl}
+use Rattle.std.proofs.Common.{sym, subst}
 use Rattle.bank.specs.Given.{NeverFalls}
 use Rattle.runner.specs.Replies.{setting_of}
-use Rattle.runner.specs.Runs.{histories_of, stop_of}
-use Rattle.runner.specs.Sessions.{counted, taken_whole, IsTaken, IsPerformed}
-use Rattle.runner.specs.Shown.{report_text}
-use Rattle.runner.specs.declared.sessions.Stop.{Stop}
+use Rattle.runner.specs.Sessions.{IsPerformed}
 use Rattle.runner.proofs.Ends.{performed_nothing, end_status, end_performed, end_losses, end_taken, end_shown}
 use Rattle.runner.proofs.runs.run_lines.Goals as goal
 

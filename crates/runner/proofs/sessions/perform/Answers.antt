@@ -1,14 +1,12 @@
-use Rattle.std.proofs.Common.{rules, ◌≡◌, ◌≢◌, ◌+◌, ◌<◌, ◌≤◌, ℕ, Bool, true, false, [], ◌∷◌, None, length, refl, sym, ◌∙◌, ap, subst, arith, length-append, List, Option, Some}
+use Rattle.std.proofs.Common.{rules, ◌≡◌, ◌+◌, ℕ, [], None, refl, ◌∙◌, ap, subst, arith}
 use Rattle.std.proofs.Math.ListN.{get_or}
-use Rattle.bank.specs.Given.{Given, NeverFalls}
+use Rattle.bank.specs.Given.{Given}
 use Rattle.script.specs.declared.lines.Numbered.{Numbered}
 use Rattle.script.specs.declared.lines.Line.TheVariants.{Create}
-use Rattle.runner.specs.declared.report.LineReply.{LineReply}
-use Rattle.runner.specs.declared.sessions.Stop.{Stop}
 use Rattle.runner.specs.Replies.{setting_of}
 use Rattle.runner.specs.States.{bank_in}
-use Rattle.runner.specs.Sessions.{IsStep, IsPerformed, IsShownTo}
-use Rattle.runner.proofs.Steps.{step, performed_none, one_reply}
+use Rattle.runner.specs.Sessions.{IsStep}
+use Rattle.runner.proofs.Steps.{step, one_reply}
 use Rattle.runner.proofs.sessions.perform.Goals as goal
 
 -- what stands past the end of the lines

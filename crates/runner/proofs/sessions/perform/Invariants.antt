@@ -1,5 +1,5 @@
 -- The lines so far were performed, and each reply was shown.
-use Rattle.std.proofs.Common.{◌≡◌, ◌≤◌, length, None}
+use Rattle.std.proofs.Common.{◌≡◌, length, None}
 use Rattle.bank.specs.Given.{NeverFalls}
 use Rattle.runner.specs.Replies.{setting_of}
 use Rattle.runner.specs.States.{bank_in}
