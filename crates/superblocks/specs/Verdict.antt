@@ -14,7 +14,7 @@ use Rattle.sb1.specs.Features.{refused_bits}
 use Rattle.bank.specs.Tape.{Contents}
 use Rattle.layout.specs.Layout.{is_parity_only}
 use Rattle.geometry.specs.Geometry.{unit}
-use Rattle.superblocks.specs.Reading.{Scope, Reading, reading, is_fresh, is_reshaping, is_clean, shape_of, final_shape, shapes_in_force, role_count, list_length, entry_of, is_whole}
+use Rattle.superblocks.specs.Reading.{Scope, Reading, reading, is_fresh, is_reshaping, is_clean, shape_of, final_shape, shapes_in_force, role_count, list_length, entry_of, lies_within, is_whole}
 
 -- the fresh superblocks, each with its slot's length, from this slot on
 abbrev pub fresh_from : Sb → (ℕ → ℕ) → ℕ → List (Option Sb) → List (Sb × ℕ)
@@ -51,10 +51,6 @@ is_bad_size sb =
     not (nat_le 1 sb.size && nat_le sb.size (2 ^ 48) && is_multiple sb.size sb.chunksize
         && (not (is_reshaping sb) || is_multiple sb.size sb.new_chunk))
 
--- the data of a slot of so many sectors doesn't lie within it
-abbrev pub is_bad_offset : Sb → ℕ → Sb → Bool
-is_bad_offset newest sectors sb = not (nat_le 10 sb.data_offset && nat_le (sb.data_offset + newest.size) sectors)
-
 -- each judged field by its offset, in order, with the test that fails it
 abbrev pub judged_fields : Sb → List (Sb × ℕ) → List (ℕ × Bool)
 judged_fields sb slots =
@@ -68,7 +64,7 @@ judged_fields sb slots =
     (112, is_reshaping sb && not (is_disk_count sb.level (shape_of sb).disks)) ∷
     (116, is_reshaping sb && not (is_layout sb.level sb.new_layout)) ∷
     (120, is_reshaping sb && not (is_chunk sb.new_chunk)) ∷
-    (128, list_any (λ s. is_holder sb s.0 && is_bad_offset sb s.1 s.0) slots) ∷
+    (128, list_any (λ s. is_holder sb s.0 && not (lies_within sb s.1 s.0)) slots) ∷
     (200, not (nat_lt sb.events (2 ^ 62))) ∷
     (220, list_any (λ s. nat_lt s.0.max_dev 128) slots) ∷ []
 
