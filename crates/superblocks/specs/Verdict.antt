@@ -1,5 +1,5 @@
 -- What the stored superblocks are refused for, the backup left aside.
-use Rattle.std.specs.Prelude.{ℕ, ◌+◌, ◌-◌, ◌*◌, ◌^◌, Bool, not, ◌&&◌, ◌||◌, ◌==◌, nat_le, nat_lt, if◌then◌else◌, min, List, [], ◌∷◌, find, Option, Some, None, option_map, slice_index_or}
+use Rattle.std.specs.Prelude.{ℕ, ◌+◌, ◌-◌, ◌*◌, ◌^◌, Bool, not, ◌&&◌, ◌||◌, ◌==◌, nat_le, nat_lt, if◌then◌else◌, min, List, [], ◌∷◌, find, Option, Some, None, option_map, slice_index_or, IsTrue}
 use Rattle.std.specs.Option.{option_map_or, option_or}
 use Rattle.std.specs.List.{list_any}
 use Rattle.md_base.specs.declared.places.Shape.{Shape}
@@ -7,7 +7,7 @@ use Rattle.md_base.specs.declared.status.Role.{Role}
 use Rattle.md_base.specs.declared.status.Role.TheVariants.{Missing}
 use Rattle.md_base.specs.declared.answers.Refusal.{Refusal}
 use Rattle.md_base.specs.declared.answers.Refusal.TheVariants.{NoSuperblock, Unsupported, BadField, TwoHolders, MembersMissing, DirtyDegraded, PositionNotOnUnit}
-use Rattle.md_base.specs.Shapes.{tolerance, is_level, is_layout, is_chunk, is_disk_count, is_multiple}
+use Rattle.md_base.specs.Shapes.{tolerance, is_level, is_layout, is_chunk, is_disk_count, is_multiple, is_valid_shape}
 use Rattle.md_base.specs.Search.{least_below, count_below, any_below}
 use Rattle.sb1.specs.declared.sb.Sb.{Sb}
 use Rattle.sb1.specs.Features.{refused_bits}
@@ -132,3 +132,8 @@ members_refusal sectors r =
     let slots = fresh_from r.newest sectors 0 r.own in
     first_of_all (unsupported slots ∷ bad_field r.newest slots ∷ two_holders slots
     ∷ members_missing r.newest r.roles ∷ dirty_degraded r.newest r.roles ∷ off_unit r.newest ∷ [])
+
+-- the shapes in force, as one or two, are valid
+pub record AreValidShapes (sb : Sb) : Type 0 where
+  pub old : IsTrue (is_valid_shape (shape_of sb))
+  pub final : IsTrue (is_valid_shape (final_shape sb))

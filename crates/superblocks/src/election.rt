@@ -5,5 +5,7 @@ pub mod fields;
 pub mod found;
 pub mod fresh;
 pub mod holders;
+pub mod missing;
 pub mod numbers;
+pub mod position;
 pub mod reads;
