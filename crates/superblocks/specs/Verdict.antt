@@ -11,10 +11,9 @@ use Rattle.md_base.specs.Shapes.{tolerance, is_level, is_layout, is_chunk, is_di
 use Rattle.md_base.specs.Search.{least_below, count_below, any_below}
 use Rattle.sb1.specs.declared.sb.Sb.{Sb}
 use Rattle.sb1.specs.Features.{refused_bits}
-use Rattle.bank.specs.Tape.{Contents}
 use Rattle.layout.specs.Layout.{is_parity_only}
 use Rattle.geometry.specs.Geometry.{unit}
-use Rattle.superblocks.specs.Reading.{Scope, Reading, reading, is_fresh, is_reshaping, is_clean, shape_of, final_shape, shapes_in_force, role_count, list_length, entry_of, lies_within, is_whole}
+use Rattle.superblocks.specs.Reading.{Reading, reading_of, is_fresh, is_reshaping, is_clean, shape_of, final_shape, shapes_in_force, role_count, list_length, entry_of, lies_within, is_whole}
 
 -- the fresh superblocks, each with its slot's length, from this slot on
 abbrev pub fresh_from : Sb → (ℕ → ℕ) → ℕ → List (Option Sb) → List (Sb × ℕ)
@@ -133,7 +132,11 @@ members_refusal sectors r =
     first_of_all (unsupported slots ∷ bad_field r.newest slots ∷ two_holders slots
     ∷ members_missing r.newest r.roles ∷ dirty_degraded r.newest r.roles ∷ off_unit r.newest ∷ [])
 
--- the shapes in force, as one or two, are valid
+-- the same, of the superblocks of an array's slots
+abbrev pub members_verdict : (ℕ → ℕ) → List (Option Sb) → Option Refusal
+members_verdict sectors own = option_map_or (members_refusal sectors) (reading_of sectors own) (Some NoSuperblock)
+
+-- the shapes in force, be it one or two, are valid
 pub record AreValidShapes (sb : Sb) : Type 0 where
   pub old : IsTrue (is_valid_shape (shape_of sb))
   pub final : IsTrue (is_valid_shape (final_shape sb))

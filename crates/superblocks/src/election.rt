@@ -5,6 +5,7 @@ pub mod fields;
 pub mod found;
 pub mod fresh;
 pub mod holders;
+pub mod judged;
 pub mod missing;
 pub mod numbers;
 pub mod position;

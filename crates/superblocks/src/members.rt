@@ -43,6 +43,13 @@ impl SbList {
         self.superblocks[slot as usize].as_ref()
     }
 
+    pub fn as_slice(&self) -> &[Option<Sb>]
+        ensures all { result.now ≡ self.now }
+        ensures count { length self.now ≡ 32 }
+    {
+        self.superblocks.as_slice()
+    }
+
     /// Another one for this slot; it takes no memory.
     pub fn set(&mut self, slot: u32, superblock: Option<Sb>)
         requires { slot < 32 }

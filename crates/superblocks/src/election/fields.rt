@@ -1,6 +1,6 @@
 //! Fields outside their limits.
 
-ghost use Rattle.std.specs.Prelude.{◌≡◌, ◌≤◌, ◌==◌, ◌&&◌, ◌^◌, not, nat_le, nat_lt, find, option_map};
+ghost use Rattle.std.specs.Prelude.{◌≡◌, ◌==◌, ◌&&◌, ◌^◌, not, nat_le, nat_lt, find, option_map};
 ghost use Rattle.std.specs.List.{list_any};
 ghost use Rattle.md_base.specs.Search.{any_below, least_below};
 ghost use Rattle.md_base.specs.Shapes.{is_layout, is_chunk, is_disk_count};
@@ -15,7 +15,6 @@ use sb1::Sb;
 
 /// The lowest offset of a field that is outside its limits, and behind the fields that of a role entry.
 pub fn bad_field(newest: &Sb, fresh: &[(Sb, u64)]) -> Option<Refusal>
-    requires { newest.now.max_dev ≤ 384 }
     ensures { result ≡ bad_field newest.now fresh.now }
 {
     if let Some(offset) = bad_offset(newest, fresh) {

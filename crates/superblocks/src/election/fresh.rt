@@ -16,7 +16,7 @@ pub fn fresh(
     own: &[Option<Sb>],
     lengths: &[u64],
 ) -> Result<Vec<(Sb, u64)>, AllocError>
-    requires { length own.now ≡ length lengths.now }
+    requires { length own.now ≤ length lengths.now }
     ensures { IfOk result (λ slots. slots.items ≡ fresh_from newest.now (slice_index lengths.now) 0 own.now) }
 {
     let mut slots = Vec::new(alloc);
@@ -38,7 +38,7 @@ pub fn spares(
     lengths: &[u64],
 ) -> Result<SlotList, AllocError>
     requires few { length own.now ≤ 32 }
-    requires lengths { length own.now ≡ length lengths.now }
+    requires lengths { length own.now ≤ length lengths.now }
     ensures { IfOk result (λ slots. slots ≡ spares_from newest.now (slice_index lengths.now) 0 own.now) }
 {
     let mut slots = SlotList::new(alloc)?;
