@@ -87,7 +87,7 @@ on given backup n before mid after known was rises others is_kept = record {
 
 -- ---- turn by turn
 
-none_lost : (s : ℕ) → has_slot 0 s ≡ false
+pub none_lost : (s : ℕ) → has_slot 0 s ≡ false
 none_lost s = ap (λ b. nat_eq b 1) (bit_at-zero s)
 
 pub read-none : (tells : Type 0) (given : Given) (backup : Option ℕ) (c : Contents) (faults : ℕ → ℕ)

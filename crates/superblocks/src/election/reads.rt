@@ -1,7 +1,8 @@
 //! The superblocks as they are read.
 
-ghost use Rattle.std.specs.Prelude.{◌≡◌, ◌<◌, ◌≤◌, ◌-◌, [], None, IfOk, OnErr, IsTrue, IsFalse, take, drop, replicate, length, if◌then◌else◌};
+ghost use Rattle.std.specs.Prelude.{◌≡◌, ◌<◌, ◌≤◌, ◌-◌, [], ℕ, None, IfOk, OnErr, IsTrue, IsFalse, take, drop, replicate, length, slice_index, if◌then◌else◌};
 ghost use Rattle.sb1.specs.Superblock.{superblock_in};
+ghost use Rattle.bank.specs.Given.{sizes};
 ghost use Rattle.bank.specs.Tape.{contents};
 ghost use Rattle.superblocks.specs.Reading.{is_backup};
 ghost use Rattle.superblocks.specs.Election.{members_scope, seen_superblocks, IsCausedBy, OnlyMembersFail, AreLost};
@@ -38,6 +39,19 @@ fn is_backup(backup: Option<u32>, slot: u32) -> bool
         None => false,
         Some(backup) => backup == slot,
     }
+}
+
+/// The length of each slot in sectors; past the last slot there are none.
+pub fn lengths<B: Bank>(bank: &B) -> [u64; 32]
+    requires { (B.given bank.now).slots ≤ 32 }
+    ensures each { (s : ℕ) → slice_index result s ≡ (sizes (B.given bank.now)).sectors s }
+    ensures count { length result ≡ 32 }
+{
+    let mut lengths = [0u64; 32];
+    for slot in 0..bank.slots() {
+        lengths[slot as usize] = bank.len(slot);
+    }
+    lengths
 }
 
 // The superblock of a member slot; the backup has none.
