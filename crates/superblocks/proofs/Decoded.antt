@@ -1,5 +1,5 @@
 -- A superblock as it is read.
-use Rattle.std.proofs.Common.{◌≡◌, ℕ, ◌+◌, ◌*◌, ◌/◌, ◌<◌, ◌≤◌, Bool, true, false, cond, ◌&&◌, leb, List, ◌++◌, take, drop, length, refl, sym, ap, ap₂, ◌∙◌, arith, subst, Option, Some, None, IsTrue, IsSome, IfSome, length-drop, take-append-drop, take_all}
+use Rattle.std.proofs.Common.{◌≡◌, ℕ, ◌≤◌, Bool, true, false, cond, ◌&&◌, List, ◌++◌, take, drop, length, refl, sym, ap, ap₂, ◌∙◌, arith, Option, Some, None, IsTrue, IsSome, IfSome, length-drop, take-append-drop, take_all}
 use Rattle.std.specs.Prelude.{◌↔◌}
 use Rattle.std.proofs.lemmas.Bool.{le-leb}
 use Rattle.md_base.specs.Sectors.{Sector}

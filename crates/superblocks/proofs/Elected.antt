@@ -1,12 +1,11 @@
 -- From the superblocks that were read to the array's, and to what is answered.
-use Rattle.std.proofs.Common.{◌≡◌, ◌<◌, ◌≤◌, ◌⊎◌, inl, inr, ℕ, zero, suc, ◌-◌, ◌+◌, Bool, true, false, cond, nat_lt, refl, sym, ap, ◌∙◌, subst, arith, List, [], ◌∷◌, ◌++◌, length, take, drop, map, replicate, get_or, slice_index, Option, Some, None, Result, unwrap_or, option_map}
+use Rattle.std.proofs.Common.{◌≡◌, ◌≤◌, inl, inr, ℕ, zero, suc, false, cond, nat_lt, refl, sym, ap, ◌∙◌, subst, arith, List, [], ◌∷◌, ◌++◌, length, take, drop, map, replicate, slice_index, Option, Some, None, Result, unwrap_or, option_map}
 use Rattle.std.specs.Option.{option_or, option_map_or}
 use Rattle.std.proofs.lemmas.List.{get_or-take, get_or_past, length-take-le, map-append, take-map, drop-map}
 use Rattle.std.proofs.lemmas.Bool.{cases_lt}
 use Rattle.std.proofs.lemmas.Bool.Decides.{nat_tests}
 use Rattle.md_base.specs.declared.answers.Fault.{Fault}
 use Rattle.md_base.specs.declared.answers.Refusal.TheVariants.{NoSuperblock}
-use Rattle.md_base.specs.Shapes.{has_slot}
 use Rattle.md_base.specs.Search.{tabulate}
 use Rattle.sb1.specs.declared.sb.Sb.{Sb}
 use Rattle.bank.specs.Given.{Given, sizes}
@@ -73,9 +72,10 @@ is_past s n h = grind (arith, nat_tests)
 taken : (given : Given) (lengths : List ℕ) → given.slots ≤ length lengths → ((s : ℕ) → slice_index lengths s ≡ (sizes given).sectors s)
     → (s : ℕ) → slice_index (take given.slots lengths) s ≡ (sizes given).sectors s
 taken given lengths enough are s = elim (cases_lt s given.slots) [
-    inl below ↦ get_or-take given.slots lengths s 0 below ∙ are s
-    | inr past ↦ get_or_past (take given.slots lengths) s 0 (omega (arith, length-take-le given.slots lengths enough))
-      ∙ ap (λ b. cond b (given.sectors s) 0) (sym (is_past s given.slots past)) ]
+  | inl below ↦ get_or-take given.slots lengths s 0 below ∙ are s
+  | inr past ↦ get_or_past (take given.slots lengths) s 0 (omega (arith, length-take-le given.slots lengths enough))
+      ∙ ap (λ b. cond b (given.sectors s) 0) (sym (is_past s given.slots past))
+]
 
 pub lengths-taken : (given given' : Given) (n : ℕ) (lengths : List ℕ) → given' ≡ given → n ≡ given'.slots → given.slots ≤ length lengths
     → ((s : ℕ) → slice_index lengths s ≡ (sizes given').sectors s) → (s : ℕ) → slice_index (take n lengths) s ≡ (sizes given).sectors s
@@ -99,9 +99,9 @@ elected tells given c backup uuid before after result seen lost lengths long are
       named = λ told. ap (uuid_for uuid) (read told);
       own = map (of_array (uuid_for uuid found)) found;
       read = λ told. ap (map (of_array (uuid_for uuid found))) (read told)
-        ∙ map-tabulate given.slots (of_array (uuid_for uuid found)) (seen_superblock (members_scope given backup lost []) c);
+          ∙ map-tabulate given.slots (of_array (uuid_for uuid found)) (seen_superblock (members_scope given backup lost []) c);
       answer = subst (λ (sectors : ℕ → ℕ). IsAnswer sectors (map (of_array (uuid_for uuid found)) found) lost result) (λ i s. are s i)
-        (subst (λ n. IsAnswer (slice_index lengths) (map (of_array (uuid_for uuid (take n seen))) (take n seen)) lost result) long answer);
+          (subst (λ n. IsAnswer (slice_index lengths) (map (of_array (uuid_for uuid (take n seen))) (take n seen)) lost result) long answer);
     }
 
 -- for want of memory, before anything was read

@@ -1,5 +1,5 @@
 -- The slots are read one after another.
-use Rattle.std.proofs.Common.{◌≡◌, ◌≢◌, ◌<◌, ◌≤◌, ◌⊎◌, inl, inr, ℕ, zero, suc, ◌+◌, ◌-◌, ◌*◌, ◌^◌, ◌%◌, Bool, true, false, cond, nat_eq, nat_lt, refl, sym, ap, ap₂, ◌∙◌, subst, arith, bit_or, List, ◌∷◌, [], ◌++◌, length, take, drop, set, get_or, Option, Some, None, Result, IsTrue, IsErr, IsFalse, replicate, length-set, get_or-set_same, get_or-set_other}
+use Rattle.std.proofs.Common.{◌≡◌, ◌≢◌, ◌<◌, ◌≤◌, inl, inr, ℕ, ◌+◌, ◌-◌, ◌*◌, ◌^◌, ◌%◌, Bool, true, false, cond, nat_eq, nat_lt, refl, sym, ap, ap₂, ◌∙◌, subst, arith, bit_or, List, [], length, take, drop, set, get_or, Option, None, IsTrue, IsFalse, replicate, length-set, get_or-set_same, get_or-set_other}
 use Rattle.std.specs.Prelude.{not, ◌&&◌}
 use Rattle.std.proofs.lemmas.List.{ext_get_or, get_or-take, get_or-drop, get_or-replicate, get_or_past, length-take-le, length-drop, length-replicate}
 use Rattle.std.proofs.lemmas.Bool.{cases_eq, cases_lt}
@@ -10,10 +10,10 @@ use Rattle.md_base.specs.Search.{tabulate}
 use Rattle.md_base.proofs.Tabulated.{length-tabulate, get_or-tabulate}
 use Rattle.sb1.specs.declared.sb.Sb.{Sb}
 use Rattle.sb1.specs.Superblock.{superblock_in}
-use Rattle.bank.specs.Given.{Given, sizes, IsFaulted}
+use Rattle.bank.specs.Given.{Given, IsFaulted}
 use Rattle.bank.specs.Tape.{Contents}
 use Rattle.superblocks.specs.Reading.{seen_superblock, is_backup}
-use Rattle.superblocks.specs.Election.{all_but, members_scope, seen_superblocks, is_member, IsCausedBy, OnlyMembersFail, AreLost}
+use Rattle.superblocks.specs.Election.{members_scope, seen_superblocks, is_member, OnlyMembersFail, AreLost}
 use Rattle.superblocks.proofs.LostSlots.{has-all_but, has-one_more, has-other, fits-one_more}
 
 -- Of the slots below n: what was found, which were lost, and which counts rose.
@@ -80,9 +80,10 @@ on : (given : Given) (backup : Option ℕ) (n : ℕ) (before mid after : ℕ →
 on given backup n before mid after known was rises others is_kept = record {
   never_falls = λ s. omega (arith, was.never_falls s, rises s);
   others = λ s not_one. elim (cases_eq s n) [
-    inl same ↦ subst (λ k. IsFalse (is_member given backup k) → after k ≡ mid k) (sym same)
-      (λ h. is_kept (member_of (nat_lt n given.slots) (is_backup backup n) (is_below n given.slots known) h)) not_one ∙ was.others s not_one
-    | inr apart ↦ others s apart ∙ was.others s not_one ];
+    | inl same ↦ subst (λ k. IsFalse (is_member given backup k) → after k ≡ mid k) (sym same)
+        (λ h. is_kept (member_of (nat_lt n given.slots) (is_backup backup n) (is_below n given.slots known) h)) not_one ∙ was.others s not_one
+    | inr apart ↦ others s apart ∙ was.others s not_one
+  ];
 }
 
 -- ---- turn by turn
@@ -110,11 +111,12 @@ pub read-found : (tells : Type 0) (given : Given) (backup : Option ℕ) (c : Con
 read-found tells given backup c n seen lost before mid after sb small within known was is rises others is_kept = record {
   count = length-set seen n sb ∙ was.count;
   found = λ told s h. elim (cases_eq s n) [
-    inl same ↦ subst (λ k. get_or (set seen n sb) k None ≡ seen_superblock (members_scope given backup lost []) c k) (sym same)
-      (get_or-set_same seen n sb None (omega (arith, was.count, within)) ∙ is told
-      ∙ ap (λ b. cond (not b) (cond (is_backup backup n) None (superblock_in (given.sectors n) (c n))) None) (sym (was.clear n (omega arith)))
-      ∙ sym (at_slot given backup c lost n small within known))
-    | inr apart ↦ get_or-set_other seen n s sb None apart ∙ was.found told s (omega (arith, h, apart)) ];
+    | inl same ↦ subst (λ k. get_or (set seen n sb) k None ≡ seen_superblock (members_scope given backup lost []) c k) (sym same)
+        (get_or-set_same seen n sb None (omega (arith, was.count, within)) ∙ is told
+        ∙ ap (λ b. cond (not b) (cond (is_backup backup n) None (superblock_in (given.sectors n) (c n))) None) (sym (was.clear n (omega arith)))
+        ∙ sym (at_slot given backup c lost n small within known))
+    | inr apart ↦ get_or-set_other seen n s sb None apart ∙ was.found told s (omega (arith, h, apart))
+  ];
   rest = λ s h. get_or-set_other seen n s sb None (λ e. absurd (omega (arith, e, h))) ∙ was.rest s (omega (arith, h));
   clear = λ s h. was.clear s (omega (arith, h));
   failed = record { members = was.failed.members; failed = λ s h. still s before mid after (rises s) (was.failed.failed s h) };
@@ -129,21 +131,24 @@ pub read-lost : (tells : Type 0) (given : Given) (backup : Option ℕ) (c : Cont
 read-lost tells given backup c n seen lost before mid after small within known few was rises others failed member = record {
   count = was.count;
   found = λ told s h. elim (cases_eq s n) [
-    inl same ↦ subst (λ k. get_or seen k None ≡ seen_superblock (members_scope given backup more []) c k) (sym same)
-      (was.rest n (omega arith)
-      ∙ ap (λ b. cond (not b) (cond (is_backup backup n) None (superblock_in (given.sectors n) (c n))) None) (sym (has-one_more lost n within))
-      ∙ sym (at_slot given backup c more n (fits-one_more lost n small) within known))
+    | inl same ↦ subst (λ k. get_or seen k None ≡ seen_superblock (members_scope given backup more []) c k) (sym same)
+        (was.rest n (omega arith)
+        ∙ ap (λ b. cond (not b) (cond (is_backup backup n) None (superblock_in (given.sectors n) (c n))) None) (sym (has-one_more lost n within))
+        ∙ sym (at_slot given backup c more n (fits-one_more lost n small) within known))
     | inr apart ↦ was.found told s (omega (arith, h, apart))
-      ∙ same_bit given backup c lost more s small (fits-one_more lost n small) (omega (arith, h, within)) (omega (arith, h, known)) (has-other lost n s within apart) ];
+        ∙ same_bit given backup c lost more s small (fits-one_more lost n small) (omega (arith, h, within)) (omega (arith, h, known)) (has-other lost n s within apart)
+  ];
   rest = λ s h. was.rest s (omega (arith, h));
   clear = λ s h. has-other lost n s within (λ e. absurd (omega (arith, e, h))) ∙ was.clear s (omega (arith, h));
   failed = record {
     members = λ s h. elim (cases_eq s n) [
-      inl same ↦ ap (is_member given backup) same ∙ is_member_of given backup n known member
-      | inr apart ↦ was.failed.members s (sym (has-other lost n s within apart) ∙ h) ];
+      | inl same ↦ ap (is_member given backup) same ∙ is_member_of given backup n known member
+      | inr apart ↦ was.failed.members s (sym (has-other lost n s within apart) ∙ h)
+    ];
     failed = λ s h. elim (cases_eq s n) [
-      inl same ↦ subst (λ k. IsFaulted k before after) (sym same) (since n before mid after (was.faults.never_falls n) (rises n) failed)
-      | inr apart ↦ still s before mid after (rises s) (was.failed.failed s (sym (has-other lost n s within apart) ∙ h)) ];
+      | inl same ↦ subst (λ k. IsFaulted k before after) (sym same) (since n before mid after (was.faults.never_falls n) (rises n) failed)
+      | inr apart ↦ still s before mid after (rises s) (was.failed.failed s (sym (has-other lost n s within apart) ∙ h))
+    ];
   };
   faults = on given backup n before mid after known was.faults rises others (λ is. absurd (cc));
 }
@@ -162,7 +167,7 @@ read-seen {given = given} {backup = backup} {c = c} {n = n} {seen = seen} {lost 
     let long : length (take given.slots seen) ≡ given.slots = length-take-le given.slots seen (omega (arith, read.count, few)) in
     ext_get_or None (take given.slots seen) (tabulate given.slots f) (long ∙ sym (length-tabulate given.slots f))
     (λ i h. let below : i < given.slots = omega (arith, h, long) in
-      get_or-take given.slots seen i None below ∙ read.found told i (omega (arith, below, all)) ∙ sym (get_or-tabulate given.slots f i None below))
+    get_or-take given.slots seen i None below ∙ read.found told i (omega (arith, below, all)) ∙ sym (get_or-tabulate given.slots f i None below))
 
 pub read-rest : {tells : Type 0} {given : Given} {backup : Option ℕ} {c : Contents} {n : ℕ} {seen : List (Option Sb)} {lost : ℕ} {before after : ℕ → ℕ}
     → given.slots ≤ 32 → n ≡ given.slots → IsRead tells given backup c n seen lost before after
@@ -171,7 +176,7 @@ read-rest {given = given} {n = n} {seen = seen} few all read =
     let long : length (drop given.slots seen) ≡ 32 - given.slots = length-drop given.slots seen ∙ ap (λ k. k - given.slots) read.count in
     ext_get_or None (drop given.slots seen) (replicate (32 - given.slots) None) (long ∙ sym (length-replicate (32 - given.slots) None))
     (λ i h. get_or-drop given.slots seen i None ∙ read.rest (given.slots + i) (omega (arith, all))
-      ∙ sym (get_or-replicate (32 - given.slots) i None None (omega (arith, h, long))))
+    ∙ sym (get_or-replicate (32 - given.slots) i None None (omega (arith, h, long))))
 
 -- under other names
 pub read-as : {tells : Type 0} {given : Given} {backup : Option ℕ} {c : Contents} {n : ℕ} {seen seen' : List (Option Sb)} {lost lost' : ℕ}

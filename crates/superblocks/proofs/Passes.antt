@@ -1,5 +1,5 @@
 -- The turns of a pass so far, and one more.
-use Rattle.std.proofs.Common.{◌≡◌, ◌≢◌, ◌⊎◌, inl, inr, ℕ, ◌+◌, ◌^◌, ◌<◌, ◌≤◌, Bool, true, false, not, ◌&&◌, ◌==◌, List, [], ◌++◌, Option, append-nil, refl, sym, ◌∙◌, ap, subst, arith}
+use Rattle.std.proofs.Common.{◌≡◌, ◌≢◌, inl, inr, ℕ, ◌+◌, ◌^◌, ◌<◌, ◌≤◌, Bool, true, false, not, ◌&&◌, ◌==◌, List, [], Option, append-nil, refl, sym, ◌∙◌, ap, subst, arith}
 use Rattle.std.proofs.lemmas.Bool.{cases_eq, cases_lt}
 use Rattle.std.proofs.lemmas.Nat.Bits.{bit_at_above}
 use Rattle.md_base.specs.Sectors.{Sector}
@@ -7,9 +7,9 @@ use Rattle.md_base.specs.Shapes.{has_slot}
 use Rattle.sb1.specs.declared.sb.Sb.{Sb}
 use Rattle.bank.specs.declared.bank.Operation.{Operation}
 use Rattle.bank.specs.Given.{IsFaulted, NeverFalls}
-use Rattle.bank.specs.Tape.{run, disk, EachMark}
+use Rattle.bank.specs.Tape.{disk, EachMark}
 use Rattle.bank.proofs.Laws.{disk-append}
-use Rattle.bank.proofs.Marks.{Along, along-first, along-map, each_mark-along, each_mark-map, each_mark-then, each_mark-told}
+use Rattle.bank.proofs.Marks.{along-map, each_mark-along, each_mark-map, each_mark-then, each_mark-told}
 use Rattle.bank.proofs.Causes.{faulted_longer}
 use Rattle.superblocks.specs.declared.change.Give.{Give}
 use Rattle.superblocks.specs.declared.pass.Part.{Part}

@@ -1,5 +1,5 @@
 -- The least number that passes a test, and whether some number does.
-use Rattle.std.proofs.Common.{◌≡◌, ℕ, zero, suc, ◌<◌, ◌⊎◌, inl, inr, Bool, true, false, cond, ◌||◌, refl, ap₂, ◌∙◌, subst, arith, Option, Some, None, eq-or-lt_of_le, le_of_suc-le-suc}
+use Rattle.std.proofs.Common.{◌≡◌, ℕ, zero, suc, ◌<◌, inl, inr, Bool, true, false, cond, ◌||◌, refl, ap₂, ◌∙◌, subst, arith, Some, None, eq-or-lt_of_le, le_of_suc-le-suc}
 use Rattle.std.specs.Option.{option_or}
 use Rattle.md_base.specs.Search.{least_below, any_below}
 use Rattle.md_base.proofs.Least.{least_below-none}
@@ -10,17 +10,19 @@ unfolding least_below
 least_below-first zero test k h passes before = absurd (omega (arith, h))
 least_below-first (suc n) test k h passes before =
     elim (eq-or-lt_of_le (le_of_suc-le-suc h)) [
-      inl same ↦ subst (λ m. option_or (least_below m test) (cond (test m) (Some m) None) ≡ Some k) same
-        (ap₂ (λ a b. option_or a (cond b (Some k) None)) (least_below-none k test before) passes)
-      | inr less ↦ ap₂ (λ a b. option_or a (cond b (Some n) None)) (least_below-first n test k less passes before) refl ]
+      | inl same ↦ subst (λ m. option_or (least_below m test) (cond (test m) (Some m) None) ≡ Some k) same
+          (ap₂ (λ a b. option_or a (cond b (Some k) None)) (least_below-none k test before) passes)
+      | inr less ↦ ap₂ (λ a b. option_or a (cond b (Some n) None)) (least_below-first n test k less passes before) refl
+    ]
 
 pub any_below-some : (n : ℕ) (test : ℕ → Bool) (k : ℕ) → k < n → test k ≡ true → any_below n test ≡ true
 unfolding any_below
 any_below-some zero test k h passes = absurd (omega (arith, h))
 any_below-some (suc n) test k h passes =
     elim (eq-or-lt_of_le (le_of_suc-le-suc h)) [
-      inl same ↦ ap₂ (λ a b. a || b) refl (subst (λ m. test m ≡ true) same passes) ∙ always (any_below n test)
-      | inr less ↦ ap₂ (λ a b. a || b) (any_below-some n test k less passes) refl ]
+      | inl same ↦ ap₂ (λ a b. a || b) refl (subst (λ m. test m ≡ true) same passes) ∙ always (any_below n test)
+      | inr less ↦ ap₂ (λ a b. a || b) (any_below-some n test k less passes) refl
+    ]
   where
     always : (b : Bool) → (b || true) ≡ true
     always true = refl

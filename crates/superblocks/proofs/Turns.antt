@@ -1,18 +1,18 @@
 -- A slot's turn, and the turns of all slots in order.
-use Rattle.std.proofs.Common.{◌≡◌, ◌≢◌, ◌⊎◌, inl, inr, ℕ, zero, suc, ◌+◌, ◌<◌, ◌≤◌, Bool, true, false, not, ◌&&◌, List, [], ◌∷◌, ◌++◌, length, take, Option, Some, None, Result, Ok, Err, refl, sym, ◌∙◌, ap, subst, arith}
+use Rattle.std.proofs.Common.{◌≡◌, ◌≢◌, inl, inr, ℕ, zero, suc, ◌+◌, ◌<◌, Bool, true, false, not, ◌&&◌, List, [], ◌∷◌, ◌++◌, take, Option, Some, Ok, Err, refl, sym, ◌∙◌, ap, subst, arith}
 use Rattle.std.proofs.lemmas.Bool.{cases_eq}
 use Rattle.std.proofs.Math.Seq.{take-nil}
 use Rattle.md_base.specs.Sectors.{Sector}
 use Rattle.sb1.specs.declared.sb.Sb.{Sb}
 use Rattle.bank.specs.declared.bank.Operation.{Operation}
 use Rattle.bank.specs.declared.bank.Operation.TheVariants.{Write, Flush}
-use Rattle.bank.specs.Tape.{Did, run, disk, Kept, EachMark}
+use Rattle.bank.specs.Tape.{Did, run, Kept}
 use Rattle.bank.proofs.Laws.{choices_after-write_here, choices_after-write_other, choices_after-flush_here, choices_after-flush_other, kept_again}
 use Rattle.bank.proofs.Marks.{Along}
 use Rattle.superblocks.specs.declared.change.Give.{Give}
 use Rattle.superblocks.specs.declared.pass.Part.{Part}
 use Rattle.superblocks.specs.Update.{planned, is_part}
-use Rattle.superblocks.specs.Writing.{IsFirstSector, IsPlanned, IsTurn, IsBetween, IsWritten, IsStage, IsWriting}
+use Rattle.superblocks.specs.Writing.{IsFirstSector, IsPlanned, IsTurn, IsBetween, IsWritten, IsStage}
 
 -- what one turn appended
 abbrev pub Turned : (tells : Type 0) (Plan : Sector → Type 0) (slot : ℕ) (due failed : Bool) (old new : List Operation) → Type 0

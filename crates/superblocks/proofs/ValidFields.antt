@@ -1,5 +1,5 @@
 -- What holds where no field is bad.
-use Rattle.std.proofs.Common.{◌≡◌, ◌≤◌, ◌+◌, ◌*◌, ℕ, Bool, true, false, cond, leb, ◌&&◌, nat_eq, refl, sym, ap, ◌∙◌, subst, arith, List, [], ◌∷◌, Option, Some, None, unwrap_or, option_map, max}
+use Rattle.std.proofs.Common.{◌≡◌, ◌≤◌, ◌+◌, ◌*◌, ℕ, Bool, true, false, cond, leb, ◌&&◌, nat_eq, refl, ap, ◌∙◌, arith, List, [], ◌∷◌, Option, Some, None, unwrap_or, option_map, max}
 use Rattle.std.specs.Prelude.{not, find, pos, ◌-ℤ◌}
 use Rattle.std.specs.Option.{option_or}
 use Rattle.std.proofs.lemmas.Bool.{leb-true}
@@ -10,7 +10,7 @@ use Rattle.md_base.specs.declared.answers.Refusal.TheVariants.{BadField}
 use Rattle.md_base.specs.Shapes.{is_level, is_layout, is_chunk, is_disk_count, is_valid_shape}
 use Rattle.md_base.specs.Search.{least_below}
 use Rattle.sb1.specs.declared.sb.Sb.{Sb}
-use Rattle.superblocks.specs.Reading.{is_reshaping, shape_of, target_of, final_shape, role_count, count_of}
+use Rattle.superblocks.specs.Reading.{is_reshaping, shape_of, final_shape, role_count, count_of}
 use Rattle.superblocks.specs.Verdict.{judged_fields, bad_field, is_bad_entry, AreValidShapes}
 
 -- each test of the list fails
@@ -71,7 +71,7 @@ passed : (sb : Sb) (slots : List (Sb × ℕ)) → bad_field sb slots ≡ None �
 unfolding AllFalse
 passed sb slots e =
     let h : AllFalse (judged_fields sb slots) = all_false (judged_fields sb slots)
-      (found_none (find (λ f. f.1) (judged_fields sb slots)) (option_map (λ index. BadField (256 + 2 * index)) (least_below sb.max_dev (is_bad_entry sb))) e) in
+    (found_none (find (λ f. f.1) (judged_fields sb slots)) (option_map (λ index. BadField (256 + 2 * index)) (least_below sb.max_dev (is_bad_entry sb))) e) in
     record {
       level = is_so (is_level sb.level) h.0;
       layout = is_so (is_layout sb.level sb.layout) h.1.0;
@@ -101,10 +101,10 @@ final_valid sb true e p =
     let level : sb.new_level ≡ sb.level = same_number sb.new_level sb.level (then_so (is_reshaping sb) (nat_eq sb.new_level sb.level) e p.new_level) in
     ap (λ b. is_valid_shape (unwrap_or (cond b (Some (new_shape sb)) None) (shape_of sb))) e
     ∙ all_four (is_level sb.new_level) (is_layout sb.new_level sb.new_layout) (is_chunk sb.new_chunk) (is_disk_count sb.new_level sb.raid_disks)
-      (ap is_level level ∙ p.level)
-      (ap (λ n. is_layout n sb.new_layout) level ∙ then_so (is_reshaping sb) (is_layout sb.level sb.new_layout) e p.new_layout)
-      (then_so (is_reshaping sb) (is_chunk sb.new_chunk) e p.new_chunk)
-      (ap (λ n. is_disk_count n sb.raid_disks) level ∙ p.disks)
+    (ap is_level level ∙ p.level)
+    (ap (λ n. is_layout n sb.new_layout) level ∙ then_so (is_reshaping sb) (is_layout sb.level sb.new_layout) e p.new_layout)
+    (then_so (is_reshaping sb) (is_chunk sb.new_chunk) e p.new_chunk)
+    (ap (λ n. is_disk_count n sb.raid_disks) level ∙ p.disks)
 final_valid sb false e p =
     ap (λ b. is_valid_shape (unwrap_or (cond b (Some (new_shape sb)) None) (shape_of sb))) e ∙ old_valid sb false e p
 

@@ -1,5 +1,5 @@
 -- What the stored superblocks are refused for, the backup left aside.
-use Rattle.std.specs.Prelude.{ℕ, ◌+◌, ◌-◌, ◌*◌, ◌^◌, Bool, not, ◌&&◌, ◌||◌, ◌==◌, nat_le, nat_lt, if◌then◌else◌, min, List, [], ◌∷◌, find, Option, Some, None, option_map, slice_index_or, IsTrue}
+use Rattle.std.specs.Prelude.{ℕ, ◌+◌, ◌*◌, ◌^◌, Bool, not, ◌&&◌, ◌||◌, ◌==◌, nat_le, nat_lt, if◌then◌else◌, min, List, [], ◌∷◌, find, Option, Some, None, option_map, slice_index_or, IsTrue}
 use Rattle.std.specs.Option.{option_map_or, option_or}
 use Rattle.std.specs.List.{list_any}
 use Rattle.md_base.specs.declared.places.Shape.{Shape}
@@ -48,7 +48,7 @@ is_bad_entry newest index =
 abbrev pub is_bad_size : Sb → Bool
 is_bad_size sb =
     not (nat_le 1 sb.size && nat_le sb.size (2 ^ 48) && is_multiple sb.size sb.chunksize
-        && (not (is_reshaping sb) || is_multiple sb.size sb.new_chunk))
+    && (not (is_reshaping sb) || is_multiple sb.size sb.new_chunk))
 
 -- each judged field by its offset, in order, with the test that fails it
 abbrev pub judged_fields : Sb → List (Sb × ℕ) → List (ℕ × Bool)

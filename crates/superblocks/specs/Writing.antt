@@ -1,5 +1,5 @@
 -- What a stop may leave while superblocks are written to sector 8 of some slots, one slot after the other.
-use Rattle.std.specs.Prelude.{◌≡◌, ◌≢◌, ◌⊎◌, ℕ, ◌+◌, ◌<◌, ◌≤◌, Bool, true, false, List, [], ◌∷◌, length, take, Option, Some, None}
+use Rattle.std.specs.Prelude.{◌≡◌, ◌≢◌, ◌⊎◌, ℕ, ◌<◌, Bool, true, false, List, [], ◌∷◌, length, take, Option, Some, None}
 use Rattle.md_base.specs.Sectors.{Sector}
 use Rattle.md_base.specs.Shapes.{has_slot}
 use Rattle.sb1.specs.declared.sb.Sb.{Sb}

@@ -3,7 +3,16 @@
 ghost use Rattle.std.specs.Prelude.{◌≡◌, ◌<◌, ◌^◌};
 ghost use Rattle.md_base.specs.Shapes.{tolerance_of, data_disks};
 ghost use Rattle.superblocks.specs.Reading.{
-    is_reshaping, is_recovering, is_clean, is_fresh, shape_of, target_of, final_shape, role_count, list_length, entry_of
+  is_reshaping,
+  is_recovering,
+  is_clean,
+  is_fresh,
+  shape_of,
+  target_of,
+  final_shape,
+  role_count,
+  list_length,
+  entry_of,
 };
 
 use md_base::Shape;

@@ -98,9 +98,7 @@ fn is_bad_new_chunk(newest: &Sb) -> bool
 fn has_bad_place(newest: &Sb, fresh: &[(Sb, u64)]) -> bool
     ensures { result ≡ list_any (λ s. is_holder newest.now s.0 && not (lies_within newest.now s.1 s.0)) fresh.now }
 {
-    fresh
-        .iter()
-        .any(|(sb, sectors)| is_holder(newest, sb) && !lies_within(newest, *sectors, sb))
+    fresh.iter().any(|(sb, sectors)| is_holder(newest, sb) && !lies_within(newest, *sectors, sb))
 }
 
 fn is_holder(newest: &Sb, sb: &Sb) -> bool

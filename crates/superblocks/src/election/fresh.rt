@@ -67,7 +67,5 @@ fn is_spare(newest: &Sb, sectors: u64, sb: &Sb) -> bool
 pub fn lies_within(newest: &Sb, sectors: u64, sb: &Sb) -> bool
     ensures { result ≡ lies_within newest.now sectors sb.now }
 {
-    sb.data_offset >= 10
-        && sb.data_offset <= sectors
-        && newest.size <= sectors - sb.data_offset
+    sb.data_offset >= 10 && sb.data_offset <= sectors && newest.size <= sectors - sb.data_offset
 }

@@ -3,7 +3,14 @@
 ghost use Rattle.std.specs.Prelude.{◌≡◌, ◌≤◌, [], ◌∷◌, length, slice_index, IfNone};
 ghost use Rattle.superblocks.specs.Reading.{reading_by, role_count};
 ghost use Rattle.superblocks.specs.Verdict.{
-    unsupported, bad_field, two_holders, members_missing, dirty_degraded, off_unit, first_of_all, AreValidShapes
+  unsupported,
+  bad_field,
+  two_holders,
+  members_missing,
+  dirty_degraded,
+  off_unit,
+  first_of_all,
+  AreValidShapes,
 };
 ghost use Rattle.superblocks.specs.Election.{IsJudged};
 

@@ -7,7 +7,13 @@ ghost use Rattle.md_base.specs.Search.{count_below};
 ghost use Rattle.layout.specs.Layout.{has_data};
 ghost use Rattle.superblocks.specs.Reading.{shape_of, is_whole, role_count};
 ghost use Rattle.superblocks.specs.Verdict.{
-    is_missing, missing_count, too_many, members_missing, holds_data, dirty_degraded, AreValidShapes
+  is_missing,
+  missing_count,
+  too_many,
+  members_missing,
+  holds_data,
+  dirty_degraded,
+  AreValidShapes,
 };
 
 use crate::says::{is_clean, shape_of, target_of, tolerance};

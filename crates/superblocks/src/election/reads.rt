@@ -84,7 +84,7 @@ pub fn read_superblocks<B: Bank>(
     requires { (B.given bank.old).slots ≤ 32 }
     ensures seen { let given = B.given bank.old in let tape = B.tape bank.old in IfOk result (λ found. B.tells →
         take given.slots found.0
-            ≡ seen_superblocks (members_scope given backup found.1 []) (contents given.start tape (length tape))) }
+        ≡ seen_superblocks (members_scope given backup found.1 []) (contents given.start tape (length tape))) }
     ensures rest { let given = B.given bank.old in IfOk result (λ found. drop given.slots found.0 ≡ replicate (32 - given.slots) None) }
     ensures lost { IfOk result (λ found. AreLost (B.given bank.old) backup found.1 (B.faults_of bank.old) (B.faults_of bank.new)) }
     ensures tape { B.tells → B.tape bank.new ≡ B.tape bank.old }

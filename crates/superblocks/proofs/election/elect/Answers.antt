@@ -1,4 +1,4 @@
-use Rattle.std.proofs.Common.{ℕ, ◌≡◌, ◌≤◌, ◌∙◌, ap, arith, length, take}
+use Rattle.std.proofs.Common.{◌≡◌, ◌≤◌, ◌∙◌, ap, arith, length, take}
 use Rattle.std.proofs.lemmas.List.{length-take-le}
 use Rattle.bank.specs.Given.{Given}
 use Rattle.superblocks.proofs.Elected.{elected, none-elected, lengths-taken}
@@ -18,5 +18,5 @@ returns-clause-elected g c =
     c.elect_seen.result c.in-Ok.found.0 c.in-Ok.found.1 (take c.slots-slots.result c.lengths-lengths.result)
     (length-take-le c.slots-slots.result c.lengths-lengths.result (omega (arith, slots, enough)) ∙ slots)
     (lengths-taken given (g.B.Bank.given c.read_superblocks.new.bank) c.slots-slots.result c.lengths-lengths.result c.read_superblocks.ensures.given
-      c.slots-slots.ensures enough c.lengths-lengths.ensures.each)
+    c.slots-slots.ensures enough c.lengths-lengths.ensures.each)
     c.in-Ok.ensures.seen c.in-Ok.ensures.lost c.elect_seen.ensures

@@ -1,4 +1,4 @@
-use Rattle.std.proofs.Common.{ℕ, ◌-◌, ◌≡◌, ◌∙◌, sym, ap, List, Option, length, slice_index, take}
+use Rattle.std.proofs.Common.{ℕ, ◌-◌, ◌∙◌, sym, ap, List, Option, length, slice_index, take}
 use Rattle.std.specs.Option.{option_or}
 use Rattle.sb1.specs.declared.sb.Sb.{Sb}
 use Rattle.superblocks.specs.Reading.{uuid_of_first}

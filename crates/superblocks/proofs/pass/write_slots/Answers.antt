@@ -1,5 +1,4 @@
-use Rattle.std.proofs.Common.{◌≡◌, ◌≤◌, ℕ, ◌∙◌, ap, refl, sym, subst, true, arith}
-use Rattle.md_base.specs.Shapes.{has_slot}
+use Rattle.std.proofs.Common.{◌∙◌, ap, refl, arith}
 use Rattle.superblocks.specs.declared.members.Members.{Members}
 use Rattle.superblocks.proofs.Passes.{slot_below, passed-first, passed-more, turned_here, due_here, passed-marks, passed-all, due_live}
 use Rattle.superblocks.proofs.pass.write_slots.Goals as goal

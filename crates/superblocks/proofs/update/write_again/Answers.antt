@@ -1,4 +1,4 @@
-use Rattle.std.proofs.Common.{rules, ◌≡◌, ℕ, List, refl, sym, ◌∙◌, ap, true, false}
+use Rattle.std.proofs.Common.{rules, refl, sym, ◌∙◌, ap}
 use Rattle.superblocks.specs.declared.members.Members.{Members}
 use Rattle.superblocks.specs.declared.pass.Part.TheVariants.{All}
 use Rattle.superblocks.proofs.Updates.{part-update, part-planned, stays_left}

@@ -1,4 +1,4 @@
-use Rattle.std.proofs.Common.{◌<◌, ℕ, sym, ◌∙◌, arith}
+use Rattle.std.proofs.Common.{sym, ◌∙◌, arith}
 use Rattle.md_base.proofs.Least.{least_below-none}
 use Rattle.superblocks.specs.Verdict.{is_bad_entry}
 use Rattle.superblocks.proofs.Searches.{least_below-first}

@@ -3,8 +3,7 @@ use Rattle.std.specs.Option.{option_or}
 use Rattle.std.specs.Prelude.{find}
 use Rattle.md_base.specs.declared.answers.Refusal.{Refusal}
 use Rattle.md_base.specs.declared.answers.Refusal.TheVariants.{BadField}
-use Rattle.md_base.specs.Search.{least_below}
-use Rattle.superblocks.specs.Verdict.{judged_fields, is_bad_entry}
+use Rattle.superblocks.specs.Verdict.{judged_fields}
 use Rattle.superblocks.proofs.election.fields.bad_field.Goals as goal
 
 some_field : (found : Option (ℕ × Bool)) (offset : ℕ) (rest : Option Refusal) → Some offset ≡ option_map (λ f. f.0) found

@@ -1,4 +1,4 @@
-use Rattle.std.proofs.Common.{rules, ◌≡◌, ◌<◌, ℕ, Bool, false, true, nat_eq, sym, subst, ◌∙◌, ap, arith}
+use Rattle.std.proofs.Common.{rules, nat_eq, sym, ◌∙◌, ap, arith}
 use Rattle.superblocks.specs.Reading.{entry_of}
 use Rattle.superblocks.proofs.Searches.{any_below-some, any_below-none}
 use Rattle.superblocks.proofs.election.fields.repeats.Goals as goal

@@ -1,4 +1,4 @@
-use Rattle.std.proofs.Common.{rules, arith, ap, length, ◌<◌, add-one}
+use Rattle.std.proofs.Common.{rules, arith, ap, length, add-one}
 use Rattle.md_base.specs.Search.{tabulate}
 use Rattle.md_base.proofs.Tabulated.{length-tabulate}
 use Rattle.superblocks.specs.Reading.{holder_from}

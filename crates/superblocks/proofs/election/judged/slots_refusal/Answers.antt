@@ -1,4 +1,4 @@
-use Rattle.std.proofs.Common.{◌≡◌, ◌≤◌, Option, Some, None, IfNone, sym, ◌∙◌}
+use Rattle.std.proofs.Common.{◌≤◌, Option, Some, None, IfNone, sym, ◌∙◌}
 use Rattle.md_base.specs.declared.answers.Refusal.{Refusal}
 use Rattle.superblocks.specs.Reading.{role_count}
 use Rattle.superblocks.specs.Verdict.{AreValidShapes}

@@ -1,4 +1,4 @@
-use Rattle.std.proofs.Common.{◌≡◌, ◌<◌, ◌≤◌, ℕ, Bool, true, false, nat_eq, nat_lt, sym, ◌∙◌, arith, IsTrue}
+use Rattle.std.proofs.Common.{◌≡◌, ◌<◌, ◌≤◌, ℕ, true, false, nat_eq, nat_lt, sym, ◌∙◌, arith}
 use Rattle.std.proofs.lemmas.Bool.Decides.{nat_tests}
 use Rattle.md_base.specs.declared.places.Shape.{Shape}
 use Rattle.md_base.specs.Shapes.{is_valid_shape, data_disks}
@@ -19,7 +19,7 @@ none_past : (shape : Shape) (role : ℕ) → is_valid_shape shape ≡ true → s
 none_past shape role valid past =
     any_below-none shape.disks (λ stripe. any_below (data_disks shape) (λ i. nat_eq (stripe_data shape stripe i) role))
     (λ stripe h. any_below-none (data_disks shape) (λ i. nat_eq (stripe_data shape stripe i) role)
-      (λ i below. differs (stripe_data shape stripe i) role shape.disks (stripe_data-below shape valid stripe i below) past))
+    (λ i below. differs (stripe_data shape stripe i) role shape.disks (stripe_data-below shape valid stripe i below) past))
 
 pub returns-else-role-shape : goal.returns-else-role-shape
 returns-else-role-shape c =

@@ -1,4 +1,4 @@
-use Rattle.std.proofs.Common.{rules, ◌≡◌, ◌<◌, ◌≤◌, ℕ, suc, ◌+◌, Bool, true, false, cond, refl, sym, ap, ap₂, ◌∙◌, subst, arith, add-one, add-zero, List, get_or}
+use Rattle.std.proofs.Common.{◌≡◌, ℕ, ◌+◌, Bool, true, false, cond, refl, sym, ap, ap₂, ◌∙◌, arith, add-one, add-zero}
 use Rattle.std.specs.Prelude.{not}
 use Rattle.std.proofs.lemmas.List.{get_or_default}
 use Rattle.md_base.specs.declared.status.Role.{Role}
@@ -26,13 +26,16 @@ loop-role-init c = record { count = refl; few = omega arith }
 pub loop-role-preserved : goal.loop-role-preserved
 loop-role-preserved c =
     let at = ap (λ (r : Role). not (is_whole r))
-      (get_or_default c.args.roles.now c.loop-role.role Missing (Whole 0) (omega (arith, c.requires))) in
+    (get_or_default c.args.roles.now c.loop-role.role Missing (Whole 0) (omega (arith, c.requires))) in
     elim c.if-not-is_whole.branch [
-      then-not-is_whole w ↦ record {
+      | then-not-is_whole w ↦ record {
         count = w.missing-is ∙ one_more c.loop-role.role c.loop-role.missing (is_missing c.args.roles.now) c.loop-role.invariant.count
-          (at ∙ ap not (sym c.is_whole.ensures ∙ w.if-not-is_whole.true));
-        few = omega arith }
+            (at ∙ ap not (sym c.is_whole.ensures ∙ w.if-not-is_whole.true));
+        few = omega arith;
+      }
       | else-not-is_whole w ↦ record {
         count = w.missing-is ∙ no_more c.loop-role.role c.loop-role.missing (is_missing c.args.roles.now) c.loop-role.invariant.count
-          (at ∙ ap not (sym c.is_whole.ensures ∙ w.if-not-is_whole.false));
-        few = omega arith } ]
+            (at ∙ ap not (sym c.is_whole.ensures ∙ w.if-not-is_whole.false));
+        few = omega arith;
+      }
+    ]

@@ -1,4 +1,4 @@
-use Rattle.std.proofs.Common.{◌≡◌, ◌<◌, ◌⊎◌, inl, inr, ℕ, ◌∙◌, refl, sym, subst, arith, replicate, length, get_or, set, length-set, get_or-set_same, get_or-set_other}
+use Rattle.std.proofs.Common.{◌≡◌, ◌<◌, inl, inr, ◌∙◌, refl, sym, subst, arith, replicate, length, get_or, set, length-set, get_or-set_same, get_or-set_other}
 use Rattle.std.proofs.lemmas.List.{get_or-replicate, get_or_past}
 use Rattle.std.proofs.lemmas.Bool.{cases_eq, cases_lt}
 use Rattle.superblocks.proofs.election.reads.lengths.Goals as goal
@@ -16,9 +16,10 @@ loop-slot-preserved g c =
     record {
       long = length-set c.loop-slot.lengths c.loop-slot.slot c.len.result ∙ c.loop-slot.invariant.long;
       done = λ s h. elim (cases_eq s c.loop-slot.slot) [
-        inl same ↦ subst (λ k. get_or (set c.loop-slot.lengths c.loop-slot.slot c.len.result) k 0 ≡ (g.B.Bank.given c.args.bank.now).sectors k) (sym same)
-          (get_or-set_same c.loop-slot.lengths c.loop-slot.slot c.len.result 0 within ∙ c.len.ensures)
-        | inr apart ↦ get_or-set_other c.loop-slot.lengths c.loop-slot.slot s c.len.result 0 apart ∙ c.loop-slot.invariant.done s (omega (arith, h, apart)) ];
+        | inl same ↦ subst (λ k. get_or (set c.loop-slot.lengths c.loop-slot.slot c.len.result) k 0 ≡ (g.B.Bank.given c.args.bank.now).sectors k) (sym same)
+            (get_or-set_same c.loop-slot.lengths c.loop-slot.slot c.len.result 0 within ∙ c.len.ensures)
+        | inr apart ↦ get_or-set_other c.loop-slot.lengths c.loop-slot.slot s c.len.result 0 apart ∙ c.loop-slot.invariant.done s (omega (arith, h, apart))
+      ];
       rest = λ s h. get_or-set_other c.loop-slot.lengths c.loop-slot.slot s c.len.result 0 (λ e. absurd (omega (arith, e, h)))
-        ∙ c.loop-slot.invariant.rest s (omega (arith, h));
+          ∙ c.loop-slot.invariant.rest s (omega (arith, h));
     }

@@ -1,7 +1,4 @@
 use Rattle.std.proofs.Common.{sym, ◌∙◌}
-use Rattle.sb1.specs.Superblock.{superblock_in}
-use Rattle.bank.specs.Tape.{contents}
-use Rattle.superblocks.specs.Reading.{is_backup}
 use Rattle.superblocks.proofs.election.reads.read_member.Goals as goal
 
 pub returns-clause-found : goal.returns-clause-found

@@ -1,4 +1,4 @@
-use Rattle.std.proofs.Common.{◌≤◌, arith, length}
+use Rattle.std.proofs.Common.{arith, length}
 use Rattle.bank.specs.Tape.{contents}
 use Rattle.superblocks.proofs.Decoded.{decoded}
 use Rattle.superblocks.proofs.election.reads.read_superblock.Goals as goal
