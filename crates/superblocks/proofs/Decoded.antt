@@ -1,0 +1,32 @@
+-- A superblock as it is read.
+use Rattle.std.proofs.Common.{◌≡◌, ℕ, ◌≤◌, Bool, true, false, cond, ◌&&◌, List, ◌++◌, take, drop, length, refl, sym, ap, ap₂, ◌∙◌, arith, Option, Some, None, IsTrue, IsSome, IfSome, length-drop, take-append-drop, take_all}
+use Rattle.std.specs.Prelude.{◌↔◌}
+use Rattle.std.proofs.lemmas.Bool.{le-leb}
+use Rattle.md_base.specs.Sectors.{Sector}
+use Rattle.sb1.specs.declared.sb.Sb.{Sb}
+use Rattle.sb1.specs.Superblock.{superblock_in, is_valid, sb_of}
+use Rattle.bank.specs.Tape.{AreSectors}
+
+-- the bytes of two sectors
+two_sectors : (at : ℕ → Sector) (bytes : List ℕ) → length bytes ≡ 1024 → AreSectors at 8 bytes → bytes ≡ at 8 ++ at 9
+two_sectors at bytes long parts =
+    let first : take 512 bytes ≡ at 8 = parts 0 (omega (arith, long)) in
+    let second : take 512 (drop 512 bytes) ≡ at 9 = parts 1 (omega (arith, long)) in
+    let rest : length (drop 512 bytes) ≡ 512 = omega (arith, length-drop 512 bytes, long) in
+    let whole : take 512 (drop 512 bytes) ≡ drop 512 bytes = take_all 512 (drop 512 bytes) (omega (arith, rest)) in
+    sym (take-append-drop 512 bytes) ∙ ap₂ (λ a b. a ++ b) first (sym whole ∙ second)
+
+by_validity : (found : Option Sb) (valid : Bool) (sb : Sb) → (IsSome found ↔ IsTrue valid) → IfSome found (λ x. x ≡ sb)
+    → found ≡ cond valid (Some sb) None
+by_validity None true sb iff same = absurd (cc (iff.1 refl))
+by_validity None false sb iff same = refl
+by_validity (Some x) true sb iff same = ap (λ y. Some y) same
+by_validity (Some x) false sb iff same = absurd (cc (iff.0 refl))
+
+pub decoded : (sectors : ℕ) (at : ℕ → Sector) (bytes : List ℕ) (found : Option Sb) → 10 ≤ sectors → length bytes ≡ 1024
+    → AreSectors at 8 bytes → (IsSome found ↔ IsTrue (is_valid bytes)) → IfSome found (λ sb. sb ≡ sb_of bytes)
+    → found ≡ superblock_in sectors at
+decoded sectors at bytes found enough long parts valid fields =
+    by_validity found (is_valid bytes) (sb_of bytes) valid fields
+    ∙ ap (λ b. cond (is_valid b) (Some (sb_of b)) None) (two_sectors at bytes long parts)
+    ∙ ap (λ long_enough. cond (long_enough && is_valid (at 8 ++ at 9)) (Some (sb_of (at 8 ++ at 9))) None) (sym (le-leb 10 sectors enough))

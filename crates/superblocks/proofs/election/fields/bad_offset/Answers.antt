@@ -1,0 +1,4 @@
+use Rattle.superblocks.proofs.election.fields.bad_offset.Goals as goal
+
+pub returns : goal.returns
+returns c = cc

@@ -1,0 +1,14 @@
+use Rattle.std.proofs.Common.{◌≡◌, length}
+use Rattle.bank.specs.Tape.{contents}
+use Rattle.superblocks.proofs.Looked.{IsRead}
+use Rattle.superblocks.proofs.election.reads.read_superblocks.Given as goal
+
+abbrev pub invariant-loop-slot : goal.invariant-loop-slot
+invariant-loop-slot g l =
+    let given = g.B.Bank.given l.fn.bank in
+    let tape = g.B.Bank.tape l.fn.bank in
+    record {
+      same_tape : g.B.Bank.tells → g.B.Bank.tape l.bank ≡ tape;
+      same_given : g.B.Bank.given l.bank ≡ given;
+      read : IsRead g.B.Bank.tells given l.backup (contents given.start tape (length tape)) l.slot l.seen l.lost (g.B.Bank.faults_of l.fn.bank) (g.B.Bank.faults_of l.bank);
+    }
