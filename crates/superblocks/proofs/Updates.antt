@@ -1,5 +1,5 @@
 -- Passes one after the other, as one update.
-use Rattle.std.proofs.Common.{◌≡◌, ◌≢◌, ◌⊎◌, inl, inr, ⊎_elim, ℕ, zero, suc, ◌+◌, ◌<◌, ◌≤◌, ◌==◌, Bool, true, false, not, ◌&&◌, List, Option, [], ◌∷◌, length, take, refl, sym, ◌∙◌, ap, subst, arith}
+use Rattle.std.proofs.Common.{◌≡◌, ◌≢◌, ◌⊎◌, inl, inr, ⊎_elim, ℕ, zero, suc, ◌+◌, ◌<◌, ◌≤◌, ◌==◌, Bool, true, false, not, ◌&&◌, List, Option, [], ◌∷◌, length, take, append-nil, refl, sym, ◌∙◌, ap, subst, arith}
 use Rattle.std.specs.Int.{bit_at}
 use Rattle.std.proofs.lemmas.Bool.{cases_eq, cases_lt}
 use Rattle.std.proofs.lemmas.List.{take_all}
@@ -10,7 +10,7 @@ use Rattle.bank.specs.declared.bank.Operation.{Operation}
 use Rattle.bank.specs.Given.{IsFaulted, NeverFalls}
 use Rattle.bank.specs.Tape.{IsIn, Kept, disk, EachMark}
 use Rattle.bank.proofs.Laws.{choices-present, kept_again}
-use Rattle.bank.proofs.Marks.{each_mark-map, each_mark-then, each_mark-told}
+use Rattle.bank.proofs.Marks.{each_mark-along, each_mark-map, each_mark-then, each_mark-told}
 use Rattle.bank.proofs.Causes.{faulted_longer}
 use Rattle.sb1.specs.declared.sb.Sb.{Sb}
 use Rattle.superblocks.specs.declared.change.Give.{Give}
@@ -280,3 +280,14 @@ both_planned newest0 newest2 newest' gives own0 own2 live lost1 lost2 start mid 
     let w = others s is left none in
     (w.0, subst (λ (h : List (Option Sb)). IsPlanned newest' (give_of gives s) (own_in h s) w.0) o (subst (λ (n : Sb). IsPlanned n (give_of gives s) (own_in own2 s) w.0) n2 w.1), w.2))
     (by_bool (is_recovery (give_of gives s)))
+
+-- nothing was done
+pub update-none : {tells : Type 0} (live lost : ℕ) (Written : ℕ → Sector → Type 0) (start : ℕ → ℕ → Sector) (old : List Operation) → IsUpdate tells live lost lost Written start old old
+update-none live lost Written start old = record {
+  marks = subst (λ (l : List Operation). EachMark _ start old l (IsUpdating live lost lost Written (disk start old))) (append-nil old)
+      (each_mark-along _ start old [] (IsUpdating live lost lost Written (disk start old)) (record { touched = same; turn = 0; single = λ s apart left. omega arith }));
+  end = λ told. record { touched = same; single = λ s left. omega arith };
+}
+  where
+    same : IsTouched live lost Written (disk start old) (disk start old)
+    same = record { two = λ s. omega arith; values = λ s v held. inl held; gone = λ s k is. refl; others = λ s k is. refl; elsewhere = λ s k is. inl refl }

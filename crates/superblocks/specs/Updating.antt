@@ -1,5 +1,5 @@
 -- What a stop may leave at each mark of an update of several passes.
-use Rattle.std.specs.Prelude.{◌≡◌, ◌≢◌, ◌⊎◌, ℕ, ◌+◌, ◌-◌, ◌^◌, ◌≤◌, min, Bool, true, false, List, [], ◌∷◌, length, Option, Some}
+use Rattle.std.specs.Prelude.{◌≡◌, ◌≢◌, ◌⊎◌, ℕ, ◌+◌, ◌-◌, ◌^◌, ◌≤◌, min, Bool, true, false, List, [], ◌∷◌, length, replicate, Option, Some}
 use Rattle.md_base.specs.Sectors.{Sector}
 use Rattle.md_base.specs.Shapes.{has_slot}
 use Rattle.sb1.specs.declared.sb.Sb.{Sb}
@@ -7,6 +7,7 @@ use Rattle.bank.specs.declared.bank.Operation.{Operation}
 use Rattle.bank.specs.Given.{IsFaulted}
 use Rattle.bank.specs.Tape.{Kept, IsIn, EachMark, disk}
 use Rattle.superblocks.specs.declared.change.Give.{Give}
+use Rattle.superblocks.specs.declared.change.Give.TheVariants.{Same}
 use Rattle.superblocks.specs.declared.change.Change.{Change}
 use Rattle.superblocks.specs.declared.members.Members.{Members}
 use Rattle.superblocks.specs.Update.{give_of, own_in, with_shared, with_roles, is_recovery}
@@ -85,3 +86,8 @@ IsInOrder newest gives own live lost d e = AreOthersKept gives d e ⊎ AreRecove
 -- a live slot is left
 abbrev pub IsSomeLeft : ℕ → ℕ → Type 0
 IsSomeLeft live lost = (s : ℕ) × (has_slot live s ≡ true) × (has_slot lost s ≡ false)
+
+-- what an update writes in a slot: the newest's shared fields, in catching up, or what the change plans
+abbrev pub IsWrittenBy : Sb → Change → List (Option Sb) → ℕ → Sector → Type 0
+IsWrittenBy former change own s v =
+    IsRecorded former (replicate 32 Same) own s v ⊎ IsRecorded (planned_newest change.shared former) change.gives own s v

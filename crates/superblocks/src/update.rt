@@ -5,7 +5,7 @@ ghost use Rattle.bank.specs.Given.{NeverFalls};
 ghost use Rattle.bank.specs.Tape.{disk};
 ghost use Rattle.superblocks.specs.Update.{IsRoleGive, give_of, with_roles, with_shared, is_recovery, own_in};
 ghost use Rattle.superblocks.specs.Writing.{AreMembers, IsPlanned};
-ghost use Rattle.superblocks.specs.Updating.{IsUpdate, AreLosses, IsLater, IsRecorded, ArePlanned, AreNamed, IsInOrder, AreOthersKept, AreRecoveriesKept, planned_newest};
+ghost use Rattle.superblocks.specs.Updating.{IsUpdate, AreLosses, IsLater, IsRecorded, ArePlanned, AreNamed, IsInOrder, AreOthersKept, AreRecoveriesKept, planned_newest, IsSomeLeft};
 ghost use Rattle.bank.specs.Tape.{EachMark};
 ghost use Rattle.md_base.specs.Shapes.{has_slot};
 ghost use Rattle.superblocks.specs.declared.change.Give.TheVariants.{Same};
@@ -158,4 +158,40 @@ fn write_again<B: Bank>(
     members.newest.events = members.newest.events.saturating_add(1);
     enter_roles(members, change, before);
     write_slots(bank, members, &change.gives, live, Part::All);
+}
+
+// Writes again until each lost slot is named, or no slot is left. Those of this set are named already.
+fn name_lost<B: Bank>(
+    bank: &mut B,
+    members: &mut Members,
+    change: &Change,
+    live: u32,
+    before: u32,
+    lost: u32,
+)
+    requires members { AreMembers (B.given bank.old) members.old.own live }
+    requires roles { length members.old.roles ≤ 16 }
+    requires gives { (s : ℕ) → s < 32 → IsRoleGive (give_of change.now.gives s) }
+    requires known { (s : ℕ) → has_slot lost s ≡ true → has_slot members.old.lost s ≡ true }
+    requires since { (s : ℕ) → has_slot members.old.lost s ≡ true → has_slot lost s ≡ false → has_slot live s ≡ true }
+    requires planned { members.old.lost ≡ lost → B.tells →
+        ArePlanned members.old.newest change.now.gives members.old.own live members.old.lost (disk (B.given bank.old).start (B.tape bank.old)) }
+    requires named { members.old.lost ≡ lost → AreNamed members.old change.now before members.old.lost members.old.newest }
+    ensures update { IsUpdate B.tells live members.old.lost members.new.lost (IsRecorded members.old.newest change.now.gives members.old.own)
+        (B.given bank.old).start (B.tape bank.old) (B.tape bank.new) }
+    ensures planned { B.tells →
+        ArePlanned members.new.newest change.now.gives members.old.own live members.new.lost (disk (B.given bank.old).start (B.tape bank.new)) }
+    ensures named { IsSomeLeft live members.new.lost → AreNamed members.old change.now before members.new.lost members.new.newest }
+    ensures kept { members.old.lost ≡ lost → members.new ≡ members.old }
+    ensures newest { IsLater members.old.newest members.new.newest }
+    ensures members { members.new ≡ record members.old { newest = members.new.newest; lost = members.new.lost } }
+    ensures losses { AreLosses live members.old.lost members.new.lost (B.faults_of bank.old) (B.faults_of bank.new) }
+    ensures counts { NeverFalls (B.faults_of bank.old) (B.faults_of bank.new) }
+    ensures given { B.given bank.new ≡ B.given bank.old }
+{
+    let mut named = lost;
+    while members.lost != named && without(live, members.lost) != 0 {
+        named = members.lost;
+        write_again(bank, members, change, live, before);
+    }
 }
