@@ -1,13 +1,14 @@
 //! The one way in which the stored superblocks change.
 
-ghost use Rattle.std.specs.Prelude.{◌≡◌, [], ◌∷◌, List, ◌<◌, ◌≤◌, ◌+◌, ◌-◌, ◌^◌, ℕ, Some, true, false, min, length};
+ghost use Rattle.std.specs.Prelude.{◌≡◌, [], ◌∷◌, List, ◌<◌, ◌≤◌, ◌+◌, ◌-◌, ◌^◌, ℕ, Some, true, false, min, length, replicate};
 ghost use Rattle.bank.specs.Given.{NeverFalls};
 ghost use Rattle.bank.specs.Tape.{disk};
 ghost use Rattle.superblocks.specs.Update.{IsRoleGive, give_of, with_roles, with_shared, is_recovery, own_in};
 ghost use Rattle.superblocks.specs.Writing.{AreMembers, IsPlanned};
-ghost use Rattle.superblocks.specs.Updating.{IsUpdate, AreLosses, IsLater, IsRecorded, ArePlanned, AreNamed, IsInOrder, AreOthersKept, AreRecoveriesKept, planned_newest, IsSomeLeft};
+ghost use Rattle.superblocks.specs.Updating.{IsUpdate, AreLosses, IsLater, IsRecorded, ArePlanned, AreNamed, IsInOrder, AreOthersKept, AreRecoveriesKept, planned_newest, IsSomeLeft, IsWrittenBy};
 ghost use Rattle.bank.specs.Tape.{EachMark};
 ghost use Rattle.md_base.specs.Shapes.{has_slot};
+ghost use Rattle.superblocks.specs.declared.change.Give.TheVariants.{Same};
 
 use crate::change::{Change, Give};
 use crate::members::Members;
@@ -17,6 +18,19 @@ use crate::roles::enter_roles;
 use crate::sets::without;
 use bank::Bank;
 use sb1::Sb;
+
+// Brings each live slot whose event count is behind to the newest's.
+fn catch_up<B: Bank>(bank: &mut B, members: &mut Members, live: u32)
+    requires members { AreMembers (B.given bank.old) members.old.own live }
+    ensures update { IsUpdate B.tells live members.old.lost members.new.lost (IsRecorded members.old.newest (replicate 32 Same) members.old.own)
+        (B.given bank.old).start (B.tape bank.old) (B.tape bank.new) }
+    ensures members { members.new ≡ record members.old { lost = members.new.lost } }
+    ensures losses { AreLosses live members.old.lost members.new.lost (B.faults_of bank.old) (B.faults_of bank.new) }
+    ensures counts { NeverFalls (B.faults_of bank.old) (B.faults_of bank.new) }
+    ensures given { B.given bank.new ≡ B.given bank.old }
+{
+    write_slots(bank, members, &[Give::Same; 32], live, Part::Behind);
+}
 
 // The newest superblock with the change's fields and one event more.
 fn planned_newest(shared: &Sb, former: &Sb) -> Sb
@@ -180,4 +194,36 @@ fn name_lost<B: Bank>(
         named = members.lost;
         write_again(bank, members, change, live, before);
     }
+}
+
+/// Writes an update of the superblocks to the live slots, those of this set that weren't lost: brings those that are
+/// behind to the newest event count, writes what the change plans, and names the slots that are lost in this, for as
+/// long as a slot is left. Those of `before` were lost before. It takes no memory.
+pub fn write_update<B: Bank>(
+    bank: &mut B,
+    members: &mut Members,
+    change: &Change,
+    live: u32,
+    before: u32,
+)
+    requires members { AreMembers (B.given bank.old) members.old.own live }
+    requires roles { length members.old.roles ≤ 16 }
+    requires gives { (s : ℕ) → s < 32 → IsRoleGive (give_of change.now.gives s) }
+    ensures update { IsUpdate B.tells live members.old.lost members.new.lost
+        (IsWrittenBy members.old.newest change.now members.old.own) (B.given bank.old).start (B.tape bank.old) (B.tape bank.new) }
+    ensures planned { B.tells →
+        ArePlanned members.new.newest change.now.gives members.old.own live members.new.lost (disk (B.given bank.old).start (B.tape bank.new)) }
+    ensures named { IsSomeLeft live members.new.lost → AreNamed members.old change.now before members.new.lost members.new.newest }
+    ensures events { members.new.lost ≡ members.old.lost → members.new.newest.events ≡ min (members.old.newest.events + 1) (2 ^ 64 - 1) }
+    ensures newest { IsLater (planned_newest change.now.shared members.old.newest) members.new.newest }
+    ensures members { members.new ≡ record members.old { newest = members.new.newest; lost = members.new.lost } }
+    ensures losses { AreLosses live members.old.lost members.new.lost (B.faults_of bank.old) (B.faults_of bank.new) }
+    ensures counts { NeverFalls (B.faults_of bank.old) (B.faults_of bank.new) }
+    ensures given { B.given bank.new ≡ B.given bank.old }
+{
+    catch_up(bank, members, live);
+    let lost = members.lost;
+    plan_newest(members, change, before);
+    write_planned(bank, members, change, live, before);
+    name_lost(bank, members, change, live, before, lost);
 }
