@@ -1,5 +1,5 @@
 -- Where no role was ever taken, no image is refused.
-use Rattle.std.proofs.Common.{◌≡◌, ◌≢◌, ◌⊎◌, inl, inr, ℕ, zero, suc, ◌+◌, ◌-◌, ◌*◌, ◌==◌, ◌<◌, ◌≤◌, Bool, true, false, not, ◌&&◌, ◌||◌, cond, List, [], ◌∷◌, take, drop, refl, ap, ap₂, ◌∙◌, subst, Option, Some, None, option_map, find, fold, ltb-true, arith}
+use Rattle.std.proofs.Common.{◌≡◌, ◌≢◌, ◌⊎◌, inl, inr, ℕ, zero, suc, ◌+◌, ◌-◌, ◌*◌, ◌==◌, ◌<◌, ◌≤◌, Bool, true, false, not, ◌&&◌, ◌||◌, cond, List, [], ◌∷◌, take, drop, refl, sym, ap, ap₂, ◌∙◌, subst, Option, Some, None, option_map, find, fold, ltb, ltb-true, arith}
 use Rattle.std.specs.Option.{option_map_or, option_or}
 use Rattle.std.specs.List.{list_all}
 use Rattle.md_base.specs.declared.places.Shape.{Shape}
@@ -7,6 +7,7 @@ use Rattle.md_base.specs.declared.answers.Refusal.{Refusal}
 use Rattle.md_base.specs.declared.answers.Refusal.TheVariants.{NoSuperblock, Unsupported, BadField, TwoHolders, MembersMissing, DirtyDegraded, PositionNotOnUnit, BackupAbsent}
 use Rattle.md_base.specs.Shapes.{tolerance, is_multiple}
 use Rattle.md_base.specs.Search.{count_below, least_below}
+use Rattle.sb1.specs.declared.sb.Sb.{Sb}
 use Rattle.superblocks.specs.Reading.{Scope, Reading, reading, shapes_in_force, is_clean, is_reshaping, role_count, list_length}
 use Rattle.bank.specs.Tape.{Contents}
 use Rattle.flat_history.specs.declared.events.Event.{Event}
@@ -14,8 +15,10 @@ use Rattle.flat_history.specs.declared.events.Event.TheVariants.{Lost, Step}
 use Rattle.flat_history.specs.declared.events.StepKind.TheVariants.{TakenOver}
 use Rattle.flat_history.specs.declared.events.Entry.{Entry}
 use Rattle.flat_history.specs.World.{World, reading_at}
-use Rattle.flat_history.specs.Losses.{takes, gone_surely, gone_perhaps, is_gone, gone_count}
-use Rattle.flat_history.specs.Stands.{verdict, refusal_of, first_of_all, missing_count, too_many, members_missing, unsupported, bad_field, shared_dev, fresh, dirty_degraded, off_unit, backup_absent, refused_bits, judged_fields, is_bad_entry, is_missing, holds_data, unit_of, has_room, reach_of}
+use Rattle.flat_history.specs.Losses.{takes, regains, loses, gone_surely, gone_perhaps, is_gone, gone_count}
+use Rattle.superblocks.specs.Verdict.{first_of_all, missing_count, too_many, members_missing, unsupported, bad_field, fresh_from, two_holders, shared_dev, dirty_degraded, off_unit, judged_fields, is_bad_entry, is_missing, holds_data, unit_of, members_refusal}
+use Rattle.sb1.specs.Features.{refused_bits}
+use Rattle.flat_history.specs.Stands.{verdict, refusal_of, backup_absent, has_room, reach_of}
 use Rattle.flat_history.specs.CrashSafe.{made_by, IsJudged, IsRefusedRightly}
 use Rattle.flat_history.specs.Images.{keeps_roles, WithoutLossAllAssemble}
 
@@ -58,50 +61,58 @@ find-passes test (y ∷ xs) x e = by_test (test y) refl e (find-passes test xs x
     by_test false is e more = more e
 
 module _ (r : Reading) (count tolerated : ℕ) where
-  by_shape : (found : Option Shape) → find (too_many r) (shapes_in_force r.newest) ≡ found
-      → option_map (λ shape. MembersMissing (missing_count r shape) (tolerance shape)) found ≡ Some (MembersMissing count tolerated) → tolerated < count
+  by_shape : (found : Option Shape) → find (too_many r.roles) (shapes_in_force r.newest) ≡ found
+      → option_map (λ shape. MembersMissing (missing_count r.roles shape) (tolerance shape)) found ≡ Some (MembersMissing count tolerated) → tolerated < count
   by_shape None is e = absurd (cc)
   by_shape (Some shape) is e =
-      let above : tolerance shape < missing_count r shape = ltb-true (tolerance shape) (missing_count r shape) (find-passes (too_many r) (shapes_in_force r.newest) shape is) in
-      let many : missing_count r shape ≡ count = cc in
+      let above : tolerance shape < missing_count r.roles shape = ltb-true (tolerance shape) (missing_count r.roles shape) (find-passes (too_many r.roles) (shapes_in_force r.newest) shape is) in
+      let many : missing_count r.roles shape ≡ count = cc in
       let few : tolerance shape ≡ tolerated = cc in
       omega arith
 
-  missing-above : members_missing r ≡ Some (MembersMissing count tolerated) → tolerated < count
-  missing-above e = by_shape (find (too_many r) (shapes_in_force r.newest)) refl e
+  missing-above : members_missing r.newest r.roles ≡ Some (MembersMissing count tolerated) → tolerated < count
+  missing-above e = by_shape (find (too_many r.roles) (shapes_in_force r.newest)) refl e
+
+or-either : (a b : Option Refusal) (refusal : Refusal) → option_or a b ≡ Some refusal → (a ≡ Some refusal) ⊎ (b ≡ Some refusal)
+or-either None b refusal e = inr e
+or-either (Some x) b refusal e = inl e
 
 -- so does the verdict
 module _ (scope : Scope) (count tolerated : ℕ) where
   abbrev judged : Refusal
   judged = MembersMissing count tolerated
 
-  by_kind : (r : Reading)
-      → IsAmong (unsupported (fresh scope r) ∷ bad_field r.newest (fresh scope r) ∷ option_map (λ dev. TwoHolders dev) (shared_dev (fresh scope r))
-      ∷ members_missing r ∷ dirty_degraded r ∷ off_unit r.newest ∷ backup_absent scope r.newest ∷ []) judged
-      → tolerated < count
+  abbrev slots : Reading → List (Sb × ℕ)
+  slots r = fresh_from r.newest scope.sizes.sectors 0 r.own
+
+  abbrev refusals : Reading → List (Option Refusal)
+  refusals r = unsupported (slots r) ∷ bad_field r.newest (slots r) ∷ two_holders (slots r)
+      ∷ members_missing r.newest r.roles ∷ dirty_degraded r.newest r.roles ∷ off_unit r.newest ∷ []
+
+  by_kind : (r : Reading) → IsAmong (refusals r) judged → tolerated < count
   unfolding IsAmong
-  by_kind r (inl bits) = absurd (mapped-apart (λ s. Unsupported (refused_bits s.0)) (find (λ s. not (refused_bits s.0 == 0)) (fresh scope r)) judged (λ s e. absurd (cc)) bits)
+  by_kind r (inl bits) = absurd (mapped-apart (λ s. Unsupported (refused_bits s.0.feature_map)) (find (λ s. not (refused_bits s.0.feature_map == 0)) (slots r)) judged (λ s e. absurd (cc)) bits)
   by_kind r (inr (inl field)) =
-      absurd (or-apart (option_map (λ f. BadField f.0) (find (λ f. f.1) (judged_fields r.newest (fresh scope r))))
+      absurd (or-apart (option_map (λ f. BadField f.0) (find (λ f. f.1) (judged_fields r.newest (slots r))))
       (option_map (λ index. BadField (256 + 2 * index)) (least_below r.newest.max_dev (is_bad_entry r.newest))) judged
-      (mapped-apart (λ f. BadField f.0) (find (λ f. f.1) (judged_fields r.newest (fresh scope r))) judged (λ f e. absurd (cc)))
+      (mapped-apart (λ f. BadField f.0) (find (λ f. f.1) (judged_fields r.newest (slots r))) judged (λ f e. absurd (cc)))
       (mapped-apart (λ index. BadField (256 + 2 * index)) (least_below r.newest.max_dev (is_bad_entry r.newest)) judged (λ index e. absurd (cc))) field)
-  by_kind r (inr (inr (inl two))) = absurd (mapped-apart (λ dev. TwoHolders dev) (shared_dev (fresh scope r)) judged (λ dev e. absurd (cc)) two)
+  by_kind r (inr (inr (inl two))) = absurd (mapped-apart (λ dev. TwoHolders dev) (shared_dev (slots r)) judged (λ dev e. absurd (cc)) two)
   by_kind r (inr (inr (inr (inl missing)))) = missing-above r count tolerated missing
   by_kind r (inr (inr (inr (inr (inl dirty))))) =
-      absurd (unless-apart (is_clean r.newest) (option_map (λ role. DirtyDegraded role) (least_below (role_count r.newest) (λ role. is_missing r role && holds_data r.newest role))) judged
-      (mapped-apart (λ role. DirtyDegraded role) (least_below (role_count r.newest) (λ role. is_missing r role && holds_data r.newest role)) judged (λ role e. absurd (cc))) dirty)
+      absurd (unless-apart (is_clean r.newest) (option_map (λ role. DirtyDegraded role) (least_below (role_count r.newest) (λ role. is_missing r.roles role && holds_data r.newest role))) judged
+      (mapped-apart (λ role. DirtyDegraded role) (least_below (role_count r.newest) (λ role. is_missing r.roles role && holds_data r.newest role)) judged (λ role e. absurd (cc))) dirty)
   by_kind r (inr (inr (inr (inr (inr (inl off)))))) =
       absurd (unless-apart (not (is_reshaping r.newest) || is_multiple r.newest.reshape_position (unit_of r.newest) || (r.newest.reshape_position == list_length r.newest))
       (Some (PositionNotOnUnit r.newest.reshape_position (unit_of r.newest))) judged (λ e. absurd (cc)) off)
-  by_kind r (inr (inr (inr (inr (inr (inr (inl backup))))))) =
-      absurd (unless-apart (not (is_reshaping r.newest) || has_room scope (reach_of r.newest)) (Some BackupAbsent) judged (λ e. absurd (cc)) backup)
-  by_kind r (inr (inr (inr (inr (inr (inr (inr none))))))) = absurd none
+  by_kind r (inr (inr (inr (inr (inr (inr none)))))) = absurd none
 
   by_reading : (found : Option Reading) → option_map_or (refusal_of scope) found (Some NoSuperblock) ≡ Some judged → tolerated < count
   by_reading None e = absurd (cc)
-  by_reading (Some r) e = by_kind r (first-among (unsupported (fresh scope r) ∷ bad_field r.newest (fresh scope r) ∷ option_map (λ dev. TwoHolders dev) (shared_dev (fresh scope r))
-      ∷ members_missing r ∷ dirty_degraded r ∷ off_unit r.newest ∷ backup_absent scope r.newest ∷ []) judged e)
+  by_reading (Some r) e = elim (or-either (members_refusal scope.sizes.sectors r) (backup_absent scope r.newest) judged e) [
+    | inl member ↦ by_kind r (first-among (refusals r) judged member)
+    | inr backup ↦ absurd (unless-apart (not (is_reshaping r.newest) || has_room scope (reach_of r.newest)) (Some BackupAbsent) judged (λ e. absurd (cc)) backup)
+  ]
 
   refused-above : (c : Contents) → verdict scope c ≡ Some judged → tolerated < count
   unfolding verdict

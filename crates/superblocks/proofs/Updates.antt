@@ -1,20 +1,37 @@
 -- Passes one after the other, as one update.
+<<<<<<< HEAD
 use Rattle.std.proofs.Common.{◌≡◌, ◌≢◌, ◌⊎◌, inl, inr, ⊎_elim, ℕ, ◌+◌, ◌<◌, ◌≤◌, Bool, true, false, not, ◌&&◌, List, Option, [], ◌∷◌, length, take, refl, sym, ◌∙◌, ap, subst, arith}
+=======
+use Rattle.std.proofs.Common.{◌≡◌, ◌≢◌, ◌⊎◌, inl, inr, ⊎_elim, ℕ, zero, suc, ◌+◌, ◌<◌, ◌≤◌, ◌==◌, Bool, true, false, not, ◌&&◌, List, Option, [], ◌∷◌, length, take, append-nil, refl, sym, ◌∙◌, ap, subst, arith}
+use Rattle.std.specs.Int.{bit_at}
+>>>>>>> f45c3ff58c3db0c1fef9fc992895c87d89345db7
 use Rattle.std.proofs.lemmas.Bool.{cases_eq, cases_lt}
+use Rattle.std.proofs.lemmas.List.{take_all}
+use Rattle.std.proofs.lemmas.Nat.Bits.{bit_at-lt, same_from_bits}
 use Rattle.md_base.specs.Sectors.{Sector}
 use Rattle.md_base.specs.Shapes.{has_slot}
 use Rattle.bank.specs.declared.bank.Operation.{Operation}
 use Rattle.bank.specs.Given.{NeverFalls}
 use Rattle.bank.specs.Tape.{IsIn, Kept, disk, EachMark}
 use Rattle.bank.proofs.Laws.{choices-present, kept_again}
+<<<<<<< HEAD
 use Rattle.bank.proofs.Marks.{each_mark-map, each_mark-then}
+=======
+use Rattle.bank.proofs.Marks.{each_mark-along, each_mark-map, each_mark-then, each_mark-told}
+>>>>>>> f45c3ff58c3db0c1fef9fc992895c87d89345db7
 use Rattle.bank.proofs.Causes.{faulted_longer}
 use Rattle.sb1.specs.declared.sb.Sb.{Sb}
 use Rattle.superblocks.specs.declared.change.Give.{Give}
 use Rattle.superblocks.specs.declared.pass.Part.{Part}
+<<<<<<< HEAD
 use Rattle.superblocks.specs.Update.{is_part, is_due, give_of, own_in}
 use Rattle.superblocks.specs.Writing.{IsPlanned, IsBetween, IsWritten, IsStage, IsWriting, AreWritten, plan_of}
 use Rattle.superblocks.specs.Updating.{IsTouched, IsUpdating, IsUpdated, IsUpdate, AreLosses, IsLater, IsRecorded}
+=======
+use Rattle.superblocks.specs.Update.{is_part, is_due, is_recovery, give_of, own_in}
+use Rattle.superblocks.specs.Writing.{IsPlanned, IsBetween, IsWritten, IsStage, IsWriting, AreWritten, AreLost, plan_of}
+use Rattle.superblocks.specs.Updating.{IsTouched, IsUpdating, IsUpdated, IsUpdate, AreLosses, IsLater, IsRecorded, ArePlanned, AreOthersKept, AreRecoveriesKept, AreRecoveriesWritten, IsInOrder}
+>>>>>>> f45c3ff58c3db0c1fef9fc992895c87d89345db7
 
 abbrev Disk : Type 0
 Disk = ℕ → ℕ → List Sector
@@ -199,3 +216,92 @@ part-planned {e = e} {d = d} part newest newest' gives own own' live lost lost' 
 
 pub stays_left : (lost lost' s : ℕ) → (has_slot lost s ≡ true → has_slot lost' s ≡ true) → has_slot lost' s ≡ false → has_slot lost s ≡ false
 stays_left lost lost' s stay left = ⊎_elim (λ is. absurd (let both = sym (stay is) ∙ left in cc)) (λ none. none) (by_bool (has_slot lost s))
+
+-- the slots that this part doesn't write hold what they held, at each mark
+pub part-kept : {tells : Type 0} (part : Part) (newest : Sb) (gives : List Give) (own : List (Option Sb)) (live lost lost' : ℕ) (start : ℕ → ℕ → Sector) (old new : List Operation) (Kept' : ℕ → Type 0)
+    → ((s : ℕ) → Kept' s → is_part part newest (give_of gives s) (own_in own s) ≡ false)
+    → EachMark tells start old new (IsWriting (plan_of newest gives own) (is_due part newest gives own live lost) (has_slot lost') (disk start old))
+    → EachMark tells start old new (λ e. (s : ℕ) → Kept' s → e s 8 ≡ disk start old s 8)
+part-kept part newest gives own live lost lost' start old new Kept' none marks =
+    each_mark-map (λ e. (s : ℕ) → Kept' s → e s 8 ≡ disk start old s 8)
+    (λ _ e at s is. at.1.others s 8 (no_part (has_slot live s) (has_slot lost s) (is_part part newest (give_of gives s) (own_in own s)) (none s is))) marks
+  where
+    no_part : (a b c : Bool) → c ≡ false → (a && not b && c) ≡ false
+    no_part true true c is = refl
+    no_part true false c is = is
+    no_part false b c is = refl
+
+-- ---- an update in parts
+
+pub later-then : (a b c : Sb) → IsLater a b → IsLater b c → IsLater a c
+later-then a b c first second = record {
+  events = omega (arith, first.events, second.events);
+  same = second.same ∙ ap (λ (n : Sb). record n { events = c.events; dev_roles = c.dev_roles }) first.same;
+}
+
+-- the second of two stretches, by what the first began with
+pub update-later : {tells : Type 0} (newest newest0 : Sb) (gives : List Give) (own own0 : List (Option Sb)) (live lost lost0 lost' : ℕ) (start : ℕ → ℕ → Sector) (old new : List Operation)
+    → IsLater newest0 newest → own ≡ own0 → lost ≡ lost0
+    → IsUpdate tells live lost lost' (IsRecorded newest gives own) start old new → IsUpdate tells live lost0 lost' (IsRecorded newest0 gives own0) start old new
+update-later {tells = tells} newest newest0 gives own own0 live lost lost0 lost' start old new later own_is lost_is u =
+    subst (λ (o : List (Option Sb)). IsUpdate tells live lost0 lost' (IsRecorded newest0 gives o) start old new) own_is
+    (subst (λ (l : ℕ). IsUpdate tells live l lost' (IsRecorded newest0 gives own) start old new) lost_is
+    (update-map (IsRecorded newest0 gives own) (λ s v w. (w.0, later-then newest0 newest w.0 later w.1, w.2)) u))
+
+-- at the end of a call
+pub each_mark-last : {tells : Type 0} {start : ℕ → ℕ → Sector} {old new : List Operation} {P : Disk → Type 0} → EachMark tells start old new P → tells → P (disk start new)
+each_mark-last {start = start} {new = new} {P = P} marks told =
+    subst (λ (l : List Operation). P (disk start l)) (take_all (length new) new (omega arith)) (marks.each told (length new) (marks.longer told) (omega arith))
+
+-- sets of lost slots: one between two that are the same is the same
+bit_same : (a b : ℕ) → a < 2 → b < 2 → (a == 1) ≡ (b == 1) → a ≡ b
+bit_same zero zero la lb is = refl
+bit_same zero (suc zero) la lb is = absurd (cc)
+bit_same (suc zero) zero la lb is = absurd (cc)
+bit_same (suc zero) (suc zero) la lb is = refl
+bit_same (suc (suc a)) b la lb is = absurd (omega (arith, la))
+bit_same zero (suc (suc b)) la lb is = absurd (omega (arith, lb))
+bit_same (suc zero) (suc (suc b)) la lb is = absurd (omega (arith, lb))
+
+pub between_same : (a b c : ℕ) → ((s : ℕ) → has_slot a s ≡ true → has_slot b s ≡ true) → ((s : ℕ) → has_slot b s ≡ true → has_slot c s ≡ true) → c ≡ a → b ≡ a
+between_same a b c ab bc ca = same_from_bits b a (λ i. bit_same (bit_at b i) (bit_at a i) (bit_at-lt b i) (bit_at-lt a i)
+    (⊎_elim (λ is. is ∙ sym (subst (λ (n : ℕ). has_slot n i ≡ true) ca (bc i is)))
+    (λ none. none ∙ sym (stays_left a b i (ab i) none)) (by_bool (has_slot b i))))
+
+-- first those with a recovery offset, then the others
+pub in_order : {tells : Type 0} (newest : Sb) (gives : List Give) (own : List (Option Sb)) (live lost1 lost2 : ℕ) (start : ℕ → ℕ → Sector) (old mid new : List Operation)
+    → ((s : ℕ) → has_slot lost1 s ≡ true → has_slot lost2 s ≡ true)
+    → EachMark tells start old mid (AreOthersKept gives (disk start old)) → (tells → AreRecoveriesWritten newest gives own live lost1 (disk start mid))
+    → EachMark tells start mid new (AreRecoveriesKept gives (disk start mid))
+    → EachMark tells start old new (IsInOrder newest gives own live lost2 (disk start old))
+in_order newest gives own live lost1 lost2 start old mid new stay first written then =
+    each_mark-then (each_mark-map (IsInOrder newest gives own live lost2 (disk start old)) (λ _ e at. inl at) first)
+    (each_mark-map (IsInOrder newest gives own live lost2 (disk start old))
+    (λ told e at. inr (λ s is left recovery. let w = written told s is (stays_left lost1 lost2 s (stay s) left) recovery in (w.0, w.1, at s recovery ∙ w.2))) then)
+
+-- both parts together are all live slots
+pub both_planned : (newest0 newest2 newest' : Sb) (gives : List Give) (own0 own2 : List (Option Sb)) (live lost1 lost2 : ℕ) (start : ℕ → ℕ → Sector) (mid new : List Operation)
+    → newest0 ≡ newest' → newest2 ≡ newest' → own2 ≡ own0 → ((s : ℕ) → has_slot lost1 s ≡ true → has_slot lost2 s ≡ true)
+    → AreRecoveriesWritten newest0 gives own0 live lost1 (disk start mid)
+    → AreRecoveriesKept gives (disk start mid) (disk start new)
+    → ((s : ℕ) → has_slot live s ≡ true → has_slot lost2 s ≡ false → is_recovery (give_of gives s) ≡ false → (v : Sector) × IsPlanned newest2 (give_of gives s) (own_in own2 s) v × (disk start new s 8 ≡ v ∷ []))
+    → ArePlanned newest' gives own0 live lost2 (disk start new)
+both_planned newest0 newest2 newest' gives own0 own2 live lost1 lost2 start mid new n0 n2 o stay written kept others s is left = ⊎_elim
+    (λ recovery.
+    let w = written s is (stays_left lost1 lost2 s (stay s) left) recovery in
+    (w.0, subst (λ (n : Sb). IsPlanned n (give_of gives s) (own_in own0 s) w.0) n0 w.1, kept s recovery ∙ w.2))
+    (λ none.
+    let w = others s is left none in
+    (w.0, subst (λ (h : List (Option Sb)). IsPlanned newest' (give_of gives s) (own_in h s) w.0) o (subst (λ (n : Sb). IsPlanned n (give_of gives s) (own_in own2 s) w.0) n2 w.1), w.2))
+    (by_bool (is_recovery (give_of gives s)))
+
+-- nothing was done
+pub update-none : {tells : Type 0} (live lost : ℕ) (Written : ℕ → Sector → Type 0) (start : ℕ → ℕ → Sector) (old : List Operation) → IsUpdate tells live lost lost Written start old old
+update-none live lost Written start old = record {
+  marks = subst (λ (l : List Operation). EachMark _ start old l (IsUpdating live lost lost Written (disk start old))) (append-nil old)
+      (each_mark-along _ start old [] (IsUpdating live lost lost Written (disk start old)) (record { touched = same; turn = 0; single = λ s apart left. omega arith }));
+  end = λ told. record { touched = same; single = λ s left. omega arith };
+}
+  where
+    same : IsTouched live lost Written (disk start old) (disk start old)
+    same = record { two = λ s. omega arith; values = λ s v held. inl held; gone = λ s k is. refl; others = λ s k is. refl; elsewhere = λ s k is. inl refl }

@@ -1,5 +1,9 @@
 -- What a stop may leave at each mark of an update of several passes.
+<<<<<<< HEAD
 use Rattle.std.specs.Prelude.{◌≡◌, ◌≢◌, ◌⊎◌, ℕ, ◌+◌, ◌≤◌, true, false, List, [], ◌∷◌, length, Option}
+=======
+use Rattle.std.specs.Prelude.{◌≡◌, ◌≢◌, ◌⊎◌, ℕ, ◌+◌, ◌-◌, ◌^◌, ◌≤◌, min, Bool, true, false, List, [], ◌∷◌, length, replicate, Option, Some}
+>>>>>>> f45c3ff58c3db0c1fef9fc992895c87d89345db7
 use Rattle.md_base.specs.Sectors.{Sector}
 use Rattle.md_base.specs.Shapes.{has_slot}
 use Rattle.sb1.specs.declared.sb.Sb.{Sb}
@@ -7,7 +11,10 @@ use Rattle.bank.specs.declared.bank.Operation.{Operation}
 use Rattle.bank.specs.Given.{IsFaulted}
 use Rattle.bank.specs.Tape.{Kept, IsIn, EachMark, disk}
 use Rattle.superblocks.specs.declared.change.Give.{Give}
-use Rattle.superblocks.specs.Update.{give_of, own_in}
+use Rattle.superblocks.specs.declared.change.Give.TheVariants.{Same}
+use Rattle.superblocks.specs.declared.change.Change.{Change}
+use Rattle.superblocks.specs.declared.members.Members.{Members}
+use Rattle.superblocks.specs.Update.{give_of, own_in, with_shared, with_roles, is_recovery}
 use Rattle.superblocks.specs.Writing.{IsPlanned}
 
 -- Sector 8 of a live slot holds former values and at most one that was written, and no other sector was. A slot that
@@ -54,3 +61,37 @@ IsRecorded newest gives own s v = (later : Sb) × IsLater newest later × IsPlan
 abbrev pub ArePlanned : Sb → List Give → List (Option Sb) → ℕ → ℕ → (ℕ → ℕ → List Sector) → Type 0
 ArePlanned newest gives own live lost e =
     (s : ℕ) → has_slot live s ≡ true → has_slot lost s ≡ false → (v : Sector) × IsPlanned newest (give_of gives s) (own_in own s) v × (e s 8 ≡ v ∷ [])
+
+-- what an update plans for the newest superblock, before the role entries: the change's fields and one event more
+abbrev pub planned_newest : Sb → Sb → Sb
+planned_newest shared former = record (with_shared shared former) { events = min (former.events + 1) (2 ^ 64 - 1) }
+
+-- The role entries were set for exactly these lost slots.
+abbrev pub AreNamed : Members → Change → ℕ → ℕ → Sb → Type 0
+AreNamed members change before lost newest = (table : List ℕ) × (newest.dev_roles ≡ with_roles members change before lost table)
+
+-- the slots that get no recovery offset hold what they held, and those that get one
+abbrev pub AreOthersKept : List Give → (ℕ → ℕ → List Sector) → (ℕ → ℕ → List Sector) → Type 0
+AreOthersKept gives d e = (s : ℕ) → is_recovery (give_of gives s) ≡ false → e s 8 ≡ d s 8
+
+abbrev pub AreRecoveriesKept : List Give → (ℕ → ℕ → List Sector) → (ℕ → ℕ → List Sector) → Type 0
+AreRecoveriesKept gives d e = (s : ℕ) → is_recovery (give_of gives s) ≡ true → e s 8 ≡ d s 8
+
+-- each slot that gets a recovery offset, and wasn't lost, holds it alone
+abbrev pub AreRecoveriesWritten : Sb → List Give → List (Option Sb) → ℕ → ℕ → (ℕ → ℕ → List Sector) → Type 0
+AreRecoveriesWritten newest gives own live lost e =
+    (s : ℕ) → has_slot live s ≡ true → has_slot lost s ≡ false → is_recovery (give_of gives s) ≡ true
+    → (v : Sector) × IsPlanned newest (give_of gives s) (own_in own s) v × (e s 8 ≡ v ∷ [])
+
+-- Only once they are written is another slot's superblock written.
+abbrev pub IsInOrder : Sb → List Give → List (Option Sb) → ℕ → ℕ → (ℕ → ℕ → List Sector) → (ℕ → ℕ → List Sector) → Type 0
+IsInOrder newest gives own live lost d e = AreOthersKept gives d e ⊎ AreRecoveriesWritten newest gives own live lost e
+
+-- a live slot is left
+abbrev pub IsSomeLeft : ℕ → ℕ → Type 0
+IsSomeLeft live lost = (s : ℕ) × (has_slot live s ≡ true) × (has_slot lost s ≡ false)
+
+-- what an update writes in a slot: the newest's shared fields, in catching up, or what the change plans
+abbrev pub IsWrittenBy : Sb → Change → List (Option Sb) → ℕ → Sector → Type 0
+IsWrittenBy former change own s v =
+    IsRecorded former (replicate 32 Same) own s v ⊎ IsRecorded (planned_newest change.shared former) change.gives own s v

@@ -1,4 +1,4 @@
-use Rattle.std.proofs.Common.{◌≡◌, List, take, drop, length, ◌∙◌, ap, arith}
+use Rattle.std.proofs.Common.{◌≡◌, take, drop, ◌∙◌, ap, arith}
 use Rattle.std.proofs.lemmas.List.{append-nil, take_all, length-drop}
 use Rattle.sb1.specs.Superblock.{two_by_two}
 use Rattle.sb1.proofs.codec.sectors_of.Goals as goal
