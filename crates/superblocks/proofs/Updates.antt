@@ -1,37 +1,23 @@
 -- Passes one after the other, as one update.
-<<<<<<< HEAD
-use Rattle.std.proofs.Common.{◌≡◌, ◌≢◌, ◌⊎◌, inl, inr, ⊎_elim, ℕ, ◌+◌, ◌<◌, ◌≤◌, Bool, true, false, not, ◌&&◌, List, Option, [], ◌∷◌, length, take, refl, sym, ◌∙◌, ap, subst, arith}
-=======
 use Rattle.std.proofs.Common.{◌≡◌, ◌≢◌, ◌⊎◌, inl, inr, ⊎_elim, ℕ, zero, suc, ◌+◌, ◌<◌, ◌≤◌, ◌==◌, Bool, true, false, not, ◌&&◌, List, Option, [], ◌∷◌, length, take, append-nil, refl, sym, ◌∙◌, ap, subst, arith}
 use Rattle.std.specs.Int.{bit_at}
->>>>>>> f45c3ff58c3db0c1fef9fc992895c87d89345db7
 use Rattle.std.proofs.lemmas.Bool.{cases_eq, cases_lt}
 use Rattle.std.proofs.lemmas.List.{take_all}
 use Rattle.std.proofs.lemmas.Nat.Bits.{bit_at-lt, same_from_bits}
 use Rattle.md_base.specs.Sectors.{Sector}
 use Rattle.md_base.specs.Shapes.{has_slot}
 use Rattle.bank.specs.declared.bank.Operation.{Operation}
-use Rattle.bank.specs.Given.{NeverFalls}
+use Rattle.bank.specs.Given.{IsFaulted, NeverFalls}
 use Rattle.bank.specs.Tape.{IsIn, Kept, disk, EachMark}
 use Rattle.bank.proofs.Laws.{choices-present, kept_again}
-<<<<<<< HEAD
-use Rattle.bank.proofs.Marks.{each_mark-map, each_mark-then}
-=======
 use Rattle.bank.proofs.Marks.{each_mark-along, each_mark-map, each_mark-then, each_mark-told}
->>>>>>> f45c3ff58c3db0c1fef9fc992895c87d89345db7
 use Rattle.bank.proofs.Causes.{faulted_longer}
 use Rattle.sb1.specs.declared.sb.Sb.{Sb}
 use Rattle.superblocks.specs.declared.change.Give.{Give}
 use Rattle.superblocks.specs.declared.pass.Part.{Part}
-<<<<<<< HEAD
-use Rattle.superblocks.specs.Update.{is_part, is_due, give_of, own_in}
-use Rattle.superblocks.specs.Writing.{IsPlanned, IsBetween, IsWritten, IsStage, IsWriting, AreWritten, plan_of}
-use Rattle.superblocks.specs.Updating.{IsTouched, IsUpdating, IsUpdated, IsUpdate, AreLosses, IsLater, IsRecorded}
-=======
 use Rattle.superblocks.specs.Update.{is_part, is_due, is_recovery, give_of, own_in}
 use Rattle.superblocks.specs.Writing.{IsPlanned, IsBetween, IsWritten, IsStage, IsWriting, AreWritten, AreLost, plan_of}
 use Rattle.superblocks.specs.Updating.{IsTouched, IsUpdating, IsUpdated, IsUpdate, AreLosses, IsLater, IsRecorded, ArePlanned, AreOthersKept, AreRecoveriesKept, AreRecoveriesWritten, IsInOrder}
->>>>>>> f45c3ff58c3db0c1fef9fc992895c87d89345db7
 
 abbrev Disk : Type 0
 Disk = ℕ → ℕ → List Sector
