@@ -1,5 +1,5 @@
 -- Bytes as sectors.
-use Rattle.std.proofs.Common.{◌≡◌, ℕ, zero, suc, ◌+◌, ◌*◌, ◌/◌, ◌<◌, List, [], ◌∷◌, length, take, drop, refl, ap, ◌∙◌, sym, slice_index_or, arith}
+use Rattle.std.proofs.Common.{◌≡◌, ℕ, zero, suc, ◌/◌, List, length, drop, refl, ap}
 use Rattle.md_base.specs.Sectors.{first_sectors, sectors_of}
 
 -- there are as many sectors as were asked for

@@ -105,6 +105,18 @@ pub fn encode(sb: &Sb, sectors: &mut [u8; 1024])
     put_u32(sectors, 216, sum);
 }
 
+/// The two sectors of this superblock, with their checksum put right.
+pub fn sectors_of(sb: &Sb) -> [u8; 1024]
+    requires { IsWritable sb.now }
+    ensures valid { IsTrue (is_valid result) }
+    ensures fields { sb_of result ≡ record sb.now { sb_csum = checksum result } }
+{
+    let mut sectors = [0; 1024];
+    put_roles(&sb.dev_roles[128..], &mut sectors[512..]);
+    encode(sb, &mut sectors);
+    sectors
+}
+
 fn put_fields(sb: &Sb, sectors: &mut [u8; 1024])
     ensures fields { sb_of sectors.new ≡ record sb.now { dev_roles = (sb_of sectors.old).dev_roles } }
     ensures after { KeptFrom 256 sectors.old sectors.new }
