@@ -1,6 +1,6 @@
 //! The one way in which the stored superblocks change.
 
-ghost use Rattle.std.specs.Prelude.{◌≡◌, [], ◌∷◌, List, ◌<◌, ◌≤◌, ◌+◌, ◌-◌, ◌^◌, ℕ, Some, true, false, min, length, replicate};
+ghost use Rattle.std.specs.Prelude.{◌≡◌, [], ◌∷◌, List, ◌<◌, ◌≤◌, ◌+◌, ◌-◌, ◌^◌, ℕ, Some, true, false, min, length};
 ghost use Rattle.bank.specs.Given.{NeverFalls};
 ghost use Rattle.bank.specs.Tape.{disk};
 ghost use Rattle.superblocks.specs.Update.{IsRoleGive, give_of, with_roles, with_shared, is_recovery, own_in};
@@ -8,7 +8,6 @@ ghost use Rattle.superblocks.specs.Writing.{AreMembers, IsPlanned};
 ghost use Rattle.superblocks.specs.Updating.{IsUpdate, AreLosses, IsLater, IsRecorded, ArePlanned, AreNamed, IsInOrder, AreOthersKept, AreRecoveriesKept, planned_newest, IsSomeLeft};
 ghost use Rattle.bank.specs.Tape.{EachMark};
 ghost use Rattle.md_base.specs.Shapes.{has_slot};
-ghost use Rattle.superblocks.specs.declared.change.Give.TheVariants.{Same};
 
 use crate::change::{Change, Give};
 use crate::members::Members;
@@ -18,19 +17,6 @@ use crate::roles::enter_roles;
 use crate::sets::without;
 use bank::Bank;
 use sb1::Sb;
-
-// Brings each live slot whose event count is behind to the newest's.
-fn catch_up<B: Bank>(bank: &mut B, members: &mut Members, live: u32)
-    requires members { AreMembers (B.given bank.old) members.old.own live }
-    ensures update { IsUpdate B.tells live members.old.lost members.new.lost (IsRecorded members.old.newest (replicate 32 Same) members.old.own)
-        (B.given bank.old).start (B.tape bank.old) (B.tape bank.new) }
-    ensures members { members.new ≡ record members.old { lost = members.new.lost } }
-    ensures losses { AreLosses live members.old.lost members.new.lost (B.faults_of bank.old) (B.faults_of bank.new) }
-    ensures counts { NeverFalls (B.faults_of bank.old) (B.faults_of bank.new) }
-    ensures given { B.given bank.new ≡ B.given bank.old }
-{
-    write_slots(bank, members, &[Give::Same; 32], live, Part::Behind);
-}
 
 // The newest superblock with the change's fields and one event more.
 fn planned_newest(shared: &Sb, former: &Sb) -> Sb
