@@ -1,0 +1,4 @@
+pub mod Tables
+pub mod Lacks
+pub mod Losses
+pub mod RowBytes
