@@ -8,7 +8,7 @@ use Rattle.flat_history.specs.declared.events.Event.{Event}
 use Rattle.flat_history.specs.declared.events.Request.{Request}
 use Rattle.flat_history.specs.Flat.{rest_of_call, next_number}
 use Rattle.flat_history.specs.Plain.{Opening, PlainFits, entries_of}
-use Rattle.array.specs.Kept.{IsReplied, IsAnswered}
+use Rattle.plain_array.specs.Kept.{IsReplied, IsAnswered}
 use Rattle.std.proofs.Common.{Result, Ok, Err}
 use Rattle.md_base.specs.declared.answers.Fault.{Fault}
 use Rattle.md_base.specs.declared.answers.Fault.TheVariants.{Refused as IsRefusedWith, NoMemory}
@@ -17,7 +17,7 @@ use Rattle.md_base.specs.Sectors.{Sector, sectors_of}
 use Rattle.md_base.proofs.SectorLaws.{length-sectors_of}
 use Rattle.md_base.proofs.Tabulated.{length-tabulate}
 use Rattle.script.specs.Seeds.{seeded, seed_sector}
-use Rattle.array.proofs.PlainLaws.{one}
+use Rattle.plain_array.proofs.PlainLaws.{one}
 use Rattle.runner.specs.Asked.{script_who, IsAskedAt}
 use Rattle.runner.specs.Replies.{IsReplyAt}
 

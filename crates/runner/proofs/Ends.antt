@@ -11,10 +11,10 @@ use Rattle.flat_history.specs.declared.events.Epoch.{Epoch}
 use Rattle.flat_history.specs.declared.events.Event.TheVariants.{Halted}
 use Rattle.flat_history.specs.Flat.{next_number, last_of}
 use Rattle.flat_history.specs.Plain.{Opening, IsPlainLegal}
-use Rattle.array.specs.Parts.{Parts}
-use Rattle.array.specs.Kept.{opening_of, IsEntered, IsLossOf, AreLossesOf}
-use Rattle.array.proofs.PlainLaws.{one, last-snoc}
-use Rattle.array.proofs.LossLaws.{losses-then, losses-whole}
+use Rattle.plain_array.specs.Parts.{Parts}
+use Rattle.plain_array.specs.Kept.{opening_of, IsEntered, IsLossOf, AreLossesOf}
+use Rattle.plain_array.proofs.PlainLaws.{one, last-snoc}
+use Rattle.plain_array.proofs.LossLaws.{losses-then, losses-whole}
 use Rattle.script.specs.declared.lines.Numbered.{Numbered}
 use Rattle.runner.specs.declared.report.Outside.TheVariants.{Created, Assembled, Refused}
 use Rattle.runner.specs.declared.report.Answered.{Answered}

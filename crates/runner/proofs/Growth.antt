@@ -9,9 +9,9 @@ use Rattle.md_base.specs.declared.answers.Refusal.{Refusal}
 use Rattle.md_base.specs.declared.answers.Refusal.TheVariants.{SlotFault}
 use Rattle.md_base.specs.declared.answers.Fault.{Fault}
 use Rattle.md_base.specs.declared.answers.Fault.TheVariants.{Refused as IsRefusedWith, NoMemory}
-use Rattle.array.specs.Creating.{create_refusal}
-use Rattle.array.specs.Kept.{IsNotMadeFor}
-use Rattle.array.proofs.LossLaws.{faulted-wider}
+use Rattle.plain_array.specs.Creating.{create_refusal}
+use Rattle.plain_array.specs.Kept.{IsNotMadeFor}
+use Rattle.plain_array.proofs.LossLaws.{faulted-wider}
 use Rattle.script.specs.declared.lines.CreateLine.{CreateLine}
 use Rattle.script.specs.declared.lines.Line.TheVariants.{Create, Read, Write}
 use Rattle.flat_history.specs.declared.events.Entry.{Entry}

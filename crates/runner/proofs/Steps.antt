@@ -8,7 +8,7 @@ use Rattle.std.proofs.Math.Seq.{take-suc, take-append-add}
 use Rattle.std.proofs.Math.ListN.{get_or}
 use Rattle.bank.specs.Given.{Given, NeverFalls}
 use Rattle.text_io.specs.Causes.{HasRisen}
-use Rattle.array.proofs.LossLaws.{losses-none, losses-then}
+use Rattle.plain_array.proofs.LossLaws.{losses-none, losses-then}
 use Rattle.script.specs.declared.lines.Numbered.{Numbered}
 use Rattle.runner.specs.declared.report.Answered.{Answered}
 use Rattle.runner.specs.declared.report.LineReply.{LineReply}

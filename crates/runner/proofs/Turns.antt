@@ -11,12 +11,12 @@ use Rattle.md_base.specs.declared.answers.Refusal.{Refusal}
 use Rattle.md_base.specs.declared.answers.Refusal.TheVariants.{Running as IsRunning}
 use Rattle.md_base.specs.declared.answers.Who.{Who}
 use Rattle.md_base.specs.Shapes.{data_disks}
-use Rattle.array.specs.Parts.{Parts}
-use Rattle.array.specs.Kept.{opening_of, IsSameArray, IsMade, AreLossesOf}
-use Rattle.array.proofs.LossLaws.{losses-same}
+use Rattle.plain_array.specs.Parts.{Parts}
+use Rattle.plain_array.specs.Kept.{opening_of, IsSameArray, IsMade, AreLossesOf}
+use Rattle.plain_array.proofs.LossLaws.{losses-same}
 use Rattle.script.specs.declared.lines.CreateLine.{CreateLine}
 use Rattle.script.specs.Script.{is_first_array}
-use Rattle.array.proofs.PlainLaws.{one}
+use Rattle.plain_array.proofs.PlainLaws.{one}
 use Rattle.flat_history.specs.declared.events.Entry.{Entry}
 use Rattle.flat_history.specs.declared.events.Event.{Event}
 use Rattle.flat_history.specs.declared.events.Request.{Request}

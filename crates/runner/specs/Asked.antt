@@ -8,7 +8,7 @@ use Rattle.flat_history.specs.declared.events.Event.{Event}
 use Rattle.flat_history.specs.declared.events.Request.{Request}
 use Rattle.flat_history.specs.Flat.{next_number}
 use Rattle.flat_history.specs.Plain.{Opening}
-use Rattle.array.specs.Kept.{IsReplied}
+use Rattle.plain_array.specs.Kept.{IsReplied}
 use Rattle.script.specs.declared.lines.Line.{Line}
 use Rattle.runner.specs.declared.report.Answered.{Answered}
 use Rattle.runner.specs.declared.report.Answered.TheVariants.{Inside, Outside}

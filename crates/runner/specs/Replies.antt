@@ -4,9 +4,9 @@ use Rattle.md_base.specs.declared.answers.Refusal.{Refusal}
 use Rattle.md_base.specs.declared.answers.Refusal.TheVariants.{Running, NotRunning}
 use Rattle.md_base.specs.declared.answers.Fault.TheVariants.{Refused as IsRefusedWith}
 use Rattle.bank.specs.Given.{Given}
-use Rattle.array.specs.declared.spec.CreateSpec.{CreateSpec}
-use Rattle.array.specs.Creating.{create_refusal}
-use Rattle.array.specs.Kept.{IsNotMadeFor}
+use Rattle.plain_array.specs.declared.spec.CreateSpec.{CreateSpec}
+use Rattle.plain_array.specs.Creating.{create_refusal}
+use Rattle.plain_array.specs.Kept.{IsNotMadeFor}
 use Rattle.script.specs.declared.lines.CreateLine.{CreateLine}
 use Rattle.flat_history.specs.declared.events.Entry.{Entry}
 use Rattle.flat_history.specs.declared.events.Request.{Request}

@@ -6,7 +6,7 @@ use Rattle.flat_history.specs.declared.events.Epoch.{Epoch}
 use Rattle.flat_history.specs.declared.events.Event.TheVariants.{Halted}
 use Rattle.flat_history.specs.Flat.{last_of}
 use Rattle.flat_history.specs.Plain.{IsPlainLegal}
-use Rattle.array.specs.Kept.{IsLossOf}
+use Rattle.plain_array.specs.Kept.{IsLossOf}
 use Rattle.script.specs.Script.{script_of}
 use Rattle.script.specs.declared.lines.Numbered.{Numbered}
 use Rattle.runner.specs.declared.words.Command.{Command}

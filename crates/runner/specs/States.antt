@@ -6,9 +6,9 @@ use Rattle.md_base.specs.Shapes.{data_disks}
 use Rattle.bank.specs.Given.{Given}
 use Rattle.flat_history.specs.declared.events.Entry.{Entry}
 use Rattle.flat_history.specs.Flat.{rest_of_call, next_number}
-use Rattle.array.specs.Parts.{Parts}
-use Rattle.array.specs.Creating.{IsLastSlot}
-use Rattle.array.specs.Kept.{AreLossesOf}
+use Rattle.plain_array.specs.Parts.{Parts}
+use Rattle.plain_array.specs.Creating.{IsLastSlot}
+use Rattle.plain_array.specs.Kept.{AreLossesOf}
 use Rattle.script.specs.declared.lines.Line.{Line}
 use Rattle.runner.specs.declared.report.Answered.{Answered}
 use Rattle.runner.specs.declared.report.Answered.TheVariants.{Inside, Outside}

@@ -4,14 +4,14 @@ ghost use Rattle.std.specs.Prelude.{◌≡◌, ◌≢◌, ◌+◌, ◌*◌, ◌/
 ghost use Rattle.md_base.specs.declared.answers.Fault.TheVariants.{NoMemory as WantsMemory};
 ghost use Rattle.bank.specs.Given.{NeverFalls};
 ghost use Rattle.md_base.specs.Sectors.{IsWhole};
-ghost use Rattle.array.specs.Kept.{opening_of, IsSameArray, AreLossesOf};
+ghost use Rattle.plain_array.specs.Kept.{opening_of, IsSameArray, AreLossesOf};
 ghost use Rattle.script.specs.Seeds.{seeded};
 ghost use Rattle.runner.specs.Asked.{IsAsked, script_who};
 ghost use Rattle.flat_history.specs.declared.events.Request.TheVariants.{Read as AsksRead, Write as AsksWrite};
 
-use array::Array;
 use bank::Bank;
 use md_base::{Fault, NoMemory, Who};
+use plain_array::Array;
 use script::seed_sectors;
 use std::alloc::Global;
 

@@ -3,7 +3,7 @@
 ghost use Rattle.std.specs.Prelude.{◌≡◌, ◌<◌, ◌≤◌, ◌*◌, ℕ, [], ◌∷◌, Some, IsTrue, IsSome};
 ghost use Rattle.md_base.specs.Shapes.{data_disks};
 ghost use Rattle.bank.specs.Given.{NeverFalls};
-ghost use Rattle.array.specs.Kept.{opening_of, IsSameArray, AreLossesOf};
+ghost use Rattle.plain_array.specs.Kept.{opening_of, IsSameArray, AreLossesOf};
 ghost use Rattle.script.specs.Script.{is_within_limits};
 ghost use Rattle.runner.specs.Asked.{IsPerformedLine};
 ghost use Rattle.runner.specs.Histories.{entry_at};
@@ -15,10 +15,10 @@ ghost use Rattle.runner.specs.declared.states.State.TheVariants.{Idle as IsIdle}
 
 use crate::asks::{ask_read, ask_write};
 use crate::report::{Answered, Outside};
-use array::{Array, CreateSpec, create};
 use bank::Bank;
 use flat_history::Entry;
 use md_base::{Fault, NoMemory, Refusal};
+use plain_array::{Array, CreateSpec, create};
 use script::Line;
 use std::alloc::Global;
 

@@ -1,11 +1,14 @@
 -- A superblock as it is read.
-use Rattle.std.proofs.Common.{◌≡◌, ℕ, ◌≤◌, Bool, true, false, cond, ◌&&◌, List, ◌++◌, take, drop, length, refl, sym, ap, ap₂, ◌∙◌, arith, Option, Some, None, IsTrue, IsSome, IfSome, length-drop, take-append-drop, take_all}
+use Rattle.std.proofs.Common.{◌≡◌, ℕ, ◌<◌, ◌≤◌, lit≤, Bool, true, false, cond, ◌&&◌, List, ◌++◌, take, drop, length, refl, sym, ap, ap₂, ◌∙◌, arith, Option, Some, None, IsTrue, IsSome, IfSome, length-drop, take-append-drop, take_all}
 use Rattle.std.specs.Prelude.{◌↔◌}
 use Rattle.std.proofs.lemmas.Bool.{le-leb}
 use Rattle.md_base.specs.Sectors.{Sector}
 use Rattle.sb1.specs.declared.sb.Sb.{Sb}
 use Rattle.sb1.specs.Superblock.{superblock_in, is_valid, sb_of}
+use Rattle.sb1.proofs.SuperblockLaws.{writable-valid}
+use Rattle.bank.specs.Given.{Given}
 use Rattle.bank.specs.Tape.{AreSectors}
+use Rattle.superblocks.specs.Writing.{IsMember}
 
 -- the bytes of two sectors
 two_sectors : (at : ℕ → Sector) (bytes : List ℕ) → length bytes ≡ 1024 → AreSectors at 8 bytes → bytes ≡ at 8 ++ at 9
@@ -30,3 +33,17 @@ decoded sectors at bytes found enough long parts valid fields =
     by_validity found (is_valid bytes) (sb_of bytes) valid fields
     ∙ ap (λ b. cond (is_valid b) (Some (sb_of b)) None) (two_sectors at bytes long parts)
     ∙ ap (λ long_enough. cond (long_enough && is_valid (at 8 ++ at 9)) (Some (sb_of (at 8 ++ at 9))) None) (sym (le-leb 10 sectors enough))
+
+-- what was read can be written again
+pub readable : (given : Given) (slot : ℕ) (bytes : List ℕ) (found : Option Sb) → slot < given.slots → 10 ≤ given.sectors slot
+    → (IsSome found ↔ IsTrue (is_valid bytes)) → IfSome found (λ sb. sb ≡ sb_of bytes)
+    → (sb : Sb) → found ≡ Some sb → IsMember given (Some sb) slot
+readable given slot bytes None known long valid fields sb e = absurd (cc)
+readable given slot bytes (Some x) known long valid fields sb e =
+    let same : x ≡ sb = cc in
+    record {
+      place = record { known = known; some = lit≤ tt; whole = refl; within = omega (arith, long) };
+      sb = sb;
+      own = refl;
+      writable = writable-valid bytes sb (valid.0 refl) (sym same ∙ fields);
+    }

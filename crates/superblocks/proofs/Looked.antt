@@ -1,5 +1,5 @@
 -- The slots are read one after another.
-use Rattle.std.proofs.Common.{◌≡◌, ◌≢◌, ◌<◌, ◌≤◌, inl, inr, ℕ, ◌+◌, ◌-◌, ◌*◌, ◌^◌, ◌%◌, Bool, true, false, cond, nat_eq, nat_lt, refl, sym, ap, ap₂, ◌∙◌, subst, arith, bit_or, List, [], length, take, drop, set, get_or, Option, None, IsTrue, IsFalse, replicate, length-set, get_or-set_same, get_or-set_other}
+use Rattle.std.proofs.Common.{◌≡◌, ◌≢◌, ◌<◌, ◌≤◌, inl, inr, ℕ, ◌+◌, ◌-◌, ◌*◌, ◌^◌, ◌%◌, Bool, true, false, cond, nat_eq, nat_lt, refl, sym, ap, ap₂, ◌∙◌, subst, arith, bit_or, List, [], length, take, drop, set, get_or, Option, Some, None, IsTrue, IsFalse, replicate, length-set, get_or-set_same, get_or-set_other}
 use Rattle.std.specs.Prelude.{not, ◌&&◌}
 use Rattle.std.proofs.lemmas.List.{ext_get_or, get_or-take, get_or-drop, get_or-replicate, get_or_past, length-take-le, length-drop, length-replicate}
 use Rattle.std.proofs.lemmas.Bool.{cases_eq, cases_lt}
@@ -13,6 +13,7 @@ use Rattle.sb1.specs.Superblock.{superblock_in}
 use Rattle.bank.specs.Given.{Given, IsFaulted}
 use Rattle.bank.specs.Tape.{Contents}
 use Rattle.superblocks.specs.Reading.{seen_superblock, is_backup}
+use Rattle.superblocks.specs.Writing.{IsMember, AreWritable}
 use Rattle.superblocks.specs.Election.{members_scope, seen_superblocks, is_member, OnlyMembersFail, AreLost}
 use Rattle.superblocks.proofs.LostSlots.{has-all_but, has-one_more, has-other, fits-one_more}
 
@@ -184,3 +185,22 @@ pub read-as : {tells : Type 0} {given : Given} {backup : Option ℕ} {c : Conten
     → IsRead tells given backup c n seen' lost' before after
 read-as {tells = tells} {given = given} {backup = backup} {c = c} {n = n} {seen = seen} {seen' = seen'} {lost = lost} {before = before} {after = after} e f read =
     subst (λ k. IsRead tells given backup c n seen' k before after) (sym f) (subst (λ s. IsRead tells given backup c n s lost before after) (sym e) read)
+
+-- ---- what was found can be written again
+
+pub writable-none : (given : Given) → AreWritable given (replicate 32 None)
+writable-none given s sb e = elim (cases_lt s 32) [
+  | inl below ↦ absurd (contrary (sym (get_or-replicate 32 s None None below) ∙ e))
+  | inr past ↦ absurd (contrary (sym (get_or_past (replicate 32 None) s None past) ∙ e))
+]
+  where
+    contrary : ◌≡◌ {A = Option Sb} None (Some sb) → ⊥
+    contrary e = absurd (cc)
+
+pub writable-found : (given : Given) (seen : List (Option Sb)) (n : ℕ) (found : Option Sb) → n < length seen → AreWritable given seen
+    → ((sb : Sb) → found ≡ Some sb → IsMember given (Some sb) n) → AreWritable given (set seen n found)
+writable-found given seen n found within was is s sb e = elim (cases_eq s n) [
+  | inl same ↦ subst (λ k. IsMember given (Some sb) k) (sym same)
+      (is sb (sym (get_or-set_same seen n found None within) ∙ subst (λ k. get_or (set seen n found) k None ≡ Some sb) same e))
+  | inr apart ↦ was s sb (sym (get_or-set_other seen n s found None apart) ∙ e)
+]

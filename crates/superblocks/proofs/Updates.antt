@@ -7,16 +7,16 @@ use Rattle.std.proofs.lemmas.Nat.Bits.{bit_at-lt, same_from_bits}
 use Rattle.md_base.specs.Sectors.{Sector}
 use Rattle.md_base.specs.Shapes.{has_slot}
 use Rattle.bank.specs.declared.bank.Operation.{Operation}
-use Rattle.bank.specs.Given.{IsFaulted, NeverFalls}
+use Rattle.bank.specs.Given.{NeverFalls}
 use Rattle.bank.specs.Tape.{IsIn, Kept, disk, EachMark}
 use Rattle.bank.proofs.Laws.{choices-present, kept_again}
-use Rattle.bank.proofs.Marks.{each_mark-along, each_mark-map, each_mark-then, each_mark-told}
+use Rattle.bank.proofs.Marks.{each_mark-along, each_mark-map, each_mark-then}
 use Rattle.bank.proofs.Causes.{faulted_longer}
 use Rattle.sb1.specs.declared.sb.Sb.{Sb}
 use Rattle.superblocks.specs.declared.change.Give.{Give}
 use Rattle.superblocks.specs.declared.pass.Part.{Part}
 use Rattle.superblocks.specs.Update.{is_part, is_due, is_recovery, give_of, own_in}
-use Rattle.superblocks.specs.Writing.{IsPlanned, IsBetween, IsWritten, IsStage, IsWriting, AreWritten, AreLost, plan_of}
+use Rattle.superblocks.specs.Writing.{IsPlanned, IsBetween, IsWritten, IsStage, IsWriting, AreWritten, plan_of}
 use Rattle.superblocks.specs.Updating.{IsTouched, IsUpdating, IsUpdated, IsUpdate, AreLosses, IsLater, IsRecorded, ArePlanned, AreOthersKept, AreRecoveriesKept, AreRecoveriesWritten, IsInOrder}
 
 abbrev Disk : Type 0

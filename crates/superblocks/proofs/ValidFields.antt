@@ -1,5 +1,5 @@
 -- What holds where no field is bad.
-use Rattle.std.proofs.Common.{◌≡◌, ◌≤◌, ◌+◌, ◌*◌, ℕ, Bool, true, false, cond, leb, ◌&&◌, nat_eq, refl, ap, ◌∙◌, arith, List, [], ◌∷◌, Option, Some, None, unwrap_or, option_map, max}
+use Rattle.std.proofs.Common.{◌≡◌, ◌≤◌, ◌<◌, ◌+◌, ◌*◌, ◌^◌, nat_lt, ℕ, Bool, true, false, cond, leb, ◌&&◌, nat_eq, refl, ap, ◌∙◌, arith, List, [], ◌∷◌, Option, Some, None, unwrap_or, option_map, max}
 use Rattle.std.specs.Prelude.{not, find, pos, ◌-ℤ◌}
 use Rattle.std.specs.Option.{option_or}
 use Rattle.std.proofs.lemmas.Bool.{leb-true}
@@ -130,3 +130,14 @@ few-roles sb valid =
   where
     larger : (a b : ℕ) → a ≤ 16 → b ≤ 16 → max a b ≤ 16
     larger a b h k = omega arith
+
+is_less : (a b : ℕ) → not (nat_lt a b) ≡ false → a < b
+is_less a b h = grind (arith, nat_tests)
+
+-- the event count is below its limit
+pub few-events : (sb : Sb) (slots : List (Sb × ℕ)) → bad_field sb slots ≡ None → sb.events < 2 ^ 62
+unfolding AllFalse
+few-events sb slots e =
+    let h : AllFalse (judged_fields sb slots) = all_false (judged_fields sb slots)
+    (found_none (find (λ f. f.1) (judged_fields sb slots)) (option_map (λ index. BadField (256 + 2 * index)) (least_below sb.max_dev (is_bad_entry sb))) e) in
+    is_less sb.events (2 ^ 62) h.1.1.1.1.1.1.1.1.1.1.1.0

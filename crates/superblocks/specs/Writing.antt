@@ -1,5 +1,5 @@
 -- What a stop may leave while superblocks are written to sector 8 of some slots, one slot after the other.
-use Rattle.std.specs.Prelude.{◌≡◌, ◌≢◌, ◌⊎◌, ℕ, ◌<◌, Bool, true, false, List, [], ◌∷◌, length, take, Option, Some, None}
+use Rattle.std.specs.Prelude.{◌≡◌, ◌≢◌, ◌⊎◌, ℕ, ◌<◌, Bool, true, false, List, [], ◌∷◌, length, take, slice_index_or, Option, Some, None}
 use Rattle.md_base.specs.Sectors.{Sector}
 use Rattle.md_base.specs.Shapes.{has_slot}
 use Rattle.sb1.specs.declared.sb.Sb.{Sb}
@@ -19,10 +19,15 @@ pub record IsMember (given : Given) (held : Option Sb) (slot : ℕ) : Type 0 whe
   pub own : held ≡ Some sb
   pub writable : IsWritable sb
 
+-- each of these superblocks can be written again in its slot
+abbrev pub AreWritable : Given → List (Option Sb) → Type 0
+AreWritable given own = (slot : ℕ) (sb : Sb) → own_in own slot ≡ Some sb → IsMember given (Some sb) slot
+
 -- The first of two sectors that are a valid superblock with these fields, but for the checksum, which is theirs.
 pub record IsFirstSector (sb : Sb) (v : Sector) : Type 0 where
   pub bytes : List ℕ
   pub long : length bytes ≡ 1024
+  pub small : (i : ℕ) → slice_index_or bytes i 0 < 256
   pub first : v ≡ take 512 bytes
   pub valid : is_valid bytes ≡ true
   pub fields : sb_of bytes ≡ record sb { sb_csum = checksum bytes }

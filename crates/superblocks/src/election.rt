@@ -49,8 +49,9 @@ pub fn elect<B: Bank>(
     elect_seen(alloc, seen, lost, uuid, &lengths[..slots])
 }
 
-// The same, of the superblocks that were read. Each slot has a length in sectors.
-fn elect_seen(
+/// The same, of superblocks that were read: what they say of the array with this uuid, or of that of the first one. These
+/// slots were lost. Each slot of the bank has a length in sectors.
+pub fn elect_seen(
     alloc: Global,
     seen: SbList,
     lost: u32,

@@ -1,6 +1,6 @@
 //! One pass over the slots, which writes the superblocks of some.
 
-ghost use Rattle.std.specs.Prelude.{◌≡◌, ◌≢◌, ◌<◌, ◌++◌, [], ◌∷◌, List, ℕ, true, false, length, Some};
+ghost use Rattle.std.specs.Prelude.{◌≡◌, ◌≢◌, ◌<◌, ◌++◌, [], ◌∷◌, List, ℕ, true, false, length, take, slice_index_or, Some};
 ghost use Rattle.bank.specs.declared.bank.Operation.{Operation};
 ghost use Rattle.bank.specs.declared.bank.Operation.TheVariants.{Write, Flush};
 ghost use Rattle.bank.specs.Given.{IsPlace, HasCause, IsFaulted, NeverFalls};
@@ -71,6 +71,15 @@ fn put_sector<B: Bank>(bank: &mut B, slot: u32, sector: &[u8]) -> Result<(), Ban
     bank.flush(slot)
 }
 
+// The first of two sectors.
+fn first_sector(sectors: &[u8]) -> &[u8]
+    requires { length sectors.now ≡ 1024 }
+    ensures first { result.now ≡ take 512 sectors.now }
+    ensures bytes { (i : ℕ) → slice_index_or sectors.now i 0 < 256 }
+{
+    &sectors[..512]
+}
+
 // Writes a slot's planned superblock.
 fn put_planned<B: Bank>(
     bank: &mut B,
@@ -87,7 +96,7 @@ fn put_planned<B: Bank>(
     ensures cause { HasCause slot (B.faults_of bank.old) (B.faults_of bank.new) result }
 {
     let sectors = sectors_of(&planned(newest, give, own));
-    put_sector(bank, slot, &sectors[..512])
+    put_sector(bank, slot, first_sector(&sectors))
 }
 
 // One slot's turn; whether the slot failed.

@@ -39,7 +39,7 @@ pub fn role_of(roles: &[Role], slot: u32) -> Option<u32>
 }
 
 // The slot is the one that is made a spare.
-fn is_added(added: &Option<(u32, Sb)>, slot: u32) -> bool
+pub fn is_added(added: &Option<(u32, Sb)>, slot: u32) -> bool
     ensures { result ≡ is_added added.now slot }
 {
     match added {
@@ -48,7 +48,7 @@ fn is_added(added: &Option<(u32, Sb)>, slot: u32) -> bool
     }
 }
 
-fn planned_role(roles: &[Role], give: Give, slot: u32) -> Option<u32>
+pub fn planned_role(roles: &[Role], give: Give, slot: u32) -> Option<u32>
     requires roles { length roles.now ≤ 16 }
     requires give { IsRoleGive give }
     ensures role { result ≡ planned_role roles.now give slot }
@@ -61,7 +61,7 @@ fn planned_role(roles: &[Role], give: Give, slot: u32) -> Option<u32>
     }
 }
 
-fn is_planned_spare(spares: &SlotList, added: &Option<(u32, Sb)>, give: Give, slot: u32) -> bool
+pub fn is_planned_spare(spares: &SlotList, added: &Option<(u32, Sb)>, give: Give, slot: u32) -> bool
     ensures { result ≡ is_planned_spare spares.now added.now give slot }
 {
     match give {

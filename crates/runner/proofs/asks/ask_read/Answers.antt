@@ -2,7 +2,7 @@ use Rattle.std.proofs.Common.{◌≡◌, ◌*◌, ◌/◌, ℕ, length, ◌∙�
 use Rattle.md_base.specs.Sectors.{sectors_of}
 use Rattle.flat_history.specs.declared.events.Event.TheVariants.{Read}
 use Rattle.flat_history.specs.declared.events.Request.TheVariants.{Read as AsksRead}
-use Rattle.array.specs.Kept.{opening_of}
+use Rattle.plain_array.specs.Kept.{opening_of}
 use Rattle.runner.proofs.AskLaws.{grew, asked_at, answered_reply, answered_none}
 use Rattle.runner.proofs.asks.ask_read.Goals as goal
 

@@ -2,7 +2,7 @@ use Rattle.std.proofs.Common.{List, ◌∙◌, ap, arith}
 use Rattle.md_base.specs.Sectors.{Sector, sectors_of}
 use Rattle.flat_history.specs.declared.events.Event.TheVariants.{Wrote}
 use Rattle.flat_history.specs.declared.events.Request.TheVariants.{Write as AsksWrite}
-use Rattle.array.specs.Kept.{opening_of}
+use Rattle.plain_array.specs.Kept.{opening_of}
 use Rattle.script.specs.Seeds.{seeded}
 use Rattle.runner.proofs.AskLaws.{grew, asked_at, answered_reply, answered_none, seeded_count}
 use Rattle.runner.proofs.asks.ask_write.Goals as goal

@@ -2,7 +2,7 @@ use Rattle.std.proofs.Common.{rules, sym, subst, ◌≡◌, List, [], ◌∷◌}
 use Rattle.md_base.specs.declared.answers.Who.{Who}
 use Rattle.flat_history.specs.declared.events.Epoch.{Epoch}
 use Rattle.flat_history.specs.declared.events.Event.TheVariants.{Halted}
-use Rattle.array.specs.Kept.{IsEntered}
+use Rattle.plain_array.specs.Kept.{IsEntered}
 use Rattle.runner.specs.States.{RunsOwn}
 use Rattle.runner.specs.Runs.{IsEnded}
 use Rattle.runner.specs.declared.states.State.{State}

@@ -1,11 +1,12 @@
-use Rattle.std.proofs.Common.{◌<◌, List, Option, None, refl, ap₂, ◌∙◌, cond, arith, length}
+use Rattle.std.proofs.Common.{◌<◌, List, Option, Some, None, refl, sym, subst, ap₂, ◌∙◌, cond, arith, length}
 use Rattle.sb1.specs.declared.sb.Sb.{Sb}
 use Rattle.sb1.specs.Superblock.{superblock_in}
 use Rattle.bank.specs.declared.bank.Operation.{Operation}
 use Rattle.bank.specs.Given.{Given}
 use Rattle.bank.specs.Tape.{contents}
 use Rattle.superblocks.specs.Reading.{is_backup}
-use Rattle.superblocks.proofs.Looked.{read-none, read-found, read-lost, read-seen, read-rest, read-as}
+use Rattle.superblocks.specs.Writing.{IsMember, AreWritable}
+use Rattle.superblocks.proofs.Looked.{writable-none, writable-found, read-none, read-found, read-lost, read-seen, read-rest, read-as}
 use Rattle.superblocks.proofs.election.reads.read_superblocks.Goals as goal
 use Rattle.superblocks.proofs.election.reads.read_superblocks.Goals.{in-Ok, in-Err}
 
@@ -13,6 +14,7 @@ pub loop-slot-init : goal.loop-slot-init
 loop-slot-init g c = record {
   same_tape = λ told. refl;
   same_given = refl;
+  writable = subst (λ seen. AreWritable (g.B.Bank.given c.args.bank.now) seen) (sym c.in_ok-seen.ensures) (writable-none (g.B.Bank.given c.args.bank.now));
   read = read-as c.in_ok-seen.ensures refl
       (read-none g.B.Bank.tells (g.B.Bank.given c.args.bank.now) c.args.backup _ (g.B.Bank.faults_of c.args.bank.now));
 }
@@ -29,6 +31,12 @@ loop-slot-preserved g c =
     record {
       same_tape = λ told. c.read_member.ensures.tape told ∙ was.same_tape told;
       same_given = c.read_member.ensures.given ∙ was.same_given;
+      writable = elim c.match-read_member.branch [
+        | in-Ok w ↦ subst (λ seen. AreWritable given seen) (sym (w.seen-is ∙ w.set.ensures.own))
+            (writable-found given c.loop-slot.seen c.loop-slot.slot w.in-Ok.superblock (omega (arith, was.read.count)) was.writable
+            (λ sb e. subst (λ (b : Given). IsMember b (Some sb) c.loop-slot.slot) was.same_given (w.in-Ok.ensures.writable sb e)))
+        | in-Err w ↦ subst (λ seen. AreWritable given seen) (sym w.seen-is) was.writable
+      ];
       read = elim c.match-read_member.branch [
         | in-Ok w ↦ read-as (w.seen-is ∙ w.set.ensures.own) w.lost-is
             (read-found _ _ _ _ c.loop-slot.slot c.loop-slot.seen c.loop-slot.lost _ _ _ w.in-Ok.superblock (omega arith) (omega arith) known was.read

@@ -1,0 +1,15 @@
+pub mod RowBytes
+pub mod DeviceLaws
+pub mod Answered
+pub mod Elements
+pub mod RowParity
+pub mod PlainLaws
+pub mod NowLaws
+pub mod HoldLaws
+pub mod RecordLaws
+pub mod ZeroLaws
+pub mod ReplyLaws
+pub mod ReadyLaws
+pub mod Written
+pub mod LossLaws
+pub mod CreateLaws

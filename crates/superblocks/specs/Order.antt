@@ -1,0 +1,26 @@
+-- The order of the writes of an update: a recovery offset is on its disk before another slot names the role.
+use Rattle.std.specs.Prelude.{◌≡◌, ◌⊎◌, ℕ, true, false, List, replicate, Option}
+use Rattle.md_base.specs.Sectors.{Sector}
+use Rattle.md_base.specs.Shapes.{has_slot}
+use Rattle.sb1.specs.declared.sb.Sb.{Sb}
+use Rattle.bank.specs.Tape.{IsIn}
+use Rattle.superblocks.specs.declared.change.Give.{Give}
+use Rattle.superblocks.specs.declared.change.Give.TheVariants.{Same}
+use Rattle.superblocks.specs.declared.change.Change.{Change}
+use Rattle.superblocks.specs.Update.{give_of, is_recovery}
+use Rattle.superblocks.specs.Updating.{IsRecorded, planned_newest}
+
+-- A slot that gets no recovery offset has none of the change yet: former values alone, or those of catching up.
+abbrev pub AreOthersUnplanned : Sb → List Give → List (Option Sb) → (ℕ → ℕ → List Sector) → (ℕ → ℕ → List Sector) → Type 0
+AreOthersUnplanned former gives own d e =
+    (s : ℕ) (v : Sector) → is_recovery (give_of gives s) ≡ false → IsIn (e s 8) v → IsIn (d s 8) v ⊎ IsRecorded former (replicate 32 Same) own s v
+
+-- a live slot that gets a recovery offset, and isn't lost, has it in each of its values
+abbrev pub AreRecoveriesRecorded : Sb → List Give → List (Option Sb) → ℕ → ℕ → (ℕ → ℕ → List Sector) → Type 0
+AreRecoveriesRecorded newest gives own live lost e =
+    (s : ℕ) (v : Sector) → has_slot live s ≡ true → has_slot lost s ≡ false → is_recovery (give_of gives s) ≡ true → IsIn (e s 8) v → IsRecorded newest gives own s v
+
+-- Only once they have it is the change written to another slot.
+abbrev pub IsRecoveryFirst : Sb → Change → List (Option Sb) → ℕ → ℕ → (ℕ → ℕ → List Sector) → (ℕ → ℕ → List Sector) → Type 0
+IsRecoveryFirst former change own live lost d e =
+    AreOthersUnplanned former change.gives own d e ⊎ AreRecoveriesRecorded (planned_newest change.shared former) change.gives own live lost e
