@@ -1,20 +1,19 @@
 -- One or two roles lack, and the row without just these.
-use Rattle.std.proofs.Common.{◌≡◌, ◌≢◌, ◌⊎◌, inl, inr, ℕ, ◌+◌, ◌<◌, ◌≤◌, Bool, true, false, not, ◌||◌, ◌==◌, nat_lt, if◌then◌else◌, Option, Some, None, refl, sym, ◌∙◌, ap, ap₂, arith}
+use Rattle.std.proofs.Common.{◌≡◌, ◌≢◌, ◌⊎◌, inl, inr, ℕ, ◌+◌, ◌<◌, ◌≤◌, Bool, true, false, not, ◌||◌, ◌==◌, nat_lt, if◌then◌else◌, Some, None, refl, sym, ◌∙◌, ap, arith}
 use Rattle.std.proofs.lemmas.Bool.{cases_lt, cases_eq}
 use Rattle.std.proofs.lemmas.Bool.Decides.{nat_tests}
 use Rattle.md_base.specs.declared.places.Shape.{Shape}
 use Rattle.md_base.specs.declared.status.Role.{Role}
 use Rattle.md_base.specs.declared.status.Role.TheVariants.{Whole, Recovering, Missing}
-use Rattle.md_base.specs.Search.{tabulate, count_below}
 use Rattle.md_base.specs.Sectors.{Sector}
-use Rattle.md_base.specs.Shapes.{tolerance, tolerance_of}
+use Rattle.md_base.specs.Shapes.{tolerance_of}
 use Rattle.parity.proofs.Columns.{tabulate-same, bool_cases}
 use Rattle.md_base.specs.declared.places.RowRoles.{RowRoles}
 use Rattle.layout.specs.Layout.{row_roles}
 use Rattle.parity.specs.Parity.{Row, fill}
 use Rattle.parity.specs.Rows.{row_without}
 use Rattle.superblocks.specs.Reading.{Reading, role_state, rows_held, is_whole}
-use Rattle.row_io.specs.Rows.{is_held, is_missing, missing_count, IsTolerated}
+use Rattle.row_io.specs.Rows.{is_held, is_missing, IsTolerated}
 use Rattle.row_io.proofs.Tables.{count_below-above}
 
 pub equal : (m n : ℕ) → m ≡ n → (m == n) ≡ true
@@ -29,7 +28,7 @@ or_false a b none none' = grind (arith, none, none')
 or_left : (a b : Bool) → a ≡ true → (a || b) ≡ true
 or_left a b met = grind (arith, met)
 
-or_right : (a b : Bool) → b ≡ true → (a || b) ≡ true
+pub or_right : (a b : Bool) → b ≡ true → (a || b) ≡ true
 or_right a b met = grind (arith, met)
 
 -- the same roles lack

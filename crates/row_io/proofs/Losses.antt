@@ -1,11 +1,11 @@
 -- What is lost in a call, and what is held afterwards.
-use Rattle.std.proofs.Common.{◌≡◌, ◌≢◌, ◌⊎◌, inl, inr, ℕ, ◌+◌, ◌<◌, ◌≤◌, Bool, true, false, not, nat_lt, if◌then◌else◌, List, get_or, map, Option, Some, None, unwrap_or, option_map, refl, sym, ◌∙◌, ap, subst, arith}
-use Rattle.std.specs.Option.{option_map_or}
+use Rattle.std.proofs.Common.{◌≡◌, ◌⊎◌, inl, inr, ℕ, ◌+◌, ◌<◌, Bool, true, false, not, nat_lt, if◌then◌else◌, List, length, Option, Some, None, unwrap_or, option_map, refl, sym, ◌∙◌, ap, subst, arith}
+use Rattle.std.proofs.lemmas.Bool.{cases_lt}
+use Rattle.std.proofs.lemmas.List.{get_or_past}
 use Rattle.std.proofs.lemmas.Bool.Decides.{nat_tests}
 use Rattle.md_base.specs.declared.places.Shape.{Shape}
 use Rattle.md_base.specs.declared.status.Role.{Role}
 use Rattle.md_base.specs.declared.status.Role.TheVariants.{Whole, Recovering, Missing}
-use Rattle.md_base.specs.Search.{tabulate}
 use Rattle.md_base.specs.Sectors.{Sector}
 use Rattle.md_base.specs.Shapes.{has_slot}
 use Rattle.bank.specs.Given.{Given, IsFaulted, NeverFalls}
@@ -21,7 +21,7 @@ use Rattle.superblocks.specs.Reading.{Reading, role_state, rows_held, holder, da
 use Rattle.row_io.specs.Rows.{reading_of, is_held, held_slot, held_sector, held_row, standing_sector, role_without, members_without, present, HasSector, HaveFailed, IsLoss}
 use Rattle.row_io.proofs.Tables.{get_or-map}
 
-some_slot : (b : Bool) (x : Option ℕ) (slot : ℕ) → (if b then x else None) ≡ Some slot → x ≡ Some slot
+pub some_slot : (b : Bool) (x : Option ℕ) (slot : ℕ) → (if b then x else None) ≡ Some slot → x ≡ Some slot
 some_slot true x slot is = is
 some_slot false x slot is = absurd (cc)
 
@@ -52,6 +52,13 @@ sector_moved given given' old new r row lost role bytes same is has slot held he
 -- the holder of a role that is held
 pub holder-of : (r : Reading) (role row slot : ℕ) → held_slot r role row ≡ Some slot → holder (role_state r role) ≡ Some slot
 holder-of r role row slot is = some_slot (is_held r role row) (holder (role_state r role)) slot is
+
+-- a role that has a holder is one of those that there are
+pub holder-within : (r : Reading) (role slot : ℕ) → holder (role_state r role) ≡ Some slot → role < length r.roles
+holder-within r role slot is = elim (cases_lt role (length r.roles)) [
+  | inl below ↦ below
+  | inr past ↦ absurd (let none : holder (role_state r role) ≡ None = ap holder (get_or_past r.roles role Missing past) in cc)
+]
 
 -- ---- the states afterwards
 
@@ -109,7 +116,7 @@ some_holder r Missing row there = absurd (none row there)
     none : (row : ℕ) → nat_lt row 0 ≡ true → ⊥
     none row there = grind (arith, nat_tests, there)
 
-chosen : (b : Bool) (h : Option ℕ) (slot : ℕ) → b ≡ true → h ≡ Some slot → (if b then h else None) ≡ Some slot
+pub chosen : (b : Bool) (h : Option ℕ) (slot : ℕ) → b ≡ true → h ≡ Some slot → (if b then h else None) ≡ Some slot
 chosen true h slot met is = is
 chosen false h slot met is = absurd (cc)
 
@@ -126,21 +133,21 @@ in_row : (b : Bool) (h : Option ℕ) (f : ℕ → Sector) (x : Sector) → (b �
 in_row true h f x has = let here = has refl in ap Some here.2 ∙ ap (λ (o : Option ℕ). option_map f o) (sym here.1)
 in_row false h f x has = refl
 
-module _ (c : Contents) (r : Reading) (shape : Shape) (row : ℕ) (old new : List ℕ)
-    (has : (role slot : ℕ) → role < shape.disks → held_slot r role row ≡ Some slot → sector_of old role ≡ c slot (data_offset_of r slot + row)) where
-  there : (role : ℕ) → role < shape.disks → is_held r role row ≡ true → (slot : ℕ) × (holder (role_state r role) ≡ Some slot) × (sector_of old role ≡ c slot (data_offset_of r slot + row))
+module _ (c : Contents) (r : Reading) (shape : Shape) (row : ℕ) (old new : ℕ → Sector)
+    (has : (role slot : ℕ) → role < shape.disks → held_slot r role row ≡ Some slot → old role ≡ c slot (data_offset_of r slot + row)) where
+  there : (role : ℕ) → role < shape.disks → is_held r role row ≡ true → (slot : ℕ) × (holder (role_state r role) ≡ Some slot) × (old role ≡ c slot (data_offset_of r slot + row))
   there role lt held =
       let some = some_holder r (role_state r role) row held in
       (some.0, some.1, has role some.0 lt (chosen (is_held r role row) (holder (role_state r role)) some.0 held some.1))
 
-  row_is : row_without (λ role. not (is_held r role row)) shape.disks (sector_of old) ≡ held_row c r shape row
-  row_is = tabulate-same shape.disks (λ role. if not (is_held r role row) then None else Some (sector_of old role)) (λ role. held_sector c r role row)
-      (λ role lt. in_row (is_held r role row) (holder (role_state r role)) (λ slot. c slot (data_offset_of r slot + row)) (sector_of old role) (there role lt))
+  pub row_is : row_without (λ role. not (is_held r role row)) shape.disks old ≡ held_row c r shape row
+  row_is = tabulate-same shape.disks (λ role. if not (is_held r role row) then None else Some (old role)) (λ role. held_sector c r role row)
+      (λ role lt. in_row (is_held r role row) (holder (role_state r role)) (λ slot. c slot (data_offset_of r slot + row)) (old role) (there role lt))
 
-  pub all_stand : ((role : ℕ) → role < shape.disks → is_held r role row ≡ true → sector_of new role ≡ sector_of old role)
+  pub all_stand : ((role : ℕ) → role < shape.disks → is_held r role row ≡ true → new role ≡ old role)
       → ((role : ℕ) → role < shape.disks → is_held r role row ≡ false
-      → sector_of new role ≡ fill (row_roles shape row) (row_without (λ other. not (is_held r other row)) shape.disks (sector_of old)) role)
-      → (role : ℕ) → role < shape.disks → sector_of new role ≡ standing_sector c r shape row role
+      → new role ≡ fill (row_roles shape row) (row_without (λ other. not (is_held r other row)) shape.disks old) role)
+      → (role : ℕ) → role < shape.disks → new role ≡ standing_sector c r shape row role
   all_stand kept lacking role lt = elim (bool_cases (is_held r role row)) [
     | inl held ↦
         let here = there role lt held in
@@ -158,7 +165,7 @@ pub row_read : (members m : Members) (lost : ℕ) → m ≡ members_without lost
     → ((role : ℕ) → role < shape.disks → is_held (reading_of m) role row ≡ false
     → sector_of new role ≡ fill (row_roles shape row) (row_without (λ other. not (is_held (reading_of m) other row)) shape.disks (sector_of old)) role)
     → (role : ℕ) → role < shape.disks → sector_of new role ≡ standing_sector c (reading_of m) shape row role
-row_read members m lost is_without c shape row old new has kept lacking = all_stand c (reading_of m) shape row old new (subst (λ (m' : Members). (role slot : ℕ) → role < shape.disks → held_slot (reading_of m') role row ≡ Some slot → sector_of old role ≡ c slot (data_offset_of (reading_of m') slot + row)) (sym is_without) own) kept lacking
+row_read members m lost is_without c shape row old new has kept lacking = all_stand c (reading_of m) shape row (sector_of old) (sector_of new) (subst (λ (m' : Members). (role slot : ℕ) → role < shape.disks → held_slot (reading_of m') role row ≡ Some slot → sector_of old role ≡ c slot (data_offset_of (reading_of m') slot + row)) (sym is_without) own) kept lacking
   where
     own : (role slot : ℕ) → role < shape.disks → held_slot (reading_of (members_without lost members)) role row ≡ Some slot
         → sector_of old role ≡ c slot (data_offset_of (reading_of (members_without lost members)) slot + row)

@@ -3,8 +3,17 @@
 
 mod fill;
 mod held;
+pub mod laws;
 mod lose;
+mod new_row;
 mod read;
 mod sets;
+mod write;
 
+pub use held::data_offset;
+pub use lose::lose_slot;
 pub use read::read_row;
+pub use write::write_row;
+
+#[cfg(test)]
+mod tests;

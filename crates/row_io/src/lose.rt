@@ -1,18 +1,19 @@
 //! Slots that failed hold no role any longer.
 
-ghost use Rattle.std.specs.Prelude.{◌≡◌, ◌^◌, ◌<◌, ◌≤◌, ℕ, Some, length, map, slice_index_or};
+ghost use Rattle.std.specs.Prelude.{◌≡◌, ◌==◌, ◌^◌, ◌<◌, ◌≤◌, ℕ, Some, length, map, slice_index_or};
 ghost use Rattle.md_base.specs.declared.status.Role.TheVariants.{Missing};
 ghost use Rattle.md_base.specs.Search.{count_below};
+ghost use Rattle.md_base.specs.Shapes.{has_slot};
 ghost use Rattle.superblocks.specs.Reading.{holder, role_state};
 ghost use Rattle.row_io.specs.Rows.{reading_of, is_missing, role_without, members_without};
 
 use crate::held::is_missing;
-use crate::sets::contains;
+use crate::sets::{contains, with};
 use md_base::{Role, RoleList};
 use superblocks::Members;
 
-// The slot that holds a role's rows, or the first of them.
-fn holder(state: Role) -> Option<u32>
+/// The slot that holds a role's rows, or the first of them.
+pub fn holder(state: Role) -> Option<u32>
     ensures { result ≡ holder state }
 {
     match state {
@@ -56,6 +57,19 @@ pub fn lose(members: &mut Members, lost: u32)
 {
     lose_roles(&mut members.roles, lost);
     members.lost |= lost;
+}
+
+/// The slot is lost, and so is its role. The answer is the set of this slot alone.
+pub fn lose_slot(members: &mut Members, slot: u32) -> u32
+    requires slot { slot < 32 }
+    requires few { length members.old.roles < 2 ^ 32 }
+    requires small { (role slot : ℕ) → holder (role_state (reading_of members.old) role) ≡ Some slot → slot < 32 }
+    ensures members { members.new ≡ members_without result members.old }
+    ensures alone { (s : ℕ) → has_slot result s ≡ (slot == s) }
+{
+    let lost = with(0, slot);
+    lose(members, lost);
+    lost
 }
 
 /// How many of the first roles are missing.

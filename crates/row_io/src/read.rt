@@ -14,8 +14,8 @@ use bank::{Bank, BankFault};
 use md_base::Shape;
 use superblocks::Members;
 
-// How many missing roles a row of the shape can do without.
-fn tolerance(shape: &Shape) -> u32
+/// How many missing roles a row of the shape can do without.
+pub fn tolerance(shape: &Shape) -> u32
     ensures { result ≡ tolerance shape.now }
 {
     if shape.level == 6 { 2 } else { 1 }

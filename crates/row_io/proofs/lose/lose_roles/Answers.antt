@@ -1,8 +1,8 @@
-use Rattle.std.proofs.Common.{◌≡◌, ℕ, ◌+◌, List, ◌++◌, take, drop, map, slice_set, slice_index_or, ◌∙◌, ap, sym, subst, arith}
+use Rattle.std.proofs.Common.{◌≡◌, ◌+◌, List, ◌++◌, take, drop, map, slice_set, slice_index_or, ◌∙◌, ap, sym, subst, arith}
 use Rattle.md_base.specs.declared.status.Role.{Role}
 use Rattle.md_base.specs.declared.status.Role.TheVariants.{Missing}
 use Rattle.row_io.specs.Rows.{role_without}
-use Rattle.row_io.proofs.Tables.{changed-more, changed-all}
+use Rattle.row_io.proofs.Tables.{changed-more}
 use Rattle.row_io.proofs.lose.lose_roles.Goals as goal
 
 pub loop-role-preserved : goal.loop-role-preserved

@@ -1,4 +1,4 @@
-use Rattle.std.proofs.Common.{◌≡◌, ◌+◌, sym, ◌∙◌, arith}
+use Rattle.std.proofs.Common.{sym, arith}
 use Rattle.row_io.specs.Rows.{reading_of, is_missing}
 use Rattle.row_io.proofs.Tables.{count_below-none, count_below-le, count_step}
 use Rattle.row_io.proofs.lose.missing_count.Goals.{then-is_missing, else-is_missing}

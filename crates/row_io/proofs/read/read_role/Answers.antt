@@ -1,4 +1,4 @@
-use Rattle.std.proofs.Common.{◌≡◌, refl, sym, ◌∙◌, arith, lit<}
+use Rattle.std.proofs.Common.{refl, sym, ◌∙◌, arith, lit<}
 use Rattle.row_io.specs.Rows.{reading_of}
 use Rattle.row_io.proofs.Losses.{holder-of}
 use Rattle.row_io.proofs.read.read_role.Goals as goal

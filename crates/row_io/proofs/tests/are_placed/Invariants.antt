@@ -1,0 +1,10 @@
+use Rattle.std.proofs.Common.{◌≡◌, ◌<◌, ℕ, Some}
+use Rattle.superblocks.specs.Reading.{holder, role_state}
+use Rattle.row_io.specs.Rows.{reading_of, IsHolder}
+use Rattle.row_io.proofs.tests.are_placed.Given as goal
+
+abbrev pub invariant-loop-role : goal.invariant-loop-role
+invariant-loop-role g l = record {
+  holders : (role slot : ℕ) → role < l.role → holder (role_state (reading_of l.members) role) ≡ Some slot → IsHolder (g.B.Bank.given l.bank) (reading_of l.members) slot;
+  apart : (a b slot : ℕ) → a < l.role → holder (role_state (reading_of l.members) a) ≡ Some slot → holder (role_state (reading_of l.members) b) ≡ Some slot → a ≡ b;
+}
