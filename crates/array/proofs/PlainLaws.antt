@@ -61,7 +61,7 @@ last-snoc (x ∷ xs) e = ap (λ (o : Option Entry). Some (unwrap_or o x)) (last-
 abbrev pub IsCallOf : Opening → List Entry → Who → ℕ → List Event → Type 0
 IsCallOf opening before who end [] = Unit {0}
 IsCallOf opening before who end (event ∷ events) =
-    IsPlainEvent opening before (entries_of who end events) event
+    IsPlainEvent opening before (one who end event) (entries_of who end events) event
     × IsInnerOrLast event (entries_of who end events)
     × IsCallOf opening (before ++ one who end event ∷ []) who end events
 
@@ -75,7 +75,7 @@ call_plain opening ops before who end (event ∷ events) caller numbered rises w
     timed = record { rises = rises; within = within };
     inner = subst (λ (rest : List Entry). IsInnerOrLast event rest) (sym (rest_whole who end event events)) call.1;
     caller = caller;
-    event = subst (λ (rest : List Entry). IsPlainEvent opening before rest event) (sym (rest_whole who end event events)) call.0;
+    event = subst (λ (rest : List Entry). IsPlainEvent opening before (one who end event) rest event) (sym (rest_whole who end event events)) call.0;
   },
   call_plain opening ops (before ++ one who end event ∷ []) who end events caller
       (λ next. inl (subst (λ (o : Option Entry). GoesOn o (one who end next)) (sym (last-snoc before (one who end event))) (same_call who end event next)))

@@ -11,7 +11,8 @@ use Rattle.layout.proofs.Places.{place-apart, place-only}
 use Rattle.parity.specs.Exponents.{is_data, is_this_q}
 use Rattle.parity.specs.Parity.{AreEquationsMet}
 use Rattle.parity.specs.Rows.{sector_of}
-use Rattle.array.specs.Rows.{row_sector, HasOther, IsOther, IsRowWritten}
+use Rattle.array.specs.Whole.{Places, in_row}
+use Rattle.array.specs.Rows.{row_sector, HasOther, IsOther, IsRowPut}
 
 data_by : (p : ℕ) (q : Option ℕ) (role : ℕ) → role ≢ p → q ≢ Some role → (not (role == p) && not (is_this_q q role)) ≡ true
 data_by p None role not_p not_q = grind (arith, nat_tests, not_p)
@@ -42,13 +43,12 @@ parity-same shape row f g same met =
     (tabulate-same shape.disks (λ role. Some (f role)) (λ role. Some (g role)) (λ role lt. ap (λ (v : Sector). Some v) (same role lt))) met
 
 -- a row that was written stays so while it holds the same
-pub written-later : {shape : Shape} {offset first : ℕ} {from : List ℕ} {before after : Contents} {row : ℕ} (later : Contents)
-    → IsRowWritten shape offset first from before after row → ((role : ℕ) → role < shape.disks → later role (offset + row) ≡ after role (offset + row))
-    → IsRowWritten shape offset first from before later row
-written-later {shape = shape} {offset = offset} {after = after} {row = row} later was same = record {
+pub put-later : {p : Places} {first : ℕ} {from : List ℕ} {before after : Contents} {row : ℕ} (later : Contents)
+    → IsRowPut p first from before after row → ((role : ℕ) → role < p.shape.disks → in_row p later row role ≡ in_row p after row role) → IsRowPut p first from before later row
+put-later {p = p} {after = after} {row = row} later was same = record {
   changed = λ role x lt placed low high. same role lt ∙ was.changed role x lt placed low high;
   kept = λ role lt other. same role lt ∙ was.kept role lt other;
-  parity = parity-same shape row (λ role. after role (offset + row)) (λ role. later role (offset + row)) (λ role lt. sym (same role lt)) was.parity;
+  good = parity-same p.shape row (λ role. in_row p after row role) (λ role. in_row p later row role) (λ role lt. sym (same role lt)) was.good;
 }
 
 -- the two spellings of a role's sector

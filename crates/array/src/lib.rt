@@ -1,27 +1,23 @@
 //! An array over a bank: its flat list of sectors, its parity and its history.
 #![tactic(auto)]
 
-mod array;
 mod buffers;
 mod calls;
-mod creating;
 mod device;
+mod flushes;
 mod lists;
+mod losses;
+mod marks;
 mod puts;
 mod rows;
 mod spec;
-mod zeros;
 
-pub use array::{Array, create};
 pub use buffers::{ROW_BYTES, read_rows, touched_rows, write_rows};
-pub use calls::{check_number, enter, enter_failure, enter_loss, enter_torn};
-pub use creating::refusal_of_create;
-pub use device::{flush_slot, read_into, write_from};
+pub use calls::{check_number, enter};
+pub use flushes::{flush_members, flush_slots};
 pub use lists::{read_body, read_list};
-pub use puts::{Loss, put};
-pub use rows::{change_row, read_row, rewrite_row, write_row};
+pub use losses::enter_losses;
+pub use marks::mark;
+pub use puts::{read_touched, write_touched};
+pub use rows::{change_row, changed_roles, read_whole_row, rewrite_row};
 pub use spec::CreateSpec;
-pub use zeros::zero_members;
-
-#[cfg(test)]
-mod tests;

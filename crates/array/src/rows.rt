@@ -1,34 +1,52 @@
-//! Rows of the members, read and written role after role.
+//! Rows of an array whose roles are whole, role after role.
 
-ghost use Rattle.std.specs.Prelude.{◌≡◌, ◌≢◌, ◌+◌, ◌-◌, ◌*◌, ◌/◌, ◌^◌, ◌<◌, ◌≤◌, ◌⊎◌, ℕ, length, OnOk, OnErr, IsTrue};
-ghost use Rattle.bank.specs.Given.{IsFaulted, NeverFalls};
+ghost use Rattle.std.specs.Prelude.{◌≡◌, ◌≢◌, ◌+◌, ◌-◌, ◌*◌, ◌/◌, ◌^◌, ◌<◌, ◌≤◌, ◌⊎◌, ℕ, true, false, length, IsTrue};
+ghost use Rattle.bank.specs.Tape.{EachMark, disk};
 ghost use Rattle.md_base.specs.Sectors.{IsWhole};
-ghost use Rattle.md_base.specs.Shapes.{is_valid_shape};
-ghost use Rattle.layout.specs.Layout.{place};
-ghost use Rattle.array.specs.Rows.{present, row_sector, AreMembers, HasLost, IsOther, HasOther, IsRowWritten};
+ghost use Rattle.md_base.specs.Shapes.{is_valid_shape, has_slot};
+ghost use Rattle.layout.specs.Layout.{place, row_roles};
+ghost use Rattle.superblocks.specs.Reading.{shape_of};
+ghost use Rattle.row_io.specs.Rows.{present, lost_of};
+ghost use Rattle.row_io.specs.Writes.{is_parity};
+ghost use Rattle.array.specs.Whole.{in_row};
+ghost use Rattle.array.specs.Rows.{row_sector, AreRowBytes, IsOther, HasOther, IsChanged, IsPutting, IsRowPut, AreOtherRowsKept};
+ghost use Rattle.array.specs.Placed.{places_of, AreWhole, IsPlaced, AreLost};
 
-use crate::device::{read_into, write_from};
-use bank::{Bank, BankFault};
-use layout::{at, row_of};
+use bank::Bank;
+use layout::at;
 use md_base::Shape;
-use parity::syndromes;
+use row_io::{read_row, write_row};
+use superblocks::Members;
+use superblocks::sets::with;
 
-/// Reads the sectors that stand at `at` on the first `disks` slots. An Err is the slot that failed.
-pub fn read_row<B: Bank>(bank: &mut B, disks: u32, at: u64, row: &mut [u8]) -> Result<(), u32>
-    requires members { AreMembers (B.given bank.old) disks (at + 1) }
-    requires size { length row.old ≡ 512 * disks }
-    ensures sectors { OnOk result (B.tells → (role : ℕ) → role < disks → row_sector row.new role ≡ present (B.given bank.old) (B.tape bank.old) role at) }
+// The set of the slots that a row's call lost.
+fn lost_of(answer: Result<u32, u32>) -> u32
+    ensures { result ≡ lost_of answer }
+{
+    match answer {
+        Ok(lost) | Err(lost) => lost,
+    }
+}
+
+/// Reads a row, role after role. The answer is the set of the slots that were lost.
+pub fn read_whole_row<B: Bank>(
+    members: &mut Members,
+    bank: &mut B,
+    shape: &Shape,
+    row: u64,
+    into: &mut [u8],
+) -> u32
+    requires placed { IsPlaced (B.given bank.old) members.old }
+    requires whole { AreWhole members.old }
+    requires shape { shape.now ≡ shape_of members.old.newest }
+    requires row { row < members.old.newest.size }
+    requires size { length into.old ≡ 512 * shape.now.disks }
+    ensures lost { AreLost (B.given bank.old) shape.now members.old members.new result (B.faults_of bank.old) (B.faults_of bank.new) }
+    ensures sectors { result ≡ 0 → B.tells → AreRowBytes (places_of members.old) (present (B.given bank.old) (B.tape bank.old)) row into.new }
     ensures tape { B.tells → B.tape bank.new ≡ B.tape bank.old }
     ensures given { B.given bank.new ≡ B.given bank.old }
-    ensures cause { HasLost disks (B.faults_of bank.old) (B.faults_of bank.new) result }
 {
-    for slot in 0..disks {
-        match read_into(bank, slot, at, row, slot as usize) {
-            Err(_) => return Err(slot),
-            Ok(()) => {}
-        }
-    }
-    Ok(())
+    lost_of(read_row(members, bank, shape, row, into))
 }
 
 // Copies one sector of `from` into a role's place of a row.
@@ -78,121 +96,86 @@ pub fn change_row(shape: &Shape, row: u64, first: u64, from: &[u8], bytes: &mut 
     }
 }
 
-// Whether a write of so many sectors from `first` on leaves this role of a row: it holds data that isn't among them.
-fn is_left(shape: &Shape, row: u64, role: u32, first: u64, count: u64) -> bool
+// Whether one of so many sectors from `first` on has its place at this role of a row.
+fn is_changed(shape: &Shape, row: u64, role: u32, first: u64, count: u64) -> bool
     requires shape { IsTrue (is_valid_shape shape.now) }
     requires row { row < 2 ^ 53 }
     requires role { role < shape.now.disks }
     requires short { first + count < 2 ^ 63 }
-    ensures { IsTrue result → HasOther shape.now first count role row }
+    ensures changed { result ≡ true → IsChanged shape.now first count role row }
+    ensures left { result ≡ false → is_parity (row_roles shape.now row) role ≡ false → HasOther shape.now first count role row }
 {
     match at(shape, role, row) {
-        Some(x) => x < first || first + count <= x,
+        Some(x) => first <= x && x < first + count,
         None => false,
     }
 }
 
-// Writes a role's sector of a row, unless the write leaves it.
-fn write_role<B: Bank>(
-    bank: &mut B,
-    shape: &Shape,
-    offset: u64,
-    row: u64,
-    role: u32,
-    first: u64,
-    count: u64,
-    bytes: &[u8],
-) -> Result<(), BankFault>
+// The set with this role of a row, if one of so many sectors from `first` on has its place there.
+fn with_changed(changed: u32, shape: &Shape, row: u64, role: u32, first: u64, count: u64) -> u32
     requires shape { IsTrue (is_valid_shape shape.now) }
     requires row { row < 2 ^ 53 }
     requires role { role < shape.now.disks }
+    requires small { role < 32 }
     requires short { first + count < 2 ^ 63 }
-    requires offset { offset < 2 ^ 63 }
-    requires members { AreMembers (B.given bank.old) shape.now.disks (offset + row + 1) }
-    requires size { length bytes.now ≡ 512 * shape.now.disks }
-    requires stands { B.tells → HasOther shape.now first count role row → present (B.given bank.old) (B.tape bank.old) role (offset + row) ≡ row_sector bytes.now role }
-    ensures here { OnOk result (B.tells → present (B.given bank.new) (B.tape bank.new) role (offset + row) ≡ row_sector bytes.now role) }
-    ensures others { OnOk result (B.tells → (s k : ℕ) → (s ≢ role) ⊎ (k ≢ offset + row) → present (B.given bank.new) (B.tape bank.new) s k ≡ present (B.given bank.old) (B.tape bank.old) s k) }
-    ensures grows { B.tells → length (B.tape bank.old) ≤ length (B.tape bank.new) }
-    ensures given { B.given bank.new ≡ B.given bank.old }
-    ensures never_falls { NeverFalls (B.faults_of bank.old) (B.faults_of bank.new) }
-    ensures cause { OnErr result (IsFaulted role (B.faults_of bank.old) (B.faults_of bank.new)) }
+    ensures changed { (r : ℕ) → has_slot result r ≡ true → (has_slot changed r ≡ true) ⊎ ((r ≡ role) × IsChanged shape.now first count role row) }
+    ensures stay { (r : ℕ) → has_slot changed r ≡ true → has_slot result r ≡ true }
+    ensures left { has_slot result role ≡ false → is_parity (row_roles shape.now row) role ≡ false → HasOther shape.now first count role row }
 {
-    if is_left(shape, row, role, first, count) {
-        return Ok(());
+    if is_changed(shape, row, role, first, count) {
+        with(changed, role)
+    } else {
+        changed
     }
-    write_from(bank, role, offset + row, bytes, role as usize)
 }
 
-/// Writes the roles of a row that a write of so many sectors from `first` on changes, and its parity. An Err is the
-/// slot that failed.
-pub fn write_row<B: Bank>(
-    bank: &mut B,
-    shape: &Shape,
-    offset: u64,
-    row: u64,
-    first: u64,
-    count: u64,
-    bytes: &[u8],
-) -> Result<(), u32>
+/// The roles of a row at which one of so many sectors from `first` on has its place.
+#[tactic(auto, using(layout::proofs::Limits::limited))]
+pub fn changed_roles(shape: &Shape, row: u64, first: u64, count: u64) -> u32
     requires shape { IsTrue (is_valid_shape shape.now) }
     requires row { row < 2 ^ 53 }
     requires short { first + count < 2 ^ 63 }
-    requires offset { offset < 2 ^ 63 }
-    requires members { AreMembers (B.given bank.old) shape.now.disks (offset + row + 1) }
-    requires size { length bytes.now ≡ 512 * shape.now.disks }
-    requires stands { B.tells → (role : ℕ) → role < shape.now.disks → HasOther shape.now first count role row → present (B.given bank.old) (B.tape bank.old) role (offset + row) ≡ row_sector bytes.now role }
-    ensures row { OnOk result (B.tells → (role : ℕ) → role < shape.now.disks → present (B.given bank.new) (B.tape bank.new) role (offset + row) ≡ row_sector bytes.now role) }
-    ensures others { OnOk result (B.tells → (s k : ℕ) → k ≢ offset + row → present (B.given bank.new) (B.tape bank.new) s k ≡ present (B.given bank.old) (B.tape bank.old) s k) }
-    ensures grows { B.tells → length (B.tape bank.old) ≤ length (B.tape bank.new) }
-    ensures given { B.given bank.new ≡ B.given bank.old }
-    ensures cause { HasLost shape.now.disks (B.faults_of bank.old) (B.faults_of bank.new) result }
+    ensures changed { (role : ℕ) → has_slot result role ≡ true → IsChanged shape.now first count role row }
+    ensures left { (role : ℕ) → role < shape.now.disks → has_slot result role ≡ false → is_parity (row_roles shape.now row) role ≡ false
+        → HasOther shape.now first count role row }
 {
+    let mut changed = 0;
     for role in 0..shape.disks {
-        match write_role(bank, shape, offset, row, role, first, count, bytes) {
-            Err(_) => return Err(role),
-            Ok(()) => {}
-        }
+        changed = with_changed(changed, shape, row, role, first, count);
     }
-    Ok(())
+    changed
 }
 
 /// Puts the sectors of `from` that have their places on a row into it, with its parity. `bytes` holds the row as it
-/// stands. An Err is the slot that failed.
+/// stands. The answer is the set of the slots that were lost.
 pub fn rewrite_row<B: Bank>(
+    members: &mut Members,
     bank: &mut B,
     shape: &Shape,
-    offset: u64,
     row: u64,
     first: u64,
     from: &[u8],
     bytes: &mut [u8],
-) -> Result<(), u32>
-    requires shape { IsTrue (is_valid_shape shape.now) }
-    requires row { row < 2 ^ 53 }
-    requires offset { offset < 2 ^ 63 }
-    requires whole { IsWhole from.now }
+) -> u32
+    requires placed { IsPlaced (B.given bank.old) members.old }
+    requires whole { AreWhole members.old }
+    requires shape { shape.now ≡ shape_of members.old.newest }
+    requires row { row < members.old.newest.size }
+    requires from { IsWhole from.now }
     requires short { first + length from.now / 512 < 2 ^ 63 }
-    requires members { AreMembers (B.given bank.old) shape.now.disks (offset + row + 1) }
     requires size { length bytes.old ≡ 512 * shape.now.disks }
     requires stands { B.tells → (role : ℕ) → role < shape.now.disks → HasOther shape.now first (length from.now / 512) role row
-        → present (B.given bank.old) (B.tape bank.old) role (offset + row) ≡ row_sector bytes.old role }
-    ensures written { OnOk result (B.tells → IsRowWritten shape.now offset first from.now
-        (present (B.given bank.old) (B.tape bank.old)) (present (B.given bank.new) (B.tape bank.new)) row) }
-    ensures others { OnOk result (B.tells → (s k : ℕ) → k ≢ offset + row → present (B.given bank.new) (B.tape bank.new) s k ≡ present (B.given bank.old) (B.tape bank.old) s k) }
-    ensures grows { B.tells → length (B.tape bank.old) ≤ length (B.tape bank.new) }
+        → row_sector bytes.old role ≡ in_row (places_of members.old) (present (B.given bank.old) (B.tape bank.old)) row role }
+    ensures lost { AreLost (B.given bank.old) shape.now members.old members.new result (B.faults_of bank.old) (B.faults_of bank.new) }
+    ensures each_mark { let start = (B.given bank.old).start in EachMark B.tells start (B.tape bank.old) (B.tape bank.new)
+        (IsPutting (places_of members.old) first from.now (disk start (B.tape bank.old))) }
+    ensures written { result ≡ 0 → B.tells → IsRowPut (places_of members.old) first from.now
+        (present (B.given bank.old) (B.tape bank.old)) (present (B.given bank.new) (B.tape bank.new)) row }
+    ensures others { B.tells → AreOtherRowsKept (places_of members.old) row
+        (present (B.given bank.old) (B.tape bank.old)) (present (B.given bank.new) (B.tape bank.new)) }
     ensures given { B.given bank.new ≡ B.given bank.old }
-    ensures cause { HasLost shape.now.disks (B.faults_of bank.old) (B.faults_of bank.new) result }
 {
     change_row(shape, row, first, from, bytes);
-    syndromes(bytes, &row_of(shape, row));
-    write_row(
-        bank,
-        shape,
-        offset,
-        row,
-        first,
-        (from.len() / 512) as u64,
-        bytes,
-    )
+    let changed = changed_roles(shape, row, first, (from.len() / 512) as u64);
+    lost_of(write_row(members, bank, shape, row, bytes, changed))
 }

@@ -23,9 +23,12 @@ loop-x-preserved c =
       capacity = omega (arith, was.capacity, did.capacity);
     }
 
-pub returns-clause-only : goal.returns-clause-only
-returns-clause-only c = λ r has.
-    let t = c.loop-x.invariant.only r has in
+pub returns-clause-touched : goal.returns-clause-touched
+returns-clause-touched c =
     let low = c.loop-x.auto.x in
     let high = c.loop-x.auto.x-end in
-    (t.0, t.1, omega (arith, t.2, low, high (omega arith)), t.3)
+    let end = c.loop-x-test.false in
+    record {
+      all = λ x from to. c.loop-x.invariant.all x from (omega (arith, to, end));
+      only = λ r has. (let t = c.loop-x.invariant.only r has in (t.0, t.1, omega (arith, t.2, low, high (omega arith)), t.3));
+    }

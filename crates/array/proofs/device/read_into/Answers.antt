@@ -3,7 +3,7 @@ use Rattle.std.proofs.lemmas.List.{take_all}
 use Rattle.md_base.specs.Sectors.{Sector}
 use Rattle.bank.specs.Tape.{AreSectors}
 use Rattle.array.proofs.RowBytes.{row_sector-put_here, row_sector-put_other}
-use Rattle.array.specs.Rows.{present}
+use Rattle.row_io.specs.Rows.{present}
 use Rattle.array.proofs.Answered.{on_ok}
 use Rattle.array.proofs.device.read_into.Goals as goal
 

@@ -1,45 +1,86 @@
-use Rattle.std.proofs.Common.{◌≡◌, ◌+◌, ◌/◌, ℕ, true, length, List, sym, ◌∙◌, subst}
-use Rattle.md_base.specs.declared.places.RowRoles.{RowRoles}
+use Rattle.std.proofs.Common.{◌≡◌, ℕ, sym, ◌∙◌, subst, arith}
+use Rattle.std.specs.Prelude.{IsTrue}
 use Rattle.md_base.specs.declared.places.Shape.{Shape}
 use Rattle.md_base.specs.Shapes.{is_valid_shape}
-use Rattle.parity.specs.Exponents.{is_data}
-use Rattle.parity.specs.Parity.{AreEquationsMet}
-use Rattle.parity.specs.Rows.{sector_of, whole_row}
-use Rattle.layout.specs.Layout.{place, row_roles}
-use Rattle.array.specs.Rows.{present, row_sector}
-use Rattle.array.proofs.Answered.{on_ok}
-use Rattle.array.proofs.RowParity.{data_here, other_only, parity-same, sector_of-is}
+use Rattle.bank.specs.Tape.{disk}
+use Rattle.bank.proofs.Marks.{each_mark-map}
+use Rattle.row_io.specs.Rows.{present, reading_of, lost_of, IsRow}
+use Rattle.row_io.specs.Writes.{IsWriting}
+use Rattle.row_io.proofs.Turns.{marks_last}
+use Rattle.array.specs.Rows.{IsPutting}
+use Rattle.array.specs.Placed.{places_of, AreLost}
+use Rattle.array.proofs.MemberLaws.{is_row, are_lost, done}
+use Rattle.array.proofs.RowLaws.{IsRowChange, stand_by, putting_by, kept_by, put_by}
 use Rattle.array.proofs.rows.rewrite_row.Goals as goal
 
--- the data of a row is as it was before its parity was set
-data_kept : (shape : Shape) (roles : RowRoles) (row role x : ℕ) (old new : List ℕ) → is_valid_shape shape ≡ true → roles ≡ row_roles shape row
-    → place shape x ≡ record { role = role; row = row } → (is_data roles role ≡ true → sector_of new role ≡ sector_of old role) → row_sector new role ≡ row_sector old role
-data_kept shape roles row role x old new valid are placed keeps =
-    sym (sector_of-is new role) ∙ keeps (subst (λ (r : RowRoles). is_data r role ≡ true) (sym are) (data_here shape role row x valid placed)) ∙ sector_of-is old role
+pub change_row-requires-clause-shape : goal.change_row-requires-clause-shape
+change_row-requires-clause-shape g c = subst (λ (s : Shape). IsTrue (is_valid_shape s)) (sym c.requires.shape) c.requires.placed.valid
 
-pub write_row-requires-clause-stands : goal.write_row-requires-clause-stands
-write_row-requires-clause-stands g c = λ told role lt other.
-    let shape = c.args.shape.now in
-    c.requires.stands told role lt other
-    ∙ sym (c.change_row.ensures.kept role lt (other_only shape c.args.first (length c.args.from.now / 512) role c.args.row c.requires.shape other))
-    ∙ sym (data_kept shape c.row_of.result c.args.row role other.0 c.change_row.new.bytes c.syndromes.new.row c.requires.shape c.row_of.ensures.roles other.1 (c.syndromes.ensures.data role))
+pub change_row-requires-clause-row : goal.change_row-requires-clause-row
+change_row-requires-clause-row g c = omega (arith, c.requires.row, c.requires.placed.short)
+
+pub changed_roles-changed-requires-clause-shape : goal.changed_roles-changed-requires-clause-shape
+changed_roles-changed-requires-clause-shape g c = subst (λ (s : Shape). IsTrue (is_valid_shape s)) (sym c.requires.shape) c.requires.placed.valid
+
+pub changed_roles-changed-requires-clause-row : goal.changed_roles-changed-requires-clause-row
+changed_roles-changed-requires-clause-row g c = omega (arith, c.requires.row, c.requires.placed.short)
+
+pub write_row-requires-clause-row : goal.write_row-requires-clause-row
+write_row-requires-clause-row g c =
+    subst (λ (s : Shape). IsRow (g.B.Bank.given c.args.bank.now) (reading_of c.args.members.now) s c.args.row) (sym c.requires.shape)
+    (is_row (g.B.Bank.given c.args.bank.now) c.args.members.now c.requires.placed c.requires.whole c.args.row c.requires.row)
+
+pub write_row-requires-clause-apart : goal.write_row-requires-clause-apart
+write_row-requires-clause-apart g c = c.requires.placed.apart
+
+pub write_row-requires-clause-others : goal.write_row-requires-clause-others
+write_row-requires-clause-others g c = λ told.
+    let given = g.B.Bank.given c.args.bank.now in
+    let change : IsRowChange c.args.shape.now c.args.row c.args.first c.args.from.now c.args.bytes.now c.change_row.new.bytes c.changed_roles-changed.result =
+    record { put = c.change_row.ensures.changed; kept = c.change_row.ensures.kept; there = c.changed_roles-changed.ensures.changed; left = c.changed_roles-changed.ensures.left } in
+    stand_by given c.args.members.now c.requires.placed c.requires.whole c.args.row c.requires.row c.args.first c.args.from.now c.args.bytes.now c.change_row.new.bytes c.changed_roles-changed.result
+    c.args.shape.now c.requires.shape (present given (g.B.Bank.tape c.args.bank.now)) change (c.requires.stands told)
+
+pub returns-clause-lost : goal.returns-clause-lost
+returns-clause-lost g c =
+    let given = g.B.Bank.given c.args.bank.now in
+    let before = g.B.Bank.faults_of c.args.bank.now in
+    let after = g.B.Bank.faults_of c.write_row.new.bank in
+    let did = c.write_row.ensures in
+    subst (λ (lost : ℕ). AreLost given c.args.shape.now c.args.members.now c.write_row.new.members lost before after) (sym c.lost_of.ensures)
+    (are_lost given c.args.shape.now c.args.members.now c.write_row.new.members (lost_of c.write_row.result) before after c.requires.placed did.members did.failed did.never_falls)
+
+pub returns-clause-each_mark : goal.returns-clause-each_mark
+returns-clause-each_mark g c =
+    let given = g.B.Bank.given c.args.bank.now in
+    let d = disk given.start (g.B.Bank.tape c.args.bank.now) in
+    let change : IsRowChange c.args.shape.now c.args.row c.args.first c.args.from.now c.args.bytes.now c.change_row.new.bytes c.changed_roles-changed.result =
+    record { put = c.change_row.ensures.changed; kept = c.change_row.ensures.kept; there = c.changed_roles-changed.ensures.changed; left = c.changed_roles-changed.ensures.left } in
+    each_mark-map (IsPutting (places_of c.args.members.now) c.args.first c.args.from.now d)
+    (λ told e writing. putting_by given c.args.members.now c.requires.placed c.requires.whole c.args.row c.requires.row c.args.first c.args.from.now c.args.bytes.now c.change_row.new.bytes c.changed_roles-changed.result
+    c.args.shape.now c.requires.shape change d e writing)
+    c.write_row.ensures.each_mark
 
 pub returns-clause-written : goal.returns-clause-written
-returns-clause-written g c = on_ok c.write_row.result (λ row told.
-    let shape = c.args.shape.now in
-    let bytes = c.syndromes.new.row in
-    let good : AreEquationsMet (row_roles shape c.args.row) (whole_row shape.disks (sector_of bytes)) =
-    subst (λ (r : RowRoles). AreEquationsMet r (whole_row r.disks (sector_of bytes))) c.row_of.ensures.roles c.syndromes.ensures.good in
-    record {
-      changed = λ role x lt placed low high.
-          row told role lt
-          ∙ data_kept shape c.row_of.result c.args.row role x c.change_row.new.bytes bytes c.requires.shape c.row_of.ensures.roles placed (c.syndromes.ensures.data role)
-          ∙ c.change_row.ensures.changed role x lt placed low high;
-      kept = λ role lt other.
-          row told role lt
-          ∙ data_kept shape c.row_of.result c.args.row role other.0 c.change_row.new.bytes bytes c.requires.shape c.row_of.ensures.roles other.1 (c.syndromes.ensures.data role)
-          ∙ c.change_row.ensures.kept role lt (other_only shape c.args.first (length c.args.from.now / 512) role c.args.row c.requires.shape other)
-          ∙ sym (c.requires.stands told role lt other);
-      parity = parity-same shape c.args.row (sector_of bytes) (λ role. present (g.B.Bank.given c.write_row.new.bank) (g.B.Bank.tape c.write_row.new.bank) role (c.args.offset + c.args.row))
-          (λ role lt. sector_of-is bytes role ∙ sym (row told role lt)) good;
-    }) c.write_row.ensures.row
+returns-clause-written g c = λ none told.
+    let given = g.B.Bank.given c.args.bank.now in
+    let old = c.args.members.now in
+    let new = c.write_row.new.members in
+    let did = c.write_row.ensures in
+    let none' : lost_of c.write_row.result ≡ 0 = sym c.lost_of.ensures ∙ none in
+    let lost = are_lost given c.args.shape.now old new (lost_of c.write_row.result) (g.B.Bank.faults_of c.args.bank.now) (g.B.Bank.faults_of c.write_row.new.bank) c.requires.placed did.members did.failed did.never_falls in
+    let change : IsRowChange c.args.shape.now c.args.row c.args.first c.args.from.now c.args.bytes.now c.change_row.new.bytes c.changed_roles-changed.result =
+    record { put = c.change_row.ensures.changed; kept = c.change_row.ensures.kept; there = c.changed_roles-changed.ensures.changed; left = c.changed_roles-changed.ensures.left } in
+    put_by given old c.requires.placed c.requires.whole c.args.row c.requires.row c.args.first c.args.from.now c.args.bytes.now c.change_row.new.bytes c.changed_roles-changed.result
+    c.args.shape.now c.requires.shape (present given (g.B.Bank.tape c.args.bank.now)) (present (g.B.Bank.given c.write_row.new.bank) (g.B.Bank.tape c.write_row.new.bank)) new (lost.kept none') change (c.requires.stands told)
+    (done given c.args.shape.now old new c.write_row.result c.requires.placed c.requires.whole c.requires.shape did.members did.err none' did.sectors told)
+    (done given c.args.shape.now old new c.write_row.result c.requires.placed c.requires.whole c.requires.shape did.members did.err none' did.good told)
+
+pub returns-clause-others : goal.returns-clause-others
+returns-clause-others g c = λ told.
+    let given = g.B.Bank.given c.args.bank.now in
+    let change : IsRowChange c.args.shape.now c.args.row c.args.first c.args.from.now c.args.bytes.now c.change_row.new.bytes c.changed_roles-changed.result =
+    record { put = c.change_row.ensures.changed; kept = c.change_row.ensures.kept; there = c.changed_roles-changed.ensures.changed; left = c.changed_roles-changed.ensures.left } in
+    kept_by given c.args.members.now c.requires.placed c.requires.whole c.args.row c.requires.row c.args.first c.args.from.now c.args.bytes.now c.change_row.new.bytes c.changed_roles-changed.result
+    c.args.shape.now c.requires.shape change given (g.B.Bank.given c.write_row.new.bank) (g.B.Bank.tape c.args.bank.now) (g.B.Bank.tape c.write_row.new.bank) c.write_row.ensures.given
+    (marks_last {P = IsWriting (reading_of c.args.members.now) c.args.shape.now c.args.row c.change_row.new.bytes c.changed_roles-changed.result (disk given.start (g.B.Bank.tape c.args.bank.now))} c.write_row.ensures.each_mark told)

@@ -1,0 +1,33 @@
+-- The entries of the members that a call loses.
+use Rattle.std.specs.Prelude.{◌≡◌, ℕ, zero, suc, List, [], ◌∷◌, ◌++◌, if◌then◌else◌}
+use Rattle.md_base.specs.Shapes.{has_slot}
+use Rattle.flat_history.specs.declared.events.Epoch.{Epoch}
+use Rattle.flat_history.specs.declared.events.Event.{Event}
+use Rattle.flat_history.specs.declared.events.Event.TheVariants.{Lost, SpareLost}
+use Rattle.flat_history.specs.declared.events.LostCause.TheVariants.{Fault}
+
+abbrev pub role_loss : ℕ → ℕ → List Event
+role_loss roles role = if has_slot roles role then Lost role Fault ∷ [] else []
+
+-- a loss for each of these roles below n, in order
+unfoldable pub role_losses : ℕ → ℕ → List Event
+role_losses roles zero = []
+role_losses roles (suc n) = role_losses roles n ++ role_loss roles n
+
+abbrev pub spare_loss : ℕ → ℕ → List Event
+spare_loss spares slot = if has_slot spares slot then SpareLost slot ∷ [] else []
+
+-- a loss for each of these spares below n, in order
+unfoldable pub spare_losses : ℕ → ℕ → List Event
+spare_losses spares zero = []
+spare_losses spares (suc n) = spare_losses spares n ++ spare_loss spares n
+
+-- the losses of these roles, and then those of these spares
+abbrev pub losses_of : ℕ → ℕ → List Event
+losses_of roles spares = role_losses roles 16 ++ spare_losses spares 32
+
+-- the same array, from the same mark on
+pub record IsSameEpoch (old new : Epoch) : Type 0 where
+  pub uuid : new.uuid ≡ old.uuid
+  pub given : new.given ≡ old.given
+  pub first : new.first ≡ old.first

@@ -1,0 +1,339 @@
+-- From what is judged of the superblocks that were found to what is answered of the contents.
+use Rattle.std.proofs.Common.{◌≡◌, ◌⊎◌, inl, inr, ℕ, Bool, true, false, cond, nat_lt, refl, sym, ap, ◌∙◌, subst, List, [], ◌∷◌, length, take, map, slice_index, Option, Some, None, Result, Ok, Err, IfOk, IfErr, option_map, arith, ◌≤◌, zero, suc, ◌+◌, ◌-◌, get_or, replicate, drop}
+use Rattle.std.specs.Prelude.{not, ◌&&◌, ◌||◌, bytes_eq}
+use Rattle.std.specs.Option.{option_or, option_map_or}
+use Rattle.std.proofs.lemmas.List.{length-map, length-take-le, get_or-take, get_or-drop, get_or-replicate, get_or_past, length-replicate}
+use Rattle.std.proofs.lemmas.Bool.{cases_lt}
+use Rattle.std.proofs.lemmas.Slice.Eq.{bytes_eq-Decides}
+use Rattle.md_base.specs.declared.answers.Fault.{Fault}
+use Rattle.md_base.specs.declared.answers.Fault.TheVariants.{Refused, NoMemory}
+use Rattle.md_base.specs.declared.answers.Refusal.{Refusal}
+use Rattle.md_base.specs.declared.answers.Refusal.TheVariants.{NoSuperblock, Unsupported, BackupAbsent}
+use Rattle.md_base.specs.Shapes.{has_slot}
+use Rattle.sb1.specs.declared.sb.Sb.{Sb}
+use Rattle.bank.specs.Given.{Given, sizes}
+use Rattle.bank.specs.Tape.{Contents}
+use Rattle.superblocks.specs.declared.members.Members.{Members}
+use Rattle.superblocks.specs.Reading.{Scope, Reading, reading, reading_of, reading_by, newest_of, newer, of_array, superblocks, seen_superblock, is_reshaping}
+use Rattle.superblocks.specs.Verdict.{members_refusal, members_verdict, first_of_all, fresh_from, unsupported, bad_field, two_holders, members_missing, dirty_degraded, off_unit, AreValidShapes}
+use Rattle.superblocks.specs.Election.{seen_superblocks, uuid_for, reading_in, IsElected}
+use Rattle.superblocks.specs.Writing.{AreWritable}
+use Rattle.superblocks.proofs.ValidFields.{valid-shapes}
+use Rattle.superblocks.proofs.Elected.{map-tabulate}
+use Rattle.flat_history.specs.Stands.{verdict, refusal_of, backup_absent, has_room, reach_of}
+use Rattle.assemble.specs.declared.opening.Opened.{Opened}
+use Rattle.assemble.specs.Opening.{scope_of, array_of, AreGiven, IsOpened, IsRefused, IsReshapeRefused, HasCause}
+use Rattle.assemble.specs.Looking.{lengths_scope, IsMade, IsReshape, IsJudged}
+
+-- ---- the shapes of what is refused for nothing are valid
+
+nothing_first : (a b : Option Refusal) → option_or a b ≡ None → (a ≡ None) × (b ≡ None)
+nothing_first None b e = (refl, e)
+nothing_first (Some x) b e = absurd (cc)
+
+pub elected-valid : (sectors : ℕ → ℕ) (own : List (Option Sb)) (lost : ℕ) (members : Members)
+    → IsElected sectors own lost members → AreValidShapes members.newest
+elected-valid sectors own lost members elected =
+    let r : Reading = reading_in (length own) members in
+    let slots : List (Sb × ℕ) = fresh_from r.newest sectors 0 r.own in
+    let all : members_refusal sectors r ≡ None =
+    sym (ap (λ found. option_map_or (members_refusal sectors) found (Some NoSuperblock)) elected.says) ∙ elected.accepted in
+    let rest : first_of_all (bad_field r.newest slots ∷ two_holders slots ∷ members_missing r.newest r.roles ∷ dirty_degraded r.newest r.roles ∷ off_unit r.newest ∷ []) ≡ None =
+    (nothing_first (unsupported slots)
+    (first_of_all (bad_field r.newest slots ∷ two_holders slots ∷ members_missing r.newest r.roles ∷ dirty_degraded r.newest r.roles ∷ off_unit r.newest ∷ [])) all).1 in
+    valid-shapes r.newest slots
+    (nothing_first (bad_field r.newest slots)
+    (first_of_all (two_holders slots ∷ members_missing r.newest r.roles ∷ dirty_degraded r.newest r.roles ∷ off_unit r.newest ∷ [])) rest).0
+
+-- ---- a reshape
+
+-- what an active reshape is refused for
+abbrev pub reshape_refusal : Scope → Sb → Option Refusal
+reshape_refusal scope sb = option_or (backup_absent scope sb) (cond (is_reshaping sb) (Some (Unsupported 4)) None)
+
+module _ (scope : Scope) (sb : Sb) where
+  active_first : (refusal : Refusal) → reshape_refusal scope sb ≡ Some refusal
+      → (is_reshaping sb ≡ true) × (option_or (backup_absent scope sb) (Some (Unsupported 4)) ≡ Some refusal)
+  active_first refusal e = by_reshape (is_reshaping sb) refl
+    where
+      by_reshape : (b : Bool) → is_reshaping sb ≡ b
+          → (is_reshaping sb ≡ true) × (option_or (backup_absent scope sb) (Some (Unsupported 4)) ≡ Some refusal)
+      by_reshape true is = (is, sym (ap (λ b. option_or (backup_absent scope sb) (cond b (Some (Unsupported 4)) None)) is) ∙ e)
+      by_reshape false is = absurd (contrary (sym (ap (λ b. option_or (cond (not b || has_room scope (reach_of sb)) None (Some BackupAbsent)) (cond b (Some (Unsupported 4)) None)) is) ∙ e))
+        where
+          contrary : ◌≡◌ {A = Option Refusal} None (Some refusal) → ⊥
+          contrary e = absurd (cc)
+
+  pub none-still : reshape_refusal scope sb ≡ None → is_reshaping sb ≡ false
+  none-still e = by_reshape (is_reshaping sb) refl
+    where
+      some : (o : Option Refusal) → option_or o (Some (Unsupported 4)) ≡ None → ⊥
+      some None e = absurd (cc)
+      some (Some x) e = absurd (cc)
+
+      by_reshape : (b : Bool) → is_reshaping sb ≡ b → is_reshaping sb ≡ false
+      by_reshape true is = absurd (some (backup_absent scope sb) (sym (ap (λ b. option_or (backup_absent scope sb) (cond b (Some (Unsupported 4)) None)) is) ∙ e))
+      by_reshape false is = is
+
+  still_none : is_reshaping sb ≡ false → backup_absent scope sb ≡ None
+  still_none is = ap (λ b. cond (not b || has_room scope (reach_of sb)) None (Some BackupAbsent)) is
+
+pub reshape-refused : (scope : Scope) (own : List (Option Sb)) (lost : ℕ) (members : Members) (refusal : Refusal)
+    → IsElected scope.sizes.sectors own lost members → reshape_refusal scope members.newest ≡ Some refusal → IsReshape scope own refusal
+reshape-refused scope own lost members refusal elected e =
+    let parts = active_first scope members.newest refusal e in
+    record {
+      accepted = elected.accepted;
+      found = reading_in (length own) members;
+      says = elected.says;
+      active = parts.0;
+      first = parts.1;
+    }
+
+-- ---- the uuid
+
+from_array : (uuid : List ℕ) (found : Option Sb) (sb : Sb) → of_array uuid found ≡ Some sb → sb.set_uuid ≡ uuid
+from_array uuid None sb e = absurd (cc)
+from_array uuid (Some other) sb e = by_test (bytes_eq other.set_uuid uuid) refl e
+  where
+    by_test : (b : Bool) → bytes_eq other.set_uuid uuid ≡ b → cond b (Some other) None ≡ Some sb → sb.set_uuid ≡ uuid
+    by_test true is e =
+        let same : other ≡ sb = cc in
+        ap (λ (s : Sb). s.set_uuid) (sym same) ∙ (bytes_eq-Decides other.set_uuid uuid).0 is
+    by_test false is e = absurd (cc)
+
+-- the newest of an array's superblocks is one of them
+newest-array : (uuid : List ℕ) (found : List (Option Sb)) (sb : Sb) → newest_of (map (of_array uuid) found) ≡ Some sb → sb.set_uuid ≡ uuid
+newest-array uuid [] sb e = absurd (cc)
+newest-array uuid (one ∷ found) sb e =
+    by_first (λ sb e. newest-array uuid found sb e) (of_array uuid one) refl (newest_of (map (of_array uuid) found)) refl e
+  where
+    More : Type 0
+    More = (sb : Sb) → newest_of (map (of_array uuid) found) ≡ Some sb → sb.set_uuid ≡ uuid
+
+    with_rest : More → (own : Sb) → own.set_uuid ≡ uuid → (rest : Option Sb) → newest_of (map (of_array uuid) found) ≡ rest
+        → Some (newer own rest) ≡ Some sb → sb.set_uuid ≡ uuid
+    with_rest more own is None there e = let same : own ≡ sb = cc in ap (λ (s : Sb). s.set_uuid) (sym same) ∙ is
+    with_rest more own is (Some other) there e = by_test (nat_lt own.events other.events) e
+      where
+        by_test : (b : Bool) → Some (cond b other own) ≡ Some sb → sb.set_uuid ≡ uuid
+        by_test true e = more sb (there ∙ e)
+        by_test false e = let same : own ≡ sb = cc in ap (λ (s : Sb). s.set_uuid) (sym same) ∙ is
+
+    by_first : More → (first : Option Sb) → of_array uuid one ≡ first → (rest : Option Sb) → newest_of (map (of_array uuid) found) ≡ rest
+        → newest_of (first ∷ map (of_array uuid) found) ≡ Some sb → sb.set_uuid ≡ uuid
+    by_first more None is rest there e = more sb e
+    by_first more (Some own) is rest there e =
+        with_rest more own (from_array uuid one own is) rest there (sym (ap (λ o. Some (newer own o)) there) ∙ e)
+
+-- what a reading is made of
+module _ (sectors : ℕ → ℕ) (own : List (Option Sb)) (r : Reading) (says : reading_of sectors own ≡ Some r) where
+  by_newest : (found : Option Sb) → newest_of own ≡ found → option_map (reading_by sectors own) found ≡ Some r
+      → (newest_of own ≡ Some r.newest) × (own ≡ r.own)
+  by_newest None is e = absurd (cc)
+  by_newest (Some sb) is e =
+      let same : reading_by sectors own sb ≡ r = cc in
+      (is ∙ ap (λ (r : Reading). Some r.newest) same, ap (λ (r : Reading). r.own) same)
+
+  reading-made : (newest_of own ≡ Some r.newest) × (own ≡ r.own)
+  reading-made = by_newest (newest_of own) refl says
+
+-- ---- each slot's own superblock is one that was found in it
+
+of-some : (uuid : List ℕ) (found : Option Sb) (sb : Sb) → of_array uuid found ≡ Some sb → found ≡ Some sb
+of-some uuid None sb e = absurd (cc)
+of-some uuid (Some other) sb e = by_test (bytes_eq other.set_uuid uuid) e
+  where
+    by_test : (b : Bool) → cond b (Some other) None ≡ Some sb → Some other ≡ Some sb
+    by_test true e = e
+    by_test false e = absurd (cc)
+
+got : (uuid : List ℕ) (found : List (Option Sb)) (s : ℕ) (sb : Sb) → get_or (map (of_array uuid) found) s None ≡ Some sb → get_or found s None ≡ Some sb
+got uuid [] s sb e = e
+got uuid (one ∷ found) zero sb e = of-some uuid one sb e
+got uuid (one ∷ found) (suc s) sb e = got uuid found s sb e
+
+none-there : (k i : ℕ) → ◌≡◌ {A = Option Sb} (get_or (replicate k None) i None) None
+none-there k i = elim (cases_lt i k) [
+  | inl below ↦ get_or-replicate k i None None below
+  | inr past ↦ get_or_past (replicate k None) i None (omega (arith, past, length-replicate {A = Option Sb} k None))
+]
+
+none-some : {sb : Sb} → ◌≡◌ {A = Option Sb} None (Some sb) → ⊥
+none-some e = absurd (cc)
+
+module _ (bank : Given) (sectors : ℕ → ℕ) (n lost : ℕ) (uuid : List ℕ) (seen : List (Option Sb)) (few : n ≤ 32) (count : length seen ≡ 32)
+    (members : Members) (elected : IsElected sectors (map (of_array uuid) (take n seen)) lost members) where
+  abbrev kept : List (Option Sb)
+  kept = map (of_array uuid) (take n seen)
+
+  kept-count : length kept ≡ n
+  kept-count = length-map (take n seen) (of_array uuid) ∙ length-take-le n seen (omega (arith, count, few))
+
+  pub own-found : (s : ℕ) (sb : Sb) → get_or members.own s None ≡ Some sb → get_or seen s None ≡ Some sb
+  own-found s sb e = elim (cases_lt s n) [
+    | inl within ↦
+        let whole : kept ≡ take n members.own =
+        (reading-made sectors kept (reading_in (length kept) members) elected.says).1 ∙ ap (λ k. take k members.own) kept-count in
+        sym (get_or-take n seen s None within)
+        ∙ got uuid (take n seen) s sb (ap (λ l. get_or l s None) whole ∙ get_or-take n members.own s None within ∙ e)
+    | inr past ↦
+        let rest : drop n members.own ≡ replicate (32 - n) None =
+        subst (λ k. drop k members.own ≡ replicate (32 - k) None) kept-count elected.others in
+        let at : n + (s - n) ≡ s = omega (arith, past) in
+        absurd (contrary (ap (λ k. get_or members.own k None) at ∙ e) (sym (get_or-drop n members.own (s - n) None) ∙ ap (λ l. get_or l (s - n) None) rest))
+  ]
+    where
+      contrary : get_or members.own (n + (s - n)) None ≡ Some sb → get_or members.own (n + (s - n)) None ≡ get_or (replicate (32 - n) None) (s - n) None → ⊥
+      contrary is there = none-some (sym (there ∙ none-there (32 - n) (s - n)) ∙ is)
+
+-- ---- the answer
+
+-- the members' refusals, and then the backup's
+module _ (scope : Scope) (c : Contents) where
+  abbrev sectors : ℕ → ℕ
+  sectors = scope.sizes.sectors
+
+  refused-first : (found : Option Reading) (refusal : Refusal) → option_map_or (members_refusal sectors) found (Some NoSuperblock) ≡ Some refusal
+      → option_map_or (refusal_of scope) found (Some NoSuperblock) ≡ Some refusal
+  refused-first None refusal e = e
+  refused-first (Some r) refusal e = ap (λ o. option_or o (backup_absent scope r.newest)) e
+
+  refused-for : (found : Option Reading) (r : Reading) → found ≡ Some r → option_map_or (members_refusal sectors) found (Some NoSuperblock) ≡ None
+      → option_map_or (refusal_of scope) found (Some NoSuperblock) ≡ backup_absent scope r.newest
+  refused-for found r is none =
+      ap (λ found. option_map_or (refusal_of scope) found (Some NoSuperblock)) is
+      ∙ ap (λ o. option_or o (backup_absent scope r.newest))
+      (sym (ap (λ found. option_map_or (members_refusal sectors) found (Some NoSuperblock)) is) ∙ none)
+
+  verdict-refused : (refusal : Refusal) → members_verdict sectors (superblocks scope c) ≡ Some refusal → verdict scope c ≡ Some refusal
+  unfolding verdict reading
+  verdict-refused refusal e = refused-first (reading scope c) refusal e
+
+  verdict-for : (r : Reading) → reading scope c ≡ Some r → members_verdict sectors (superblocks scope c) ≡ None
+      → verdict scope c ≡ backup_absent scope r.newest
+  unfolding verdict reading
+  verdict-for r is none = refused-for (reading scope c) r is none
+
+module _ (tells : Type 0) (bank : Given) (c : Contents) (backup : Option ℕ) (asked : Option (List ℕ)) (before after : ℕ → ℕ)
+    (lengths : List ℕ) (seen : List (Option Sb)) (lost given : ℕ) (result : Result Opened Fault)
+    (few : bank.slots ≤ 32) (count : length seen ≡ 32)
+    (long : length lengths ≡ bank.slots) (are : (s : ℕ) → slice_index lengths s ≡ (sizes bank).sectors s)
+    (read : tells → take bank.slots seen ≡ seen_superblocks (scope_of bank backup given []) c)
+    (bits : (s : ℕ) → has_slot lost s ≡ (nat_lt s bank.slots && not (has_slot given s)))
+    (slots : AreGiven bank given before after) where
+  abbrev found : List (Option Sb)
+  found = take bank.slots seen
+
+  abbrev uuid : List ℕ
+  uuid = uuid_for asked (take bank.slots seen)
+
+  abbrev own : List (Option Sb)
+  own = map (of_array (uuid_for asked (take bank.slots seen))) (take bank.slots seen)
+
+  -- the given slots, looked at for an array
+  abbrev scope : List ℕ → Scope
+  scope array = scope_of bank backup given array
+
+  same_scope : lengths_scope backup given lengths ≡ scope_of bank backup given []
+  same_scope = λ i. record { uuid = []; given = given; backup = backup; sizes = record { slots = long i; sectors = λ s. are s i } }
+
+  as-judged : IsJudged (lengths_scope backup given lengths) (map (of_array (uuid_for asked (take (length lengths) seen))) (take (length lengths) seen)) lost result
+      → IsJudged (scope []) own lost result
+  as-judged judged =
+      subst (λ s. IsJudged s own lost result) same_scope
+      (subst (λ n. IsJudged (lengths_scope backup given lengths) (map (of_array (uuid_for asked (take n seen))) (take n seen)) lost result) long judged)
+
+  own-count : length own ≡ bank.slots
+  own-count = length-map (take bank.slots seen) (of_array uuid) ∙ length-take-le bank.slots seen (omega (arith, count, few))
+
+  own-stored : tells → own ≡ superblocks (scope uuid) c
+  own-stored told = ap (map (of_array uuid)) (read told) ∙ map-tabulate bank.slots (of_array uuid) (seen_superblock (scope []) c)
+
+  reads : tells → reading (scope uuid) c ≡ reading_of (sizes bank).sectors own
+  unfolding reading
+  reads told = ap (reading_of (sizes bank).sectors) (sym (own-stored told))
+
+  named : tells → uuid ≡ array_of bank backup given asked c
+  named told = ap (uuid_for asked) (read told)
+
+  is-opened : (opened : Opened) → IsMade (scope []) own lost opened → IsOpened tells bank c backup asked opened
+  is-opened opened made =
+      let members : Members = opened.members in
+      let elected = made.elected in
+      let parts = reading-made (sizes bank).sectors own (reading_in (length own) members) elected.says in
+      let whole : own ≡ take bank.slots members.own = parts.1 ∙ ap (λ n. take n members.own) own-count in
+      let of_it : members.newest.set_uuid ≡ uuid = newest-array uuid found members.newest parts.0 in
+      let says : tells → reading (scope uuid) c ≡ Some (reading_in bank.slots members) =
+      λ told. reads told ∙ elected.says ∙ ap (λ n. Some (reading_in n members)) own-count in
+      record {
+        elected = subst (λ n. IsElected (sizes bank).sectors (take bank.slots members.own) n members) (sym elected.named)
+            (subst (λ o. IsElected (sizes bank).sectors o lost members) whole elected);
+        lost = λ s. ap (λ n. has_slot n s) elected.named ∙ bits s ∙ ap (λ n. nat_lt s bank.slots && not (has_slot n s)) (sym made.given);
+        still = made.still;
+        array = λ told. of_it ∙ named told ∙ ap (λ n. array_of bank backup n asked c) (sym made.given);
+        says = λ told. subst (λ n. reading (scope_of bank backup n members.newest.set_uuid) c ≡ Some (reading_in bank.slots members)) (sym made.given)
+            (subst (λ u. reading (scope u) c ≡ Some (reading_in bank.slots members)) (sym of_it) (says told));
+        accepted = λ told. subst (λ n. verdict (scope_of bank backup n members.newest.set_uuid) c ≡ None) (sym made.given)
+            (subst (λ u. verdict (scope u) c ≡ None) (sym of_it)
+            (verdict-for (scope uuid) c (reading_in bank.slots members) (says told)
+            (ap (members_verdict (sizes bank).sectors) (sym (own-stored told)) ∙ elected.accepted)
+            ∙ still_none (scope uuid) members.newest made.still));
+      }
+
+  by_reshape : tells → (refusal : Refusal) → IsReshape (scope []) own refusal
+      → (verdict (scope uuid) c ≡ Some refusal) ⊎ IsReshapeRefused (scope uuid) c refusal
+  by_reshape told refusal reshape =
+      let says : reading (scope uuid) c ≡ Some reshape.found = reads told ∙ reshape.says in
+      let judged : verdict (scope uuid) c ≡ backup_absent (scope uuid) reshape.found.newest =
+      verdict-for (scope uuid) c reshape.found says (ap (members_verdict (sizes bank).sectors) (sym (own-stored told)) ∙ reshape.accepted) in
+      by_backup (backup_absent (scope []) reshape.found.newest) refl says judged reshape.first
+    where
+      by_backup : (absent : Option Refusal) → backup_absent (scope []) reshape.found.newest ≡ absent
+          → reading (scope uuid) c ≡ Some reshape.found → verdict (scope uuid) c ≡ backup_absent (scope uuid) reshape.found.newest
+          → option_or absent (Some (Unsupported 4)) ≡ Some refusal
+          → (verdict (scope uuid) c ≡ Some refusal) ⊎ IsReshapeRefused (scope uuid) c refusal
+      by_backup None is says judged e = inr (record { accepted = judged ∙ is; found = reshape.found; says = says; active = reshape.active; bits = cc })
+      by_backup (Some one) is says judged e = inl (judged ∙ is ∙ e)
+
+  is-refused : (refusal : Refusal) → (members_verdict (sizes bank).sectors own ≡ Some refusal) ⊎ IsReshape (scope []) own refusal
+      → IsRefused tells bank c backup asked before after refusal
+  is-refused refusal judged = record {
+    given = given;
+    slots = slots;
+    why = λ told. subst (λ u. (verdict (scope u) c ≡ Some refusal) ⊎ IsReshapeRefused (scope u) c refusal) (named told) (elim judged [
+      | inl first ↦ inl (verdict-refused (scope uuid) c refusal (ap (members_verdict (sizes bank).sectors) (sym (own-stored told)) ∙ first))
+      | inr reshape ↦ by_reshape told refusal reshape
+    ]);
+  }
+
+  module _ (judged : IsJudged (lengths_scope backup given lengths) (map (of_array (uuid_for asked (take (length lengths) seen))) (take (length lengths) seen)) lost result) where
+    by_ok : (r : Result Opened Fault) → IsJudged (scope []) own lost r → IfOk r (IsOpened tells bank c backup asked)
+    by_ok (Ok opened) made = is-opened opened made
+    by_ok (Err fault) why = tt
+
+    by_found : (r : Result Opened Fault) → IsJudged (scope []) own lost r → AreWritable bank seen
+        → IfOk r (λ opened. AreWritable bank opened.members.own)
+    by_found (Ok opened) made writable =
+        λ s sb e. writable s sb (own-found bank (sizes bank).sectors bank.slots lost uuid seen few count opened.members made.elected s sb e)
+    by_found (Err fault) why writable = tt
+
+    by_err : (r : Result Opened Fault) → IsJudged (scope []) own lost r → IfErr r (HasCause tells bank c backup asked before after)
+    by_err (Ok opened) made = tt
+    by_err (Err (Refused refusal)) why = is-refused refusal why
+    by_err (Err NoMemory) why = tt
+
+    pub ok-opened : IfOk result (IsOpened tells bank c backup asked)
+    ok-opened = by_ok result (as-judged judged)
+
+    pub ok-writable : AreWritable bank seen → IfOk result (λ opened. AreWritable bank opened.members.own)
+    ok-writable writable = by_found result (as-judged judged) writable
+
+    pub err-caused : IfErr result (HasCause tells bank c backup asked before after)
+    err-caused = by_err result (as-judged judged)
+
+-- a fact of the given slots is one of those that are answered
+pub given-as : (result : Result Opened Fault) (given : ℕ) (P : ℕ → Type 0) → IfOk result (λ opened. opened.given ≡ given) → P given
+    → IfOk result (λ opened. P opened.given)
+given-as (Ok opened) given P is p = subst P (sym is) p
+given-as (Err fault) given P is p = tt

@@ -1,0 +1,3 @@
+pub mod LookedAt
+pub mod Judged
+pub mod SafeLaws

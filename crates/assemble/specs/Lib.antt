@@ -1,0 +1,3 @@
+pub mod Opening
+pub mod Looking
+pub mod Safe

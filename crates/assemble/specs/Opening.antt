@@ -1,0 +1,64 @@
+-- What an opening finds in the slots of a bank, and what it answers.
+use Rattle.std.specs.Prelude.{◌≡◌, ◌⊎◌, ℕ, ◌<◌, ◌≤◌, not, ◌&&◌, nat_lt, IsTrue, IsFalse, List, [], ◌∷◌, ◌++◌, length, take, Option, Some, None}
+use Rattle.md_base.specs.declared.answers.Fault.{Fault}
+use Rattle.md_base.specs.declared.answers.Fault.TheVariants.{Refused, NoMemory}
+use Rattle.md_base.specs.declared.answers.Refusal.{Refusal}
+use Rattle.md_base.specs.declared.answers.Refusal.TheVariants.{Unsupported}
+use Rattle.md_base.specs.Shapes.{has_slot}
+use Rattle.bank.specs.declared.bank.Operation.{Operation}
+use Rattle.bank.specs.Given.{Given, sizes, IsFaulted}
+use Rattle.bank.specs.Tape.{Contents, contents, disk, AreFlushes}
+use Rattle.superblocks.specs.Reading.{Scope, Reading, reading, is_reshaping}
+use Rattle.superblocks.specs.Election.{seen_superblocks, uuid_for, reading_in, IsElected}
+use Rattle.flat_history.specs.Stands.{verdict}
+use Rattle.assemble.specs.declared.opening.Opened.{Opened}
+
+-- these slots of a bank, looked at for an array
+abbrev pub scope_of : Given → Option ℕ → ℕ → List ℕ → Scope
+scope_of bank backup given uuid = record { uuid = uuid; given = given; backup = backup; sizes = sizes bank }
+
+-- an array's uuid: the one that was asked for, or else that of the first superblock in these slots
+abbrev pub array_of : Given → Option ℕ → ℕ → Option (List ℕ) → Contents → List ℕ
+array_of bank backup given asked c = uuid_for asked (seen_superblocks (scope_of bank backup given []) c)
+
+-- The given slots are slots of the bank that had never failed; each other one has failed in the call.
+pub record AreGiven (bank : Given) (given : ℕ) (before after : ℕ → ℕ) : Type 0 where
+  pub known : (s : ℕ) → IsTrue (has_slot given s) → s < bank.slots
+  pub sound : (s : ℕ) → IsTrue (has_slot given s) → before s ≡ 0
+  pub failed : (s : ℕ) → s < bank.slots → IsFalse (has_slot given s) → IsFaulted s before after
+
+-- a stop leaves what these slots hold now, and nothing else
+abbrev pub AreFlushed : Contents → List Operation → ℕ → Type 0
+AreFlushed start tape given =
+    (s k : ℕ) → IsTrue (has_slot given s) → disk start tape s k ≡ contents start tape (length tape) s k ∷ []
+
+-- What is opened: the reading of what the given slots hold for the array, which is refused for nothing and has no active
+-- reshape. The lost slots are the bank's other ones.
+pub record IsOpened (tells : Type 0) (bank : Given) (c : Contents) (backup : Option ℕ) (asked : Option (List ℕ)) (opened : Opened) : Type 0 where
+  pub elected : IsElected (sizes bank).sectors (take bank.slots opened.members.own) opened.members.lost opened.members
+  pub lost : (s : ℕ) → has_slot opened.members.lost s ≡ (nat_lt s bank.slots && not (has_slot opened.given s))
+  pub still : IsFalse (is_reshaping opened.members.newest)
+  pub array : tells → opened.members.newest.set_uuid ≡ array_of bank backup opened.given asked c
+  pub says : tells → reading (scope_of bank backup opened.given opened.members.newest.set_uuid) c ≡ Some (reading_in bank.slots opened.members)
+  pub accepted : tells → verdict (scope_of bank backup opened.given opened.members.newest.set_uuid) c ≡ None
+
+-- nothing is refused, but a reshape is active, with which nobody goes on yet
+pub record IsReshapeRefused (scope : Scope) (c : Contents) (refusal : Refusal) : Type 0 where
+  pub accepted : verdict scope c ≡ None
+  pub found : Reading
+  pub says : reading scope c ≡ Some found
+  pub active : IsTrue (is_reshaping found.newest)
+  pub bits : refusal ≡ Unsupported 4
+
+-- the first refusal of what the given slots hold, or that of a reshape
+pub record IsRefused (tells : Type 0) (bank : Given) (c : Contents) (backup : Option ℕ) (asked : Option (List ℕ)) (before after : ℕ → ℕ)
+    (refusal : Refusal) : Type 0 where
+  pub given : ℕ
+  pub slots : AreGiven bank given before after
+  pub why : tells → (verdict (scope_of bank backup given (array_of bank backup given asked c)) c ≡ Some refusal)
+      ⊎ IsReshapeRefused (scope_of bank backup given (array_of bank backup given asked c)) c refusal
+
+-- a refusal has its cause; want of memory may come at any time
+abbrev pub HasCause : Type 0 → Given → Contents → Option ℕ → Option (List ℕ) → (ℕ → ℕ) → (ℕ → ℕ) → Fault → Type 0
+HasCause tells bank c backup asked before after (Refused refusal) = IsRefused tells bank c backup asked before after refusal
+HasCause tells bank c backup asked before after NoMemory = Unit {0}

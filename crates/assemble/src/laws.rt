@@ -1,0 +1,8 @@
+//! Laws of the definitions.
+
+ghost use Rattle.assemble.specs.Safe.{OpeningsAreSafe};
+
+/// At the mark of an opening every image is what is stored: it assembles, to the list that stands.
+pub fn openings_are_safe()
+    ensures { OpeningsAreSafe }
+{}

@@ -1,0 +1,66 @@
+//! What a stored reshape is refused for.
+
+ghost use Rattle.std.specs.Prelude.{◌≡◌, ◌+◌, ◌<◌, ◌≤◌, ◌&&◌, length, nat_le, slice_index, false, Some, None, IfSome, if◌then◌else◌};
+ghost use Rattle.std.specs.Option.{option_map_or, option_or};
+ghost use Rattle.md_base.specs.declared.answers.Refusal.TheVariants.{Unsupported};
+ghost use Rattle.md_base.specs.Shapes.{has_slot};
+ghost use Rattle.superblocks.specs.Reading.{is_reshaping, target_of};
+ghost use Rattle.superblocks.specs.Verdict.{AreValidShapes};
+ghost use Rattle.flat_history.specs.Stands.{reach_of, backup_absent};
+ghost use Rattle.assemble.specs.Looking.{lengths_scope};
+
+use geometry::unit;
+use md_base::{Refusal, Shape};
+use sb1::{Features, Sb};
+use superblocks::says::{list_length, shape_of, target_of};
+use superblocks::sets::contains;
+
+// Whether the backup is there, and has room behind its header for so many sectors.
+fn has_room(backup: Option<u32>, given: u32, lengths: &[u64], sectors: u128) -> bool
+    requires slots { length lengths.now ≤ 32 }
+    requires backup { IfSome backup (λ slot. slot < length lengths.now) }
+    ensures { result ≡ option_map_or (λ slot. has_slot given slot && nat_le (8 + sectors) (slice_index lengths.now slot)) backup false }
+{
+    match backup {
+        None => false,
+        Some(slot) => {
+            let length = u128::from(lengths[slot as usize]);
+            contains(given, slot) && length >= 8 && sectors <= length - 8
+        }
+    }
+}
+
+// The sectors that a window of this reshape has at most.
+fn reach(newest: &Sb, target: &Shape) -> u128
+    requires shapes { AreValidShapes newest.now }
+    requires target { target_of newest.now ≡ Some target.now }
+    ensures { result ≡ reach_of newest.now }
+{
+    let unit = u128::from(unit(&shape_of(newest), target));
+    unit.min(list_length(newest))
+}
+
+/// The refusal of an active reshape: the backup isn't there or is too short for a window, or else nobody goes on with
+/// reshapes yet. The given slots are those that are there, each of which has a length in sectors.
+pub fn reshape_refusal(
+    newest: &Sb,
+    backup: Option<u32>,
+    given: u32,
+    lengths: &[u64],
+) -> Option<Refusal>
+    requires shapes { AreValidShapes newest.now }
+    requires slots { length lengths.now ≤ 32 }
+    requires backup { IfSome backup (λ slot. slot < length lengths.now) }
+    ensures { result ≡ option_or (backup_absent (lengths_scope backup given lengths.now) newest.now)
+        (if is_reshaping newest.now then Some (Unsupported 4) else None) }
+{
+    let target = match target_of(newest) {
+        None => return None,
+        Some(target) => target,
+    };
+    if has_room(backup, given, lengths, reach(newest, &target)) {
+        Some(Refusal::Unsupported(u64::from(Features::RESHAPE_ACTIVE.0)))
+    } else {
+        Some(Refusal::BackupAbsent)
+    }
+}
