@@ -36,11 +36,11 @@ Disk = ℕ → ℕ → List Sector
 
 -- ---- sets
 
-and_first : (a b : Bool) → (a && not b) ≡ true → a ≡ true
+pub and_first : (a b : Bool) → (a && not b) ≡ true → a ≡ true
 and_first true b e = refl
 and_first false b e = e
 
-and_second : (a b : Bool) → (a && not b) ≡ true → b ≡ false
+pub and_second : (a b : Bool) → (a && not b) ≡ true → b ≡ false
 and_second true true e = absurd (cc)
 and_second true false e = refl
 and_second false b e = absurd (cc)

@@ -1,15 +1,20 @@
 -- What a stop may do to the reading of a running array.
-use Rattle.std.specs.Prelude.{◌≡◌, ◌⊎◌, ℕ, true, List, Option}
+use Rattle.std.specs.Prelude.{◌≡◌, ◌⊎◌, ℕ, ◌+◌, ◌^◌, ◌<◌, true, false, List, Option, replicate}
 use Rattle.md_base.specs.Sectors.{Sector}
 use Rattle.md_base.specs.Shapes.{has_slot}
 use Rattle.sb1.specs.declared.sb.Sb.{Sb}
 use Rattle.bank.specs.Tape.{Contents}
 use Rattle.superblocks.specs.declared.change.Give.{Give}
+use Rattle.superblocks.specs.declared.change.Give.TheVariants.{Same}
+use Rattle.superblocks.specs.declared.change.Change.{Change}
+use Rattle.superblocks.specs.declared.members.Members.{Members}
+use Rattle.superblocks.specs.Updating.{planned_newest, IsLater, AreNamed}
+use Rattle.superblocks.specs.Rounds.{Round, IsRewriting, IsInFirst, IsPastFirst, IsInNaming, ArePast, members_at, IsReadInUpdate, IsReady}
 use Rattle.superblocks.specs.Reading.{Scope, Reading}
 use Rattle.superblocks.specs.Update.{give_of, is_recovery}
 use Rattle.superblocks.specs.Reads.{IsReadAs}
 use Rattle.superblocks.specs.Held.{AreDrawn, AreHeld, AreLevel, AreExact, said_by}
-use Rattle.superblocks.specs.Stages.{IsCatchingUp, IsTaking, AreTaken, IsInUpdate, IsStaged, IsFitPlan, AreKept}
+use Rattle.superblocks.specs.Stages.{IsCatchingUp, IsTaking, AreTaken, IsInUpdate, IsStaged, IsFitPlan, AreLeft, AreKept}
 
 -- each image that may be left reads so
 abbrev pub EachReads : Scope → ℕ → Reading → (ℕ → ℕ → List Sector) → Type 0
@@ -90,3 +95,37 @@ abbrev pub WholeEndReads : Type 0
 WholeEndReads = (scope : Scope) (known lost left : ℕ) (former newest : Sb) (gives : List Give) (own own' : List (Option Sb)) (d e : ℕ → ℕ → List Sector)
     → IsWhole scope known lost left former newest gives own own' d → IsStaged former newest gives own left d e → AreTaken newest gives own left e
     → (s : ℕ) × (has_slot left s ≡ true) → IsUpdatedTo scope lost left newest own' e
+
+-- ---- an update in which slots may be lost, but none that gets a recovery offset
+
+-- each image that may be left reads as before the update, or as planned by one of its rounds
+abbrev pub EachReadsInUpdate : Scope → ℕ → Members → Change → ℕ → ℕ → (ℕ → ℕ → List Sector) → Type 0
+EachReadsInUpdate scope known members change before live e = (c : Contents) → AreDrawn e c → IsReadInUpdate scope known members change before live c
+
+-- at each of its marks: while slots are brought to the newest event count, in the first round, and in one that names lost slots
+abbrev pub UpdateInRoundsReads : Type 0
+UpdateInRoundsReads = (scope : Scope) (known left : ℕ) (members : Members) (change : Change) (before live : ℕ) (d e : ℕ → ℕ → List Sector) → IsReady scope known left members change live d
+    → (IsRewriting members.newest (replicate 32 Same) members.own live members.lost d e → EachReadsInUpdate scope known members change before live e)
+    × (IsInFirst members change before live d e → EachReadsInUpdate scope known members change before live e)
+    × ((first : Round) → IsPastFirst members change before live d first → (at : IsInNaming (members_at members first) change before live first e)
+    → members.newest.events + 2 + at.rounds < 2 ^ 62 → EachReadsInUpdate scope known members change before live e)
+
+-- Its end: the slots are held by the superblocks that were planned, and each image reads as they say.
+pub record AreHeldAsPlanned (scope : Scope) (members : Members) (change : Change) (before live : ℕ) (last : Round) : Type 0 where
+  pub known : ℕ
+  pub named : ℕ
+  pub own : List (Option Sb)
+  pub held : AreHeld scope known last.lost last.newest own last.disk
+  pub are : AreLeft live named known
+  pub more : IsWithin members.lost named
+  pub grown : IsWithin named last.lost
+  pub later : IsLater (planned_newest change.shared members.newest) last.newest
+  pub plan : AreNamed members change before named last.newest
+  pub kept : AreKept last.newest change.gives members.own known own
+  pub reads : (c : Contents) → AreDrawn last.disk c → IsReadAs scope last.lost (said_by scope known own last.newest) c
+
+-- where a live slot is left
+abbrev pub UpdateInRoundsEnds : Type 0
+UpdateInRoundsEnds = (scope : Scope) (known left : ℕ) (members : Members) (change : Change) (before live : ℕ) (d : ℕ → ℕ → List Sector) (last : Round)
+    → IsReady scope known left members change live d → (past : ArePast members change before live d last) → members.newest.events + 2 + past.named.0 < 2 ^ 62
+    → (s : ℕ) × (has_slot live s ≡ true) × (has_slot last.lost s ≡ false) → AreHeldAsPlanned scope members change before live last

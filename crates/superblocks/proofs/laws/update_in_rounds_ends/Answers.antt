@@ -1,0 +1,21 @@
+use Rattle.superblocks.proofs.RoundReads.{kept-of}
+use Rattle.superblocks.proofs.RoundsRead.{rounds-end}
+use Rattle.superblocks.proofs.StageReads.{held-reads}
+use Rattle.superblocks.proofs.laws.update_in_rounds_ends.Goals as goal
+
+pub returns : goal.returns
+returns c = λ scope known left members change before live d last ready past small some.
+    let at = rounds-end scope members change before live known left d ready past.first last past.named.0 past.past past.named.1 small some in
+    record {
+      known = at.known;
+      named = at.named;
+      own = at.own;
+      held = at.held;
+      are = at.are;
+      more = at.more;
+      grown = at.grown;
+      later = at.later;
+      plan = at.plan;
+      kept = kept-of last.newest change.gives members.own at.own at.known at.own_is;
+      reads = λ image drawn. held-reads scope at.known last.lost last.newest at.own last.disk at.held at.known (λ s is. is) image drawn;
+    }
