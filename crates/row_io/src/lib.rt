@@ -10,8 +10,8 @@ mod read;
 mod sets;
 mod write;
 
-pub use held::data_offset;
-pub use lose::lose_slot;
+pub use held::{data_offset, is_missing};
+pub use lose::{lose_slot, lose_slots, missing_count};
 pub use read::read_row;
 pub use write::write_row;
 

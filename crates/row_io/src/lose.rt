@@ -50,7 +50,7 @@ fn lose_roles(roles: &mut RoleList, lost: u32)
 }
 
 /// The slots are lost, and the roles that they held are missing.
-pub fn lose(members: &mut Members, lost: u32)
+pub fn lose_slots(members: &mut Members, lost: u32)
     requires few { length members.old.roles < 2 ^ 32 }
     requires small { (role slot : ℕ) → holder (role_state (reading_of members.old) role) ≡ Some slot → slot < 32 }
     ensures { members.new ≡ members_without lost members.old }
@@ -68,7 +68,7 @@ pub fn lose_slot(members: &mut Members, slot: u32) -> u32
     ensures alone { (s : ℕ) → has_slot result s ≡ (slot == s) }
 {
     let lost = with(0, slot);
-    lose(members, lost);
+    lose_slots(members, lost);
     lost
 }
 

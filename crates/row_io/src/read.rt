@@ -8,7 +8,7 @@ ghost use Rattle.row_io.specs.Rows.{present, reading_of, standing_sector, missin
 
 use crate::fill::fill_lacking;
 use crate::held::{data_offset, held_slot};
-use crate::lose::{lose, missing_count};
+use crate::lose::{lose_slots, missing_count};
 use crate::sets::{contains, with};
 use bank::{Bank, BankFault};
 use md_base::Shape;
@@ -121,7 +121,7 @@ pub fn read_row<B: Bank>(
     ensures never_falls { NeverFalls (B.faults_of bank.old) (B.faults_of bank.new) }
 {
     let lost = read_held(members, bank, shape, row, into);
-    lose(members, lost);
+    lose_slots(members, lost);
     if tolerance(shape) < missing_count(members, shape.disks) {
         return Err(lost);
     }

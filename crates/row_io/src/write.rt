@@ -12,7 +12,7 @@ ghost use Rattle.row_io.specs.Rows.{present, reading_of, held_row, standing_sect
 ghost use Rattle.row_io.specs.Writes.{new_sector, slot_in, place_on, AreApart, OthersStand, IsWriting, AreWritten, IsWritingTo, AreWrittenTo, IsTurn, IsGoodRow};
 
 use crate::held::{data_offset, held_slot};
-use crate::lose::{lose, missing_count};
+use crate::lose::{lose_slots, missing_count};
 use crate::new_row::{due_roles, set_parity};
 use crate::read::tolerance;
 use crate::sets::{contains, with};
@@ -154,7 +154,7 @@ pub fn write_row<B: Bank>(
         return Err(0);
     }
     let lost = write_new(members, bank, shape, row, from, changed);
-    lose(members, lost);
+    lose_slots(members, lost);
     if tolerance(shape) < missing_count(members, shape.disks) {
         return Err(lost);
     }

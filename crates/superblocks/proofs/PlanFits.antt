@@ -118,6 +118,41 @@ entries-at entries own (suc n) table dev d long = of
     of (inl same) (inl kept) = inl (same ∙ kept)
     of (inl same) (inr (t, lt, sb, is, held, number)) = inr (t, omega (arith, lt), sb, is ∙ ap (λ (e : ℕ). Some e) (sym same), held, number)
 
+-- one device's entry that is set
+set_entry : (e : Option ℕ) (held : Option Sb) (table : List ℕ) (sb : Sb) (entry d : ℕ) → 128 ≤ length table → e ≡ Some entry → held ≡ Some sb → sb.dev_number < 128
+    → get_or (with_entry e held table) sb.dev_number d ≡ entry
+set_entry e held table sb entry d long is own below =
+    (λ i. get_or (with_entry (is i) (own i) table) sb.dev_number d)
+    ∙ ap (λ b. get_or (cond b (set table sb.dev_number entry) table) sb.dev_number d) (is_lower sb.dev_number 128 below)
+    ∙ at_set table sb.dev_number entry d (omega (arith, below, long))
+  where
+    is_lower : (a b : ℕ) → a < b → nat_lt a b ≡ true
+    is_lower a b h = grind (arith, nat_tests)
+
+-- A device has the entry of its slot, where no slot gives it another one.
+pub entry-set : (entries : ℕ → Option ℕ) (own : Own) (n : ℕ) (table : List ℕ) (s entry d : ℕ) (sb : Sb) → 128 ≤ length table → s < n → entries s ≡ Some entry → own_in own s ≡ Some sb → sb.dev_number < 128
+    → ((t other : ℕ) (a : Sb) → entries t ≡ Some other → own_in own t ≡ Some a → a.dev_number ≡ sb.dev_number → other ≡ entry)
+    → get_or (with_entries entries own n table) sb.dev_number d ≡ entry
+unfolding with_entries
+entry-set entries own zero table s entry d sb long lt is held below only = absurd (omega (arith, lt))
+entry-set entries own (suc n) table s entry d sb long lt is held below only = elim (cases_lt s n) [
+  | inl before ↦ of (one_entry (entries n) (own_in own n) (with_entries entries own n table) sb.dev_number d enough)
+      (entry-set entries own n table s entry d sb long before is held below only)
+  | inr past ↦
+      let here : s ≡ n = omega (arith, lt, past) in
+      set_entry (entries n) (own_in own n) (with_entries entries own n table) sb entry d enough (ap entries (sym here) ∙ is) (ap (own_in own) (sym here) ∙ held) below
+]
+  where
+    enough : 128 ≤ length (with_entries entries own n table)
+    enough = omega (arith, length-entries entries own n table, long)
+
+    of : (get_or (with_entry (entries n) (own_in own n) (with_entries entries own n table)) sb.dev_number d ≡ get_or (with_entries entries own n table) sb.dev_number d)
+        ⊎ ((a : Sb) × (other : ℕ) × (entries n ≡ Some other) × (own_in own n ≡ Some a) × (a.dev_number ≡ sb.dev_number) × (get_or (with_entry (entries n) (own_in own n) (with_entries entries own n table)) sb.dev_number d ≡ other))
+        → get_or (with_entries entries own n table) sb.dev_number d ≡ entry
+        → get_or (with_entry (entries n) (own_in own n) (with_entries entries own n table)) sb.dev_number d ≡ entry
+    of (inl same) was = same ∙ was
+    of (inr (a, other, is', held', number, at)) was = at ∙ only n other a is' held' number
+
 mapped : (f : ℕ → ℕ) (l : List ℕ) (i d : ℕ) → i < length l → get_or (map f l) i d ≡ f (get_or l i d)
 mapped f [] i d lt = absurd (omega (arith, lt))
 mapped f (x ∷ l) zero d lt = refl
@@ -159,6 +194,13 @@ module _ (members : Members) (change : Change) (before lost : ℕ) (table : List
       ⊎ IsEntered (entry_for members change before lost) members.own 32 dev (get_or (with_roles members change before lost table) dev d)
   roles-at dev d below = ⊎_elim (λ same. inl (same ∙ cleared_front table dev d long below)) (λ entered. inr entered)
       (entries-at (entry_for members change before lost) members.own 32 (cleared table) dev d (omega (arith, length_cleared table long, long)))
+
+  -- and that of its slot, where no slot gives it another one
+  pub role-set : (s entry d : ℕ) (sb : Sb) → s < 32 → entry_for members change before lost s ≡ Some entry → own_in members.own s ≡ Some sb → sb.dev_number < 128
+      → ((t other : ℕ) (a : Sb) → entry_for members change before lost t ≡ Some other → own_in members.own t ≡ Some a → a.dev_number ≡ sb.dev_number → other ≡ entry)
+      → get_or (with_roles members change before lost table) sb.dev_number d ≡ entry
+  role-set s entry d sb lt is held below only =
+      entry-set (entry_for members change before lost) members.own 32 (cleared table) s entry d sb (omega (arith, length_cleared table long, long)) lt is held below only
 
 -- a slot's entry that isn't the faulty number
 pub entry-is : (before lost : Bool) (role : Option ℕ) (spare : Bool) (e : ℕ) → slot_entry before lost role spare ≡ Some e → e ≢ 0xfffe
@@ -224,10 +266,17 @@ pub record IsNext (members : Members) (change : Change) (before lost : ℕ) (for
   pub fields : find (λ (f : ℕ × Bool). f.1) (judged_fields newest []) ≡ None
   pub count : role_count newest ≡ role_count (planned_newest change.shared members.newest)
 
-module _ (scope : Scope) (known lost left before : ℕ) (members : Members) (change : Change) (former newest : Sb) (own : List (Option Sb)) (d : ℕ → ℕ → List Sector)
-    (held : AreHeld scope known lost former own d) (within : (s : ℕ) → has_slot left s ≡ true → has_slot known s ≡ true) (fits : IsFitChange known lost left members change)
-    (next : IsNext members change before lost former newest)
-    (one_device : (t : ℕ) (sb z : Sb) → has_slot left t ≡ true → own_in members.own t ≡ Some sb → own_in own t ≡ Some z → z.dev_number ≡ sb.dev_number) where
+-- Slots that are planned for, among them those that are written. Of the others only ones that count as lost are planned for, and these
+-- get no role. None has the number of another that is planned for.
+pub record IsPlanScope (scope : Scope) (lost gone left wide : ℕ) (members : Members) (change : Change) (former : Sb) (d : ℕ → ℕ → List Sector) : Type 0 where
+  pub more : (s : ℕ) → has_slot lost s ≡ true → has_slot gone s ≡ true
+  pub outer : (s : ℕ) → has_slot left s ≡ false → has_slot gone s ≡ false → has_slot wide s ≡ false
+  pub role : (s t role : ℕ) → has_slot left s ≡ false → planned_role members.roles (give_of change.gives t) t ≡ Some role → has_slot wide t ≡ true → s ≢ t
+  pub numbers : (s t : ℕ) (a sb : Sb) → s ≢ t → MayRead scope d s (Some a) → is_fresh former a ≡ true → has_slot wide t ≡ true → own_in members.own t ≡ Some sb → sb.dev_number ≢ a.dev_number
+
+module _ (scope : Scope) (known lost gone left wide before : ℕ) (members : Members) (change : Change) (former newest : Sb) (own : List (Option Sb)) (d : ℕ → ℕ → List Sector)
+    (held : AreHeld scope known gone former own d) (fits : IsFitChange known lost wide members change)
+    (next : IsNext members change before lost former newest) (scoped : IsPlanScope scope lost gone left wide members change former d) where
   abbrev table : List ℕ
   table = with_roles members change before lost former.dev_roles
 
@@ -266,24 +315,6 @@ module _ (scope : Scope) (known lost left before : ℕ) (members : Members) (cha
       of (none, inl role) = (t, none, role, sb, own_is, number)
       of (none, inr (spare, it)) = absurd (omega (arith, spare, small))
 
-  -- a slot that isn't written has no device of one that is
-  clash : (s t : ℕ) (a sb : Sb) → has_slot left s ≡ false → MayRead scope d s (Some a) → is_fresh former a ≡ true → has_slot left t ≡ true → own_in members.own t ≡ Some sb → sb.dev_number ≡ a.dev_number → ⊥
-  clash s t a sb none m fresh is own_is number =
-      let apart : s ≢ t = (λ same. absurd (let both = sym none ∙ ap (has_slot left) same ∙ is in cc)) in
-      let k = held.each t (within t is) in
-      let k_number : k.sb.dev_number ≡ a.dev_number = one_device t sb k.sb is own_is k.own ∙ number in
-      let shown = shows_of s a m fresh in
-      held.apart s t shown.0 k.sb apart shown.1 (inl (within t is, k.own)) shown.2 k.fresh (shown.3 ∙ sym k_number)
-    where
-      shows_of : (s : ℕ) (a : Sb) → MayRead scope d s (Some a) → is_fresh former a ≡ true → (b : Sb) × Shows scope known own d s b × (is_fresh former b ≡ true) × (b.dev_number ≡ a.dev_number)
-      shows_of s a m fresh = ⊎_elim
-          (λ is.
-          let k = held.each s is in
-          let r = k.reads (Some a) m in
-          let same : record r.0 { sb_csum = r.1.0 } ≡ a = (let both = r.1.1 in cc) in
-          (k.sb, inl (is, k.own), k.fresh, sym r.2.number ∙ ap (λ (z : Sb). z.dev_number) same))
-          (λ none. (a, inr (none, m), fresh, refl)) (by_bool (has_slot known s))
-
   -- no slot that isn't written holds a role
   no_holder : (s role : ℕ) (z : Sb) → has_slot left s ≡ false → role < 16 → MayRead scope d s (Some z) → holds_role newest role z ≡ true → ⊥
   no_holder s role z none h m holds =
@@ -295,7 +326,8 @@ module _ (scope : Scope) (known lost left before : ℕ) (members : Members) (cha
             (λ faulty. absurd (let no = no_role_of_faulty (entry_of former z.dev_number) in let e = sym faulty ∙ at in omega (arith, e, h)))
             (λ entered.
             let r = role_entry z.dev_number (entry_of newest z.dev_number) entered (omega (arith, at, h)) in
-            clash s r.0 z r.3 none m fresh (fits.role r.0 (entry_of newest z.dev_number) r.1 r.2) r.4 r.5)
+            let is = fits.role r.0 (entry_of newest z.dev_number) r.1 r.2 in
+            scoped.numbers s r.0 z r.3 (scoped.role s r.0 (entry_of newest z.dev_number) none r.2 is) m fresh is r.4 r.5)
             (by_roles z.dev_number below)
         | inr past ↦ absurd (let no = late z.dev_number past in let yes = is_below (entry_of newest z.dev_number) 0xfffe (omega (arith, at, h)) in let both = sym no ∙ yes in cc)
       ]
@@ -305,28 +337,31 @@ module _ (scope : Scope) (known lost left before : ℕ) (members : Members) (cha
   no_role s role (Some z) none h m = ⊎_elim (λ holds. absurd (no_holder s role z none h m holds)) (λ not. ap (λ b. cond b (Some (state_of s z)) None) not) (by_bool (holds_role newest role z))
 
   -- none of them that wasn't lost is a spare
-  no_spare_by : (s : ℕ) (z : Sb) → s < scope.sizes.slots → has_slot left s ≡ false → has_slot lost s ≡ false → MayRead scope d s (Some z)
+  no_spare_by : (s : ℕ) (z : Sb) → s < scope.sizes.slots → has_slot left s ≡ false → has_slot gone s ≡ false → MayRead scope d s (Some z)
       → is_spare newest (scope.sizes.sectors s) z ≡ true → ⊥
   no_spare_by s z there none left_ m spare =
       let p = all_five (is_fresh newest z) (not (is_recovering z)) (nat_lt z.dev_number 128) (entry_of newest z.dev_number == 0xffff) (lies_within newest (scope.sizes.sectors s) z) spare in
       let below : z.dev_number < 128 = less z.dev_number 128 p.2 in
       let at : entry_of newest z.dev_number ≡ 0xffff = equal (entry_of newest z.dev_number) 0xffff p.3 in
       let fresh = fresh_back newest.events former.events z.events later p.0 in
-      let unknown : has_slot known s ≡ false = ⊎_elim (λ is. absurd (let both = sym (fits.written s is left_) ∙ none in cc)) (λ no. no) (by_bool (has_slot known s)) in
+      let kept : has_slot lost s ≡ false = ⊎_elim (λ is. absurd (let both = sym (scoped.more s is) ∙ left_ in cc)) (λ no. no) (by_bool (has_slot lost s)) in
+      let narrow : has_slot wide s ≡ false = scoped.outer s none left_ in
+      let unknown : has_slot known s ≡ false = ⊎_elim (λ is. absurd (let both = sym (fits.written s is kept) ∙ narrow in cc)) (λ no. no) (by_bool (has_slot known s)) in
       ⊎_elim
       (λ faulty.
       let before_ : entry_of former z.dev_number ≡ 0xffff = spare_of_faulty (entry_of former z.dev_number) (sym faulty ∙ at) in
       let lies : lies_within former (scope.sizes.sectors s) z ≡ true = (λ i. nat_le 10 z.data_offset && nat_le (z.data_offset + sym next.size i) (scope.sizes.sectors s)) ∙ p.4 in
       let was : is_spare former (scope.sizes.sectors s) z ≡ true = (λ i. fresh i && p.1 i && p.2 i && (same_as before_) i && lies i) in
       absurd (let no = (held.others s there unknown).spare (Some z) left_ m in let both = sym was ∙ no in cc))
-      (λ entered. spare_entry (entry_of newest z.dev_number) z.dev_number at entered (λ t_ is sb own_is number. clash s t_ z sb none m fresh is own_is number))
+      (λ entered. spare_entry (entry_of newest z.dev_number) z.dev_number at entered (λ t_ is sb own_is number.
+      scoped.numbers s t_ z sb (λ same. absurd (let both = sym narrow ∙ ap (has_slot wide) same ∙ is in cc)) m fresh is own_is number))
       (by_roles z.dev_number below)
     where
       same_as : {a : ℕ} → a ≡ 0xffff → (a == 0xffff) ≡ true
       same_as {a = a} e = ap (λ (n : ℕ). n == 0xffff) e
 
       spare_entry : (e dev : ℕ) → e ≡ 0xffff → IsEntered (entry_for members change before lost) members.own 32 dev e
-          → ((t : ℕ) → has_slot left t ≡ true → (sb : Sb) → own_in members.own t ≡ Some sb → sb.dev_number ≡ dev → ⊥) → ⊥
+          → ((t : ℕ) → has_slot wide t ≡ true → (sb : Sb) → own_in members.own t ≡ Some sb → sb.dev_number ≡ dev → ⊥) → ⊥
       spare_entry e dev at (t, lt, sb, is, own_is, number) never = of (entry-is (has_slot before t) (has_slot lost t) (planned_role members.roles (give_of change.gives t) t)
           (is_planned_spare members.spares change.added (give_of change.gives t) t) e is (λ same. absurd (omega (arith, same, at))))
         where
@@ -334,7 +369,7 @@ module _ (scope : Scope) (known lost left before : ℕ) (members : Members) (cha
           of (kept, inl role) = never t (fits.role t e kept role) sb own_is number
           of (kept, inr (is_e, spare_)) = never t (fits.spare t kept spare_) sb own_is number
 
-  no_spare : (s : ℕ) (found : Option Sb) → s < scope.sizes.slots → has_slot left s ≡ false → has_slot lost s ≡ false → MayRead scope d s found → spare_in newest (scope.sizes.sectors s) found ≡ false
+  no_spare : (s : ℕ) (found : Option Sb) → s < scope.sizes.slots → has_slot left s ≡ false → has_slot gone s ≡ false → MayRead scope d s found → spare_in newest (scope.sizes.sectors s) found ≡ false
   no_spare s None there none left_ m = refl
   no_spare s (Some z) there none left_ m = ⊎_elim (λ is. absurd (no_spare_by s z there none left_ m is)) (λ no. no) (by_bool (is_spare newest (scope.sizes.sectors s) z))
 
@@ -381,11 +416,26 @@ module _ (scope : Scope) (known lost left before : ℕ) (members : Members) (cha
   device N (give.Role role None) sb none keeps = (recovering-none N sb role ∙ sym keeps, λ recovers. absurd (let both = sym keeps ∙ recovers in cc))
   device N (give.Role role (Some offset)) sb none keeps = absurd (cc)
 
+  -- a device of a slot that is planned for, and wasn't given a role, has none
+  pub idle-number : (t : ℕ) (sb : Sb) → sb.dev_number < 128 → ((s role : ℕ) (z : Sb) → planned_role members.roles (give_of change.gives s) s ≡ Some role → has_slot wide s ≡ true
+      → own_in members.own s ≡ Some z → z.dev_number ≢ sb.dev_number) → (role : ℕ) → role < 16 → held_in newest role t (Some sb) ≡ None
+  idle-number t sb below apart role h = ⊎_elim
+      (λ holds. absurd (
+      let parts = and_true (is_fresh newest sb) (entry_of newest sb.dev_number == role) holds in
+      let at : entry_of newest sb.dev_number ≡ role = equal (entry_of newest sb.dev_number) role parts.1 in
+      ⊎_elim
+      (λ faulty. absurd (let no = no_role_of_faulty (entry_of former sb.dev_number) in let e = sym faulty ∙ at in omega (arith, e, h)))
+      (λ entered.
+      let r = role_entry sb.dev_number (entry_of newest sb.dev_number) entered (omega (arith, at, h)) in
+      apart r.0 (entry_of newest sb.dev_number) r.3 r.2 (fits.role r.0 (entry_of newest sb.dev_number) r.1 r.2) r.4 r.5)
+      (by_roles sb.dev_number below)))
+      (λ not. ap (λ b. cond b (Some (state_of t sb)) None) not) (by_bool (holds_role newest role sb))
+
   -- whatever is given, where each slot keeps its recovery
-  pub next-fits : (gives : List Give) → ((s : ℕ) (sb : Sb) → has_slot left s ≡ true → own_in own s ≡ Some sb → KeepsRecovery (give_of gives s) sb)
+  pub wide-fits : (gives : List Give) → ((s : ℕ) (sb : Sb) → has_slot left s ≡ true → own_in own s ≡ Some sb → KeepsRecovery (give_of gives s) sb)
       → ((s t : ℕ) → has_slot left s ≡ true → has_slot left t ≡ true → is_recovery (give_of gives s) ≡ true → is_recovery (give_of gives t) ≡ true → s ≡ t)
-      → IsFitPlan scope lost former newest gives own left d
-  next-fits gives keeps one = record {
+      → IsFitPlan scope gone former newest gives own left d
+  wide-fits gives keeps one = record {
     sound = sound;
     table = ap length next.roles ∙ length-roles members change before lost former.dev_roles long ∙ held.table;
     later = later;
@@ -395,6 +445,46 @@ module _ (scope : Scope) (known lost left before : ℕ) (members : Members) (cha
     devices = λ s sb is own_is none. device newest (give_of gives s) sb none (keeps s sb is own_is);
     one = one;
   }
+
+-- a slot that has no part shows a number of its own
+pub shown-of : (scope : Scope) (known lost : ℕ) (former : Sb) (own : List (Option Sb)) (d : ℕ → ℕ → List Sector) → AreHeld scope known lost former own d → (s : ℕ) (a : Sb)
+    → MayRead scope d s (Some a) → is_fresh former a ≡ true → (b : Sb) × Shows scope known own d s b × (is_fresh former b ≡ true) × (b.dev_number ≡ a.dev_number)
+shown-of scope known lost former own d held s a m fresh = ⊎_elim
+    (λ is.
+    let k = held.each s is in
+    let r = k.reads (Some a) m in
+    let same : record r.0 { sb_csum = r.1.0 } ≡ a = (let both = r.1.1 in cc) in
+    (k.sb, inl (is, k.own), k.fresh, sym r.2.number ∙ ap (λ (z : Sb). z.dev_number) same))
+    (λ none. (a, inr (none, m), fresh, refl)) (by_bool (has_slot known s))
+
+-- a known slot has no device of another
+pub known-numbers : (scope : Scope) (known lost : ℕ) (former : Sb) (own : List (Option Sb)) (d : ℕ → ℕ → List Sector) → AreHeld scope known lost former own d → (s t : ℕ) (a z : Sb)
+    → s ≢ t → MayRead scope d s (Some a) → is_fresh former a ≡ true → has_slot known t ≡ true → own_in own t ≡ Some z → z.dev_number ≢ a.dev_number
+known-numbers scope known lost former own d held s t a z apart m fresh is own_is =
+    let k = held.each t is in
+    let same : k.sb ≡ z = (let both : Some k.sb ≡ Some z = sym k.own ∙ own_is in cc) in
+    let shown = shown-of scope known lost former own d held s a m fresh in
+    λ number. held.apart s t shown.0 k.sb apart shown.1 (inl (is, k.own)) shown.2 k.fresh (shown.3 ∙ sym number ∙ ap (λ (y : Sb). y.dev_number) (sym same))
+
+-- where all slots that are planned for are written
+pub next-fits : (scope : Scope) (known lost left before : ℕ) (members : Members) (change : Change) (former newest : Sb) (own : List (Option Sb)) (d : ℕ → ℕ → List Sector)
+    → AreHeld scope known lost former own d → ((s : ℕ) → has_slot left s ≡ true → has_slot known s ≡ true) → IsFitChange known lost left members change
+    → IsNext members change before lost former newest
+    → ((t : ℕ) (sb z : Sb) → has_slot left t ≡ true → own_in members.own t ≡ Some sb → own_in own t ≡ Some z → z.dev_number ≡ sb.dev_number)
+    → (gives : List Give) → ((s : ℕ) (sb : Sb) → has_slot left s ≡ true → own_in own s ≡ Some sb → KeepsRecovery (give_of gives s) sb)
+    → ((s t : ℕ) → has_slot left s ≡ true → has_slot left t ≡ true → is_recovery (give_of gives s) ≡ true → is_recovery (give_of gives t) ≡ true → s ≡ t)
+    → IsFitPlan scope lost former newest gives own left d
+next-fits scope known lost left before members change former newest own d held within fits next one_device gives keeps one =
+    wide-fits scope known lost lost left left before members change former newest own d held fits next
+    (record {
+      more = λ s is. is;
+      outer = λ s none kept. none;
+      role = λ s t role none is_role is same. absurd (let both = sym none ∙ ap (has_slot left) same ∙ is in cc);
+      numbers = λ s t a sb apart m fresh is own_is number.
+          let k = held.each t (within t is) in
+          known-numbers scope known lost former own d held s t a k.sb apart m fresh (within t is) k.own (one_device t sb k.sb is own_is k.own ∙ number);
+    })
+    gives keeps one
 
 pub plan-fits : (scope : Scope) (known lost left before : ℕ) (members : Members) (change : Change) (d : ℕ → ℕ → List Sector)
     → AreHeld scope known lost members.newest members.own d → ((s : ℕ) → has_slot left s ≡ true → has_slot known s ≡ true) → IsFitChange known lost left members change

@@ -45,7 +45,7 @@ judged sb within room =
     (220, room) ∷ []
 
 module _ (M N : Sb) (a : SaysSame M N) where
-  shape-same : shape_of M ≡ shape_of N
+  pub shape-same : shape_of M ≡ shape_of N
   shape-same i = record {
     level = a.level i;
     layout = a.layout i;
@@ -88,7 +88,7 @@ module _ (M N : Sb) (a : SaysSame M N) where
       dirty-same roles i ∷ off-same i ∷ [])
 
   -- the judged fields, where the slots have none that fails
-  fields-same : M.events ≡ N.events → (within room : Bool) → within ≡ false → room ≡ false
+  fields-same : nat_lt M.events (2 ^ 62) ≡ nat_lt N.events (2 ^ 62) → (within room : Bool) → within ≡ false → room ≡ false
       → find (λ (f : ℕ × Bool). f.1) (judged_fields M []) ≡ find (λ (f : ℕ × Bool). f.1) (judged N within room)
   fields-same events within room w r = path ∙ sym (λ i. find (λ (f : ℕ × Bool). f.1) (judged N (w i) (r i)))
     where
@@ -105,12 +105,39 @@ module _ (M N : Sb) (a : SaysSame M N) where
           (116, a.reshaping i && not (is_layout (a.level i) (a.new_layout i))) ∷
           (120, a.reshaping i && not (is_chunk (a.new_chunk i))) ∷
           (128, false) ∷
-          (200, not (nat_lt (events i) (2 ^ 62))) ∷
+          (200, not (events i)) ∷
           (220, false) ∷ [])
+
+  -- none fails of the one where none does of the other
+  pub fields-kept : nat_lt M.events (2 ^ 62) ≡ nat_lt N.events (2 ^ 62) → find (λ (f : ℕ × Bool). f.1) (judged_fields M []) ≡ None → find (λ (f : ℕ × Bool). f.1) (judged_fields N []) ≡ None
+  fields-kept events none = sym (fields-same events false false refl refl) ∙ none
+
+-- the judged fields by themselves, where the slots have none that fails
+pub fields-alone : (N : Sb) (slots : List (Sb × ℕ)) → list_any (λ s. is_holder N s.0 && not (lies_within N s.1 s.0)) slots ≡ false → list_any (λ s. nat_lt s.0.max_dev 128) slots ≡ false
+    → find (λ (f : ℕ × Bool). f.1) (judged_fields N slots) ≡ None → find (λ (f : ℕ × Bool). f.1) (judged_fields N []) ≡ None
+fields-alone N slots within room none =
+    fields-same N N same refl (list_any (λ s. is_holder N s.0 && not (lies_within N s.1 s.0)) slots) (list_any (λ s. nat_lt s.0.max_dev 128) slots) within room ∙ none
+  where
+    same : SaysSame N N
+    same = record {
+      level = refl;
+      layout = refl;
+      size = refl;
+      chunksize = refl;
+      raid_disks = refl;
+      new_level = refl;
+      reshape_position = refl;
+      delta_disks = refl;
+      new_layout = refl;
+      new_chunk = refl;
+      resync_offset = refl;
+      reshaping = refl;
+      backward = refl;
+    }
 
 -- ---- numbers
 
-none_below : (n : ℕ) (test : ℕ → Bool) (j : ℕ) → j < n → least_below n test ≡ None → test j ≡ false
+pub none_below : (n : ℕ) (test : ℕ → Bool) (j : ℕ) → j < n → least_below n test ≡ None → test j ≡ false
 unfolding least_below
 none_below zero test j h none = absurd (omega (arith, h))
 none_below (suc n) test j h none = elim (cases_lt j n) [
@@ -132,7 +159,7 @@ unfolding any_below
 any-same zero f g same = refl
 any-same (suc n) f g same = ap₂ (λ x y. x || y) (any-same n f g (λ k h. same k (omega (arith, h)))) (same n (omega arith))
 
-tabulate-same : {X : Type 0} (n : ℕ) (f g : ℕ → X) → ((k : ℕ) → k < n → f k ≡ g k) → tabulate n f ≡ tabulate n g
+pub tabulate-same : {X : Type 0} (n : ℕ) (f g : ℕ → X) → ((k : ℕ) → k < n → f k ≡ g k) → tabulate n f ≡ tabulate n g
 unfolding tabulate
 tabulate-same zero f g same = refl
 tabulate-same (suc n) f g same = ap₂ (λ x y. x ++ y ∷ []) (tabulate-same n f g (λ k h. same k (omega (arith, h)))) (same n (omega arith))
@@ -246,7 +273,7 @@ module _ (sectors : ℕ → ℕ) (lost : ℕ) (M N : Sb) (X Y : Own) (sound : Is
 
   no_field : bad_field N (fresh_from N sectors 0 X) ≡ None
   no_field =
-      let fields = fields-same M N new.array (sym events) (list_any (λ s. is_holder N s.0 && not (lies_within N s.1 s.0)) (fresh_from N sectors 0 X)) (list_any (λ s. nat_lt s.0.max_dev 128) (fresh_from N sectors 0 X)) lies has_room in
+      let fields = fields-same M N new.array (ap (λ (n : ℕ). nat_lt n (2 ^ 62)) (sym events)) (list_any (λ s. is_holder N s.0 && not (lies_within N s.1 s.0)) (fresh_from N sectors 0 X)) (list_any (λ s. nat_lt s.0.max_dev 128) (fresh_from N sectors 0 X)) lies has_room in
       ap₂ (λ f e. option_or (option_map (λ (f : ℕ × Bool). BadField f.0) f) (option_map (λ (index : ℕ). BadField (256 + 2 * index)) e))
       (sym fields ∙ none (find (λ (f : ℕ × Bool). f.1) (judged_fields M [])) (option_map (λ (index : ℕ). BadField (256 + 2 * index)) (least_below M.max_dev (is_bad_entry M))) sound.fields)
       (least_below-none N.max_dev (is_bad_entry N) (λ j h. entry-good M N sound events new j))

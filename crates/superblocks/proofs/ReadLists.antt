@@ -83,7 +83,7 @@ both x X h = ⊎_by (by_bool (nat_lt x.events h.newest.events))
     ⊎_by (inl e) = record { newest = h.newest; is = is_newer true e; top = record { slot = suc h.top.slot; there = h.top.there; most = most e } }
     ⊎_by (inr e) = record { newest = x; is = is_newer false e; top = record { slot = 0; there = refl; most = most_first e } }
 
-found_newest : (X : Own) (n : Option Sb) → newest_of X ≡ n → (n ≡ None) ⊎ HasNewest X
+pub found_newest : (X : Own) (n : Option Sb) → newest_of X ≡ n → (n ≡ None) ⊎ HasNewest X
 found_newest [] n e = inl (sym e)
 found_newest (None ∷ X) n e = ⊎_by (found_newest X (newest_of X) refl)
   where
@@ -177,7 +177,7 @@ after_head true i rest t apart = ap (λ b. b || has_spare rest t) (differ i t ap
     differ a b h = grind (arith, nat_tests)
 after_head false i rest t apart = refl
 
-spare-step : (N : Sb) (sectors : ℕ → ℕ) (i : ℕ) (x : Option Sb) (X : Own)
+pub spare-step : (N : Sb) (sectors : ℕ → ℕ) (i : ℕ) (x : Option Sb) (X : Own)
     → spares_from N sectors i (x ∷ X) ≡ cond (spare_in N (sectors i) x) (i ∷ spares_from N sectors (i + 1) X) (spares_from N sectors (i + 1) X)
 spare-step N sectors i None X = refl
 spare-step N sectors i (Some sb) X = refl

@@ -1,5 +1,5 @@
 -- The rounds of an update, by what images read: each reads as before it, or as planned by one of its rounds.
-use Rattle.std.proofs.Common.{◌≡◌, inl, inr, ⊎_elim, ℕ, suc, ◌+◌, ◌-◌, ◌^◌, ◌<◌, ◌≤◌, min, Bool, true, false, not, ◌&&◌, List, [], length, replicate, Option, Some, None, option_map, refl, sym, ◌∙◌, ap, subst, arith}
+use Rattle.std.proofs.Common.{◌≡◌, ◌⊎◌, inl, inr, ⊎_elim, ℕ, suc, ◌+◌, ◌-◌, ◌^◌, ◌<◌, ◌≤◌, min, Bool, true, false, not, ◌&&◌, List, [], length, replicate, Option, Some, None, option_map, refl, sym, ◌∙◌, ap, subst, arith}
 use Rattle.std.specs.Prelude.{find}
 use Rattle.std.proofs.lemmas.Bool.{cases_lt}
 use Rattle.std.proofs.lemmas.List.{get_or_past}
@@ -18,10 +18,11 @@ use Rattle.superblocks.specs.Verdict.{judged_fields}
 use Rattle.superblocks.specs.Update.{planned, give_of, own_in, is_recovery}
 use Rattle.superblocks.specs.Writing.{IsFirstSector, IsPlanned}
 use Rattle.superblocks.specs.Updating.{planned_newest, IsLater, AreNamed}
-use Rattle.superblocks.specs.Held.{AreDrawn, MayRead, AreHeld, AreLevel}
+use Rattle.superblocks.specs.Held.{AreDrawn, MayRead, IsStamped, AreHeld, AreLevel}
 use Rattle.superblocks.specs.Stages.{AreLeft, IsTaking, AreTaken, IsFitPlan, AreKept}
 use Rattle.superblocks.specs.Plans.{KeepsRecovery, IsFitChange}
 use Rattle.superblocks.specs.Rounds.{Round, naming, IsRewriting, IsRewritten, IsReadAsPlanned, IsReady}
+use Rattle.superblocks.specs.Adding.{IsReadAsPlannedBut}
 use Rattle.superblocks.proofs.ReadLists.{by_bool}
 use Rattle.superblocks.proofs.Exact.{all_same}
 use Rattle.superblocks.specs.Outcome.{set_of}
@@ -29,7 +30,7 @@ use Rattle.superblocks.proofs.SlotSets.{set_of-below, set_of-past}
 use Rattle.superblocks.proofs.PlannedSb.{planned-of}
 use Rattle.superblocks.proofs.PlannedAgain.{planned-again}
 use Rattle.superblocks.proofs.PlanFits.{IsNext, next-fits}
-use Rattle.superblocks.proofs.StageReads.{taking-reads, taken-held, taken-level}
+use Rattle.superblocks.proofs.StageReads.{taking-reads, taken-held, taken-level, taken_read}
 
 abbrev Disk : Type 0
 Disk = ℕ → ℕ → List Sector
@@ -78,15 +79,20 @@ planned-in newest gives own s sb is = elim (cases_lt s (length own)) [
 
 -- ---- the state between two rounds
 
-pub record IsAt (scope : Scope) (members : Members) (change : Change) (before live n : ℕ) (b : Round) : Type 0 where
+-- the named slots are gone, and of others only such ones
+pub record IsAt (scope : Scope) (members : Members) (change : Change) (before live : ℕ) (Unnamed : ℕ → Type 0) (n : ℕ) (b : Round) : Type 0 where
   pub known : ℕ
   pub named : ℕ
+  pub gone : ℕ
   pub own : List (Option Sb)
   pub held : AreHeld scope known b.lost b.newest own b.disk
   pub level : (s : ℕ) (found : Option Sb) → has_slot live s ≡ true → has_slot b.lost s ≡ false → MayRead scope b.disk s found → (sb : Sb) × (found ≡ Some sb) × (sb.events ≡ b.newest.events)
-  pub are : AreLeft live named known
+  pub exact : (s : ℕ) (sb : Sb) (found : Option Sb) → has_slot live s ≡ true → has_slot b.lost s ≡ false → own_in own s ≡ Some sb → MayRead scope b.disk s found → IsStamped sb found
+  pub are : AreLeft live gone known
   pub more : (s : ℕ) → has_slot members.lost s ≡ true → has_slot named s ≡ true
-  pub grown : (s : ℕ) → has_slot named s ≡ true → has_slot b.lost s ≡ true
+  pub named_gone : (s : ℕ) → has_slot named s ≡ true → has_slot gone s ≡ true
+  pub unnamed : (s : ℕ) → has_slot gone s ≡ true → (has_slot named s ≡ true) ⊎ Unnamed s
+  pub grown : (s : ℕ) → has_slot gone s ≡ true → has_slot b.lost s ≡ true
   pub later : IsLater (planned_newest change.shared members.newest) b.newest
   pub plan : AreNamed members change before named b.newest
   pub own_is : (s : ℕ) (sb : Sb) → has_slot known s ≡ true → own_in members.own s ≡ Some sb → own_in own s ≡ Some (planned b.newest (give_of change.gives s) sb)
@@ -101,11 +107,22 @@ pub kept-of : (newest : Sb) (gives : List Give) (own own' : List (Option Sb)) (l
     → ((s : ℕ) (sb : Sb) → has_slot left s ≡ true → own_in own s ≡ Some sb → own_in own' s ≡ Some (planned newest (give_of gives s) sb)) → AreKept newest gives own left own'
 kept-of newest gives own own' left are s sb is own_is = ((planned newest (give_of gives s) sb).sb_csum, are s sb is own_is)
 
-module _ (scope : Scope) (members : Members) (change : Change) (before live known left0 : ℕ) (d : Disk) (ready : IsReady scope known left0 members change live d) where
-  there : (s : ℕ) → has_slot live s ≡ true → s < scope.sizes.slots
-  there s is = (ready.held.each s (ready.within s is)).there
+-- what is asked of the change alone: where the live slots are, and that it fits
+pub record IsFit (scope : Scope) (known left : ℕ) (members : Members) (change : Change) (live : ℕ) : Type 0 where
+  pub there : (s : ℕ) → has_slot live s ≡ true → s < scope.sizes.slots
+  pub are : AreLeft live members.lost left
+  pub fits : IsFitChange known members.lost left members change
+  pub fields : (events : ℕ) → events < 2 ^ 62 → find (λ (f : ℕ × Bool). f.1) (judged_fields (record (planned_newest change.shared members.newest) { events = events }) []) ≡ None
 
-  module _ (n : ℕ) (b : Round) (at : IsAt scope members change before live n b) (small : members.newest.events + 2 + n < 2 ^ 62) where
+pub fit-of : (scope : Scope) (known left : ℕ) (members : Members) (change : Change) (live : ℕ) (d : Disk) → IsReady scope known left members change live d → IsFit scope known left members change live
+fit-of scope known left members change live d ready =
+    record { there = λ s is. (ready.held.each s (ready.within s is)).there; are = ready.are; fits = ready.fits; fields = ready.fields }
+
+module _ (scope : Scope) (members : Members) (change : Change) (before live known left0 : ℕ) (Unnamed : ℕ → Type 0) (ready : IsFit scope known left0 members change live) where
+  there : (s : ℕ) → has_slot live s ≡ true → s < scope.sizes.slots
+  there = ready.there
+
+  module _ (n : ℕ) (b : Round) (at : IsAt scope members change before live Unnamed n b) (small : members.newest.events + 2 + n < 2 ^ 62) where
     next : Sb
     next = naming members change before b.lost b.newest
 
@@ -125,10 +142,10 @@ module _ (scope : Scope) (members : Members) (change : Change) (before live know
     unlost s set more none = ⊎_elim (λ is. absurd (let both = sym (more is) ∙ none in cc)) (λ is. is) (by_bool (has_slot set s))
 
     sub : (s : ℕ) → has_slot (left_set scope.sizes.slots live b.lost) s ≡ true → has_slot at.known s ≡ true
-    sub s is = at.are s ∙ (λ i. left_live s is i && not (unlost s at.named (at.grown s) (left_kept s is) i))
+    sub s is = at.are s ∙ (λ i. left_live s is i && not (unlost s at.gone (at.grown s) (left_kept s is) i))
 
     first_lost : (s : ℕ) → has_slot b.lost s ≡ false → has_slot members.lost s ≡ false
-    first_lost s none = unlost s members.lost (λ is. at.grown s (at.more s is)) none
+    first_lost s none = unlost s members.lost (λ is. at.grown s (at.named_gone s (at.more s is))) none
 
     left_first : (s : ℕ) → has_slot (left_set scope.sizes.slots live b.lost) s ≡ true → has_slot left0 s ≡ true
     left_first s is = ready.are s ∙ (λ i. left_live s is i && not (first_lost s (left_kept s is) i))
@@ -147,7 +164,7 @@ module _ (scope : Scope) (members : Members) (change : Change) (before live know
       one_holder = λ s t role none none' is is'. ready.fits.one_holder s t role (first_lost s none) (first_lost t none') is is';
       fields = ready.fits.fields;
       size = ready.fits.size;
-      written = λ s is none. are s ∙ (λ i. and_first (has_slot live s) (has_slot at.named s) (sym (at.are s) ∙ is) i && not (none i));
+      written = λ s is none. are s ∙ (λ i. and_first (has_slot live s) (has_slot at.gone s) (sym (at.are s) ∙ is) i && not (none i));
       devices = λ s sb is own_is. ready.fits.devices s sb (left_first s is) own_is;
       one = λ s t is is' r r'. ready.fits.one s t (left_first s is) (left_first t is') r r';
     }
@@ -228,10 +245,10 @@ module _ (scope : Scope) (members : Members) (change : Change) (before live know
     }
 
     more_next : (s : ℕ) → has_slot members.lost s ≡ true → has_slot b.lost s ≡ true
-    more_next s is = at.grown s (at.more s is)
+    more_next s is = at.grown s (at.named_gone s (at.more s is))
 
     pub naming-reads : (e : Disk) (c : Contents) → IsRewriting (naming members change before b.lost b.newest) change.gives members.own live b.lost b.disk e → AreDrawn e c
-        → IsReadAsPlanned scope members change before live c
+        → IsReadAsPlannedBut scope members change before live Unnamed c
     naming-reads e c stage drawn = ⊎_elim
         (λ r. record {
           newest = b.newest;
@@ -241,6 +258,10 @@ module _ (scope : Scope) (members : Members) (change : Change) (before live know
           own = at.own;
           are = at.are;
           more = at.more;
+          gone = at.gone;
+          named_gone = at.named_gone;
+          unnamed = at.unnamed;
+          grown = at.grown;
           later = at.later;
           plan = at.plan;
           kept = kept-of b.newest change.gives members.own at.own at.known at.own_is;
@@ -254,6 +275,10 @@ module _ (scope : Scope) (members : Members) (change : Change) (before live know
           own = planned_list (naming members change before b.lost b.newest) change.gives members.own;
           are = are;
           more = more_next;
+          gone = b.lost;
+          named_gone = λ s is. is;
+          unnamed = λ s is. inl is;
+          grown = λ s is. is;
           later = later_next;
           plan = (b.newest.dev_roles, refl);
           kept = kept-of (naming members change before b.lost b.newest) change.gives members.own (planned_list (naming members change before b.lost b.newest) change.gives members.own) (left_set scope.sizes.slots live b.lost) (λ s sb is own_is. own_next s sb own_is);
@@ -288,7 +313,7 @@ module _ (scope : Scope) (members : Members) (change : Change) (before live know
       no_first : (s : ℕ) → has_slot (left_set scope.sizes.slots live b.lost) s ≡ true → is_recovery (give_of (replicate 32 Same) s) ≡ true → has_slot (left_set scope.sizes.slots live l') s ≡ true
       no_first s is r = absurd (let none : false ≡ true = sym (ap is_recovery (all_same 32 s)) ∙ r in cc)
 
-      pub naming-end : IsAt scope members change before live (suc n) (record { newest = naming members change before b.lost b.newest; lost = l'; disk = d' })
+      pub naming-end : IsAt scope members change before live Unnamed (suc n) (record { newest = naming members change before b.lost b.newest; lost = l'; disk = d' })
       naming-end = record {
         known = left_set scope.sizes.slots live b.lost;
         named = b.lost;
@@ -298,8 +323,25 @@ module _ (scope : Scope) (members : Members) (change : Change) (before live know
         level = λ s found is none m. taken-level scope at.known b.lost b.newest at.own b.disk at.held (left_set scope.sizes.slots live b.lost) sub level (naming members change before b.lost b.newest) (replicate 32 Same) fit
             (planned_list (naming members change before b.lost b.newest) change.gives members.own) kept d' (stage_again d' written.stage) (left_set scope.sizes.slots live l') l' whole some_taken within_left no_first written.more
             s found (taken_are s ∙ (λ i. is i && not (none i))) m;
+        exact = λ s sb found is none own_is m.
+            let t : has_slot (left_set scope.sizes.slots live l') s ≡ true = taken_are s ∙ (λ i. is i && not (none i)) in
+            let l = within_left s t in
+            let was = at.own_was s (sub s l) in
+            let k = at.held.each s (sub s l) in
+            let new = taken_read scope at.known b.lost b.newest at.own b.disk at.held (left_set scope.sizes.slots live b.lost) sub level (naming members change before b.lost b.newest) (replicate 32 Same) fit
+            (planned_list (naming members change before b.lost b.newest) change.gives members.own) kept d' (stage_again d' written.stage) (left_set scope.sizes.slots live l') l' whole some_taken within_left no_first written.more
+            s l found t m in
+            let first : planned b.newest (give_of change.gives s) was.0 ≡ k.sb = (let both : Some (planned b.newest (give_of change.gives s) was.0) ≡ Some k.sb = sym (at.own_is s was.0 (sub s l) was.1) ∙ k.own in cc) in
+            let last : planned (naming members change before b.lost b.newest) (give_of change.gives s) was.0 ≡ sb
+            = (let both : Some (planned (naming members change before b.lost b.newest) (give_of change.gives s) was.0) ≡ Some sb = sym (own_next s was.0 was.1) ∙ own_is in cc) in
+            let eq : planned (naming members change before b.lost b.newest) (give_of (replicate 32 Same) s) k.sb ≡ sb
+            = ap (planned (naming members change before b.lost b.newest) (give_of (replicate 32 Same) s)) (sym first) ∙ again s was.0 ∙ last in
+            subst (λ (z : Sb). IsStamped z found) eq new;
         are = are;
         more = more_next;
+        gone = b.lost;
+        named_gone = λ s is. is;
+        unnamed = λ s is. inl is;
         grown = written.more;
         later = later_next;
         plan = (b.newest.dev_roles, refl);
@@ -307,3 +349,26 @@ module _ (scope : Scope) (members : Members) (change : Change) (before live know
         own_was = λ s is. at.own_was s (sub s is);
         events = omega (arith, is_next.later, at.events);
       }
+
+-- where each slot that is gone is named
+pub named_left : (live gone named left : ℕ) → AreLeft live gone left → ((s : ℕ) → has_slot named s ≡ true → has_slot gone s ≡ true)
+    → ((s : ℕ) → has_slot gone s ≡ true → (has_slot named s ≡ true) ⊎ ⊥) → AreLeft live named left
+named_left live gone named is_left is_are more none_more s = is_are s ∙ ap (λ b. has_slot live s && not b) (⊎_elim
+    (λ is. is ∙ sym (⊎_elim (λ n. n) (λ no. absurd no) (none_more s is)))
+    (λ none. none ∙ sym (⊎_elim (λ n. absurd (let both = sym (more s n) ∙ none in cc)) (λ no. no) (by_bool (has_slot named s)))) (by_bool (has_slot gone s)))
+
+pub all-named : (scope : Scope) (members : Members) (change : Change) (before live : ℕ) (c : Contents) → IsReadAsPlannedBut scope members change before live (λ s. ⊥) c
+    → IsReadAsPlanned scope members change before live c
+all-named scope members change before live c r = record {
+  newest = r.newest;
+  named = r.named;
+  lost = r.lost;
+  left = r.left;
+  own = r.own;
+  are = named_left live r.gone r.named r.left r.are r.named_gone r.unnamed;
+  more = r.more;
+  later = r.later;
+  plan = r.plan;
+  kept = r.kept;
+  reads = r.reads;
+}

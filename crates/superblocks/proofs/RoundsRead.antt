@@ -13,7 +13,7 @@ use Rattle.superblocks.specs.Reading.{Scope}
 use Rattle.superblocks.specs.Update.{planned, give_of, own_in, is_behind, is_recovery}
 use Rattle.superblocks.specs.Writing.{IsPlanned}
 use Rattle.superblocks.specs.Updating.{planned_newest, IsLater}
-use Rattle.superblocks.specs.Held.{AreDrawn, AreHeld, AreLevel}
+use Rattle.superblocks.specs.Held.{AreDrawn, IsStamped, AreHeld, AreLevel}
 use Rattle.superblocks.specs.Stages.{AreLeft, IsCatchingUp, IsTaking, AreTaken, IsFitPlan, AreKept, AreFirstKept}
 use Rattle.superblocks.specs.Plans.{IsFitChange}
 use Rattle.superblocks.specs.Rounds.{Round, naming, first_newest, IsRewriting, IsRewritten, IsNaming, AreNamings, IsInNaming, IsCaughtUpTo, IsFirstRewriting, IsFirstRewritten, IsInFirst, IsPastFirst, members_at, IsReadInUpdate, IsReady}
@@ -21,14 +21,14 @@ use Rattle.superblocks.proofs.ReadLists.{by_bool}
 use Rattle.superblocks.proofs.Exact.{all_same}
 use Rattle.superblocks.proofs.PlanFits.{plan-fits}
 use Rattle.superblocks.proofs.UpdateReads.{some-or-all}
-use Rattle.superblocks.proofs.StageReads.{caught_of, caught-held, catching-reads, taking-reads, taken-held, taken-level}
-use Rattle.superblocks.proofs.RoundReads.{IsAt, left_set, left-are, and_first, and_second, planned_list, planned-in, kept-of, naming-reads, naming-end}
+use Rattle.superblocks.proofs.StageReads.{caught_of, caught-held, catching-reads, taking-reads, taken-held, taken-level, taken_read}
+use Rattle.superblocks.proofs.RoundReads.{IsAt, left_set, left-are, and_first, and_second, planned_list, planned-in, kept-of, fit-of, naming-reads, naming-end, all-named}
 
 abbrev Disk : Type 0
 Disk = ℕ → ℕ → List Sector
 
 -- fewer slots are asked for
-more-held : (scope : Scope) (known lost lost' : ℕ) (newest : Sb) (own : List (Option Sb)) (d : Disk) → ((s : ℕ) → has_slot lost s ≡ true → has_slot lost' s ≡ true)
+pub more-held : (scope : Scope) (known lost lost' : ℕ) (newest : Sb) (own : List (Option Sb)) (d : Disk) → ((s : ℕ) → has_slot lost s ≡ true → has_slot lost' s ≡ true)
     → AreHeld scope known lost newest own d → AreHeld scope known lost' newest own d
 more-held scope known lost lost' newest own d more held = record {
   sound = held.sound;
@@ -196,7 +196,7 @@ module _ (scope : Scope) (members : Members) (change : Change) (before live know
           not_gone : has_slot l' s ≡ false
           not_gone = ⊎_elim (λ gone. absurd (let both = sym (first s r gone) ∙ left_kept s is in cc)) (λ none. none) (by_bool (has_slot l' s))
 
-      pub first-end : IsAt scope members change before live 0 (record { newest = first_newest members change before mid.lost members.newest; lost = l'; disk = d' })
+      pub first-end : IsAt scope members change before live (λ s. ⊥) 0 (record { newest = first_newest members change before mid.lost members.newest; lost = l'; disk = d' })
       first-end = record {
         known = left_set scope.sizes.slots live mid.lost;
         named = mid.lost;
@@ -206,8 +206,21 @@ module _ (scope : Scope) (members : Members) (change : Change) (before live know
         level = λ s found is none m. taken-level scope known mid.lost members.newest members.own mid.disk held (left_set scope.sizes.slots live mid.lost) sub level (first_newest members change before mid.lost members.newest) change.gives fit
             (planned_list (first_newest members change before mid.lost members.newest) change.gives members.own) kept d' (taking d' stage) (left_set scope.sizes.slots live l') l' whole some_taken within_left first_taken written.more
             s found (taken_are s ∙ (λ i. is i && not (none i))) m;
+        exact = λ s sb found is none own_is m.
+            let t : has_slot (left_set scope.sizes.slots live l') s ≡ true = taken_are s ∙ (λ i. is i && not (none i)) in
+            let l = within_left s t in
+            let k = held.each s (sub s l) in
+            let new = taken_read scope known mid.lost members.newest members.own mid.disk held (left_set scope.sizes.slots live mid.lost) sub level (first_newest members change before mid.lost members.newest) change.gives fit
+            (planned_list (first_newest members change before mid.lost members.newest) change.gives members.own) kept d' (taking d' stage) (left_set scope.sizes.slots live l') l' whole some_taken within_left first_taken written.more
+            s l found t m in
+            let last : planned (first_newest members change before mid.lost members.newest) (give_of change.gives s) k.sb ≡ sb
+            = (let both : Some (planned (first_newest members change before mid.lost members.newest) (give_of change.gives s) k.sb) ≡ Some sb = sym (own_next s k.sb l k.own) ∙ own_is in cc) in
+            subst (λ (z : Sb). IsStamped z found) last new;
         are = are;
         more = caught.more;
+        gone = mid.lost;
+        named_gone = λ s is. is;
+        unnamed = λ s is. inl is;
         grown = written.more;
         later = later;
         plan = (members.newest.dev_roles, refl);
@@ -223,7 +236,7 @@ module _ (scope : Scope) (members : Members) (change : Change) (before live know
   Dead b = ((s : ℕ) → has_slot live s ≡ true → has_slot b.lost s ≡ false → ⊥) × ((c : Contents) → AreDrawn b.disk c → IsReadInUpdate scope known members change before live c)
 
   abbrev State : ℕ → Round → Type 0
-  State n b = IsAt scope members change before live n b ⊎ Dead b
+  State n b = IsAt scope members change before live (λ s. ⊥) n b ⊎ Dead b
 
   some_left : (lost : ℕ) → ((s : ℕ) × (has_slot live s ≡ true) × (has_slot lost s ≡ false)) ⊎ ((s : ℕ) → has_slot live s ≡ true → has_slot lost s ≡ false → ⊥)
   some_left lost = ⊎_elim (λ found. inl (found.0, found.2.0, found.2.1)) (λ all. inr (λ s is none. all s (there s is) is none))
@@ -244,7 +257,7 @@ module _ (scope : Scope) (members : Members) (change : Change) (before live know
       let stage = subst (λ (n : Sb). IsFirstRewriting n change.gives members.own live mid.lost mid.disk first.disk) eq over.stage in
       let same : record { newest = first_newest members change before mid.lost members.newest; lost = first.lost; disk = first.disk } ≡ first = (λ i. record { newest = sym eq i; lost = first.lost; disk = first.disk }) in
       ⊎_elim
-      (λ some. inl (subst (IsAt scope members change before live 0) same (first-end mid caught first.lost first.disk written stage over.kept some)))
+      (λ some. inl (subst (IsAt scope members change before live (λ s. ⊥) 0) same (first-end mid caught first.lost first.disk written stage over.kept some)))
       (λ none. inr (none, λ c drawn. first-reads mid caught first.disk c stage drawn))
       (some_left first.lost)
 
@@ -253,8 +266,12 @@ module _ (scope : Scope) (members : Members) (change : Change) (before live know
       let written = subst (λ (m : Sb). IsRewritten m change.gives members.own live a.lost b.lost a.disk b.disk) next.newest next.written in
       let same : record { newest = naming members change before a.lost a.newest; lost = b.lost; disk = b.disk } ≡ b = (λ i. record { newest = sym next.newest i; lost = b.lost; disk = b.disk }) in
       ⊎_elim
-      (λ some. inl (subst (IsAt scope members change before live (suc n)) same (naming-end scope members change before live known left0 d ready n a at small b.lost b.disk written some)))
-      (λ none. inr (none, λ c drawn. inr (naming-reads scope members change before live known left0 d ready n a at small b.disk c written.stage drawn)))
+      (λ some. inl (subst (IsAt scope members change before live (λ s. ⊥) (suc n)) same (naming-end scope members change before live known left0 (λ s. ⊥) (fit-of scope known left0 members change live d ready) n a at small b.lost b.disk written some)))
+      (λ none. inr (
+        none,
+        λ c drawn. inr (all-named scope members change before live c
+            (naming-reads scope members change before live known left0 (λ s. ⊥) (fit-of scope known left0 members change live d ready) n a at small b.disk c written.stage drawn)),
+      ))
       (some_left b.lost)
   naming-state n a b small (inr dead) next = inr (
     (λ s is none. dead.0 s is (unlost s none)),
@@ -273,12 +290,13 @@ module _ (scope : Scope) (members : Members) (change : Change) (before live know
   pub rounds-read : (first : Round) (e : Disk) (c : Contents) → IsPastFirst members change before live d first → (at : IsInNaming (members_at members first) change before live first e)
       → members.newest.events + 2 + at.rounds < 2 ^ 62 → AreDrawn e c → IsReadInUpdate scope known members change before live c
   rounds-read first e c past at small drawn = ⊎_elim
-      (λ state. inr (naming-reads scope members change before live known left0 d ready at.rounds at.start state small e c at.stage drawn))
+      (λ state. inr (all-named scope members change before live c
+      (naming-reads scope members change before live known left0 (λ s. ⊥) (fit-of scope known left0 members change live d ready) at.rounds at.start state small e c at.stage drawn)))
       (λ dead. dead.1 c (fewer (naming members change before at.start.lost at.start.newest) change.gives members.own at.start.lost at.start.disk e c dead.0 at.stage drawn))
       (namings-state at.rounds first first at.start small (first-state past.mid first past.caught past.written) at.over)
 
   pub rounds-end : (first last : Round) (n : ℕ) → IsPastFirst members change before live d first → AreNamings (members_at members first) change before live n first last → members.newest.events + 2 + n < 2 ^ 62
-      → (s : ℕ) × (has_slot live s ≡ true) × (has_slot last.lost s ≡ false) → IsAt scope members change before live n last
+      → (s : ℕ) × (has_slot live s ≡ true) × (has_slot last.lost s ≡ false) → IsAt scope members change before live (λ s. ⊥) n last
   rounds-end first last n past over small some = ⊎_elim (λ state. state) (λ dead. absurd (dead.0 some.0 some.1 some.2))
       (namings-state n first first last small (first-state past.mid first past.caught past.written) over)
 

@@ -50,6 +50,13 @@ one_of m a b is one small = grind (arith, nat_tests)
 other_of : (m a b : ℕ) → m ≡ max a b → b ≡ 0 → (m == 1) ≡ (a == 1)
 other_of m a b is none = ap (λ (n : ℕ). n == 1) (omega (arith, is, none))
 
+-- a set with one slot more
+pub with_here : (set t : ℕ) → has_slot (bit_or set (2 ^ t)) t ≡ true
+with_here set t = one_of _ (bit_at set t) (bit_at (2 ^ t) t) (bit_at_or set (2 ^ t) t) (bit_at-pow_same t) (bit_at-lt set t)
+
+pub with_other : (set t s : ℕ) → s ≢ t → has_slot (bit_or set (2 ^ t)) s ≡ has_slot set s
+with_other set t s apart = other_of _ (bit_at set s) (bit_at (2 ^ t) s) (bit_at_or set (2 ^ t) s) (bit_at-pow_other t s apart)
+
 step : (b : Bool) (test : ℕ → Bool) (n s : ℕ) → test n ≡ b → has_slot (set_of n test) s ≡ (nat_lt s n && test s)
     → has_slot (if b then bit_or (set_of n test) (2 ^ n) else set_of n test) s ≡ (nat_lt s (suc n) && test s)
 step true test n s here ih = elim (cases_eq s n) [
@@ -150,7 +157,7 @@ pub slots-first : (f : ℕ → Bool) → slots_below 0 f ≡ []
 unfolding slots_below
 slots-first f = refl
 
-slots-suc : (f : ℕ → Bool) (n : ℕ) → slots_below (suc n) f ≡ slots_below n f ++ (if f n then n ∷ [] else [])
+pub slots-suc : (f : ℕ → Bool) (n : ℕ) → slots_below (suc n) f ≡ slots_below n f ++ (if f n then n ∷ [] else [])
 unfolding slots_below
 slots-suc f n = refl
 

@@ -126,10 +126,10 @@ module _ (scope : Scope) (known lost : ℕ) (former : Sb) (own : List (Option Sb
 
   module _ (level : AreLevel scope left former d) (newest : Sb) (gives : List Give) (fit : IsFitPlan scope lost former newest gives own left d)
       (own' : List (Option Sb)) (kept : AreKept newest gives own left own') where
-    abbrev New : (s : ℕ) → has_slot left s ≡ true → Option Sb → Type 0
+    abbrev pub New : (s : ℕ) → has_slot left s ≡ true → Option Sb → Type 0
     New s is found = IsStamped (planned newest (give_of gives s) (held.each s (sub s is)).sb) found
 
-    new_of : (s : ℕ) (is : has_slot left s ≡ true) (at : ℕ → Sector) → IsPlanned newest (give_of gives s) (own_in own s) (at 8) → IsIn (d s 9) (at 9) → New s is (own_at scope s at)
+    pub new_of : (s : ℕ) (is : has_slot left s ≡ true) (at : ℕ → Sector) → IsPlanned newest (give_of gives s) (own_in own s) (at 8) → IsIn (d s 9) (at 9) → New s is (own_at scope s at)
     new_of s is at plan ninth =
         let k = held.each s (sub s is) in
         new-reads scope former (own_in own s) s d k held.sound held.table newest (give_of gives s) at (omega (arith, fit.table)) (planned_here newest (give_of gives s) (own_in own s) k.sb (at 8) k.own plan) ninth
@@ -201,9 +201,13 @@ module _ (scope : Scope) (known lost : ℕ) (former : Sb) (own : List (Option Sb
               subst (λ (sb : Sb). IsStamped (planned newest (give_of gives s) sb) (own_at scope s (c s))) sbs
               (subst (λ (t : ℕ). IsStamped (planned newest (give_of gives t) k.sb) (own_at scope t (c t))) same new)
 
+      -- where some slot has what is planned
+      pub taking-later : (r : ℕ) × (is : has_slot left r ≡ true) × New r is (own_at scope r (c r)) → IsReadAs scope lost (said_by scope left own' newest) c
+      taking-later found = later-reads scope known lost former own d held newest gives left fit sub own' kept c either kept_other (first found.0 found.1 found.2) found
+
       pub taking-reads : IsReadAs scope lost (said_by scope known own former) c ⊎ IsReadAs scope lost (said_by scope left own' newest) c
       taking-reads = ⊎_elim
-          (λ found. inr (later-reads scope known lost former own d held newest gives left fit sub own' kept c either kept_other (first found.0 found.2.0 found.2.1) (found.0, found.2.0, found.2.1)))
+          (λ found. inr (taking-later (found.0, found.2.0, found.2.1)))
           (λ all. inl (former-reads c (λ s. ⊎_elim
           (λ is. inr (sub s is, all s (held.each s (sub s is)).there is))
           (λ none. inl (kept_other s none)) (by_bool (has_slot left s)))))
@@ -286,7 +290,7 @@ module _ (scope : Scope) (known lost : ℕ) (former : Sb) (own : List (Option Sb
             suited = stamped-suited newest (scope.sizes.sectors s) y.0 p suits;
           }
 
-      shows-before : (s : ℕ) (a : Sb) → Shows scope left own' e s a → is_fresh newest a ≡ true → (b : Sb) × Shows scope known own d s b × (is_fresh former b ≡ true) × (b.dev_number ≡ a.dev_number)
+      pub shows-before : (s : ℕ) (a : Sb) → Shows scope left own' e s a → is_fresh newest a ≡ true → (b : Sb) × Shows scope known own d s b × (is_fresh former b ≡ true) × (b.dev_number ≡ a.dev_number)
       shows-before s a (inl (is, own_is)) fresh =
           let k = held.each s (sub s is) in
           let y = kept s k.sb is k.own in

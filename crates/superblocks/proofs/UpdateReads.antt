@@ -257,7 +257,7 @@ module _ (scope : Scope) (known lost : ℕ) (former : Sb) (own : List (Option Sb
       (stamped-suited former (scope.sizes.sectors slot) r.1.0 r.0 (before-suited scope former (own_in own slot) slot d k held.sound held.table r.0 r.2)))
       (λ none. (held.others slot there none).suited sb m) (by_bool (has_slot known slot))
 
-  new_suited : (s : ℕ) (is : has_slot left s ≡ true) (csum : ℕ) → IsSuited newest (scope.sizes.sectors s) (record (planned newest (give_of gives s) (held.each s (sub s is)).sb) { sb_csum = csum })
+  pub new_suited : (s : ℕ) (is : has_slot left s ≡ true) (csum : ℕ) → IsSuited newest (scope.sizes.sectors s) (record (planned newest (give_of gives s) (held.each s (sub s is)).sb) { sb_csum = csum })
   new_suited s is csum =
       let k = held.each s (sub s is) in
       stamped-suited newest (scope.sizes.sectors s) csum (planned newest (give_of gives s) k.sb)

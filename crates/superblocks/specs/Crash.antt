@@ -110,12 +110,13 @@ UpdateInRoundsReads = (scope : Scope) (known left : ℕ) (members : Members) (ch
     × ((first : Round) → IsPastFirst members change before live d first → (at : IsInNaming (members_at members first) change before live first e)
     → members.newest.events + 2 + at.rounds < 2 ^ 62 → EachReadsInUpdate scope known members change before live e)
 
--- Its end: the slots are held by the superblocks that were planned, and each image reads as they say.
+-- Its end: the slots are held by the superblocks that were planned, those that are left by these alone, and each image reads as they say.
 pub record AreHeldAsPlanned (scope : Scope) (members : Members) (change : Change) (before live : ℕ) (last : Round) : Type 0 where
   pub known : ℕ
   pub named : ℕ
   pub own : List (Option Sb)
   pub held : AreHeld scope known last.lost last.newest own last.disk
+  pub exact : (left : ℕ) → AreLeft live last.lost left → AreExact scope left own last.disk
   pub are : AreLeft live named known
   pub more : IsWithin members.lost named
   pub grown : IsWithin named last.lost

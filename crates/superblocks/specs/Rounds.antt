@@ -8,7 +8,7 @@ use Rattle.bank.specs.Tape.{Contents, IsIn, disk}
 use Rattle.superblocks.specs.declared.change.Give.{Give}
 use Rattle.superblocks.specs.declared.change.Change.{Change}
 use Rattle.superblocks.specs.declared.members.Members.{Members}
-use Rattle.superblocks.specs.Update.{give_of, own_in, is_recovery, with_roles}
+use Rattle.superblocks.specs.Update.{give_of, own_in, is_behind, is_recovery, with_roles}
 use Rattle.superblocks.specs.Writing.{IsPlanned}
 use Rattle.superblocks.specs.declared.change.Give.TheVariants.{Same}
 use Rattle.superblocks.specs.Reading.{Scope}
@@ -74,12 +74,23 @@ abbrev pub first_newest : Members → Change → ℕ → ℕ → Sb → Sb
 first_newest members change before lost newest =
     record (planned_newest change.shared newest) { dev_roles = with_roles members change before lost newest.dev_roles }
 
--- slots were brought to the newest event count, and those that weren't lost are there
+-- a slot that isn't behind holds what it held
+abbrev pub AreStill : Sb → List (Option Sb) → (ℕ → ℕ → List Sector) → (ℕ → ℕ → List Sector) → Type 0
+AreStill former own d e = (s : ℕ) → is_behind former (own_in own s) ≡ false → e s 8 ≡ d s 8
+
+-- slots are brought to the newest event count, and no other one is written
+pub record IsCatchingUpTo (former : Sb) (own : List (Option Sb)) (live lost : ℕ) (d e : ℕ → ℕ → List Sector) : Type 0 where
+  pub stage : IsRewriting former (replicate 32 Same) own live lost d e
+  pub still : AreStill former own d e
+
+-- Slots were brought to the newest event count, and those that weren't lost are there. No other one was written or lost.
 pub record IsCaughtUpTo (former : Sb) (own : List (Option Sb)) (live lost : ℕ) (d : ℕ → ℕ → List Sector) (mid : Round) : Type 0 where
   pub newest : mid.newest ≡ former
   pub stage : IsRewriting former (replicate 32 Same) own live lost d mid.disk
   pub level : (s : ℕ) → has_slot live s ≡ true → has_slot mid.lost s ≡ false → IsLevelled former (own_in own s) (d s 8) (mid.disk s 8)
   pub more : (s : ℕ) → has_slot lost s ≡ true → has_slot mid.lost s ≡ true
+  pub still : AreStill former own d mid.disk
+  pub due : (s : ℕ) → has_slot mid.lost s ≡ true → has_slot lost s ≡ false → is_behind former (own_in own s) ≡ true
 
 -- the first round, which first writes where a recovery offset is given
 pub record IsFirstRewriting (newest : Sb) (gives : List Give) (own : List (Option Sb)) (live lost : ℕ) (d e : ℕ → ℕ → List Sector) : Type 0 where
@@ -114,7 +125,7 @@ pub record IsPastFirst (members : Members) (change : Change) (before live : ℕ)
 -- a mark of an update in which no slot that gets a recovery offset is lost
 abbrev pub IsInRounds : Members → Change → ℕ → ℕ → (ℕ → ℕ → List Sector) → (ℕ → ℕ → List Sector) → Type 0
 IsInRounds members change before live d e =
-    IsRewriting members.newest (replicate 32 Same) members.own live members.lost d e
+    IsCatchingUpTo members.newest members.own live members.lost d e
     ⊎ IsInFirst members change before live d e
     ⊎ ((first : Round) × IsPastFirst members change before live d first × IsInNaming (members_at members first) change before live first e)
 

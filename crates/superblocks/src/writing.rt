@@ -3,12 +3,12 @@
 ghost use Rattle.std.specs.Prelude.{◌≡◌, [], ◌∷◌, List, ◌<◌, ◌≤◌, ◌+◌, ◌-◌, ◌^◌, ℕ, Some, true, false, min, length, replicate};
 ghost use Rattle.bank.specs.Given.{NeverFalls};
 ghost use Rattle.bank.specs.Tape.{disk};
-ghost use Rattle.superblocks.specs.Update.{IsRoleGive, give_of, with_roles, with_shared, is_recovery, own_in};
+ghost use Rattle.superblocks.specs.Update.{IsRoleGive, give_of, with_roles, with_shared, is_behind, is_recovery, own_in};
 ghost use Rattle.superblocks.specs.Writing.{AreMembers, IsPlanned, plan_of};
 ghost use Rattle.superblocks.specs.Updating.{IsUpdate, AreLosses, IsLater, IsRecorded, ArePlanned, AreNamed, IsInOrder, AreOthersKept, AreRecoveriesKept, AreRecoveriesWritten, planned_newest, IsSomeLeft, IsWrittenBy};
 ghost use Rattle.superblocks.specs.Order.{IsRecoveryFirst};
 ghost use Rattle.superblocks.specs.Stages.{AreLeft, AreFirstKept, IsLevelled, IsInUpdate, IsStaged};
-ghost use Rattle.superblocks.specs.Rounds.{round_at, IsNamed, IsInNaming, IsInRounds, ArePast};
+ghost use Rattle.superblocks.specs.Rounds.{round_at, AreStill, IsNamed, IsInNaming, IsInRounds, ArePast};
 ghost use Rattle.bank.specs.Tape.{EachMark};
 ghost use Rattle.md_base.specs.Shapes.{has_slot};
 ghost use Rattle.superblocks.specs.declared.change.Give.TheVariants.{Same};
@@ -31,6 +31,9 @@ fn catch_up<B: Bank>(bank: &mut B, members: &mut Members, live: u32)
         (B.given bank.old).start (B.tape bank.old) (B.tape bank.new) }
     ensures level { B.tells → let start = (B.given bank.old).start in (s : ℕ) → has_slot live s ≡ true → has_slot members.new.lost s ≡ false →
         IsLevelled members.old.newest (own_in members.old.own s) (disk start (B.tape bank.old) s 8) (disk start (B.tape bank.new) s 8) }
+    ensures still { let start = (B.given bank.old).start in EachMark B.tells start (B.tape bank.old) (B.tape bank.new)
+        (AreStill members.old.newest members.old.own (disk start (B.tape bank.old))) }
+    ensures who { (s : ℕ) → has_slot members.new.lost s ≡ true → has_slot members.old.lost s ≡ false → is_behind members.old.newest (own_in members.old.own s) ≡ true }
     ensures members { members.new ≡ record members.old { lost = members.new.lost } }
     ensures losses { AreLosses live members.old.lost members.new.lost (B.faults_of bank.old) (B.faults_of bank.new) }
     ensures counts { NeverFalls (B.faults_of bank.old) (B.faults_of bank.new) }

@@ -1,4 +1,6 @@
-use Rattle.superblocks.proofs.RoundReads.{kept-of}
+use Rattle.std.proofs.Common.{sym, ◌∙◌}
+use Rattle.md_base.specs.Shapes.{has_slot}
+use Rattle.superblocks.proofs.RoundReads.{kept-of, named_left, and_first, and_second}
 use Rattle.superblocks.proofs.RoundsRead.{rounds-end}
 use Rattle.superblocks.proofs.StageReads.{held-reads}
 use Rattle.superblocks.proofs.laws.update_in_rounds_ends.Goals as goal
@@ -11,9 +13,10 @@ returns c = λ scope known left members change before live d last ready past sma
       named = at.named;
       own = at.own;
       held = at.held;
-      are = at.are;
+      exact = λ left are s sb found is own_is m. at.exact s sb found (and_first (has_slot live s) (has_slot last.lost s) (sym (are s) ∙ is)) (and_second (has_slot live s) (has_slot last.lost s) (sym (are s) ∙ is)) own_is m;
+      are = named_left live at.gone at.named at.known at.are at.named_gone at.unnamed;
       more = at.more;
-      grown = at.grown;
+      grown = λ s is. at.grown s (at.named_gone s is);
       later = at.later;
       plan = at.plan;
       kept = kept-of last.newest change.gives members.own at.own at.known at.own_is;

@@ -1,9 +1,10 @@
-use Rattle.std.proofs.Common.{rules, refl, replicate}
+use Rattle.std.proofs.Common.{◌≡◌, rules, false, refl, replicate}
+use Rattle.superblocks.specs.Update.{is_behind, own_in}
 use Rattle.superblocks.specs.declared.change.Give.TheVariants.{Same}
 use Rattle.superblocks.specs.declared.pass.Part.TheVariants.{Behind}
-use Rattle.superblocks.proofs.Updates.{part-update}
+use Rattle.superblocks.proofs.Updates.{part-update, part-kept}
 use Rattle.superblocks.proofs.writing.catch_up.Goals as goal
-use Rattle.superblocks.proofs.Exact.{part-exact, levelled}
+use Rattle.superblocks.proofs.Exact.{part-exact, levelled, due_of}
 
 pub returns-clause-update : goal.returns-clause-update
 returns-clause-update g c =
@@ -18,3 +19,11 @@ returns-clause-exact g c =
 pub returns-clause-level : goal.returns-clause-level
 returns-clause-level g c = λ told s is left.
     levelled c.args.members.now.newest c.args.members.now.own c.args.live c.args.members.now.lost c.write_slots.new.members.lost c.write_slots.ensures.lost.stay (c.write_slots.ensures.written told) s is left
+
+pub returns-clause-still : goal.returns-clause-still
+returns-clause-still g c =
+    part-kept Behind c.args.members.now.newest (replicate 32 Same) c.args.members.now.own c.args.live c.args.members.now.lost c.write_slots.new.members.lost _ _ _
+    (λ s. is_behind c.args.members.now.newest (own_in c.args.members.now.own s) ≡ false) (λ s none. none) c.write_slots.ensures.each_mark
+
+pub returns-clause-who : goal.returns-clause-who
+returns-clause-who g c = λ s is none. due_of _ _ _ (c.write_slots.ensures.lost.due s is none)

@@ -273,6 +273,8 @@ module _ (g : Over) (c : After-name_lost g) (first : AreFirstKept c.args.change.
     stage = rewriting c.args.members.now.newest (replicate 32 Same) c.args.members.now.own (c.catch_up.ensures.exact.end told).touched;
     level = c.catch_up.ensures.level told;
     more = c.catch_up.ensures.losses.stay;
+    still = each_mark-last c.catch_up.ensures.still told;
+    due = c.catch_up.ensures.who;
   }
 
   lost2 : c.plan_newest.new.members.lost ≡ c.catch_up.new.members.lost
@@ -385,7 +387,8 @@ returns-clause-rounds g c = λ first.
     let begin = (g.B.Bank.given c.args.bank.now).start in
     let tape0 = g.B.Bank.tape c.args.bank.now in
     let Mark = IsInRounds m0 c.args.change.now c.args.before c.args.live (disk begin tape0) in
-    each_mark-then (each_mark-map Mark (λ told e at. inl (rewriting m0.newest (replicate 32 Same) m0.own at.touched)) c.catch_up.ensures.exact.marks)
+    each_mark-then (each_mark-map Mark (λ told e at. inl (record { stage = rewriting m0.newest (replicate 32 Same) m0.own at.0.touched; still = at.1 }))
+    (each_mark-both c.catch_up.ensures.exact.marks c.catch_up.ensures.still))
     (each_mark-then
     (each_mark-map Mark (λ told e at. inr (inl (record {
       mid = mid g c first;

@@ -1,0 +1,42 @@
+-- Members that say what the stored superblocks do, also after an update.
+use Rattle.std.specs.Prelude.{◌≡◌, ℕ, true, false, List, Option, Some, None}
+use Rattle.md_base.specs.Sectors.{Sector}
+use Rattle.md_base.specs.Shapes.{has_slot}
+use Rattle.sb1.specs.declared.sb.Sb.{Sb}
+use Rattle.superblocks.specs.declared.change.Change.{Change}
+use Rattle.superblocks.specs.declared.members.Members.{Members}
+use Rattle.superblocks.specs.Reading.{Scope, is_recovering, data_offset_of}
+use Rattle.superblocks.specs.Update.{give_of, own_in, planned_role, is_planned_spare}
+use Rattle.superblocks.specs.Outcome.{live_set, planned_roles, planned_spares}
+use Rattle.superblocks.specs.Reads.{has_spare}
+use Rattle.superblocks.specs.Held.{AreHeld, said_by}
+use Rattle.superblocks.specs.Stages.{AreLeft, AreKept}
+use Rattle.superblocks.specs.Crash.{IsWithin}
+use Rattle.superblocks.specs.Plans.{next_newest, IsFitChange}
+
+-- the roles and the spares are those that the known superblocks say
+pub record AreSaid (scope : Scope) (known : ℕ) (members : Members) : Type 0 where
+  pub roles : members.roles ≡ (said_by scope known members.own members.newest).roles
+  pub spares : members.spares ≡ (said_by scope known members.own members.newest).spares
+
+-- A slot that becomes a spare doesn't recover, and has no role.
+abbrev pub AreSparesFit : ℕ → Members → Change → Type 0
+AreSparesFit left members change =
+    (s : ℕ) (sb : Sb) → has_slot left s ≡ true → own_in members.own s ≡ Some sb → has_spare members.spares s ≡ false
+    → is_planned_spare members.spares change.added (give_of change.gives s) s ≡ true
+    → (is_recovering sb ≡ false) × (planned_role members.roles (give_of change.gives s) s ≡ None)
+
+-- The superblocks that are kept of an update in which no slot is lost say the roles and the spares that it plans, and each slot has
+-- the data offset that it had.
+pub record AreSaidAsPlanned (scope : Scope) (known lost left : ℕ) (members : Members) (change : Change) (own' : List (Option Sb)) : Type 0 where
+  pub roles : (said_by scope left own' (next_newest members change lost lost)).roles ≡ planned_roles members change lost
+  pub spares : (said_by scope left own' (next_newest members change lost lost)).spares ≡ planned_spares members change lost
+  pub starts : (s : ℕ) → has_slot left s ≡ true
+      → data_offset_of (said_by scope left own' (next_newest members change lost lost)) s ≡ data_offset_of (said_by scope known members.own members.newest) s
+
+-- So they do, where the members said what was known before it.
+abbrev pub MembersStaySaid : Type 0
+MembersStaySaid = (scope : Scope) (known lost left : ℕ) (members : Members) (change : Change) (own' : List (Option Sb)) (d : ℕ → ℕ → List Sector)
+    → AreHeld scope known lost members.newest members.own d → IsWithin left known → IsFitChange known lost left members change → AreLeft (live_set members change) lost left
+    → AreKept (next_newest members change lost lost) change.gives members.own left own' → AreSaid scope known members → AreSparesFit left members change
+    → AreSaidAsPlanned scope known lost left members change own'
