@@ -13,3 +13,16 @@ pub mod RowParity
 pub mod MemberLaws
 pub mod RowLaws
 pub mod PutLaws
+pub mod CallLaws
+pub mod NowLaws
+pub mod HoldLaws
+pub mod RecordLaws
+pub mod ReplyLaws
+pub mod MovedLaws
+pub mod LossLaws
+pub mod ReadyLaws
+pub mod MarkedLaws
+pub mod PuttingLaws
+pub mod ReadWhole
+pub mod MarkedRight
+pub mod HeldKept

@@ -142,7 +142,7 @@ some_or_none (suc n) test = by (bool_cases (test n)) (some_or_none n test)
     ])
 
 -- a set that isn't empty has a slot
-some_slot : (lost : ℕ) → ((s : ℕ) → has_slot lost s ≡ true → s < 32) → lost ≢ 0 → (s : ℕ) × (has_slot lost s ≡ true)
+pub some_slot : (lost : ℕ) → ((s : ℕ) → has_slot lost s ≡ true → s < 32) → lost ≢ 0 → (s : ℕ) × (has_slot lost s ≡ true)
 some_slot lost small not = by (some_or_none 32 (has_slot lost))
   where
     by : ((s : ℕ) × (has_slot lost s ≡ true)) ⊎ ((s : ℕ) → s < 32 → has_slot lost s ≡ false) → (s : ℕ) × (has_slot lost s ≡ true)

@@ -51,7 +51,7 @@ without-state lost state (inr found) = by (has_slot lost found.0) refl
     by true gone = inl (ap (role_without lost) found.1 ∙ ap (λ (b : Bool). cond b Missing (Whole found.0)) gone)
     by false kept = inr (found.0, ap (role_without lost) found.1 ∙ ap (λ (b : Bool). cond b Missing (Whole found.0)) kept)
 
-state-without : (lost : ℕ) (roles : List Role) (role : ℕ) → get_or (map (role_without lost) roles) role Missing ≡ role_without lost (get_or roles role Missing)
+pub state-without : (lost : ℕ) (roles : List Role) (role : ℕ) → get_or (map (role_without lost) roles) role Missing ≡ role_without lost (get_or roles role Missing)
 state-without lost [] role = refl
 state-without lost (state ∷ roles) zero = refl
 state-without lost (state ∷ roles) (suc role) = state-without lost roles role
@@ -60,7 +60,7 @@ length-without : (lost : ℕ) (roles : List Role) → length (map (role_without 
 length-without lost [] = refl
 length-without lost (state ∷ roles) = ap suc (length-without lost roles)
 
-none-lost : (roles : List Role) → map (role_without 0) roles ≡ roles
+pub none-lost : (roles : List Role) → map (role_without 0) roles ≡ roles
 none-lost [] = refl
 none-lost (Whole slot ∷ roles) = ap₂ (λ (b : Bool) (l : List Role). cond b Missing (Whole slot) ∷ l) (no_slot slot) (none-lost roles)
   where
@@ -96,7 +96,7 @@ module _ (given : Given) (lost : ℕ) (old new : Members) (less : AreLess lost o
 
 -- where none is lost, all stands where it stood
 module _ (old new : Members) (less : AreLess 0 old new) where
-  roles-same : new.roles ≡ old.roles
+  pub roles-same : new.roles ≡ old.roles
   roles-same = less.roles ∙ none-lost old.roles
 
   pub places-same : places_of new ≡ places_of old
@@ -124,7 +124,7 @@ kept-state lost (Whole slot) kept = ap (λ (b : Bool). cond b Missing (Whole slo
 kept-state lost (Recovering slot) kept = ap (λ (b : Bool). cond b Missing (Recovering slot)) (kept slot refl)
 kept-state lost Missing kept = refl
 
-kept-roles : (lost : ℕ) (roles : List Role) → ((role slot : ℕ) → holder (get_or roles role Missing) ≡ Some slot → has_slot lost slot ≡ false) → map (role_without lost) roles ≡ roles
+pub kept-roles : (lost : ℕ) (roles : List Role) → ((role slot : ℕ) → holder (get_or roles role Missing) ≡ Some slot → has_slot lost slot ≡ false) → map (role_without lost) roles ≡ roles
 kept-roles lost [] kept = refl
 kept-roles lost (state ∷ roles) kept = ap₂ (λ (r : Role) (l : List Role). r ∷ l) (kept-state lost state (kept 0)) (kept-roles lost roles (λ role. kept (suc role)))
 
@@ -199,7 +199,7 @@ module _ (old new : Members) (clean : Bool) (kept : ℕ → Bool)
   size-same = ap (λ (s : Sb). s.size) later.same
 
   -- without a reshape there are as many roles as disks
-  count-is : is_reshaping old.newest ≡ false → role_count (marking old clean).shared ≡ (shape_of old.newest).disks
+  count-is : is_reshaping old.newest ≡ false → role_count old.newest ≡ (shape_of old.newest).disks
   count-is still =
       ap (λ (t : Option Shape). max (shape_of old.newest).disks (unwrap_or t (shape_of old.newest)).disks) (none (is_reshaping old.newest) still)
       ∙ max-same (shape_of old.newest).disks
@@ -223,21 +223,29 @@ module _ (old new : Members) (clean : Bool) (kept : ℕ → Bool)
     still = reshaping-same;
     shape = same-shape;
     size = size-same;
-    roles = roles ∙ roles-kept old.roles lost placed.apart (λ role slot is. (placed.holders role slot is).small) (role_count (marking old clean).shared) (count-is placed.still ∙ sym placed.roles);
+    roles = roles ∙ roles-kept old.roles lost placed.apart (λ role slot is. (placed.holders role slot is).small) (role_count old.newest) (count-is placed.still ∙ sym placed.roles);
     offsets = offset-kept;
   }
 
 -- so the mark's update has no more roles
 pub marked-count : (old : Members) (clean : Bool) → is_reshaping old.newest ≡ false → (shape_of old.newest).disks ≤ 16 → role_count (marking old clean).shared ≤ 16
-marked-count old clean still few =
-    let same : role_count (marking old clean).shared ≡ (shape_of old.newest).disks =
-    ap (λ (t : Option Shape). max (shape_of old.newest).disks (unwrap_or t (shape_of old.newest)).disks) (none (is_reshaping old.newest) still)
-    ∙ max-same (shape_of old.newest).disks in
-    rw same few
+marked-count old clean still few = rw (count-by old.newest still) (few-disks still few)
   where
-    none : (b : Bool) → b ≡ false → ◌≡◌ {A = Option Shape} (cond b (Some (record { level = old.newest.new_level; layout = old.newest.new_layout; chunk = old.newest.new_chunk; disks = old.newest.raid_disks })) None) None
-    none true e = absurd (cc)
-    none false e = refl
+    disks-is : (sb : Sb) (b : Bool) → b ≡ false → (cond b (count_of (pos sb.raid_disks -ℤ sb.delta_disks)) sb.raid_disks) ≡ sb.raid_disks
+    disks-is sb true e = absurd (cc)
+    disks-is sb false e = refl
+
+    few-disks : is_reshaping old.newest ≡ false → (shape_of old.newest).disks ≤ 16 → old.newest.raid_disks ≤ 16
+    few-disks not few = subst (λ (n : ℕ). n ≤ 16) (disks-is old.newest (is_reshaping old.newest) not) few
+
+    no-target : (sb : Sb) (b : Bool) → b ≡ false → ◌≡◌ {A = Option Shape} (cond b (Some (record { level = sb.new_level; layout = sb.new_layout; chunk = sb.new_chunk; disks = sb.raid_disks })) None) None
+    no-target sb true e = absurd (cc)
+    no-target sb false e = refl
 
     max-same : (n : ℕ) → max n n ≡ n
     max-same n = grind (arith, nat_tests)
+
+    count-by : (sb : Sb) → is_reshaping sb ≡ false → role_count sb ≡ sb.raid_disks
+    count-by sb not =
+        ap (λ (t : Option Shape). max (shape_of sb).disks (unwrap_or t (shape_of sb)).disks) (no-target sb (is_reshaping sb) not)
+        ∙ max-same (shape_of sb).disks ∙ disks-is sb (is_reshaping sb) not

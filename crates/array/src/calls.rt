@@ -3,9 +3,12 @@
 ghost use Rattle.std.specs.Prelude.{◌≡◌, ◌++◌, [], ◌∷◌, ◌+◌, ◌<◌, ◌≤◌, ℕ, length};
 ghost use Rattle.flat_history.specs.Flat.{next_number};
 ghost use Rattle.flat_history.specs.Plain.{entries_of};
+ghost use Rattle.array.specs.Losing.{losses_of, failure_events};
+ghost use Rattle.flat_history.specs.declared.events.Event.TheVariants.{Refused as Refuses};
 
+use crate::losses::enter_losses;
 use flat_history::{Entries, Entry, Epoch, Event};
-use md_base::Who;
+use md_base::{Refusal, Sectors, Who};
 
 /// The caller's next number, which is at most the number of entries.
 pub fn check_number(entries: &Entries, who: Who)
@@ -33,4 +36,49 @@ pub fn enter(epoch: &mut Epoch, who: Who, end: u64, event: Event)
         end,
         event,
     });
+}
+
+/// An event behind the losses of these roles and spares.
+pub fn enter_behind(epoch: &mut Epoch, who: Who, end: u64, roles: u32, spares: u32, event: Event)
+    requires room { 49 ≤ epoch.old.entries.room }
+    requires number { who.number ≤ length epoch.old.entries.items }
+    ensures items { epoch.new.entries.items ≡ epoch.old.entries.items ++ entries_of who end (losses_of roles spares ++ event ∷ []) }
+    ensures room { epoch.old.entries.room ≤ epoch.new.entries.room + 49 }
+    ensures uuid { epoch.new.uuid ≡ epoch.old.uuid }
+    ensures given { epoch.new.given ≡ epoch.old.given }
+    ensures first { epoch.new.first ≡ epoch.old.first }
+    ensures last { epoch.new.last ≡ end }
+{
+    enter_losses(epoch, who, end, roles, spares);
+    enter(epoch, who, end, event);
+}
+
+/// A write that lost these roles and spares, and is refused: what it may have left counts where its rows had begun to be
+/// written.
+pub fn enter_failure(
+    epoch: &mut Epoch,
+    who: Who,
+    end: u64,
+    roles: u32,
+    spares: u32,
+    torn: bool,
+    at: u64,
+    body: Sectors,
+    refusal: Refusal,
+)
+    requires room { 50 ≤ epoch.old.entries.room }
+    requires number { who.number ≤ length epoch.old.entries.items }
+    ensures items { epoch.new.entries.items ≡ epoch.old.entries.items ++ entries_of who end (failure_events roles spares torn at body refusal) }
+    ensures room { epoch.old.entries.room ≤ epoch.new.entries.room + 50 }
+    ensures uuid { epoch.new.uuid ≡ epoch.old.uuid }
+    ensures given { epoch.new.given ≡ epoch.old.given }
+    ensures first { epoch.new.first ≡ epoch.old.first }
+    ensures last { epoch.new.last ≡ end }
+{
+    if !torn {
+        enter_behind(epoch, who, end, roles, spares, Event::Refused { refusal });
+        return;
+    }
+    enter_behind(epoch, who, end, roles, spares, Event::Torn { at, body });
+    enter(epoch, who, end, Event::Refused { refusal });
 }

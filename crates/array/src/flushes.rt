@@ -65,8 +65,8 @@ fn with_holder(set: u32, state: Role) -> u32
     }
 }
 
-// The slots that hold a role.
-fn holders(members: &Members) -> u32
+/// The slots that hold a role.
+pub fn holders(members: &Members) -> u32
     requires few { length members.now.roles < 2 ^ 32 }
     requires small { (role slot : ℕ) → holder (role_state (reading_of members.now) role) ≡ Some slot → slot < 32 }
     ensures { AreHolders (reading_of members.now) result }

@@ -1,0 +1,124 @@
+-- What a history tells of losses, and where it ended.
+use Rattle.std.proofs.Common.{◌≡◌, ◌<◌, ◌≤◌, ◌||◌, inl, inr, ℕ, drop, Bool, true, false, List, [], ◌∷◌, ◌++◌, length, refl, sym, ◌∙◌, ap, subst, arith, append-nil}
+use Rattle.std.proofs.lemmas.List.Elements.{All-nil, All-cons}
+use Rattle.std.specs.Prelude.{⊤, IsFalse}
+use Rattle.std.proofs.lemmas.Bool.Decides.{nat_tests}
+use Rattle.std.proofs.lemmas.List.Folds.{list_any-append}
+use Rattle.std.specs.List.{All, list_any}
+use Rattle.md_base.specs.Sectors.{Sector}
+use Rattle.md_base.specs.declared.answers.Who.{Who}
+use Rattle.md_base.specs.declared.answers.Refusal.{Refusal}
+use Rattle.md_base.specs.declared.answers.Refusal.TheVariants.{PastEnd, TooManyMissing}
+use Rattle.bank.specs.declared.bank.Operation.{Operation}
+use Rattle.superblocks.specs.declared.members.Members.{Members}
+use Rattle.flat_history.specs.declared.events.Entry.{Entry}
+use Rattle.flat_history.specs.declared.events.Event.{Event}
+use Rattle.flat_history.specs.declared.events.Event.TheVariants.{Torn, Refused}
+use Rattle.flat_history.specs.Plain.{entries_of}
+use Rattle.flat_history.specs.Transfers.{last_end_from}
+use Rattle.array.specs.Losing.{role_losses, spare_losses, losses_of, failure_events, AreGone}
+use Rattle.array.specs.Kept.{IsLossOf, AreLossesOf, IsEndOf, IsBehind, IsRefusedFor, IsSettling, is_torn, has_torn}
+use Rattle.array.proofs.PlainLaws.{one}
+use Rattle.array.proofs.LosingLaws.{entries-both}
+use Rattle.array.proofs.CallLaws.{all-losses, last_end-behind}
+
+-- no entries tell of none
+pub losses-same : (members : Members) (before now : ℕ → ℕ) (old new : List Entry) → new ≡ old → AreLossesOf members before now old new
+losses-same members before now old new same =
+    record { more = []; grown = same ∙ sym (append-nil old); failed = All-nil (λ e. IsLossOf members before now e.event) }
+
+-- an event that tells of none
+pub losses-alone : (members : Members) (before now : ℕ → ℕ) (old mid new : List Entry) (who : Who) (end : ℕ) (event : Event) → IsLossOf members before now event
+    → mid ≡ old → new ≡ mid ++ entries_of who end (event ∷ []) → AreLossesOf members before now old new
+losses-alone members before now old mid new who end event none mid_is is = record {
+  more = entries_of who end (event ∷ []);
+  grown = is ∙ ap (λ (l : List Entry). l ++ entries_of who end (event ∷ [])) mid_is;
+  failed = All-cons (λ e. IsLossOf members before now e.event) (one who end event) [] none (All-nil (λ e. IsLossOf members before now e.event));
+}
+
+-- losses, and events behind them that tell of none
+losses-tail : (old after : Members) (before now : ℕ → ℕ) (entries mid new : List Entry) (who : Who) (end roles spares : ℕ) (tail : List Event) → AreGone old after roles spares before now
+    → All (λ e. IsLossOf old before now e.event) (entries_of who end tail) → mid ≡ entries → new ≡ mid ++ entries_of who end (losses_of roles spares ++ tail) → AreLossesOf old before now entries new
+losses-tail old after before now entries mid new who end roles spares tail gone rest mid_is is = record {
+  more = entries_of who end (losses_of roles spares ++ tail);
+  grown = is ∙ ap (λ (l : List Entry). l ++ entries_of who end (losses_of roles spares ++ tail)) mid_is;
+  failed = all-losses (λ event. IsLossOf old before now event) who end roles spares tail gone.held gone.failed rest;
+}
+
+pub losses-behind : (old after : Members) (before now : ℕ → ℕ) (entries mid new : List Entry) (who : Who) (end roles spares : ℕ) (event : Event) → AreGone old after roles spares before now
+    → IsLossOf old before now event → mid ≡ entries → new ≡ mid ++ entries_of who end (losses_of roles spares ++ event ∷ []) → AreLossesOf old before now entries new
+losses-behind old after before now entries mid new who end roles spares event gone none mid_is is =
+    losses-tail old after before now entries mid new who end roles spares (event ∷ []) gone
+    (All-cons (λ e. IsLossOf old before now e.event) (one who end event) [] none (All-nil (λ e. IsLossOf old before now e.event))) mid_is is
+
+assoc : (xs : List Event) (x y : Event) → (xs ++ x ∷ []) ++ y ∷ [] ≡ xs ++ x ∷ y ∷ []
+assoc [] x y = refl
+assoc (z ∷ xs) x y = ap (λ (l : List Event). z ∷ l) (assoc xs x y)
+
+pub losses-failure : (old after : Members) (before now : ℕ → ℕ) (entries mid new : List Entry) (who : Who) (end roles spares : ℕ) (torn : Bool) (at : ℕ) (body : List Sector) (refusal : Refusal)
+    → AreGone old after roles spares before now → mid ≡ entries → new ≡ mid ++ entries_of who end (failure_events roles spares torn at body refusal) → AreLossesOf old before now entries new
+losses-failure old after before now entries mid new who end roles spares true at body refusal gone mid_is is =
+    losses-tail old after before now entries mid new who end roles spares (Torn at body ∷ Refused refusal ∷ []) gone
+    (All-cons (λ e. IsLossOf old before now e.event) (one who end (Torn at body)) (one who end (Refused refusal) ∷ []) tt
+    (All-cons (λ e. IsLossOf old before now e.event) (one who end (Refused refusal)) [] tt (All-nil (λ e. IsLossOf old before now e.event)))) mid_is
+    (is ∙ ap (λ (l : List Event). mid ++ entries_of who end l) (assoc (losses_of roles spares) (Torn at body) (Refused refusal)))
+losses-failure old after before now entries mid new who end roles spares false at body refusal gone mid_is is =
+    losses-behind old after before now entries mid new who end roles spares (Refused refusal) gone tt mid_is is
+
+-- ---- where a call ended
+
+pub ended-behind : {tells : Type 0} {new : List Entry} (tape : List Operation) (first : ℕ) (old : List Entry) (who : Who) (end : ℕ) (inner : List Event) (event : Event)
+    → new ≡ old ++ entries_of who end (inner ++ event ∷ []) → (tells → end ≡ length tape) → IsEndOf tells first new tape
+ended-behind tape first old who end inner event is at_end told = ap (λ (l : List Entry). last_end_from first l) is ∙ last_end-behind first old who end inner event ∙ at_end told
+
+pub ended-failure : {tells : Type 0} {new : List Entry} (tape : List Operation) (first : ℕ) (old : List Entry) (who : Who) (end roles spares : ℕ) (torn : Bool) (at : ℕ) (body : List Sector) (refusal : Refusal)
+    → new ≡ old ++ entries_of who end (failure_events roles spares torn at body refusal) → (tells → end ≡ length tape) → IsEndOf tells first new tape
+ended-failure tape first old who end roles spares true at body refusal is at_end = ended-behind tape first old who end (losses_of roles spares ++ Torn at body ∷ []) (Refused refusal) is at_end
+ended-failure tape first old who end roles spares false at body refusal is at_end = ended-behind tape first old who end (losses_of roles spares) (Refused refusal) is at_end
+
+-- ---- what a call answered
+
+no-losses : losses_of 0 0 ≡ []
+unfolding role_losses spare_losses
+no-losses = refl
+
+pub behind-alone : {old mid new : List Entry} (who : Who) (end : ℕ) (event : Event) → mid ≡ old → new ≡ mid ++ entries_of who end (event ∷ []) → IsBehind who old new event
+behind-alone {old = old} {mid = mid} who end event mid_is is = record {
+  roles = 0;
+  spares = 0;
+  end = end;
+  is = is ∙ ap (λ (l : List Entry). l ++ entries_of who end (event ∷ [])) mid_is ∙ ap (λ (l : List Event). old ++ entries_of who end (l ++ event ∷ [])) (sym no-losses);
+}
+
+-- a refusal that doesn't speak of a place
+pub refused-zero : (visible : ℕ) (m : Members) (refusal : Refusal) → IsRefusedFor 0 0 m m refusal → IsRefusedFor visible 0 m m refusal
+refused-zero visible m (PastEnd told) why = absurd (omega (arith, why.1))
+refused-zero visible m (TooManyMissing count tolerance) why = (omega arith, why.1, why.2, why.3)
+refused-zero visible m refusal why = absurd why
+
+pub settling-no-loss : (members : Members) (before now : ℕ → ℕ) (event : Event) → IsSettling event → IsLossOf members before now event
+settling-no-loss members before now event (inl is) = subst (IsLossOf members before now) (sym is) tt
+settling-no-loss members before now event (inr is) = subst (IsLossOf members before now) (sym is) tt
+
+-- ---- torn writes
+
+drop-past : (xs ys : List Entry) → drop (length xs) (xs ++ ys) ≡ ys
+drop-past [] ys = refl
+drop-past (x ∷ xs) ys = drop-past xs ys
+
+pub torn-told : {old mid new : List Entry} (who : Who) (end roles spares : ℕ) (torn : Bool) (at : ℕ) (body : List Sector) (refusal : Refusal) → mid ≡ old
+    → new ≡ mid ++ entries_of who end (failure_events roles spares torn at body refusal) → IsFalse (has_torn old new) → torn ≡ false
+torn-told who end roles spares false at body refusal mid_is is none = refl
+torn-told {old = old} {mid = mid} who end roles spares true at body refusal mid_is is none = absurd (
+    let whole = is ∙ ap (λ (l : List Entry). l ++ entries_of who end (failure_events roles spares true at body refusal)) mid_is in
+    let here = ap (λ (l : List Entry). has_torn old l) whole
+    ∙ ap (λ (l : List Entry). list_any (λ e. is_torn e.event) l) (drop-past old (entries_of who end (failure_events roles spares true at body refusal)))
+    ∙ ap (λ (l : List Event). list_any (λ e. is_torn e.event) (entries_of who end l)) (assoc (losses_of roles spares) (Torn at body) (Refused refusal))
+    ∙ ap (λ (l : List Entry). list_any (λ e. is_torn e.event) l) (entries-both who end (losses_of roles spares) (Torn at body ∷ Refused refusal ∷ []))
+    ∙ list_any-append (λ e. is_torn e.event) (entries_of who end (losses_of roles spares)) (entries_of who end (Torn at body ∷ Refused refusal ∷ []))
+    ∙ last (list_any (λ e. is_torn e.event) (entries_of who end (losses_of roles spares))) in
+    cc
+    )
+  where
+    last : (b : Bool) → (b || true) ≡ true
+    last b = grind (arith, nat_tests)

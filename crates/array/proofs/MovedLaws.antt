@@ -1,0 +1,180 @@
+-- What device calls leave of an array's places.
+use Rattle.std.proofs.Common.{◌≡◌, ◌≢◌, ◌⊎◌, inl, inr, ℕ, zero, suc, ◌+◌, ◌*◌, ◌<◌, ◌≤◌, ◌==◌, ◌&&◌, Bool, true, false, not, cond, nat_lt, max, bit_or, List, [], ◌∷◌, ◌++◌, length, get_or, map, Option, Some, None, refl, sym, ◌∙◌, ap, ap₂, subst, arith, append_assoc, append-nil}
+use Rattle.std.proofs.lemmas.Bool.Decides.{nat_tests}
+use Rattle.std.proofs.lemmas.Bool.{cases_lt}
+use Rattle.std.proofs.lemmas.List.{get_or_past}
+use Rattle.std.proofs.lemmas.Nat.Bits.{bit_at_or}
+use Rattle.md_base.specs.Shapes.{has_slot, data_disks}
+use Rattle.md_base.specs.declared.places.Shape.{Shape}
+use Rattle.md_base.specs.declared.status.Role.{Role}
+use Rattle.md_base.specs.declared.status.Role.TheVariants.{Whole, Recovering, Missing}
+use Rattle.bank.specs.Given.{Given, IsFaulted, NeverFalls}
+use Rattle.bank.specs.declared.bank.Operation.{Operation}
+use Rattle.superblocks.specs.declared.members.Members.{Members}
+use Rattle.superblocks.specs.Reading.{shape_of, role_state, holder, is_whole}
+use Rattle.superblocks.proofs.SlotSets.{none_there}
+use Rattle.row_io.specs.Rows.{reading_of, is_missing, missing_count, role_without, members_without, HaveFailed}
+use Rattle.row_io.proofs.Losses.{state_after, state_kept, holder-after}
+use Rattle.array.specs.Whole.{Places, list_size}
+use Rattle.array.specs.Placed.{places_of, AreWhole, IsPlaced, AreLost, AreUnlost, AreLess}
+use Rattle.array.specs.Losing.{AreGone}
+use Rattle.array.specs.Moving.{Grows, IsMoved}
+use Rattle.array.specs.Kept.{missing_in}
+use Rattle.array.proofs.PlacedLaws.{kept-roles, none-lost, places-same, whole-same, state-without}
+use Rattle.array.proofs.MemberLaws.{less-without, none_missing}
+
+-- ---- the tape
+
+pub grows-none : {tells : Type 0} {before after : List Operation} → (tells → after ≡ before) → Grows tells before after
+grows-none {before = before} same = record { more = λ told. ([], same told ∙ sym (append-nil before)) }
+
+pub grows-then : {tells : Type 0} {before mid after : List Operation} → Grows tells before mid → Grows tells mid after → Grows tells before after
+grows-then {before = before} one two = record {
+  more = λ told.
+      let first = one.more told in
+      let second = two.more told in
+      (first.0 ++ second.0, second.1 ∙ ap (λ (l : List Operation). l ++ second.0) first.1 ∙ append_assoc before first.0 second.0);
+}
+
+-- ---- the places
+
+-- the role's slot isn't lost, where the role is whole afterwards
+whole-kept : (lost slot : ℕ) (state : Role) → not (is_whole (role_without lost state)) ≡ false → holder state ≡ Some slot → has_slot lost slot ≡ false
+whole-kept lost slot (Whole s) whole held = by (has_slot lost s) refl whole
+  where
+    by : (b : Bool) → has_slot lost s ≡ b → not (is_whole (cond b Missing (Whole s))) ≡ false → has_slot lost slot ≡ false
+    by true gone w = absurd (cc)
+    by false kept w = let same : s ≡ slot = cc in ap (has_slot lost) (sym same) ∙ kept
+whole-kept lost slot (Recovering s) whole held = by (has_slot lost s) refl whole
+  where
+    by : (b : Bool) → has_slot lost s ≡ b → not (is_whole (cond b Missing (Recovering s))) ≡ false → has_slot lost slot ≡ false
+    by true gone w = absurd (cc)
+    by false kept w = let same : s ≡ slot = cc in ap (has_slot lost) (sym same) ∙ kept
+whole-kept lost slot Missing whole held = absurd (cc)
+
+module _ (given : Given) (lost : ℕ) (old new : Members) (less : AreLess lost old new) (was : IsPlaced given old) where
+  state-is : (role : ℕ) → role_state (reading_of new) role ≡ role_without lost (role_state (reading_of old) role)
+  state-is role = ap (λ (l : List Role). get_or l role Missing) less.roles ∙ state-without lost old.roles role
+
+  -- where all roles are whole afterwards, none lost its slot
+  pub less-whole : AreWhole new → AreLess 0 old new
+  less-whole whole = record {
+    still = less.still;
+    shape = less.shape;
+    size = less.size;
+    roles = less.roles ∙ kept-roles lost old.roles kept ∙ sym (none-lost old.roles);
+    offsets = less.offsets;
+  }
+    where
+      kept : (role slot : ℕ) → holder (get_or old.roles role Missing) ≡ Some slot → has_slot lost slot ≡ false
+      kept role slot held = elim (cases_lt role (shape_of old.newest).disks) [
+        | inl below ↦ whole-kept lost slot (get_or old.roles role Missing)
+            (ap (λ (s : Role). not (is_whole s)) (sym (state-is role)) ∙ whole role (subst (λ (s : Shape). role < s.disks) (sym less.shape) below)) held
+        | inr above ↦ absurd (let past : get_or old.roles role Missing ≡ Missing = get_or_past old.roles role Missing (omega (arith, above, was.roles)) in
+            let none : ◌≡◌ {A = Option ℕ} None (Some slot) = sym (ap holder past) ∙ held in cc)
+      ]
+
+  whole-before : AreWhole new → AreWhole old
+  whole-before whole role below =
+      ap (λ (s : Role). not (is_whole s)) (sym (ap (λ (l : List Role). get_or l role Missing) ((less-whole whole).roles ∙ none-lost old.roles)))
+      ∙ whole role (subst (λ (s : Shape). role < s.disks) (sym less.shape) below)
+
+  pub moved-less : IsPlaced given new → AreUnlost new → IsMoved given old new
+  moved-less placed unlost = record {
+    placed = placed;
+    unlost = unlost;
+    shape = less.shape;
+    size = less.size;
+    whole = whole-before;
+    same = λ whole. places-same old new (less-whole whole);
+  }
+
+  -- the roles that are missing afterwards, where none was before
+  module _ (roles spares : ℕ) (before after : ℕ → ℕ) (whole : AreWhole old) (are : (role : ℕ) → has_slot roles role ≡ (nat_lt role (shape_of new.newest).disks && is_missing (reading_of new) role))
+      (failed : (role slot : ℕ) → holder (role_state (reading_of old) role) ≡ Some slot → has_slot lost slot ≡ true → IsFaulted slot before after)
+      (spares_failed : (slot : ℕ) → has_slot spares slot ≡ true → IsFaulted slot before after) where
+    both : (a b : Bool) → (a && b) ≡ true → (a ≡ true) × (b ≡ true)
+    both true b e = (refl, e)
+    both false b e = absurd (cc)
+
+    lt-of : (a b : ℕ) → nat_lt a b ≡ true → a < b
+    lt-of a b e = grind (arith, nat_tests, e)
+
+    lt-is : (a b : ℕ) → a < b → nat_lt a b ≡ true
+    lt-is a b lt = grind (arith, nat_tests, lt)
+
+    gone-slot : (slot : ℕ) (state : Role) → state ≡ Whole slot → not (is_whole (role_without lost state)) ≡ true → has_slot lost slot ≡ true
+    gone-slot slot state is missing = by (has_slot lost slot) refl (ap (λ (s : Role). not (is_whole (role_without lost s))) (sym is) ∙ missing)
+      where
+        by : (b : Bool) → has_slot lost slot ≡ b → not (is_whole (cond (has_slot lost slot) Missing (Whole slot))) ≡ true → has_slot lost slot ≡ true
+        by true gone m = gone
+        by false kept m = absurd (let e = ap (λ (b : Bool). not (is_whole (cond b Missing (Whole slot)))) (sym kept) ∙ m in cc)
+
+    held : (role : ℕ) → has_slot roles role ≡ true → (slot : ℕ) × (holder (role_state (reading_of old) role) ≡ Some slot) × IsFaulted slot before after
+    held role has =
+        let parts : (nat_lt role (shape_of new.newest).disks ≡ true) × (is_missing (reading_of new) role ≡ true) =
+        both (nat_lt role (shape_of new.newest).disks) (is_missing (reading_of new) role) (sym (are role) ∙ has) in
+        let below : role < (shape_of old.newest).disks = subst (λ (s : Shape). role < s.disks) less.shape (lt-of role (shape_of new.newest).disks parts.0) in
+        by (role_state (reading_of old) role) refl (was.states role) (whole role below) (ap (λ (s : Role). not (is_whole s)) (sym (state-is role)) ∙ parts.1)
+      where
+        by : (state : Role) → role_state (reading_of old) role ≡ state → (role_state (reading_of old) role ≡ Missing) ⊎ ((slot : ℕ) × (role_state (reading_of old) role ≡ Whole slot))
+            → not (is_whole (role_state (reading_of old) role)) ≡ false → not (is_whole (role_without lost (role_state (reading_of old) role))) ≡ true
+            → (slot : ℕ) × (holder (role_state (reading_of old) role) ≡ Some slot) × IsFaulted slot before after
+        by state is (inl none) w missing = absurd (let e = ap (λ (s : Role). not (is_whole s)) (sym none) ∙ w in cc)
+        by state is (inr found) w missing =
+            (found.0, ap holder found.1, failed role found.0 (ap holder found.1) (gone-slot found.0 (role_state (reading_of old) role) found.1 missing))
+
+    pub gone-less : AreGone old new roles spares before after
+    gone-less = record {
+      missing = λ role lt is. are role ∙ ap₂ (λ (a b : Bool). a && b) (lt-is role (shape_of new.newest).disks lt) is;
+      held = held;
+      failed = spares_failed;
+    }
+
+-- nothing was done to the members
+pub moved-same : (given given' : Given) (old new : Members) → given' ≡ given → new ≡ old → IsPlaced given old → AreUnlost old → IsMoved given old new
+moved-same given given' old new same is placed unlost =
+    subst (λ (m : Members). IsMoved given old m) (sym is) (record { placed = placed; unlost = unlost; shape = refl; size = refl; whole = λ w. w; same = λ w. refl })
+
+pub moved-then : (given : Given) (a b c : Members) → IsMoved given a b → IsMoved given b c → IsMoved given a c
+moved-then given a b c one two = record {
+  placed = two.placed;
+  unlost = two.unlost;
+  shape = two.shape ∙ one.shape;
+  size = two.size ∙ one.size;
+  whole = λ whole. one.whole (two.whole whole);
+  same = λ whole. two.same whole ∙ one.same (two.whole whole);
+}
+
+pub size-moved : (given : Given) (old new : Members) → IsMoved given old new → list_size (places_of new) ≡ list_size (places_of old)
+size-moved given old new moved = ap₂ (λ (s : Shape) (n : ℕ). data_disks s * n) moved.shape moved.size
+
+-- ---- slots that failed
+
+either_none : (a b : ℕ) → (a == 1) ≡ false → (b == 1) ≡ false → (max a b == 1) ≡ false
+either_none a b one two = grind (arith, nat_tests, one, two)
+
+unlost-without : (m : Members) (lost : ℕ) → AreUnlost m → AreUnlost (members_without lost m)
+unlost-without m lost unlost role slot held =
+    let kept = state_kept lost slot (role_state (reading_of m) role) (ap holder (sym (state_after m lost role)) ∙ held) in
+    ap (λ (n : ℕ). n == 1) (bit_at_or m.lost lost slot) ∙ either_none _ _ (unlost role slot kept.holder) kept.here
+
+-- what failed slots leave, by the call that lost them
+module _ (given : Given) (shape : Shape) (old new : Members) (lost : ℕ) (before after : ℕ → ℕ) (was : IsPlaced given old) (did : AreLost given shape old new lost before after) where
+  less-lost : AreLess lost old new
+  less-lost = subst (λ (m : Members). AreLess lost old m) (sym did.members) (less-without old lost)
+
+  pub moved-lost : AreUnlost old → IsMoved given old new
+  moved-lost unlost = moved-less given lost old new less-lost was did.placed (subst AreUnlost (sym did.members) (unlost-without old lost unlost))
+
+  pub gone-lost : (roles : ℕ) → AreWhole old → shape ≡ shape_of old.newest → ((role : ℕ) → has_slot roles role ≡ (nat_lt role shape.disks && is_missing (reading_of new) role)) → AreGone old new roles 0 before after
+  gone-lost roles whole same are = gone-less given lost old new less-lost was roles 0 before after whole
+      (λ role. are role ∙ ap (λ (s : Shape). nat_lt role s.disks && is_missing (reading_of new) role) (same ∙ sym less-lost.shape))
+      (λ role slot held gone. (did.failed slot gone).0) (λ slot has. absurd (let e = none_there slot in cc))
+
+  pub missing-lost : shape ≡ shape_of old.newest → lost ≢ 0 → 0 < missing_in new
+  missing-lost same some = subst (λ (s : Shape). 0 < missing_count (reading_of new) s) (same ∙ sym less-lost.shape) (did.missing some)
+
+-- with a role missing, not every role is whole
+pub not-whole : (given : Given) (m : Members) → IsPlaced given m → 0 < missing_in m → AreWhole m → ⊥
+not-whole given m placed some whole = absurd (let none = none_missing given m placed whole in omega (arith, none, some))

@@ -1,0 +1,38 @@
+-- What device calls leave of an array.
+use Rattle.std.specs.Prelude.{◌≡◌, ℕ, ◌<◌, true, List, [], ◌∷◌, ◌++◌, Some}
+use Rattle.md_base.specs.Shapes.{has_slot}
+use Rattle.bank.specs.declared.bank.Operation.{Operation}
+use Rattle.bank.specs.Given.{Given, IsFaulted}
+use Rattle.bank.specs.Tape.{Contents, disk}
+use Rattle.superblocks.specs.declared.members.Members.{Members}
+use Rattle.superblocks.specs.Reading.{shape_of, role_state, holder}
+use Rattle.row_io.specs.Rows.{reading_of, present}
+use Rattle.array.specs.Whole.{Places, in_row}
+use Rattle.array.specs.Placed.{places_of, AreWhole, IsPlaced, AreUnlost, AreLess}
+
+-- the rows are as they were
+abbrev pub AreRowsKept : Places → Contents → Contents → Type 0
+AreRowsKept p before after = (role row : ℕ) → role < p.shape.disks → in_row p after row role ≡ in_row p before row role
+
+-- a stop leaves the rows as they are, and nothing else
+abbrev pub AreRowsFlushed : Places → Given → List Operation → Type 0
+AreRowsFlushed p given tape = (role row : ℕ) → role < p.shape.disks → in_row p (disk given.start tape) row role ≡ in_row p (present given tape) row role ∷ []
+
+-- more was done
+pub record Grows (tells : Type 0) (before after : List Operation) : Type 0 where
+  pub more : tells → (ops : List Operation) × (after ≡ before ++ ops)
+
+-- The same array, of which some slots may have been lost; where no role is missing, all stands where it stood.
+pub record IsMoved (given : Given) (old new : Members) : Type 0 where
+  pub placed : IsPlaced given new
+  pub unlost : AreUnlost new
+  pub shape : shape_of new.newest ≡ shape_of old.newest
+  pub size : new.newest.size ≡ old.newest.size
+  pub whole : AreWhole new → AreWhole old
+  pub same : AreWhole new → places_of new ≡ places_of old
+
+-- the slots that were lost since have failed, these spares among them
+pub record AreFailed (old new : Members) (spares : ℕ) (before after : ℕ → ℕ) : Type 0 where
+  pub less : AreLess new.lost old new
+  pub held : (role slot : ℕ) → holder (role_state (reading_of old) role) ≡ Some slot → has_slot new.lost slot ≡ true → IsFaulted slot before after
+  pub failed : (slot : ℕ) → has_slot spares slot ≡ true → IsFaulted slot before after

@@ -1,0 +1,131 @@
+//! An array that is read and written, and keeps its history.
+
+ghost use Rattle.std.specs.Prelude.{◌≡◌, ◌*◌, ◌^◌, ◌<◌, ◌≤◌, ℕ, length, Option, Some, None, IsTrue};
+ghost use Rattle.md_base.specs.Shapes.{is_valid_shape, data_disks};
+ghost use Rattle.superblocks.specs.Reading.{shape_of};
+ghost use Rattle.flat_history.specs.Flat.{next_number};
+ghost use Rattle.array.specs.Whole.{list_size};
+ghost use Rattle.array.specs.Placed.{places_of};
+ghost use Rattle.array.specs.Kept.{IsRefusalOf};
+
+mod adopting;
+mod ending;
+mod reading;
+mod settling;
+mod writing;
+
+use crate::losing::shape_in;
+pub use adopting::Opened;
+use bank::Bank;
+use flat_history::Epoch;
+use md_base::{Refusal, Shape};
+use row_io::missing_count;
+use std::alloc::Global;
+use std::marker::Model;
+use superblocks::Members;
+
+/// An array over slots of a bank, of one shape. It can do without no member: with a role missing its reads, writes and
+/// flushes are refused.
+#[derive(Drop)]
+pub struct Array<B: Bank> {
+    alloc: Global,
+    bank: B,
+    epoch: Epoch,
+    backup: Option<u32>,
+    members: Members,
+    unsynced: bool,
+    rows: Vec<u64>,
+    buffer: Vec<u8>,
+}
+
+impl<B: Bank> Model for Array<B> {
+    ghost use Rattle.std.specs.Prelude.{vec_capacity, length};
+    ghost use Rattle.array.specs.Parts.{Parts};
+    ghost use Rattle.array.specs.Kept.{IsReady, scope_in};
+
+    ghost Value = { Parts B };
+
+    ghost view = { λ a. record {
+      bank = a.bank;
+      uuid = a.epoch.uuid;
+      given = a.epoch.given;
+      first = a.epoch.first;
+      last = a.epoch.last;
+      entries = a.epoch.entries.items;
+      backup = a.backup;
+      members = a.members;
+      unsynced = a.unsynced;
+    } };
+
+    ghost invariant = { λ a. IsReady B.tells (B.given a.bank) (B.tape a.bank) (scope_in (B.given a.bank) a.epoch.uuid a.epoch.given a.backup)
+        a.epoch.first a.epoch.entries.items a.members a.epoch.entries.room (vec_capacity a.rows) (length a.buffer.items) };
+}
+
+// The sectors of the flat list: so many data disks times the rows of each.
+#[tactic(auto, using(layout::proofs::Limits::limited))]
+fn list_length(shape: &Shape, size: u64) -> u64
+    requires shape { IsTrue (is_valid_shape shape.now) }
+    requires size { size ≤ 2 ^ 48 }
+    ensures { result ≡ data_disks shape.now * size }
+{
+    let parities = if shape.level == 6 { 2 } else { 1 };
+    (shape.disks - parities) as u64 * size
+}
+
+// The refusal of a call that ends at `to`, by the visible size and the roles that are missing.
+fn refusal_of(members: &Members, visible: u64, to: u64) -> Option<Refusal>
+    requires shape { IsTrue (is_valid_shape (shape_of members.now.newest)) }
+    requires roles { (shape_of members.now.newest).disks ≤ length members.now.roles }
+    ensures { IsRefusalOf visible to members.now result }
+{
+    if visible < to {
+        return Some(Refusal::PastEnd(visible));
+    }
+    let disks = shape_in(members).disks;
+    let count = missing_count(members, disks);
+    if count == 0 {
+        return None;
+    }
+    Some(Refusal::TooManyMissing(count as u64, 0))
+}
+
+impl<B: Bank> Array<B> {
+    /// How many sectors can be read and written.
+    pub fn visible(&self) -> u64
+        ensures { result ≡ list_size (places_of self.now.members) }
+    {
+        list_length(&shape_in(&self.members), self.members.newest.size)
+    }
+
+    /// The number that the caller's next call bears.
+    pub fn next_number(&self, caller: u32) -> u64
+        ensures { result ≡ next_number caller self.now.entries }
+    {
+        self.epoch.entries.next_number(caller)
+    }
+
+    /// How many operations the bank has made. It takes no memory and makes no device call.
+    pub fn ops(&self) -> u64
+        ensures { B.tells → result ≡ length (B.tape self.now.bank) }
+    {
+        self.bank.ops()
+    }
+
+    /// What happened so far.
+    pub fn epoch(&self) -> &Epoch
+        ensures entries { result.now.entries.items ≡ self.now.entries }
+        ensures uuid { result.now.uuid ≡ self.now.uuid }
+        ensures given { result.now.given ≡ self.now.given }
+        ensures first { result.now.first ≡ self.now.first }
+        ensures last { result.now.last ≡ self.now.last }
+    {
+        &self.epoch
+    }
+
+    /// What is known of the superblocks.
+    pub fn members(&self) -> &Members
+        ensures { result.now ≡ self.now.members }
+    {
+        &self.members
+    }
+}

@@ -1,0 +1,90 @@
+//! Flushes of an array.
+
+ghost use Rattle.std.specs.Prelude.{◌≡◌, ◌≢◌, ◌+◌, ◌^◌, ◌<◌, ◌≤◌, length, true, false, OnOk};
+ghost use Rattle.bank.specs.Given.{NeverFalls};
+ghost use Rattle.flat_history.specs.Flat.{next_number};
+ghost use Rattle.flat_history.specs.declared.events.Event.TheVariants.{Flushed};
+ghost use Rattle.flat_history.specs.declared.events.Request.TheVariants.{Flush as AsksFlush};
+ghost use Rattle.array.specs.Whole.{list_size};
+ghost use Rattle.array.specs.Placed.{places_of};
+ghost use Rattle.superblocks.specs.Reading.{is_clean};
+ghost use Rattle.array.specs.Moving.{AreRowsFlushed};
+ghost use Rattle.array.specs.Kept.{world_for, IsSettled, IsSettling, IsAnswered, IsCausedBy, IsSameArray, AreLossesOf, IsEndOf, OnNoMemory};
+
+use crate::array::{Array, refusal_of};
+use crate::calls::{check_number, enter, enter_behind};
+use crate::losing::{settle, too_many};
+use bank::Bank;
+use flat_history::Event;
+use md_base::{Fault, Who};
+
+impl<B: Bank> Array<B> {
+    // Flushes the members, marks the array clean, and enters this event, `Flushed` or `Stopped`.
+    pub(crate) fn settle_entering(&mut self, who: Who, event: Event) -> Result<(), Fault>
+        requires next { who.number ≡ next_number who.caller self.old.entries }
+        requires caller { who.caller ≢ 254 }
+        requires event { IsSettling event }
+        ensures answered { IsSettled who self.old.entries self.new.entries event result }
+        ensures unchanged { OnNoMemory result (self.new ≡ self.old) }
+        ensures flushed { OnOk result (B.tells → AreRowsFlushed (places_of self.old.members) (B.given self.old.bank) (B.tape self.new.bank)) }
+        ensures clean { OnOk result (self.old.unsynced ≡ false → is_clean self.new.members.newest ≡ true) }
+        ensures caused { IsCausedBy (list_size (places_of self.old.members)) 0 self.old.members self.new.members result }
+        ensures losses { AreLossesOf self.old.members (B.faults_of self.old.bank) (B.faults_of self.new.bank) self.old.entries self.new.entries }
+        ensures ended { IsEndOf B.tells self.new.first self.new.entries (B.tape self.new.bank) }
+        ensures last { OnOk result (B.tells → self.new.last ≡ length (B.tape self.new.bank)) }
+        ensures never_falls { NeverFalls (B.faults_of self.old.bank) (B.faults_of self.new.bank) }
+        ensures given { B.given self.new.bank ≡ B.given self.old.bank }
+        ensures same { IsSameArray B.tells self.old self.new (world_for (B.given self.old.bank) (B.tape self.old.bank) self.old) (world_for (B.given self.new.bank) (B.tape self.new.bank) self.new) }
+    {
+        match self.epoch.entries.make_room(50) {
+            Ok(()) => {}
+            Err(_) => return Err(Fault::NoMemory),
+        }
+        check_number(&self.epoch.entries, who);
+        match refusal_of(&self.members, 0, 0) {
+            Some(refusal) => {
+                let end = self.bank.ops();
+                enter(&mut self.epoch, who, end, Event::Refused { refusal });
+                return Err(Fault::Refused(refusal));
+            }
+            None => {}
+        }
+        let lost = settle(&mut self.members, &mut self.bank, self.unsynced);
+        let end = self.bank.ops();
+        let roles = lost.roles;
+        let spares = lost.spares;
+        if !lost.begun {
+            let refusal = too_many(&self.members);
+            enter_behind(
+                &mut self.epoch,
+                who,
+                end,
+                roles,
+                spares,
+                Event::Refused { refusal },
+            );
+            return Err(Fault::Refused(refusal));
+        }
+        enter_behind(&mut self.epoch, who, end, roles, spares, event);
+        Ok(())
+    }
+
+    /// Makes what was written durable, and marks the array clean, but for one that was opened dirty. Refusals:
+    /// `TooManyMissing`.
+    pub fn flush(&mut self, who: Who) -> Result<(), Fault>
+        requires next { who.number ≡ next_number who.caller self.old.entries }
+        requires caller { who.caller ≢ 254 }
+        ensures answered { IsAnswered (list_size (places_of self.old.members)) AsksFlush who self.old.entries self.new.entries Flushed result }
+        ensures unchanged { OnNoMemory result (self.new ≡ self.old) }
+        ensures flushed { OnOk result (B.tells → AreRowsFlushed (places_of self.old.members) (B.given self.old.bank) (B.tape self.new.bank)) }
+        ensures clean { OnOk result (self.old.unsynced ≡ false → is_clean self.new.members.newest ≡ true) }
+        ensures caused { IsCausedBy (list_size (places_of self.old.members)) 0 self.old.members self.new.members result }
+        ensures losses { AreLossesOf self.old.members (B.faults_of self.old.bank) (B.faults_of self.new.bank) self.old.entries self.new.entries }
+        ensures ended { IsEndOf B.tells self.new.first self.new.entries (B.tape self.new.bank) }
+        ensures never_falls { NeverFalls (B.faults_of self.old.bank) (B.faults_of self.new.bank) }
+        ensures given { B.given self.new.bank ≡ B.given self.old.bank }
+        ensures same { IsSameArray B.tells self.old self.new (world_for (B.given self.old.bank) (B.tape self.old.bank) self.old) (world_for (B.given self.new.bank) (B.tape self.new.bank) self.new) }
+    {
+        self.settle_entering(who, Event::Flushed)
+    }
+}

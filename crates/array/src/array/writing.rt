@@ -1,0 +1,103 @@
+//! Writes to an array.
+
+ghost use Rattle.std.specs.Prelude.{◌≡◌, ◌≢◌, ◌+◌, ◌/◌, ◌^◌, ◌<◌, ◌≤◌, length, OnOk, OnErr, IsFalse, false};
+ghost use Rattle.bank.specs.Given.{NeverFalls};
+ghost use Rattle.md_base.specs.Sectors.{IsWhole, sectors_of};
+ghost use Rattle.superblocks.specs.Reading.{is_clean};
+ghost use Rattle.row_io.specs.Rows.{present};
+ghost use Rattle.flat_history.specs.Flat.{next_number};
+ghost use Rattle.flat_history.specs.declared.events.Event.TheVariants.{Wrote};
+ghost use Rattle.flat_history.specs.declared.events.Request.TheVariants.{Write as AsksWrite};
+ghost use Rattle.array.specs.Whole.{list_size};
+ghost use Rattle.array.specs.Placed.{places_of};
+ghost use Rattle.array.specs.Marking.{AreOthersPresent};
+ghost use Rattle.array.specs.Kept.{world_for, IsAnswered, IsCausedBy, IsSameArray, AreLossesOf, IsEndOf, OnNoMemory, has_torn};
+
+use crate::array::{Array, list_length, refusal_of};
+use crate::calls::{check_number, enter, enter_behind, enter_failure};
+use crate::losing::{put, shape_in, too_many};
+use bank::Bank;
+use flat_history::Event;
+use md_base::{Fault, Sectors, Who};
+
+impl<B: Bank> Array<B> {
+    /// Makes the list hold `from`, of 1 to 128 whole sectors, from `at` on. Refusals: `PastEnd`, `TooManyMissing`.
+    pub fn write(&mut self, who: Who, at: u64, from: &[u8]) -> Result<(), Fault>
+        requires next { who.number ≡ next_number who.caller self.old.entries }
+        requires caller { who.caller ≢ 254 }
+        requires whole { IsWhole from.now }
+        requires few { length from.now / 512 ≤ 128 }
+        requires short { at + length from.now / 512 < 2 ^ 53 }
+        ensures answered { IsAnswered (list_size (places_of self.old.members)) (AsksWrite at (sectors_of from.now)) who self.old.entries self.new.entries (Wrote at (sectors_of from.now)) result }
+        ensures unchanged { OnNoMemory result (self.new ≡ self.old) }
+        ensures dirty { OnOk result (is_clean self.new.members.newest ≡ false) }
+        ensures untouched { OnErr result (IsFalse (has_torn self.old.entries self.new.entries) → B.tells
+            → AreOthersPresent (present (B.given self.old.bank) (B.tape self.old.bank)) (present (B.given self.old.bank) (B.tape self.new.bank))) }
+        ensures caused { IsCausedBy (list_size (places_of self.old.members)) (at + length from.now / 512) self.old.members self.new.members result }
+        ensures losses { AreLossesOf self.old.members (B.faults_of self.old.bank) (B.faults_of self.new.bank) self.old.entries self.new.entries }
+        ensures ended { IsEndOf B.tells self.new.first self.new.entries (B.tape self.new.bank) }
+        ensures never_falls { NeverFalls (B.faults_of self.old.bank) (B.faults_of self.new.bank) }
+        ensures given { B.given self.new.bank ≡ B.given self.old.bank }
+        ensures same { IsSameArray B.tells self.old self.new (world_for (B.given self.old.bank) (B.tape self.old.bank) self.old) (world_for (B.given self.new.bank) (B.tape self.new.bank) self.new) }
+    {
+        let body = match Sectors::copy_of(self.alloc, from) {
+            Ok(body) => body,
+            Err(_) => return Err(Fault::NoMemory),
+        };
+        match self.epoch.entries.make_room(51) {
+            Ok(()) => {}
+            Err(_) => return Err(Fault::NoMemory),
+        }
+        check_number(&self.epoch.entries, who);
+        let shape = shape_in(&self.members);
+        let to = at + (from.len() / 512) as u64;
+        match refusal_of(
+            &self.members,
+            list_length(&shape, self.members.newest.size),
+            to,
+        ) {
+            Some(refusal) => {
+                let end = self.bank.ops();
+                enter(&mut self.epoch, who, end, Event::Refused { refusal });
+                return Err(Fault::Refused(refusal));
+            }
+            None => {}
+        }
+        let lost = put(
+            &mut self.members,
+            &mut self.bank,
+            &shape,
+            at,
+            from,
+            &mut self.rows,
+            &mut self.buffer,
+        );
+        let end = self.bank.ops();
+        let roles = lost.roles;
+        let spares = lost.spares;
+        if roles != 0 {
+            let refusal = too_many(&self.members);
+            enter_failure(
+                &mut self.epoch,
+                who,
+                end,
+                roles,
+                spares,
+                lost.begun,
+                at,
+                body,
+                refusal,
+            );
+            return Err(Fault::Refused(refusal));
+        }
+        enter_behind(
+            &mut self.epoch,
+            who,
+            end,
+            roles,
+            spares,
+            Event::Wrote { at, body },
+        );
+        Ok(())
+    }
+}
