@@ -1,3 +1,4 @@
 pub mod LookedAt
 pub mod Judged
 pub mod SafeLaws
+pub mod OpenedHeld

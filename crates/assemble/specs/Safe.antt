@@ -1,12 +1,14 @@
 -- That an opened array is safe from its first mark on.
-use Rattle.std.specs.Prelude.{ℕ, List, [], length, Option, ⊤, IsTrue}
+use Rattle.std.specs.Prelude.{ℕ, ◌<◌, ◌≤◌, List, [], length, Option, ⊤, IsTrue}
 use Rattle.md_base.specs.Shapes.{has_slot}
 use Rattle.bank.specs.declared.bank.Operation.{Operation}
 use Rattle.bank.specs.Given.{Given}
-use Rattle.bank.specs.Tape.{contents}
+use Rattle.bank.specs.Tape.{contents, disk}
+use Rattle.superblocks.specs.Found.{AreLikeNewest, AreInSectors}
 use Rattle.flat_history.specs.World.{World}
 use Rattle.flat_history.specs.CrashSafe.{IsSafeAt}
 use Rattle.flat_history.specs.Settled.{IsKeptAt}
+use Rattle.array.specs.Held.{IsHeldBy}
 use Rattle.assemble.specs.declared.opening.Opened.{Opened}
 use Rattle.assemble.specs.Opening.{scope_of, IsOpened, AreFlushed}
 
@@ -27,3 +29,14 @@ OpeningsAreSafe = (bank : Given) (tape : List Operation) (backup : Option ℕ) (
     → AreFlushed bank.start tape opened.given
     → ((s : ℕ) → IsTrue (has_slot live s) → IsTrue (has_slot opened.given s))
     → IsKeptAt (world_of bank tape backup opened) [] live (length tape) × IsSafeAt (world_of bank tape backup opened) [] (length tape)
+
+-- And the superblocks are held there, as the next update needs it, where those that are as new as the newest say the same, none has a
+-- role for a device number from 128 on, and each stands in two sectors of bytes.
+abbrev pub OpeningsAreHeld : Type 0
+OpeningsAreHeld = (bank : Given) (tape : List Operation) (backup : Option ℕ) (asked : Option (List ℕ)) (opened : Opened) → bank.slots ≤ 32
+    → IsOpened ⊤ bank (contents bank.start tape (length tape)) backup asked opened
+    → AreFlushed bank.start tape opened.given
+    → ((s : ℕ) → IsTrue (has_slot opened.given s) → s < bank.slots)
+    → AreLikeNewest (scope_of bank backup opened.given opened.members.newest.set_uuid) opened.members.newest (contents bank.start tape (length tape))
+    → AreInSectors (scope_of bank backup opened.given opened.members.newest.set_uuid) (contents bank.start tape (length tape))
+    → IsHeldBy (scope_of bank backup opened.given opened.members.newest.set_uuid) opened.members (disk bank.start tape)
