@@ -50,6 +50,10 @@ pub put_here : (t : ℕ) (row : List Sector) (e : Disk) → put t row e t 8 ≡ 
 unfolding put
 put_here t row e = ap (λ b. cond (b && true) row (e t 8)) (same_is t)
 
+pub put_is : (t : ℕ) (d e : Disk) → (λ (s k : ℕ). cond ((s == t) && (k == 8)) (d t 8) (e s k)) ≡ put t (d t 8) e
+unfolding put
+put_is t d e = refl
+
 pub put_slot : (t : ℕ) (row : List Sector) (e : Disk) (s k : ℕ) → s ≢ t → put t row e s k ≡ e s k
 unfolding put
 put_slot t row e s k apart = ap (λ b. cond (b && (k == 8)) row (e s k)) (differs s t apart)
@@ -144,7 +148,7 @@ module _ (scope : Scope) (members : Members) (change : Change) (before live know
   first_live s is = and_first (has_slot live s) (has_slot members.lost s) (sym (ready.are s) ∙ is)
 
   not_behind : is_behind members.newest (own_in members.own slot) ≡ false
-  not_behind = ap (is_behind members.newest) ready.new.is ∙ not_less ready.new.sb.events members.newest.events ready.new.events
+  not_behind = ap (is_behind members.newest) ready.is ∙ not_less ready.sb.events members.newest.events ready.new.events
 
   not_first : is_recovery (give_of change.gives slot) ≡ false
   not_first = no_recovery members.roles (give_of change.gives slot) slot ready.idle
@@ -301,13 +305,13 @@ module _ (scope : Scope) (members : Members) (change : Change) (before live know
         next_events small = omega (arith, small)
 
     -- in no image has another slot the number of the one that is made a spare
-    apart : (s : ℕ) (a : Sb) → s ≢ slot → Shows scope known members.own mid.disk s a → is_fresh members.newest a ≡ true → a.dev_number ≢ ready.new.sb.dev_number
+    apart : (s : ℕ) (a : Sb) → s ≢ slot → Shows scope known members.own mid.disk s a → is_fresh members.newest a ≡ true → a.dev_number ≢ ready.sb.dev_number
     apart s a differ (inl is) fresh = ready.new.apart s a differ (inl is) fresh
     apart s a differ (inr (none, m)) fresh =
         ready.new.apart s a differ (inr (none, other_read scope known lost0 members.newest members.own d ready.held Narrow narrow_known mid.disk caught_stage s (Some a) none m)) fresh
 
-    own_new : (sb : Sb) → own_in members.own slot ≡ Some sb → ready.new.sb ≡ sb
-    own_new sb is = let both : Some ready.new.sb ≡ Some sb = sym ready.new.is ∙ is in cc
+    own_new : (sb : Sb) → own_in members.own slot ≡ Some sb → ready.sb ≡ sb
+    own_new sb is = let both : Some ready.sb ≡ Some sb = sym ready.is ∙ is in cc
 
     numbers : (s t : ℕ) (a sb : Sb) → s ≢ t → MayRead scope mid.disk s (Some a) → is_fresh members.newest a ≡ true → has_slot Left t ≡ true → own_in members.own t ≡ Some sb → sb.dev_number ≢ a.dev_number
     numbers s t a sb differ m fresh is own_is = elim (cases_eq t slot) [
@@ -426,15 +430,15 @@ module _ (scope : Scope) (members : Members) (change : Change) (before live know
 
     slot_is_known : IsKnown scope members.newest (own_in members.own slot) slot Emptied
     slot_is_known = record {
-      sb = ready.new.sb;
-      own = ready.new.is;
+      sb = ready.sb;
+      own = ready.is;
       reads = λ found m. absurd (none_read scope slot mid.disk slot found refl m);
       second = λ sector is_in. ready.new.second sector (caught.stage.ninth slot sector (subst (λ (l : List Sector). IsIn l sector) (put_ninth slot [] mid.disk slot) is_in));
       seen = ready.new.seen;
       long = ready.new.long;
       there = ready.new.there;
       array = ready.new.array;
-      fresh = fresh_less members.newest.events ready.new.sb.events (omega (arith, ready.new.events));
+      fresh = fresh_less members.newest.events ready.sb.events (omega (arith, ready.new.events));
       number = ready.new.number;
       late = ready.new.late;
       lies = ready.new.lies;
@@ -447,7 +451,7 @@ module _ (scope : Scope) (members : Members) (change : Change) (before live know
       | inr other ↦ known_put scope members.newest (own_in members.own s) slot [] mid.disk s other (held.each s (wide_known s other is))
     ]
 
-    emptied_shows : (s : ℕ) (a : Sb) → Shows scope Wide members.own Emptied s a → ((s ≡ slot) × (a ≡ ready.new.sb)) ⊎ ((s ≢ slot) × Shows scope known members.own mid.disk s a)
+    emptied_shows : (s : ℕ) (a : Sb) → Shows scope Wide members.own Emptied s a → ((s ≡ slot) × (a ≡ ready.sb)) ⊎ ((s ≢ slot) × Shows scope known members.own mid.disk s a)
     emptied_shows s a (inl (is, own_is)) = elim (cases_eq s slot) [
       | inl same ↦ inl (same, sym (own_new a (subst (λ (t : ℕ). own_in members.own t ≡ Some a) same own_is)))
       | inr other ↦ inr (other, inl (wide_known s other is, own_is))
@@ -691,7 +695,7 @@ module _ (scope : Scope) (members : Members) (change : Change) (before live know
         shows_mid s a is fresh = shows-before scope known Gone members.newest members.own mid.disk heldG Rest rest_known level N change.gives fit Own kept_rest Former (rest_taking d' f) Taken l' whole4 some_taken taken_rest first4 more4 s a is fresh
 
         abbrev New : Sb
-        New = planned N (give_of change.gives slot) ready.new.sb
+        New = planned N (give_of change.gives slot) ready.sb
 
         -- what the slot may have: a former superblock, or the planned one
         slot_read : (found : Option Sb) → MayRead scope d' slot found → MayRead scope Former slot found ⊎ IsStamped New found
@@ -708,14 +712,14 @@ module _ (scope : Scope) (members : Members) (change : Change) (before live know
             new_stamped : IsPlanned N (give_of change.gives slot) (own_in members.own slot) (m.at 8) → IsStamped New found
             new_stamped plan =
                 let k = emptied_held.each slot (left_wide slot slot_left) in
-                let same : k.sb ≡ ready.new.sb = sym (own_new k.sb k.own) in
+                let same : k.sb ≡ ready.sb = sym (own_new k.sb k.own) in
                 let ninth : IsIn (Emptied slot 9) (m.at 9) = subst (λ (l : List Sector). IsIn l (m.at 9)) (sym (put_ninth slot [] mid.disk slot)) (f.stage.ninth slot (m.at 9) m.ninth) in
                 subst (λ (z : Sb). IsStamped (planned N (give_of change.gives slot) z) found) same
                 (subst (λ (x : Option Sb). IsStamped (planned N (give_of change.gives slot) k.sb) x) m.is
                 (new_of scope Wide mid.lost members.newest members.own Emptied emptied_held Left left_wide left_level N change.gives left_fit Own kept_left slot slot_left m.at plan ninth))
 
-        new_number : (csum : ℕ) → (record New { sb_csum = csum }).dev_number ≡ ready.new.sb.dev_number
-        new_number csum = (planned-of N ready.new.sb (give_of change.gives slot)).number
+        new_number : (csum : ℕ) → (record New { sb_csum = csum }).dev_number ≡ ready.sb.dev_number
+        new_number csum = (planned-of N ready.sb (give_of change.gives slot)).number
 
         -- the planned superblock has no role
         new_idle : (role : ℕ) (csum : ℕ) → role < 16 → held_in N role slot (Some (record New { sb_csum = csum })) ≡ None
@@ -736,7 +740,7 @@ module _ (scope : Scope) (members : Members) (change : Change) (before live know
         new_fits : (csum : ℕ) → IsSuited N (scope.sizes.sectors slot) (record New { sb_csum = csum })
         new_fits csum =
             let k = emptied_held.each slot (left_wide slot slot_left) in
-            let same : k.sb ≡ ready.new.sb = sym (own_new k.sb k.own) in
+            let same : k.sb ≡ ready.sb = sym (own_new k.sb k.own) in
             subst (λ (z : Sb). IsSuited N (scope.sizes.sectors slot) (record (planned N (give_of change.gives slot) z) { sb_csum = csum })) same
             (new_suited scope Wide mid.lost members.newest members.own Emptied emptied_held N change.gives Left left_fit left_wide Own kept_left slot slot_left csum)
 
@@ -755,18 +759,18 @@ module _ (scope : Scope) (members : Members) (change : Change) (before live know
               spare = λ found kept m. absurd (both_ways gone kept);
             }
 
-        shows_former : (s : ℕ) (a : Sb) → Shows scope Rest Own d' s a → (Shows scope Rest Own Former s a) ⊎ ((s ≡ slot) × (a.dev_number ≡ ready.new.sb.dev_number))
+        shows_former : (s : ℕ) (a : Sb) → Shows scope Rest Own d' s a → (Shows scope Rest Own Former s a) ⊎ ((s ≡ slot) × (a.dev_number ≡ ready.sb.dev_number))
         shows_former s a (inl is) = inl (inl is)
         shows_former s a (inr (none, m)) = elim (cases_eq s slot) [
           | inl same ↦ of same (slot_read (Some a) (subst (λ (t : ℕ). MayRead scope d' t (Some a)) same m))
           | inr other ↦ inl (inr (none, to_put scope slot (mid.disk slot 8) d' s (Some a) other m))
         ]
           where
-            of : s ≡ slot → MayRead scope Former slot (Some a) ⊎ IsStamped New (Some a) → (Shows scope Rest Own Former s a) ⊎ ((s ≡ slot) × (a.dev_number ≡ ready.new.sb.dev_number))
+            of : s ≡ slot → MayRead scope Former slot (Some a) ⊎ IsStamped New (Some a) → (Shows scope Rest Own Former s a) ⊎ ((s ≡ slot) × (a.dev_number ≡ ready.sb.dev_number))
             of same (inl was) = inl (inr (none, subst (λ (t : ℕ). MayRead scope Former t (Some a)) (sym same) was))
             of same (inr (csum, new)) = inr (same, (let is : a ≡ record New { sb_csum = csum } = cc in ap (λ (z : Sb). z.dev_number) is ∙ new_number csum))
 
-        not_that : (s : ℕ) (a : Sb) → s ≢ slot → Shows scope Rest Own Former s a → is_fresh N a ≡ true → a.dev_number ≢ ready.new.sb.dev_number
+        not_that : (s : ℕ) (a : Sb) → s ≢ slot → Shows scope Rest Own Former s a → is_fresh N a ≡ true → a.dev_number ≢ ready.sb.dev_number
         not_that s a other is fresh number =
             let b = shows_mid s a is fresh in
             apart s b.0 other b.1 b.2 (b.3 ∙ number)

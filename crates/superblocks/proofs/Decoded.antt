@@ -1,13 +1,15 @@
 -- A superblock as it is read.
-use Rattle.std.proofs.Common.{◌≡◌, ℕ, ◌<◌, ◌≤◌, lit≤, Bool, true, false, cond, ◌&&◌, List, ◌++◌, take, drop, length, refl, sym, ap, ap₂, ◌∙◌, arith, Option, Some, None, IsTrue, IsSome, IfSome, length-drop, take-append-drop, take_all}
+use Rattle.std.proofs.Common.{◌≡◌, ℕ, ◌+◌, ◌<◌, ◌≤◌, lit≤, Bool, true, false, cond, ◌&&◌, List, ◌++◌, take, drop, length, get_or, subst, refl, sym, ap, ap₂, ◌∙◌, arith, Option, Some, None, IsTrue, IsSome, IfSome, length-drop, take-append-drop, take_all}
 use Rattle.std.specs.Prelude.{◌↔◌}
 use Rattle.std.proofs.lemmas.Bool.{le-leb}
+use Rattle.std.proofs.lemmas.List.{length-take-le, get_or-drop}
 use Rattle.md_base.specs.Sectors.{Sector}
 use Rattle.sb1.specs.declared.sb.Sb.{Sb}
 use Rattle.sb1.specs.Superblock.{superblock_in, is_valid, sb_of}
 use Rattle.sb1.proofs.SuperblockLaws.{writable-valid}
 use Rattle.bank.specs.Given.{Given}
 use Rattle.bank.specs.Tape.{AreSectors}
+use Rattle.superblocks.specs.Found.{IsInSectors}
 use Rattle.superblocks.specs.Writing.{IsMember}
 
 -- the bytes of two sectors
@@ -46,4 +48,17 @@ readable given slot bytes (Some x) known long valid fields sb e =
       sb = sb;
       own = refl;
       writable = writable-valid bytes sb (valid.0 refl) (sym same ∙ fields);
+    }
+
+-- and stands in two sectors of bytes
+pub in-sectors : (at : ℕ → Sector) (bytes : List ℕ) → length bytes ≡ 1024 → ((k : ℕ) → get_or bytes k 0 < 256) → AreSectors at 8 bytes → IsInSectors at
+in-sectors at bytes long small parts =
+    let first : take 512 bytes ≡ at 8 = parts 0 (omega (arith, long)) in
+    let second : take 512 (drop 512 bytes) ≡ at 9 = parts 1 (omega (arith, long)) in
+    let rest : length (drop 512 bytes) ≡ 512 = omega (arith, length-drop 512 bytes, long) in
+    let whole : drop 512 bytes ≡ at 9 = sym (take_all 512 (drop 512 bytes) (omega (arith, rest))) ∙ second in
+    record {
+      eighth = ap length (sym first) ∙ length-take-le 512 bytes (omega (arith, long));
+      ninth = ap length (sym whole) ∙ rest;
+      bytes = λ k. subst (λ (n : ℕ). n < 256) (sym (get_or-drop 512 bytes k 0) ∙ ap (λ (l : List ℕ). get_or l k 0) whole) (small (512 + k));
     }

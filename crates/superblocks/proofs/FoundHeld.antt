@@ -25,7 +25,7 @@ use Rattle.superblocks.specs.Outcome.{set_of}
 use Rattle.superblocks.specs.Reads.{HasNoLateRoles, IsSuited, IsSound, held_in, spare_in, has_spare}
 use Rattle.superblocks.specs.Held.{own_at, MayRead, IsSecondHalf, ReadsBefore, IsKnown, Shows, AreHeld, AreExact, known_of}
 use Rattle.superblocks.specs.Said.{AreSaid}
-use Rattle.superblocks.specs.Found.{AreLikeNewest, AreInSectors}
+use Rattle.superblocks.specs.Found.{AreLikeNewest, IsInSectors}
 use Rattle.superblocks.proofs.ReadLists.{Own, by_bool, IsTop, HasNewest, found_newest, holder-same, spares-at, held-here}
 use Rattle.superblocks.proofs.ReadAlike.{tabulate-same}
 use Rattle.superblocks.proofs.HeldReads.{known_at}
@@ -128,7 +128,7 @@ module _ (scope : Scope) (c : Contents) (d : ℕ → ℕ → List Sector) (m : M
     (roles-are : m.roles ≡ (reading_by scope.sizes.sectors (superblocks scope c) m.newest).roles) (spares-are-these : m.spares ≡ (reading_by scope.sizes.sectors (superblocks scope c) m.newest).spares)
     (inside : (s : ℕ) → is_seen scope s ≡ true → s < scope.sizes.slots) (few : scope.sizes.slots ≤ 32)
     (flushed : (s : ℕ) → is_seen scope s ≡ true → (d s 8 ≡ c s 8 ∷ []) × (d s 9 ≡ c s 9 ∷ []))
-    (alike : AreLikeNewest scope m.newest c) (sectors : AreInSectors scope c) where
+    (alike : AreLikeNewest scope m.newest c) (sectors : (s : ℕ) (sb : Sb) → own_at scope s (c s) ≡ Some sb → IsInSectors (c s)) where
   abbrev N : Sb
   N = m.newest
 
@@ -173,7 +173,7 @@ module _ (scope : Scope) (c : Contents) (d : ℕ → ℕ → List Sector) (m : M
       later n = grind (arith, nat_tests)
 
   in-bytes : (s : ℕ) (sb : Sb) → own_at scope s (c s) ≡ Some sb → length (c s 8 ++ c s 9) ≡ 1024
-  in-bytes s sb is = omega (arith, length-append (c s 8) (c s 9), sectors.eighth s sb is, sectors.ninth s sb is)
+  in-bytes s sb is = omega (arith, length-append (c s 8) (c s 9), (sectors s sb is).eighth, (sectors s sb is).ninth)
 
   -- ---- the newest one
 
@@ -395,10 +395,10 @@ module _ (scope : Scope) (c : Contents) (d : ℕ → ℕ → List Sector) (m : M
       let f = found-of scope s (c s) sb is in
       let same : sector ≡ c s 9 = one sector (c s 9) (subst (λ (l : List Sector). IsIn l sector) (flushed s f.seen).1 is_in) in
       subst (IsSecondHalf sb) (sym same) (record {
-        long = sectors.ninth s sb is;
-        bytes = sectors.bytes s sb is;
+        long = (sectors s sb is).ninth;
+        bytes = (sectors s sb is).bytes;
         entries =
-            ap two_by_two (sym (ap (λ (n : ℕ). drop n (c s 8 ++ c s 9)) (sym (sectors.eighth s sb is)) ∙ drop-append_seam (c s 8) (c s 9)))
+            ap two_by_two (sym (ap (λ (n : ℕ). drop n (c s 8 ++ c s 9)) (sym ((sectors s sb is).eighth)) ∙ drop-append_seam (c s 8) (c s 9)))
             ∙ others-stand (c s 8 ++ c s 9) (in-bytes s sb is)
             ∙ ap (λ (z : Sb). drop 128 z.dev_roles) (sym f.is);
       })

@@ -13,6 +13,7 @@ use Rattle.sb1.specs.Superblock.{superblock_in}
 use Rattle.bank.specs.Given.{Given, IsFaulted}
 use Rattle.bank.specs.Tape.{Contents}
 use Rattle.superblocks.specs.Reading.{seen_superblock, is_backup}
+use Rattle.superblocks.specs.Found.{IsInSectors, AreInSectors}
 use Rattle.superblocks.specs.Writing.{IsMember, AreWritable}
 use Rattle.superblocks.specs.Election.{members_scope, seen_superblocks, is_member, OnlyMembersFail, AreLost}
 use Rattle.superblocks.proofs.LostSlots.{has-all_but, has-one_more, has-other, fits-one_more}
@@ -185,6 +186,25 @@ pub read-as : {tells : Type 0} {given : Given} {backup : Option ℕ} {c : Conten
     → IsRead tells given backup c n seen' lost' before after
 read-as {tells = tells} {given = given} {backup = backup} {c = c} {n = n} {seen = seen} {seen' = seen'} {lost = lost} {before = before} {after = after} e f read =
     subst (λ k. IsRead tells given backup c n seen' k before after) (sym f) (subst (λ s. IsRead tells given backup c n s lost before after) (sym e) read)
+
+-- ---- what was found stands in sectors
+
+pub sectors-none : (c : Contents) → AreInSectors c (replicate 32 None)
+sectors-none c s sb e = elim (cases_lt s 32) [
+  | inl below ↦ absurd (contrary (sym (get_or-replicate 32 s None None below) ∙ e))
+  | inr past ↦ absurd (contrary (sym (get_or_past (replicate 32 None) s None past) ∙ e))
+]
+  where
+    contrary : ◌≡◌ {A = Option Sb} None (Some sb) → ⊥
+    contrary e = absurd (cc)
+
+pub sectors-found : (c : Contents) (seen : List (Option Sb)) (n : ℕ) (found : Option Sb) → n < length seen → AreInSectors c seen
+    → ((sb : Sb) → found ≡ Some sb → IsInSectors (c n)) → AreInSectors c (set seen n found)
+sectors-found c seen n found within was is s sb e = elim (cases_eq s n) [
+  | inl same ↦ subst (λ k. IsInSectors (c k)) (sym same)
+      (is sb (sym (get_or-set_same seen n found None within) ∙ subst (λ k. get_or (set seen n found) k None ≡ Some sb) same e))
+  | inr apart ↦ was s sb (sym (get_or-set_other seen n s found None apart) ∙ e)
+]
 
 -- ---- what was found can be written again
 

@@ -1,5 +1,5 @@
 -- Rounds that name lost slots, one after the other.
-use Rattle.std.proofs.Common.{◌≡◌, inl, inr, ⊎_elim, ℕ, suc, true, false, List, Option, [], append-nil, refl, sym, ◌∙◌, subst}
+use Rattle.std.proofs.Common.{◌≡◌, inl, inr, ⊎_elim, ℕ, suc, ◌<◌, true, false, List, Option, [], append-nil, refl, sym, ◌∙◌, subst, arith}
 use Rattle.md_base.specs.Sectors.{Sector}
 use Rattle.md_base.specs.Shapes.{has_slot}
 use Rattle.sb1.specs.declared.sb.Sb.{Sb}
@@ -97,6 +97,14 @@ module _ (members : Members) (change : Change) (before live : ℕ) where
           (rewritten c.newest change.gives members.own live b.lost c.lost more told u planned));
     }),
   )
+
+  pub named-some : {tells : Type 0} (start : ℕ → ℕ → Sector) (mid new : List Operation) (a b c : Round) (is : b.disk ≡ disk start mid) (is' : c.disk ≡ disk start new)
+      (told : tells) (over : IsNamed members change before live a b) (newest : c.newest ≡ naming members change before b.lost b.newest)
+      (more : (s : ℕ) → has_slot b.lost s ≡ true → has_slot c.lost s ≡ true)
+      (u : IsUpdate tells live b.lost c.lost (plan_of c.newest change.gives members.own) start mid new) (planned : ArePlanned c.newest change.gives members.own live c.lost (disk start new))
+      → 0 < (named-then start mid new a b c is is' told over newest more u planned).0
+  unfolding named-then
+  named-some start mid new a b c is is' told over newest more u planned = omega arith
 
 -- ---- the first round
 

@@ -1,5 +1,5 @@
 -- The plan of a change that fits.
-use Rattle.std.proofs.Common.{◌≡◌, ◌≢◌, ◌⊎◌, inl, inr, ⊎_elim, ℕ, zero, suc, ◌+◌, ◌-◌, ◌^◌, ◌*◌, ◌<◌, ◌≤◌, ◌==◌, Bool, true, false, cond, not, ◌||◌, ◌&&◌, nat_lt, min, List, [], ◌∷◌, ◌++◌, take, drop, map, set, length, get_or, Option, Some, None, option_map, refl, sym, ◌∙◌, ap, ap₂, subst, arith, length-append, length-drop, length-set}
+use Rattle.std.proofs.Common.{◌≡◌, ◌≢◌, ◌⊎◌, inl, inr, ⊎_elim, ℕ, zero, suc, ◌+◌, ◌-◌, ◌^◌, ◌*◌, ◌<◌, ◌≤◌, ◌==◌, Bool, true, false, cond, not, ◌||◌, ◌&&◌, nat_lt, min, List, [], ◌∷◌, ◌++◌, take, drop, map, set, length, get_or, Option, Some, None, option_map, refl, sym, ◌∙◌, ap, ap₂, subst, arith, length-append, length-drop, length-set, take-append-drop}
 use Rattle.std.specs.Prelude.{nat_le, find}
 use Rattle.std.specs.Option.{option_or}
 use Rattle.std.proofs.lemmas.Bool.{cases_lt, cases_eq}
@@ -158,7 +158,7 @@ mapped f [] i d lt = absurd (omega (arith, lt))
 mapped f (x ∷ l) zero d lt = refl
 mapped f (x ∷ l) (suc i) d lt = mapped f l i d (omega (arith, lt))
 
-length_mapped : (f : ℕ → ℕ) (l : List ℕ) → length (map f l) ≡ length l
+pub length_mapped : (f : ℕ → ℕ) (l : List ℕ) → length (map f l) ≡ length l
 length_mapped f [] = refl
 length_mapped f (x ∷ l) = ap suc (length_mapped f l)
 
@@ -181,6 +181,18 @@ cleared_back : (table : List ℕ) (dev d : ℕ) → 128 ≤ length table → 128
 cleared_back table dev d long late =
     let same : 128 + (dev - 128) ≡ dev = omega (arith, late) in
     get_or-append_right (map faulty_role (take 128 table)) (drop 128 table) 128 dev d (front_long table long) late ∙ get_or-drop 128 table (dev - 128) d ∙ ap (λ k. get_or table k d) same
+
+-- the table keeps its length
+pub length-any : (members : Members) (change : Change) (before lost : ℕ) (table : List ℕ) → length (with_roles members change before lost table) ≡ length table
+length-any members change before lost table =
+    length-entries (entry_for members change before lost) members.own 32 (cleared table)
+    ∙ omega (
+      arith,
+      length-append (map faulty_role (take 128 table)) (drop 128 table),
+      length_mapped faulty_role (take 128 table),
+      length-append (take 128 table) (drop 128 table),
+      ap (λ (l : List ℕ). length l) (take-append-drop 128 table),
+    )
 
 module _ (members : Members) (change : Change) (before lost : ℕ) (table : List ℕ) (long : 128 ≤ length table) where
   pub length-roles : length (with_roles members change before lost table) ≡ length table

@@ -20,11 +20,12 @@ by_bool false = inr refl
 
 -- ---- the newest
 
--- of a list with a superblock there is a newest one, which is in it, and no other is newer
+-- of a list with a superblock there is a newest one, which is in it, and no other is newer, nor as new at a lower slot
 pub record IsTop (X : Own) (N : Sb) : Type 0 where
   pub slot : ℕ
   pub there : get_or X slot None ≡ Some N
   pub most : (s : ℕ) (sb : Sb) → get_or X s None ≡ Some sb → sb.events ≤ N.events
+  pub lowest : (s : ℕ) (sb : Sb) → get_or X s None ≡ Some sb → sb.events ≡ N.events → slot ≤ s
 
 pub record HasNewest (X : Own) : Type 0 where
   pub newest : Sb
@@ -41,9 +42,13 @@ skip : (X : Own) → HasNewest X → HasNewest (None ∷ X)
 skip X h = record {
   newest = h.newest;
   is = h.is;
-  top = record { slot = suc h.top.slot; there = h.top.there; most = most };
+  top = record { slot = suc h.top.slot; there = h.top.there; most = most; lowest = lowest };
 }
   where
+    lowest : (s : ℕ) (sb : Sb) → get_or (None ∷ X) s None ≡ Some sb → sb.events ≡ h.newest.events → suc h.top.slot ≤ s
+    lowest zero sb is same = absurd (cc)
+    lowest (suc s) sb is same = omega (arith, h.top.lowest s sb is same)
+
     most : (s : ℕ) (sb : Sb) → get_or (None ∷ X) s None ≡ Some sb → sb.events ≤ h.newest.events
     most zero sb is = absurd (cc)
     most (suc s) sb is = h.top.most s sb is
@@ -52,7 +57,7 @@ alone : (x : Sb) (X : Own) → newest_of X ≡ None → HasNewest (Some x ∷ X)
 alone x X none = record {
   newest = x;
   is = ap (λ n. Some (newer x n)) none;
-  top = record { slot = 0; there = refl; most = most };
+  top = record { slot = 0; there = refl; most = most; lowest = λ s sb is same. omega arith };
 }
   where
     most : (s : ℕ) (sb : Sb) → get_or (Some x ∷ X) s None ≡ Some sb → sb.events ≤ x.events
@@ -79,9 +84,13 @@ both x X h = ⊎_by (by_bool (nat_lt x.events h.newest.events))
     most_first e zero sb is = let same : x ≡ sb = cc in omega (arith, ap (λ (y : Sb). y.events) same)
     most_first e (suc s) sb is = omega (arith, h.top.most s sb is, more e)
 
+    lowest : nat_lt x.events h.newest.events ≡ true → (s : ℕ) (sb : Sb) → get_or (Some x ∷ X) s None ≡ Some sb → sb.events ≡ h.newest.events → suc h.top.slot ≤ s
+    lowest e zero sb is same = let it : x ≡ sb = cc in absurd (omega (arith, ap (λ (y : Sb). y.events) it, less e, same))
+    lowest e (suc s) sb is same = omega (arith, h.top.lowest s sb is same)
+
     ⊎_by : (nat_lt x.events h.newest.events ≡ true) ⊎ (nat_lt x.events h.newest.events ≡ false) → HasNewest (Some x ∷ X)
-    ⊎_by (inl e) = record { newest = h.newest; is = is_newer true e; top = record { slot = suc h.top.slot; there = h.top.there; most = most e } }
-    ⊎_by (inr e) = record { newest = x; is = is_newer false e; top = record { slot = 0; there = refl; most = most_first e } }
+    ⊎_by (inl e) = record { newest = h.newest; is = is_newer true e; top = record { slot = suc h.top.slot; there = h.top.there; most = most e; lowest = lowest e } }
+    ⊎_by (inr e) = record { newest = x; is = is_newer false e; top = record { slot = 0; there = refl; most = most_first e; lowest = λ s sb is same. omega arith } }
 
 pub found_newest : (X : Own) (n : Option Sb) → newest_of X ≡ n → (n ≡ None) ⊎ HasNewest X
 found_newest [] n e = inl (sym e)

@@ -1,5 +1,5 @@
 -- The superblocks that an update in which no slot is lost leaves say the roles and the spares that it plans.
-use Rattle.std.proofs.Common.{◌≡◌, ◌⊎◌, inl, inr, ⊎_elim, ℕ, zero, suc, ◌+◌, ◌<◌, ◌==◌, Bool, true, false, cond, not, ◌||◌, ◌&&◌, nat_lt, max, List, [], ◌∷◌, length, get_or, Option, Some, None, refl, sym, ◌∙◌, ap, subst, arith}
+use Rattle.std.proofs.Common.{◌≡◌, ◌⊎◌, inl, inr, ⊎_elim, ℕ, zero, suc, ◌+◌, ◌<◌, ◌≤◌, ◌==◌, Bool, true, false, cond, not, ◌||◌, ◌&&◌, nat_lt, max, List, [], ◌∷◌, length, get_or, Option, Some, None, refl, sym, ◌∙◌, ap, subst, arith}
 use Rattle.std.specs.Prelude.{nat_le}
 use Rattle.std.specs.Int.{bit_at}
 use Rattle.std.specs.List.{list_any}
@@ -23,19 +23,21 @@ use Rattle.superblocks.specs.declared.change.Change.{Change}
 use Rattle.superblocks.specs.declared.members.Members.{Members}
 use Rattle.superblocks.specs.Reading.{Scope, is_fresh, is_recovering, entry_of, holds_role, state_of, is_spare, lies_within, role_count, holder, holder_from, data_offset_of}
 use Rattle.superblocks.specs.Update.{planned, give_of, own_in, is_added, is_held_by, role_from, planned_role, is_planned_spare, slot_entry, entry_for, with_roles}
+use Rattle.superblocks.specs.Updating.{planned_newest}
 use Rattle.superblocks.specs.Outcome.{is_same, is_planned_holder, held_state, planned_state, planned_roles, planned_spares, is_in_update, live_set}
 use Rattle.superblocks.specs.Reads.{SaysSame, held_in, spare_in, has_spare}
 use Rattle.superblocks.specs.Held.{AreHeld, said_by, known_of}
-use Rattle.superblocks.specs.Stages.{AreLeft, AreKept, IsFitPlan}
-use Rattle.superblocks.specs.Crash.{IsWithin}
+use Rattle.superblocks.specs.Stages.{AreLeft, AreKept}
+use Rattle.superblocks.specs.Rounds.{Round, IsReady}
+use Rattle.superblocks.specs.Crash.{IsWithin, AreHeldAsPlanned}
 use Rattle.superblocks.specs.Plans.{next_newest, IsFitChange}
-use Rattle.superblocks.specs.Said.{AreSaid, AreSparesFit, AreSaidAsPlanned}
+use Rattle.superblocks.specs.Said.{AreSaid, AreSparesFit, AreSaidAsPlanned, MembersStaySaid, MembersStaySaidInRounds}
 use Rattle.superblocks.proofs.ReadLists.{by_bool, spares-at}
 use Rattle.superblocks.proofs.ReadAlike.{count-same, tabulate-same}
 use Rattle.superblocks.proofs.HeldReads.{known_at}
 use Rattle.superblocks.proofs.UpdateReads.{some-or-all, fresh_less}
 use Rattle.superblocks.proofs.PlannedSb.{IsPlannedOf, planned-of, set_bit, recovering-same, recovering-spare, recovering-none}
-use Rattle.superblocks.proofs.PlanFits.{role-set, plan-fits}
+use Rattle.superblocks.proofs.PlanFits.{role-set, plan-fits, length-any}
 use Rattle.superblocks.proofs.ValidFields.{valid-shapes, few-roles}
 use Rattle.superblocks.proofs.SlotSets.{has-set_of, some_role}
 use Rattle.superblocks.proofs.SaidLists.{holder-none, holder-found, state-here, role-holder, spares-are}
@@ -85,12 +87,25 @@ some_if : (b : Bool) (state : Role) (found : Role) → cond b (Some state) None 
 some_if true state found is = (refl, let it : state ≡ found = cc in it)
 some_if false state found is = absurd (cc)
 
--- an entry of a slot that isn't lost since
-entry-kept : (lost : Bool) (role : Option ℕ) (spare : Bool) (e : ℕ) → slot_entry lost lost role spare ≡ Some e → (lost ≡ false) × ((role ≡ Some e) ⊎ ((e ≡ 0xffff) × (spare ≡ true)))
-entry-kept true role spare e is = absurd (cc)
-entry-kept false (Some role) spare e is = (refl, inl is)
-entry-kept false None true e is = (refl, inr ((let it : 0xffff ≡ e = cc in sym it), refl))
-entry-kept false None false e is = absurd (cc)
+-- an entry is that of a slot that isn't lost, or of one that was lost since
+entry-kept : (before lost : Bool) (role : Option ℕ) (spare : Bool) (e : ℕ) → slot_entry before lost role spare ≡ Some e
+    → ((lost ≡ false) × ((role ≡ Some e) ⊎ ((e ≡ 0xffff) × (spare ≡ true)))) ⊎ ((before ≡ false) × (lost ≡ true))
+entry-kept true true role spare e is = absurd (cc)
+entry-kept false true role spare e is = inr (refl, refl)
+entry-kept true false (Some role) spare e is = inl (refl, inl is)
+entry-kept false false (Some role) spare e is = inl (refl, inl is)
+entry-kept true false None true e is = inl (refl, inr ((let it : 0xffff ≡ e = cc in sym it), refl))
+entry-kept false false None true e is = inl (refl, inr ((let it : 0xffff ≡ e = cc in sym it), refl))
+entry-kept true false None false e is = absurd (cc)
+entry-kept false false None false e is = absurd (cc)
+
+entry-of-role : (before : Bool) (role : ℕ) (spare : Bool) → slot_entry before false (Some role) spare ≡ Some role
+entry-of-role true role spare = refl
+entry-of-role false role spare = refl
+
+entry-of-spare : (before : Bool) → slot_entry before false None true ≡ Some 0xffff
+entry-of-spare true = refl
+entry-of-spare false = refl
 
 recovering-set : (N own : Sb) (role offset : ℕ) → is_recovering (planned N (give.Role role (Some offset)) own) ≡ true
 recovering-set N own role offset = ap (λ n. n == 1) (set_bit _ 1 1 refl ∙ most (bit_at _ 1) (bit_at-lt _ 1))
@@ -108,13 +123,22 @@ held-below (state ∷ roles) (suc role) slot is = let rest = held-below roles ro
 known-is : (n known : ℕ) (own : List (Option Sb)) (s : ℕ) → s < n → get_or (tabulate n (known_at known own)) s None ≡ known_at known own s
 known-is n known own s h = get_or-tabulate n (known_at known own) s None h
 
-module _ (scope : Scope) (known lost left : ℕ) (members : Members) (change : Change) (own' : List (Option Sb)) (d : ℕ → ℕ → List Sector)
-    (held : AreHeld scope known lost members.newest members.own d) (within : IsWithin left known) (fits : IsFitChange known lost left members change)
-    (live : AreLeft (live_set members change) lost left) (kept : AreKept (next_newest members change lost lost) change.gives members.own left own')
-    (said : AreSaid scope known members) (spares : AreSparesFit left members change) where
-  abbrev N : Sb
-  N = next_newest members change lost lost
+-- a newest superblock that was planned, with the entries of a change
+pub record IsPlannedNewest (members : Members) (change : Change) (before lost : ℕ) (newest : Sb) : Type 0 where
+  pub table : List ℕ
+  pub roles : newest.dev_roles ≡ with_roles members change before lost table
+  pub long : length newest.dev_roles ≡ 384
+  pub room : newest.max_dev ≡ members.newest.max_dev
+  pub size : newest.size ≡ members.newest.size
+  pub says : SaysSame change.shared newest
+  pub count : role_count (planned_newest change.shared members.newest) ≡ role_count newest
+  pub few : role_count newest ≤ 16
 
+module _ (scope : Scope) (known lost0 before lost left : ℕ) (members : Members) (change : Change) (N : Sb) (own' : List (Option Sb)) (d : ℕ → ℕ → List Sector)
+    (held : AreHeld scope known lost0 members.newest members.own d) (within : IsWithin left known) (fits : IsFitChange known lost left members change)
+    (live : AreLeft (live_set members change) lost left) (since : (s : ℕ) → has_slot before s ≡ false → has_slot lost s ≡ true → has_slot known s ≡ true)
+    (plan : IsPlannedNewest members change before lost N) (kept : AreKept N change.gives members.own left own')
+    (said : AreSaid scope known members) (spares : AreSparesFit left members change) where
   abbrev given : ℕ → Give
   given s = give_of change.gives s
 
@@ -141,11 +165,8 @@ module _ (scope : Scope) (known lost left : ℕ) (members : Members) (change : C
   there : (s : ℕ) → has_slot left s ≡ true → s < scope.sizes.slots
   there s is = (held.each s (within s is)).there
 
-  fit : IsFitPlan scope lost members.newest N change.gives members.own left d
-  fit = plan-fits scope known lost left lost members change d held within fits
-
   few : (r : ℕ) → r < role_count N → r < 16
-  few r h = omega (arith, h, few-roles N (valid-shapes N [] fit.sound.fields))
+  few r h = omega (arith, h, plan.few)
 
   -- each is planned a role, or to be a spare
   part : (s : ℕ) → has_slot left s ≡ true → ((r : ℕ) × (role s ≡ Some r)) ⊎ ((role s ≡ None) × (spare s ≡ true))
@@ -170,32 +191,37 @@ module _ (scope : Scope) (known lost left : ℕ) (members : Members) (change : C
 
   -- ---- the entry of a device that is left
 
-  entered-left : (t e : ℕ) → entry_for members change lost lost t ≡ Some e → has_slot left t ≡ true
-  entered-left t e is =
-      let parts = entry-kept (has_slot lost t) (role t) (spare t) e is in
-      ⊎_elim (λ r. fits.role t e parts.0 r) (λ s. fits.spare t parts.0 s.1) parts.1
+  entered-known : (t e : ℕ) → entry_for members change before lost t ≡ Some e → has_slot known t ≡ true
+  entered-known t e is = ⊎_elim
+      (λ parts. ⊎_elim (λ r. within t (fits.role t e parts.0 r)) (λ s. within t (fits.spare t parts.0 s.1)) parts.1)
+      (λ gone. since t gone.0 gone.1)
+      (entry-kept (has_slot before t) (has_slot lost t) (role t) (spare t) e is)
 
-  one-device : (s t : ℕ) (sb a : Sb) → has_slot left s ≡ true → has_slot left t ≡ true → own_in members.own s ≡ Some sb → own_in members.own t ≡ Some a → a.dev_number ≡ sb.dev_number → t ≡ s
+  one-device : (s t : ℕ) (sb a : Sb) → has_slot known s ≡ true → has_slot known t ≡ true → own_in members.own s ≡ Some sb → own_in members.own t ≡ Some a → a.dev_number ≡ sb.dev_number → t ≡ s
   one-device s t sb a is is' own_is own_is' number = elim (cases_eq t s) [
     | inl same ↦ same
     | inr apart ↦
-        let k = held.each s (within s is) in
-        let k' = held.each t (within t is') in
+        let k = held.each s is in
+        let k' = held.each t is' in
         let same : k.sb ≡ sb = (let both : Some k.sb ≡ Some sb = sym k.own ∙ own_is in cc) in
         let same' : k'.sb ≡ a = (let both : Some k'.sb ≡ Some a = sym k'.own ∙ own_is' in cc) in
-        absurd (held.apart t s k'.sb k.sb apart (inl (within t is', k'.own)) (inl (within s is, k.own)) k'.fresh k.fresh
+        absurd (held.apart t s k'.sb k.sb apart (inl (is', k'.own)) (inl (is, k.own)) k'.fresh k.fresh
         (ap (λ (z : Sb). z.dev_number) same' ∙ number ∙ sym (ap (λ (z : Sb). z.dev_number) same)))
   ]
 
-  entry-is-planned : (s e : ℕ) (is : has_slot left s ≡ true) → entry_for members change lost lost s ≡ Some e → entry_of N (held.each s (within s is)).sb.dev_number ≡ e
+  table-long : 128 ≤ length plan.table
+  table-long = omega (arith, ap length plan.roles, length-any members change before lost plan.table, plan.long)
+
+  entry-is-planned : (s e : ℕ) (is : has_slot left s ≡ true) → entry_for members change before lost s ≡ Some e → entry_of N (held.each s (within s is)).sb.dev_number ≡ e
   entry-is-planned s e is entered =
       let k = held.each s (within s is) in
-      ap (λ b. cond b (get_or (with_roles members change lost lost members.newest.dev_roles) k.sb.dev_number 0xfffe) 0xfffe)
-      (is_below k.sb.dev_number N.max_dev (omega (arith, k.number, held.sound.room)))
-      ∙ role-set members change lost lost members.newest.dev_roles (omega (arith, held.table)) s e 0xfffe k.sb (lives s is).0 entered k.own k.number
+      (λ i. cond (nat_lt k.sb.dev_number (plan.room i)) (get_or (plan.roles i) k.sb.dev_number 0xfffe) 0xfffe)
+      ∙ ap (λ b. cond b (get_or (with_roles members change before lost plan.table) k.sb.dev_number 0xfffe) 0xfffe)
+      (is_below k.sb.dev_number members.newest.max_dev (omega (arith, k.number, held.sound.room)))
+      ∙ role-set members change before lost plan.table table-long s e 0xfffe k.sb (lives s is).0 entered k.own k.number
       (λ t other a entered' own_is number.
-      let same : t ≡ s = one-device s t k.sb a is (entered-left t other entered') k.own own_is number in
-      let both : Some other ≡ Some e = sym entered' ∙ ap (entry_for members change lost lost) same ∙ entered in cc)
+      let same : t ≡ s = one-device s t k.sb a (within s is) (entered-known t other entered') k.own own_is number in
+      let both : Some other ≡ Some e = sym entered' ∙ ap (entry_for members change before lost) same ∙ entered in cc)
 
   -- ---- what a slot has
 
@@ -217,16 +243,16 @@ module _ (scope : Scope) (known lost left : ℕ) (members : Members) (change : C
   new-fresh : (s : ℕ) (is : has_slot left s ≡ true) → is_fresh N (new s is) ≡ true
   new-fresh s is = fresh_less N.events (new s is).events (omega (arith, (of s is).events))
 
-  new-entry : (s e : ℕ) (is : has_slot left s ≡ true) → entry_for members change lost lost s ≡ Some e → entry_of N (new s is).dev_number ≡ e
+  new-entry : (s e : ℕ) (is : has_slot left s ≡ true) → entry_for members change before lost s ≡ Some e → entry_of N (new s is).dev_number ≡ e
   new-entry s e is entered = ap (entry_of N) (of s is).number ∙ entry-is-planned s e is entered
 
-  role-entry : (s r : ℕ) → has_slot left s ≡ true → role s ≡ Some r → entry_for members change lost lost s ≡ Some r
-  role-entry s r is has = (λ i. slot_entry ((lives s is).2 i) ((lives s is).2 i) (has i) (spare s))
+  role-entry : (s r : ℕ) → has_slot left s ≡ true → role s ≡ Some r → entry_for members change before lost s ≡ Some r
+  role-entry s r is has = (λ i. slot_entry (has_slot before s) ((lives s is).2 i) (has i) (spare s)) ∙ entry-of-role (has_slot before s) r (spare s)
 
-  spare-entry : (s : ℕ) → has_slot left s ≡ true → role s ≡ None → spare s ≡ true → entry_for members change lost lost s ≡ Some 0xffff
-  spare-entry s is none so = (λ i. slot_entry ((lives s is).2 i) ((lives s is).2 i) (none i) (so i))
+  spare-entry : (s : ℕ) → has_slot left s ≡ true → role s ≡ None → spare s ≡ true → entry_for members change before lost s ≡ Some 0xffff
+  spare-entry s is none so = (λ i. slot_entry (has_slot before s) ((lives s is).2 i) (none i) (so i)) ∙ entry-of-spare (has_slot before s)
 
-  held-now : (s r e : ℕ) (is : has_slot left s ≡ true) → entry_for members change lost lost s ≡ Some e
+  held-now : (s r e : ℕ) (is : has_slot left s ≡ true) → entry_for members change before lost s ≡ Some e
       → held_in N r s (known_at left own' s) ≡ cond (e == r) (Some (state_of s (new s is))) None
   held-now s r e is entered = ap (held_in N r s) (now-is s is) ∙ (λ i. cond (new-fresh s is i && (new-entry s e is entered i == r)) (Some (state_of s (new s is))) None)
 
@@ -329,29 +355,10 @@ module _ (scope : Scope) (known lost left : ℕ) (members : Members) (change : C
       none-at j isnt = let here : j ≡ 0 + j = omega arith in subst (λ (m : ℕ). held_in N r m (get_or (known_of scope left own') j None) ≡ None) here
           (list-now r j None (held-other r j (few r h) isnt) (λ none. refl))
 
-  shared : SaysSame change.shared N
-  shared =
-      let a = (planned-of change.shared members.newest Same).array in
-      record {
-        level = refl;
-        layout = refl;
-        size = refl;
-        chunksize = refl;
-        raid_disks = refl;
-        new_level = refl;
-        reshape_position = refl;
-        delta_disks = refl;
-        new_layout = refl;
-        new_chunk = refl;
-        resync_offset = refl;
-        reshaping = a.reshaping;
-        backward = a.backward;
-      }
-
   roles-are : (said_by scope left own' N).roles ≡ planned_roles members change lost
   roles-are =
       tabulate-same (role_count N) (λ role. holder_from N role 0 (known_of scope left own')) (planned_state members.roles change.gives lost) (λ k h. role-is k h)
-      ∙ ap (λ (n : ℕ). tabulate n (planned_state members.roles change.gives lost)) (sym (count-same change.shared N shared))
+      ∙ ap (λ (n : ℕ). tabulate n (planned_state members.roles change.gives lost)) (sym (count-same change.shared N plan.says))
 
   -- ---- the spares
 
@@ -391,7 +398,7 @@ module _ (scope : Scope) (known lost left : ℕ) (members : Members) (change : C
   still-whole s is Spare so isnt = recovering-spare N (held.each s (within s is)).sb ∙ isnt
 
   lies-new : (s : ℕ) (is : has_slot left s ≡ true) → lies_within N (scope.sizes.sectors s) (new s is) ≡ true
-  lies-new s is = (λ i. nat_le 10 ((of s is).start i) && nat_le ((of s is).start i + fit.size i) (scope.sizes.sectors s)) ∙ (held.each s (within s is)).lies
+  lies-new s is = (λ i. nat_le 10 ((of s is).start i) && nat_le ((of s is).start i + plan.size i) (scope.sizes.sectors s)) ∙ (held.each s (within s is)).lies
 
   number-new : (s : ℕ) (is : has_slot left s ≡ true) → nat_lt (new s is).dev_number 128 ≡ true
   number-new s is = ap (λ (n : ℕ). nat_lt n 128) (of s is).number ∙ is_below (held.each s (within s is)).sb.dev_number 128 (held.each s (within s is)).number
@@ -400,7 +407,7 @@ module _ (scope : Scope) (known lost left : ℕ) (members : Members) (change : C
   spare-left s is = ⊎_elim
       (λ found.
       let isnt : spare s ≡ false = ⊎_elim (λ so. absurd (let none = (fits-spare s is so).1 in let both = sym none ∙ found.1 in cc)) (λ isnt. isnt) (by_bool (spare s)) in
-      let small : found.0 < 16 = few found.0 (fits.below s found.0 (lives s is).2 found.1) in
+      let small : found.0 < 16 = few found.0 (let below = fits.below s found.0 (lives s is).2 found.1 in omega (arith, below, plan.count)) in
       (λ i. is_fresh N (new s is) && not (is_recovering (new s is)) && nat_lt (new s is).dev_number 128 && (new-entry s found.0 is (role-entry s found.0 is found.1) i == 0xffff) && lies_within N (scope.sizes.sectors s) (new s is))
       ∙ never (is_fresh N (new s is)) (is_recovering (new s is)) (nat_lt (new s is).dev_number 128) (found.0 == 0xffff) (lies_within N (scope.sizes.sectors s) (new s is)) (near found.0 small)
       ∙ sym (λ i. not ((lives s is).2 i) && isnt i))
@@ -446,5 +453,123 @@ module _ (scope : Scope) (known lost left : ℕ) (members : Members) (change : C
       ∙ (of s is).start
       ∙ sym (ap (λ (o : Option Sb). option_map_or (λ sb. sb.data_offset) o 0) (known-is scope.sizes.slots known members.own s (there s is) ∙ was-is s is))
 
-  pub stay-said : AreSaidAsPlanned scope known lost left members change own'
-  stay-said = record { roles = roles-are; spares = spares-planned; starts = start-kept }
+  pub planned-said : AreSaidAsPlanned scope known lost left members change N own'
+  planned-said = record { roles = roles-are; spares = spares-planned; starts = start-kept }
+
+-- what is planned says what the change does
+says-shared : (members : Members) (change : Change) → SaysSame change.shared (planned_newest change.shared members.newest)
+says-shared members change =
+    let a = (planned-of change.shared members.newest Same).array in
+    record {
+      level = refl;
+      layout = refl;
+      size = refl;
+      chunksize = refl;
+      raid_disks = refl;
+      new_level = refl;
+      reshape_position = refl;
+      delta_disks = refl;
+      new_layout = refl;
+      new_chunk = refl;
+      resync_offset = refl;
+      reshaping = a.reshaping;
+      backward = a.backward;
+    }
+
+-- where no slot is lost
+pub stay-said : MembersStaySaid
+stay-said scope known lost left members change own' d held within fits live kept said spares =
+    let fit = plan-fits scope known lost left lost members change d held within fits in
+    let a = says-shared members change in
+    planned-said scope known lost lost lost left members change (next_newest members change lost lost) own' d held within fits live
+    (λ s isnt is. absurd (let both = sym isnt ∙ is in cc))
+    (record {
+      table = members.newest.dev_roles;
+      roles = refl;
+      long = fit.table;
+      room = refl;
+      size = fit.size;
+      says = record {
+        level = refl;
+        layout = refl;
+        size = refl;
+        chunksize = refl;
+        raid_disks = refl;
+        new_level = refl;
+        reshape_position = refl;
+        delta_disks = refl;
+        new_layout = refl;
+        new_chunk = refl;
+        resync_offset = refl;
+        reshaping = a.reshaping;
+        backward = a.backward;
+      };
+      count = refl;
+      few = few-roles (next_newest members change lost lost) (valid-shapes (next_newest members change lost lost) [] fit.sound.fields);
+    }) kept said spares
+
+-- where slots are lost
+module _ (scope : Scope) (known left before : ℕ) (members : Members) (change : Change) (d : ℕ → ℕ → List Sector) (last : Round) (ready : IsReady scope known left members change (live_set members change) d)
+    (end : AreHeldAsPlanned scope members change before (live_set members change) last) where
+  kept-first : (s : ℕ) → has_slot end.named s ≡ false → has_slot members.lost s ≡ false
+  kept-first s none = ⊎_elim (λ is. absurd (let both = sym (end.more s is) ∙ none in cc)) (λ is. is) (by_bool (has_slot members.lost s))
+
+  of-first : (s : ℕ) → has_slot end.named s ≡ false → has_slot left s ≡ true → has_slot end.known s ≡ true
+  of-first s none is =
+      let parts = and_true (has_slot (live_set members change) s) (not (has_slot members.lost s)) (sym (ready.are s) ∙ is) in
+      end.are s ∙ (λ i. parts.0 i && not (none i))
+
+  still-left : (s : ℕ) → has_slot end.known s ≡ true → (has_slot left s ≡ true) × (has_slot (live_set members change) s ≡ true)
+  still-left s is =
+      let parts = and_true (has_slot (live_set members change) s) (not (has_slot end.named s)) (sym (end.are s) ∙ is) in
+      (ready.are s ∙ (λ i. parts.0 i && not (kept-first s (flip (has_slot end.named s) parts.1) i)), parts.0)
+
+  fits-end : IsFitChange known end.named end.known members change
+  fits-end = record {
+    role = λ s role none is. of-first s none (ready.fits.role s role (kept-first s none) is);
+    below = λ s role none is. ready.fits.below s role (kept-first s none) is;
+    spare = λ s none is. of-first s none (ready.fits.spare s (kept-first s none) is);
+    one_holder = λ s t role none none' is is'. ready.fits.one_holder s t role (kept-first s none) (kept-first t none') is is';
+    fields = ready.fits.fields;
+    size = ready.fits.size;
+    written = λ s is none. of-first s none (ready.fits.written s is (kept-first s none));
+    devices = λ s sb is own. ready.fits.devices s sb (still-left s is).0 own;
+    one = λ s t is is' first first'. ready.fits.one s t (still-left s is).0 (still-left t is').0 first first';
+  }
+
+  planned-end : IsPlannedNewest members change before end.named last.newest
+  planned-end =
+      let a = says-shared members change in
+      record {
+        table = end.plan.0;
+        roles = end.plan.1;
+        long = end.held.table;
+        room = ap (λ (z : Sb). z.max_dev) end.later.same;
+        size = ap (λ (z : Sb). z.size) end.later.same ∙ ready.fits.size;
+        says = subst (SaysSame change.shared) (sym end.later.same) (record {
+          level = refl;
+          layout = refl;
+          size = refl;
+          chunksize = refl;
+          raid_disks = refl;
+          new_level = refl;
+          reshape_position = refl;
+          delta_disks = refl;
+          new_layout = refl;
+          new_chunk = refl;
+          resync_offset = refl;
+          reshaping = a.reshaping;
+          backward = a.backward;
+        });
+        count = ap role_count (sym end.later.same);
+        few = few-roles last.newest (valid-shapes last.newest [] end.held.sound.fields);
+      }
+
+pub stay-said-in-rounds : MembersStaySaidInRounds
+stay-said-in-rounds scope known left before members change d last ready said spares end since =
+    planned-said scope known members.lost before end.named end.known members change last.newest end.own d ready.held
+    (λ s is. ready.within s (still-left scope known left before members change d last ready end s is).1)
+    (fits-end scope known left before members change d last ready end) end.are
+    (λ s isnt is. ready.within s (since s isnt is))
+    (planned-end scope known left before members change d last ready end) end.kept said
+    (λ s sb is own. spares s sb (still-left scope known left before members change d last ready end s is).0 own)

@@ -17,7 +17,7 @@ use Rattle.superblocks.specs.Reads.{HaveSamePart, IsSuited, IsSound, IsReadAs, h
 use Rattle.superblocks.specs.Held.{own_at, MayRead, IsStamped, IsKnown, IsBefore, ReadsBefore, Shows, AreHeld, said_by}
 use Rattle.superblocks.specs.Stages.{IsDeviceKept, IsFitPlan, AreKept}
 use Rattle.superblocks.proofs.ReadLists.{by_bool}
-use Rattle.superblocks.proofs.HeldReads.{AreLike, read-like, stamped-suited, known_at, no-part}
+use Rattle.superblocks.proofs.HeldReads.{AreLike, read-like, fitting, stamped-suited, known_at, no-part}
 use Rattle.superblocks.proofs.PlannedSb.{planned-of, planned-new, recovering-same}
 use Rattle.superblocks.proofs.WrittenReads.{planned-stamped}
 use Rattle.superblocks.proofs.ValidFields.{valid-shapes, few-roles}
@@ -216,11 +216,15 @@ module _ (scope : Scope) (known lost : ℕ) (former : Sb) (own : List (Option Sb
       (k.sb, inl (is, k.own), k.fresh, sym r.2.number ∙ ap (λ (z : Sb). z.dev_number) same))
       (λ none. (a, inr (none, subst (MayRead scope d slot) reads (others slot none)), fresh, refl)) (by_bool (has_slot known slot))
 
+  suited : (slot : ℕ) (sb : Sb) → slot < scope.sizes.slots → own_at scope slot (c slot) ≡ Some sb → IsSuited former (scope.sizes.sectors slot) sb
+  suited slot sb there reads = ⊎_elim (λ is. suited-known slot sb reads is)
+      (λ none. (held.others slot there none).suited sb (subst (MayRead scope d slot) reads (others slot none))) (by_bool (has_slot known slot))
+
   before-like : AreLike scope.sizes.slots scope.sizes.sectors lost former (λ slot. own_at scope slot (c slot)) (known_at known own)
   before-like = record {
     top = (held.top.0, top.0, held.top.1, top.1, top.2);
-    suited = λ slot sb there reads. ⊎_elim (λ is. suited-known slot sb reads is)
-        (λ none. (held.others slot there none).suited sb (subst (MayRead scope d slot) reads (others slot none))) (by_bool (has_slot known slot));
+    as_new = λ slot sb there low reads same. (suited slot sb there reads).as_new same;
+    suited = λ slot sb there reads. fitting former (scope.sizes.sectors slot) sb (suited slot sb there reads);
     part = λ slot there. ⊎_elim (λ is. part-known slot is) (λ none. part-other slot there none) (by_bool (has_slot known slot));
     apart = λ s t a b there there' differ is is' fresh fresh'.
         let p = shows s a is fresh in
@@ -345,12 +349,17 @@ module _ (scope : Scope) (known lost : ℕ) (former : Sb) (own : List (Option Sb
         (each s is))
         (λ none. other_shows s a (subst (MayRead scope d s) reads (others s none)) fresh) (by_bool (has_slot left s))
 
+    each_suited : (slot : ℕ) (sb : Sb) → slot < scope.sizes.slots → own_at scope slot (c slot) ≡ Some sb → IsSuited newest (scope.sizes.sectors slot) sb
+    each_suited slot sb there reads = ⊎_elim (λ is. left_suited slot sb reads is)
+        (λ none. other_suited slot sb there none (subst (MayRead scope d slot) reads (others slot none))) (by_bool (has_slot left slot))
+
     later-like : AreLike scope.sizes.slots scope.sizes.sectors lost newest (λ slot. own_at scope slot (c slot)) (known_at left own')
     later-like = record {
       top =
           let k = held.each some.0 (sub some.0 some.1) in
           (some.0, record (planned newest (give_of gives some.0) k.sb) { sb_csum = some.2.0 }, k.there, some.2.1, (planned-of newest k.sb (give_of gives some.0)).events);
-      suited = λ slot sb there reads. ⊎_elim (λ is. left_suited slot sb reads is) (λ none. other_suited slot sb there none (subst (MayRead scope d slot) reads (others slot none))) (by_bool (has_slot left slot));
+      as_new = λ slot sb there low reads same. (each_suited slot sb there reads).as_new same;
+      suited = λ slot sb there reads. fitting newest (scope.sizes.sectors slot) sb (each_suited slot sb there reads);
       part = λ slot there. ⊎_elim (λ is. left_part slot is) (λ none. other_part slot (own_at scope slot (c slot)) there none (others slot none)) (by_bool (has_slot left slot));
       apart = λ s t a b there there' differ is is' fresh fresh'.
           let p = shows_later s a is fresh in

@@ -1,5 +1,5 @@
 -- An update that makes a slot a spare, by what images read.
-use Rattle.std.specs.Prelude.{◌≡◌, ◌≢◌, ◌⊎◌, ℕ, ◌+◌, ◌^◌, ◌<◌, ◌≤◌, true, false, find, List, [], Option, Some, None, bytes_eq}
+use Rattle.std.specs.Prelude.{◌≡◌, ◌≢◌, ◌⊎◌, ℕ, ◌+◌, ◌^◌, ◌<◌, ◌≤◌, true, false, find, List, [], length, Option, Some, None, bytes_eq}
 use Rattle.md_base.specs.Sectors.{Sector}
 use Rattle.md_base.specs.Shapes.{has_slot}
 use Rattle.sb1.specs.declared.sb.Sb.{Sb}
@@ -11,6 +11,7 @@ use Rattle.superblocks.specs.Reading.{Scope, is_seen, is_fresh, lies_within}
 use Rattle.superblocks.specs.Verdict.{judged_fields}
 use Rattle.superblocks.specs.Update.{give_of, own_in, planned_role}
 use Rattle.superblocks.specs.Plans.{IsFitChange}
+use Rattle.superblocks.specs.Outcome.{with_added}
 use Rattle.superblocks.specs.Rounds.{Round, IsCatchingUpTo, IsInFirst, IsPastFirst, IsInNaming, ArePast, members_at, IsReadAsBefore}
 use Rattle.superblocks.specs.Reads.{HasNoLateRoles, IsSuited, IsReadAs}
 use Rattle.superblocks.specs.Held.{AreDrawn, MayRead, IsStamped, IsSecondHalf, Shows, AreHeld, AreExact, said_by}
@@ -42,9 +43,7 @@ IsReadInAdding scope known members change before live slot d Unnamed c =
 
 -- The slot that is made a spare has no part in the array before. It is to have this superblock, which isn't behind, and whose later entries
 -- are those that stand in its second sector. In no image has another slot its device number.
-pub record IsNewcomer (scope : Scope) (known : ℕ) (newest : Sb) (own : List (Option Sb)) (slot : ℕ) (d : ℕ → ℕ → List Sector) : Type 0 where
-  pub sb : Sb
-  pub is : own_in own slot ≡ Some sb
+pub record IsNewcomer (scope : Scope) (known : ℕ) (newest : Sb) (own : List (Option Sb)) (slot : ℕ) (sb : Sb) (d : ℕ → ℕ → List Sector) : Type 0 where
   pub unknown : has_slot known slot ≡ false
   pub events : sb.events ≡ newest.events
   pub second : (sector : Sector) → IsIn (d slot 9) sector → IsSecondHalf sb sector
@@ -62,7 +61,9 @@ pub record IsNewcomer (scope : Scope) (known : ℕ) (newest : Sb) (own : List (O
 -- that one with its superblock alone, and a change that fits, gives it no role, and whose other fields are right at any event count.
 pub record IsReadyToAdd (scope : Scope) (known left lost : ℕ) (members : Members) (change : Change) (live slot : ℕ) (d : ℕ → ℕ → List Sector) : Type 0 where
   pub held : AreHeld scope known lost members.newest members.own d
-  pub new : IsNewcomer scope known members.newest members.own slot d
+  pub sb : Sb
+  pub is : own_in members.own slot ≡ Some sb
+  pub new : IsNewcomer scope known members.newest members.own slot sb d
   pub is_live : has_slot live slot ≡ true
   pub found : has_slot members.lost slot ≡ false
   pub same : (s : ℕ) → s ≢ slot → has_slot members.lost s ≡ has_slot lost s
@@ -72,6 +73,27 @@ pub record IsReadyToAdd (scope : Scope) (known left lost : ℕ) (members : Membe
   pub idle : planned_role members.roles (give_of change.gives slot) slot ≡ None
   pub fits : IsFitChange known members.lost left members change
   pub fields : (events : ℕ) → events < 2 ^ 62 → find (λ f. f.1) (judged_fields (record (planned_newest change.shared members.newest) { events = events }) []) ≡ None
+
+-- The same of the members before that slot is taken in among them, and of the superblock that it is to have.
+pub record IsAdding (scope : Scope) (known left : ℕ) (members : Members) (change : Change) (live slot : ℕ) (sb : Sb) (d : ℕ → ℕ → List Sector) : Type 0 where
+  pub added : change.added ≡ Some (slot, sb)
+  pub below : slot < 32
+  pub count : length members.own ≡ 32
+  pub few : members.lost < 2 ^ 32
+  pub held : AreHeld scope known members.lost members.newest members.own d
+  pub new : IsNewcomer scope known members.newest members.own slot (record sb { events = members.newest.events }) d
+  pub is_live : has_slot live slot ≡ true
+  pub are : AreLeft live (with_added members change.added).lost left
+  pub within : (s : ℕ) → s ≢ slot → has_slot live s ≡ true → has_slot known s ≡ true
+  pub exact : (s : ℕ) (own : Sb) (at : Option Sb) → s ≢ slot → has_slot left s ≡ true → own_in members.own s ≡ Some own → MayRead scope d s at → IsStamped own at
+  pub idle : planned_role members.roles (give_of change.gives slot) slot ≡ None
+  pub fits : IsFitChange known (with_added members change.added).lost left (with_added members change.added) change
+  pub fields : (events : ℕ) → events < 2 ^ 62 → find (λ f. f.1) (judged_fields (record (planned_newest change.shared members.newest) { events = events }) []) ≡ None
+
+-- then such an update may start
+abbrev pub AddingIsReady : Type 0
+AddingIsReady = (scope : Scope) (known left : ℕ) (members : Members) (change : Change) (live slot : ℕ) (sb : Sb) (d : ℕ → ℕ → List Sector)
+    → IsAdding scope known left members change live slot sb d → IsReadyToAdd scope known left members.lost (with_added members change.added) change live slot d
 
 -- At each of its marks: while slots are brought to the newest event count each image reads as before. In the first round, where it
 -- has the slot's former sector, it reads as before, or as planned without that spare, else as planned. Afterwards it reads

@@ -1,8 +1,10 @@
 -- What is asked of the superblocks that an opening finds, besides that they are refused for nothing.
-use Rattle.std.specs.Prelude.{◌≡◌, ℕ, ◌<◌, length, slice_index, Some}
+use Rattle.std.specs.Prelude.{List, Option, ◌≡◌, ℕ, ◌<◌, length, slice_index, Some}
+use Rattle.md_base.specs.Sectors.{Sector}
 use Rattle.sb1.specs.declared.sb.Sb.{Sb}
 use Rattle.bank.specs.Tape.{Contents}
 use Rattle.superblocks.specs.Reading.{Scope}
+use Rattle.superblocks.specs.Update.{own_in}
 use Rattle.superblocks.specs.Reads.{HasNoLateRoles, IsNewestLike}
 use Rattle.superblocks.specs.Held.{own_at}
 
@@ -11,8 +13,12 @@ pub record AreLikeNewest (scope : Scope) (newest : Sb) (c : Contents) : Type 0 w
   pub level : (s : ℕ) (sb : Sb) → own_at scope s (c s) ≡ Some sb → sb.events ≡ newest.events → IsNewestLike newest sb
   pub late : (s : ℕ) (sb : Sb) → own_at scope s (c s) ≡ Some sb → HasNoLateRoles sb
 
--- each stands in two sectors of bytes
-pub record AreInSectors (scope : Scope) (c : Contents) : Type 0 where
-  pub eighth : (s : ℕ) (sb : Sb) → own_at scope s (c s) ≡ Some sb → length (c s 8) ≡ 512
-  pub ninth : (s : ℕ) (sb : Sb) → own_at scope s (c s) ≡ Some sb → length (c s 9) ≡ 512
-  pub bytes : (s : ℕ) (sb : Sb) → own_at scope s (c s) ≡ Some sb → (k : ℕ) → slice_index (c s 9) k < 256
+-- two sectors of bytes
+pub record IsInSectors (at : ℕ → Sector) : Type 0 where
+  pub eighth : length (at 8) ≡ 512
+  pub ninth : length (at 9) ≡ 512
+  pub bytes : (k : ℕ) → slice_index (at 9) k < 256
+
+-- each of these superblocks stands in such ones in its slot
+abbrev pub AreInSectors : Contents → List (Option Sb) → Type 0
+AreInSectors c own = (s : ℕ) (sb : Sb) → own_in own s ≡ Some sb → IsInSectors (c s)

@@ -11,6 +11,7 @@ ghost use Rattle.superblocks.specs.Order.{IsRecoveryFirst};
 ghost use Rattle.superblocks.specs.Plans.{next_newest};
 ghost use Rattle.superblocks.specs.Stages.{AreLeft, AreFirstKept, IsInUpdate, IsStaged};
 ghost use Rattle.superblocks.specs.Rounds.{round_at, IsInRounds, ArePast};
+ghost use Rattle.superblocks.specs.Losing.{IsInTurns, ArePastTurns};
 ghost use Rattle.superblocks.specs.Outcome.{with_added, live_set, is_in_update, IsAddable, AreLive, AreGivesOfLive, AreStored, AreHeld, is_left, planned_roles, planned_spares};
 
 mod live;
@@ -64,6 +65,11 @@ pub fn update<B: Bank>(members: &mut Members, bank: &mut B, change: &Change) -> 
     ensures past { let old = with_added members.old change.now.added in let start = (B.given bank.old).start in
         AreFirstKept change.now.gives old.lost members.new.lost → B.tells →
         ArePast old change.now old.lost (live_set members.old change.now) (disk start (B.tape bank.old))
+        (round_at members.new.newest members.new.lost start (B.tape bank.new)) }
+    ensures turns { let old = with_added members.old change.now.added in let start = (B.given bank.old).start in EachMark B.tells start (B.tape bank.old) (B.tape bank.new)
+        (IsInTurns old change.now old.lost (live_set members.old change.now) (disk start (B.tape bank.old))) }
+    ensures turned { B.tells → let old = with_added members.old change.now.added in let start = (B.given bank.old).start in
+        ArePastTurns old change.now old.lost (live_set members.old change.now) (disk start (B.tape bank.old))
         (round_at members.new.newest members.new.lost start (B.tape bank.new)) }
     ensures own { let old = with_added members.old change.now.added in
         AreStored members.new.newest change.now.gives (is_left (live_set members.old change.now) members.new.lost) old.own members.new.own }

@@ -1,6 +1,6 @@
 //! The one way in which the stored superblocks change.
 
-ghost use Rattle.std.specs.Prelude.{◌≡◌, [], ◌∷◌, List, ◌<◌, ◌≤◌, ◌+◌, ◌-◌, ◌^◌, ℕ, Some, true, false, min, length, replicate};
+ghost use Rattle.std.specs.Prelude.{◌≡◌, ◌≢◌, [], ◌∷◌, List, ◌<◌, ◌≤◌, ◌+◌, ◌-◌, ◌^◌, ℕ, Some, true, false, min, length, replicate};
 ghost use Rattle.bank.specs.Given.{NeverFalls};
 ghost use Rattle.bank.specs.Tape.{disk};
 ghost use Rattle.superblocks.specs.Update.{IsRoleGive, give_of, with_roles, with_shared, is_behind, is_recovery, own_in};
@@ -8,7 +8,8 @@ ghost use Rattle.superblocks.specs.Writing.{AreMembers, IsPlanned, plan_of};
 ghost use Rattle.superblocks.specs.Updating.{IsUpdate, AreLosses, IsLater, IsRecorded, ArePlanned, AreNamed, IsInOrder, AreOthersKept, AreRecoveriesKept, AreRecoveriesWritten, planned_newest, IsSomeLeft, IsWrittenBy};
 ghost use Rattle.superblocks.specs.Order.{IsRecoveryFirst};
 ghost use Rattle.superblocks.specs.Stages.{AreLeft, AreFirstKept, IsLevelled, IsInUpdate, IsStaged};
-ghost use Rattle.superblocks.specs.Rounds.{round_at, AreStill, IsNamed, IsInNaming, IsInRounds, ArePast};
+ghost use Rattle.superblocks.specs.Rounds.{round_at, AreStill, IsInNaming, IsInRounds, ArePast};
+ghost use Rattle.superblocks.specs.Losing.{AreTakenInTurn, IsPastTurns, IsInTurns, IsNamedSince, ArePastTurns};
 ghost use Rattle.bank.specs.Tape.{EachMark};
 ghost use Rattle.md_base.specs.Shapes.{has_slot};
 ghost use Rattle.superblocks.specs.declared.change.Give.TheVariants.{Same};
@@ -93,6 +94,9 @@ fn name_recoveries(members: &mut Members, change: &Change, before: u32, lost: u3
     ensures kept { members.old.lost ≡ lost → members.new ≡ members.old }
     ensures newest { IsLater members.old.newest members.new.newest }
     ensures events { members.new.newest.events ≡ members.old.newest.events }
+    ensures named { members.old.lost ≢ lost → members.new.newest ≡ record members.old.newest {
+      dev_roles = with_roles members.old change.now before members.old.lost members.old.newest.dev_roles;
+    } }
     ensures members { members.new ≡ record members.old { newest = members.new.newest } }
 {
     if members.lost != lost {
@@ -150,6 +154,10 @@ fn write_planned<B: Bank>(
     ensures taken { AreFirstKept change.now.gives members.old.lost members.new.lost → B.tells →
         ArePlanned members.old.newest change.now.gives members.old.own live members.new.lost (disk (B.given bank.old).start (B.tape bank.new)) }
     ensures unnamed { AreFirstKept change.now.gives members.old.lost members.new.lost → members.new.newest ≡ members.old.newest }
+    ensures turns { let start = (B.given bank.old).start in EachMark B.tells start (B.tape bank.old) (B.tape bank.new)
+        (AreTakenInTurn members.old change.now before live (disk start (B.tape bank.old))) }
+    ensures over { B.tells → let start = (B.given bank.old).start in IsPastTurns members.old change.now before live (disk start (B.tape bank.old))
+        (round_at members.new.newest members.new.lost start (B.tape bank.new)) }
 {
     let lost = members.lost;
     write_recoveries(bank, members, &change.gives, live);
@@ -218,7 +226,7 @@ fn name_lost<B: Bank>(
     ensures counts { NeverFalls (B.faults_of bank.old) (B.faults_of bank.new) }
     ensures given { B.given bank.new ≡ B.given bank.old }
     ensures idle { members.old.lost ≡ lost → B.tape bank.new ≡ B.tape bank.old }
-    ensures rounds { let start = (B.given bank.old).start in B.tells → IsNamed members.old change.now before live
+    ensures rounds { let start = (B.given bank.old).start in B.tells → IsNamedSince members.old change.now before live lost
         (round_at members.old.newest members.old.lost start (B.tape bank.old)) (round_at members.new.newest members.new.lost start (B.tape bank.new)) }
     ensures naming { let start = (B.given bank.old).start in EachMark B.tells start (B.tape bank.old) (B.tape bank.new)
         (IsInNaming members.old change.now before live (round_at members.old.newest members.old.lost start (B.tape bank.old))) }
@@ -268,6 +276,10 @@ pub fn write_update<B: Bank>(
         EachMark B.tells start (B.tape bank.old) (B.tape bank.new) (IsInRounds members.old change.now before live (disk start (B.tape bank.old))) }
     ensures past { AreFirstKept change.now.gives members.old.lost members.new.lost → B.tells → let start = (B.given bank.old).start in
         ArePast members.old change.now before live (disk start (B.tape bank.old)) (round_at members.new.newest members.new.lost start (B.tape bank.new)) }
+    ensures turns { let start = (B.given bank.old).start in EachMark B.tells start (B.tape bank.old) (B.tape bank.new)
+        (IsInTurns members.old change.now before live (disk start (B.tape bank.old))) }
+    ensures turned { B.tells → let start = (B.given bank.old).start in
+        ArePastTurns members.old change.now before live (disk start (B.tape bank.old)) (round_at members.new.newest members.new.lost start (B.tape bank.new)) }
 {
     catch_up(bank, members, live);
     let lost = members.lost;

@@ -1,12 +1,13 @@
 //! The superblocks as they are read.
 
-ghost use Rattle.std.specs.Prelude.{◌≡◌, ◌<◌, ◌≤◌, ◌-◌, [], ℕ, Some, None, IfOk, OnErr, IsTrue, IsFalse, take, drop, replicate, length, slice_index, if◌then◌else◌};
-ghost use Rattle.sb1.specs.Superblock.{superblock_in};
+ghost use Rattle.std.specs.Prelude.{◌≡◌, ◌↔◌, ◌<◌, ◌≤◌, ◌-◌, [], ℕ, Some, None, IfOk, IfSome, IsSome, OnErr, IsTrue, IsFalse, take, drop, replicate, length, slice_index, slice_index_or, if◌then◌else◌};
+ghost use Rattle.sb1.specs.Superblock.{superblock_in, sb_of, is_valid};
 ghost use Rattle.bank.specs.Given.{sizes};
 ghost use Rattle.bank.specs.Tape.{contents};
 ghost use Rattle.sb1.specs.declared.sb.Sb.{Sb};
 ghost use Rattle.superblocks.specs.Reading.{is_backup};
 ghost use Rattle.superblocks.specs.Writing.{IsMember, AreWritable};
+ghost use Rattle.superblocks.specs.Found.{IsInSectors, AreInSectors};
 ghost use Rattle.superblocks.specs.Election.{members_scope, seen_superblocks, IsCausedBy, OnlyMembersFail, AreLost};
 
 use crate::members::SbList;
@@ -14,12 +15,23 @@ use bank::{Bank, BankFault};
 use sb1::{Sb, decode};
 use std::alloc::{AllocError, Global};
 
+// The superblock in two sectors.
+fn decoded(sectors: &[u8; 1024]) -> Option<Sb>
+    ensures valid { IsSome result ↔ IsTrue (is_valid sectors.now) }
+    ensures fields { IfSome result (λ sb. sb ≡ sb_of sectors.now) }
+    ensures bytes { (i : ℕ) → slice_index_or sectors.now i 0 < 256 }
+{
+    decode(sectors)
+}
+
 /// The superblock of a slot, whichever array's it is. A slot that is too short for one is not read.
 pub fn read_superblock<B: Bank>(bank: &mut B, slot: u32) -> Result<Option<Sb>, BankFault>
     requires { slot < (B.given bank.old).slots }
     ensures writable { IfOk result (λ found. (sb : Sb) → found ≡ Some sb → IsMember (B.given bank.old) (Some sb) slot) }
     ensures found { let given = B.given bank.old in let tape = B.tape bank.old in IfOk result (λ found. B.tells →
         found ≡ superblock_in (given.sectors slot) (contents given.start tape (length tape) slot)) }
+    ensures sectors { let given = B.given bank.old in let tape = B.tape bank.old in IfOk result (λ found. B.tells → (sb : Sb) → found ≡ Some sb →
+        IsInSectors (contents given.start tape (length tape) slot)) }
     ensures tape { B.tells → B.tape bank.new ≡ B.tape bank.old }
     ensures given { B.given bank.new ≡ B.given bank.old }
     ensures cause { IsCausedBy slot (B.faults_of bank.old) (B.faults_of bank.new) result }
@@ -32,7 +44,7 @@ pub fn read_superblock<B: Bank>(bank: &mut B, slot: u32) -> Result<Option<Sb>, B
         Err(fault) => return Err(fault),
         Ok(()) => {}
     }
-    Ok(decode(&sectors))
+    Ok(decoded(&sectors))
 }
 
 fn is_backup(backup: Option<u32>, slot: u32) -> bool
@@ -67,6 +79,8 @@ fn read_member<B: Bank>(
     ensures writable { IfOk result (λ found. (sb : Sb) → found ≡ Some sb → IsMember (B.given bank.old) (Some sb) slot) }
     ensures found { let given = B.given bank.old in let tape = B.tape bank.old in IfOk result (λ found. B.tells →
         found ≡ (if is_backup backup slot then None else superblock_in (given.sectors slot) (contents given.start tape (length tape) slot))) }
+    ensures sectors { let given = B.given bank.old in let tape = B.tape bank.old in IfOk result (λ found. B.tells → (sb : Sb) → found ≡ Some sb →
+        IsInSectors (contents given.start tape (length tape) slot)) }
     ensures tape { B.tells → B.tape bank.new ≡ B.tape bank.old }
     ensures given { B.given bank.new ≡ B.given bank.old }
     ensures cause { IsCausedBy slot (B.faults_of bank.old) (B.faults_of bank.new) result }
@@ -91,6 +105,8 @@ pub fn read_superblocks<B: Bank>(
         ≡ seen_superblocks (members_scope given backup found.1 []) (contents given.start tape (length tape))) }
     ensures rest { let given = B.given bank.old in IfOk result (λ found. drop given.slots found.0 ≡ replicate (32 - given.slots) None) }
     ensures writable { IfOk result (λ found. AreWritable (B.given bank.old) found.0) }
+    ensures sectors { let given = B.given bank.old in let tape = B.tape bank.old in IfOk result (λ found. B.tells →
+        AreInSectors (contents given.start tape (length tape)) found.0) }
     ensures lost { IfOk result (λ found. AreLost (B.given bank.old) backup found.1 (B.faults_of bank.old) (B.faults_of bank.new)) }
     ensures tape { B.tells → B.tape bank.new ≡ B.tape bank.old }
     ensures given { B.given bank.new ≡ B.given bank.old }

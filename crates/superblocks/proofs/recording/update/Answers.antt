@@ -14,6 +14,7 @@ use Rattle.superblocks.specs.Updating.{ArePlanned, AreNamed, IsSomeLeft}
 use Rattle.superblocks.specs.Plans.{next_newest}
 use Rattle.superblocks.specs.Stages.{AreLeft, AreFirstKept, IsInUpdate, IsStaged}
 use Rattle.superblocks.specs.Rounds.{round_at, IsInRounds, ArePast}
+use Rattle.superblocks.specs.Losing.{IsInTurns, ArePastTurns}
 use Rattle.superblocks.specs.Outcome.{with_added, live_set, AreStored, is_left, planned_state, planned_roles, planned_spares}
 use Rattle.superblocks.proofs.Passes.{slot_below}
 use Rattle.superblocks.proofs.Taken.{taken_roles, taken_spares, taken_members, without_others, left_live, stored_as}
@@ -233,3 +234,30 @@ returns-clause-past g c = λ kept told.
     (subst (λ (n : Members). ArePast n change n.lost (live_set m change) d (round_at newest c.write_update.new.members.lost start tape1)) c.take_added.ensures.members
     (subst (λ (live : ℕ). ArePast taken change taken.lost live d (round_at newest c.write_update.new.members.lost start tape1)) c.live_slots-live.ensures
     (c.write_update.ensures.past (first_kept g c kept) told))))
+
+pub returns-clause-turns : goal.returns-clause-turns
+returns-clause-turns g c =
+    let m = c.args.members.now in
+    let change = c.args.change.now in
+    let start = (g.B.Bank.given c.args.bank.now).start in
+    let tape0 = g.B.Bank.tape c.args.bank.now in
+    let tape1 = g.B.Bank.tape c.write_update.new.bank in
+    subst (λ (n : Members). EachMark g.B.Bank.tells start tape0 tape1 (IsInTurns n change n.lost (live_set m change) (disk start tape0))) c.take_added.ensures.members
+    (subst (λ (live : ℕ). EachMark g.B.Bank.tells start tape0 tape1 (IsInTurns c.take_added.new.members change c.take_added.new.members.lost live (disk start tape0))) c.live_slots-live.ensures
+    c.write_update.ensures.turns)
+
+pub returns-clause-turned : goal.returns-clause-turned
+returns-clause-turned g c = λ told.
+    let m = c.args.members.now in
+    let change = c.args.change.now in
+    let start = (g.B.Bank.given c.args.bank.now).start in
+    let d = disk start (g.B.Bank.tape c.args.bank.now) in
+    let tape1 = g.B.Bank.tape c.write_update.new.bank in
+    let newest = c.write_update.new.members.newest in
+    let taken = c.take_added.new.members in
+    let old : Members = with_added m change.added in
+    subst (λ (n : Sb). ArePastTurns old change old.lost (live_set m change) d (round_at n c.keep_spares.new.members.lost start tape1)) (sym (same_newest g c))
+    (subst (λ (l : ℕ). ArePastTurns old change old.lost (live_set m change) d (round_at newest l start tape1)) (sym (same_lost g c))
+    (subst (λ (n : Members). ArePastTurns n change n.lost (live_set m change) d (round_at newest c.write_update.new.members.lost start tape1)) c.take_added.ensures.members
+    (subst (λ (live : ℕ). ArePastTurns taken change taken.lost live d (round_at newest c.write_update.new.members.lost start tape1)) c.live_slots-live.ensures
+    (c.write_update.ensures.turned told))))

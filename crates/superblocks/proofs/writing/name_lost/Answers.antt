@@ -1,4 +1,4 @@
-use Rattle.std.proofs.Common.{rules, length, ◌≤◌, ◌≡◌, ℕ, List, Option, refl, sym, ◌∙◌, ap, subst, arith}
+use Rattle.std.proofs.Common.{rules, length, ◌<◌, ◌≤◌, ◌≡◌, ◌≢◌, ℕ, List, Option, refl, sym, ◌∙◌, ap, subst, arith}
 use Rattle.sb1.specs.declared.sb.Sb.{Sb}
 use Rattle.bank.specs.Given.{Given}
 use Rattle.bank.specs.Tape.{disk}
@@ -10,7 +10,7 @@ use Rattle.superblocks.proofs.Naming.{none_left, left_less}
 use Rattle.superblocks.proofs.writing.name_lost.Goals as goal
 use Rattle.superblocks.specs.Writing.{plan_of}
 use Rattle.superblocks.specs.Rounds.{round_at, naming}
-use Rattle.superblocks.proofs.Namings.{namings-none, naming-none, naming-then, named-then}
+use Rattle.superblocks.proofs.Namings.{namings-none, naming-none, naming-then, named-then, named-some}
 use Rattle.superblocks.proofs.writing.name_lost.Given.{Over}
 use Rattle.superblocks.proofs.writing.name_lost.Goals.{After-write_again}
 
@@ -29,7 +29,10 @@ loop-members-init g c = record {
   since = c.requires.since;
   kept = λ same. (refl, refl);
   idle = λ same. refl;
-  rounds = λ told. (0, namings-none c.args.members.now c.args.change.now c.args.before c.args.live (round_at c.args.members.now.newest c.args.members.now.lost (g.B.Bank.given c.args.bank.now).start (g.B.Bank.tape c.args.bank.now)));
+  rounds = λ told. (
+    (0, namings-none c.args.members.now c.args.change.now c.args.before c.args.live (round_at c.args.members.now.newest c.args.members.now.lost (g.B.Bank.given c.args.bank.now).start (g.B.Bank.tape c.args.bank.now))),
+    λ none. (refl, refl),
+  );
   naming = naming-none c.args.members.now c.args.change.now c.args.before c.args.live g.B.Bank.tells (g.B.Bank.given c.args.bank.now).start (g.B.Bank.tape c.args.bank.now)
       (round_at c.args.members.now.newest c.args.members.now.lost (g.B.Bank.given c.args.bank.now).start (g.B.Bank.tape c.args.bank.now)) refl;
 }
@@ -108,11 +111,16 @@ loop-members-preserved g c =
       idle = λ same.
           let k = v.kept same in
           absurd (c.loop-members-test.true (ap (λ (m : Members). m.lost) k.0 ∙ same ∙ sym k.1));
-      rounds = λ told. named-then m0 c.args.change.now c.args.before c.args.live start tape1 tape2
-          (round_at m0.newest m0.lost start tape0) (round_at m1.newest m1.lost start tape1) (round_at m2.newest m2.lost start tape2) refl refl told (v.rounds told)
-          (next g c) c.write_again.ensures.losses.stay (exact g c) (planned_again g c told);
+      rounds = λ told. (
+        named-then m0 c.args.change.now c.args.before c.args.live start tape1 tape2
+            (round_at m0.newest m0.lost start tape0) (round_at m1.newest m1.lost start tape1) (round_at m2.newest m2.lost start tape2) refl refl told (v.rounds told).0
+            (next g c) c.write_again.ensures.losses.stay (exact g c) (planned_again g c told),
+        λ none. absurd (let some = named-some m0 c.args.change.now c.args.before c.args.live start tape1 tape2
+            (round_at m0.newest m0.lost start tape0) (round_at m1.newest m1.lost start tape1) (round_at m2.newest m2.lost start tape2) refl refl told (v.rounds told).0
+            (next g c) c.write_again.ensures.losses.stay (exact g c) (planned_again g c told) in omega (arith, some, none)),
+      );
       naming = naming-then m0 c.args.change.now c.args.before c.args.live start tape0 tape1 tape2
-          (round_at m0.newest m0.lost start tape0) (round_at m1.newest m1.lost start tape1) (round_at m2.newest m2.lost start tape2) refl v.rounds v.naming
+          (round_at m0.newest m0.lost start tape0) (round_at m1.newest m1.lost start tape1) (round_at m2.newest m2.lost start tape2) refl (λ told. (v.rounds told).0) v.naming
           (next g c) (exact g c);
     }
 
@@ -123,3 +131,17 @@ returns-else-without-ne0-clause-planned g c = λ told s is left.
 pub returns-else-without-ne0-clause-named : goal.returns-else-without-ne0-clause-named
 returns-else-without-ne0-clause-named g c = λ some.
     absurd (none_left c.args.live c.loop-members.members.lost c.without.result (omega arith) c.without.ensures c.if-without-ne0.false some.0 some.1 some.2)
+
+pub returns-else-without-ne0-clause-rounds : goal.returns-else-without-ne0-clause-rounds
+returns-else-without-ne0-clause-rounds g c = λ told. (
+  (c.loop-members.invariant.rounds told).0,
+  λ differ some. absurd (none_left c.args.live c.loop-members.members.lost c.without.result (omega arith) c.without.ensures c.if-without-ne0.false some.0 some.1 some.2),
+)
+
+some_round : (n : ℕ) → n ≢ 0 → 0 < n
+some_round n some = omega (arith, some)
+
+pub returns-after-loop-members-clause-rounds : goal.returns-after-loop-members-clause-rounds
+returns-after-loop-members-clause-rounds g c = λ told.
+    let r = c.loop-members.invariant.rounds told in
+    (r.0, λ differ some. some_round r.0.0 (λ none. let k = r.1 none in differ (sym k.0 ∙ c.loop-members-test.false ∙ k.1)))

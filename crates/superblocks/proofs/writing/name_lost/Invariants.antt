@@ -23,9 +23,10 @@ invariant-loop-members g l = record {
   since : (s : ℕ) → has_slot l.members.lost s ≡ true → has_slot l.named s ≡ false → has_slot l.live s ≡ true;
   kept : l.initial.members.lost ≡ l.initial.named → (l.members ≡ l.initial.members) × (l.named ≡ l.initial.named);
   idle : l.initial.members.lost ≡ l.initial.named → g.B.Bank.tape l.bank ≡ g.B.Bank.tape l.initial.bank;
-  rounds : g.B.Bank.tells → IsNamed l.initial.members l.change l.before l.live
+  rounds : g.B.Bank.tells → (over : IsNamed l.initial.members l.change l.before l.live
       (round_at l.initial.members.newest l.initial.members.lost (g.B.Bank.given l.initial.bank).start (g.B.Bank.tape l.initial.bank))
-      (round_at l.members.newest l.members.lost (g.B.Bank.given l.initial.bank).start (g.B.Bank.tape l.bank));
+      (round_at l.members.newest l.members.lost (g.B.Bank.given l.initial.bank).start (g.B.Bank.tape l.bank)))
+      × (over.0 ≡ 0 → (l.members.lost ≡ l.initial.members.lost) × (l.named ≡ l.initial.named));
   naming : EachMark g.B.Bank.tells (g.B.Bank.given l.initial.bank).start (g.B.Bank.tape l.initial.bank) (g.B.Bank.tape l.bank)
       (IsInNaming l.initial.members l.change l.before l.live (round_at l.initial.members.newest l.initial.members.lost (g.B.Bank.given l.initial.bank).start (g.B.Bank.tape l.initial.bank)));
 }

@@ -1,10 +1,15 @@
-use Rattle.std.proofs.Common.{◌≡◌, ℕ, List, Option, [], ◌∷◌, true, false, refl, sym, ◌∙◌, ap, subst, ⊎_elim}
+use Rattle.std.proofs.Common.{◌≡◌, ◌≢◌, inl, inr, ℕ, List, Option, [], ◌∷◌, true, false, refl, sym, ◌∙◌, ap, subst, ⊎_elim}
 use Rattle.sb1.specs.declared.sb.Sb.{Sb}
 use Rattle.md_base.specs.Shapes.{has_slot}
 use Rattle.bank.specs.Given.{Given}
 use Rattle.bank.specs.Tape.{EachMark, disk}
 use Rattle.superblocks.specs.declared.members.Members.{Members}
-use Rattle.superblocks.specs.Update.{give_of, own_in, is_recovery}
+use Rattle.std.proofs.lemmas.Bool.{cases_eq}
+use Rattle.bank.proofs.Marks.{each_mark-map, each_mark-both, each_mark-then}
+use Rattle.superblocks.specs.Rounds.{Round, round_at}
+use Rattle.superblocks.specs.Losing.{AreRecoveriesOver, AreTakenInTurn}
+use Rattle.superblocks.proofs.Namings.{rewriting}
+use Rattle.superblocks.specs.Update.{give_of, own_in, is_recovery, with_roles}
 use Rattle.superblocks.specs.Writing.{IsPlanned, plan_of}
 use Rattle.superblocks.specs.Stages.{AreFirstKept}
 use Rattle.superblocks.proofs.ReadLists.{by_bool}
@@ -127,3 +132,71 @@ returns-clause-kept g c = λ same.
     c.write_others.ensures.members
     ∙ ap (λ (m : Members). record m { lost = c.write_others.new.members.lost }) (c.name_recoveries.ensures.kept (none_lost g c same) ∙ c.write_recoveries.ensures.members)
     ∙ ap (λ (l : ℕ). record m0 { lost = l }) same
+
+-- ---- whichever slots are lost
+
+module _ (g : Over) (c : After-write_others g) where
+  abbrev Over_ : Round
+  Over_ = round_at c.name_recoveries.new.members.newest c.write_recoveries.new.members.lost (g.B.Bank.given c.args.bank.now).start (g.B.Bank.tape c.write_recoveries.new.bank)
+
+  named_newest : c.write_recoveries.new.members.lost ≢ c.args.members.now.lost → c.name_recoveries.new.members.newest
+      ≡ record c.args.members.now.newest { dev_roles = with_roles c.args.members.now c.args.change.now c.args.before c.write_recoveries.new.members.lost c.args.members.now.newest.dev_roles }
+  named_newest differ = c.name_recoveries.ensures.named differ
+      ∙ ap (λ (m : Members). record m.newest { dev_roles = with_roles m c.args.change.now c.args.before m.lost m.newest.dev_roles }) c.write_recoveries.ensures.members
+
+  recoveries_over : g.B.Bank.tells → AreRecoveriesOver c.args.members.now c.args.change.now c.args.before c.args.live (disk (g.B.Bank.given c.args.bank.now).start (g.B.Bank.tape c.args.bank.now)) Over_
+  recoveries_over told = record {
+    stage = rewriting c.args.members.now.newest c.args.change.now.gives c.args.members.now.own (c.write_recoveries.ensures.exact.end told).touched;
+    others = each_mark-last c.write_recoveries.ensures.first told;
+    whole = c.write_recoveries.ensures.written told;
+    who = c.write_recoveries.ensures.who;
+    more = c.write_recoveries.ensures.losses.stay;
+    newest = elim (cases_eq c.write_recoveries.new.members.lost c.args.members.now.lost) [
+      | inl same ↦ inl (same, same_newest g c same)
+      | inr differ ↦ inr (named_newest differ)
+    ];
+  }
+
+  exact_then : IsUpdate g.B.Bank.tells c.args.live c.write_recoveries.new.members.lost c.write_others.new.members.lost (plan_of c.name_recoveries.new.members.newest c.args.change.now.gives c.args.members.now.own)
+      (g.B.Bank.given c.args.bank.now).start (g.B.Bank.tape c.write_recoveries.new.bank) (g.B.Bank.tape c.write_others.new.bank)
+  exact_then =
+      let m1 = c.write_recoveries.new.members in
+      let m2 = c.name_recoveries.new.members in
+      let m3 = c.write_others.new.members in
+      let gives = c.args.change.now.gives in
+      let tape1 = g.B.Bank.tape c.write_recoveries.new.bank in
+      let tape3 = g.B.Bank.tape c.write_others.new.bank in
+      subst (λ (o : List (Option Sb)). IsUpdate g.B.Bank.tells c.args.live m1.lost m3.lost (plan_of m2.newest gives o) (g.B.Bank.given c.args.bank.now).start tape1 tape3) (same_own g c)
+      (subst (λ (l : ℕ). IsUpdate g.B.Bank.tells c.args.live l m3.lost (plan_of m2.newest gives m2.own) (g.B.Bank.given c.args.bank.now).start tape1 tape3) (same_lost g c)
+      (subst (λ (b : Given). IsUpdate g.B.Bank.tells c.args.live m2.lost m3.lost (plan_of m2.newest gives m2.own) b.start tape1 tape3) c.write_recoveries.ensures.given c.write_others.ensures.exact))
+
+pub returns-clause-turns : goal.returns-clause-turns
+returns-clause-turns g c =
+    let m0 = c.args.members.now in
+    let gives = c.args.change.now.gives in
+    let start = (g.B.Bank.given c.args.bank.now).start in
+    let Mark = AreTakenInTurn m0 c.args.change.now c.args.before c.args.live (disk start (g.B.Bank.tape c.args.bank.now)) in
+    each_mark-then
+    (each_mark-map Mark (λ told e at. inl (rewriting m0.newest gives m0.own at.0.touched, at.1)) (each_mark-both c.write_recoveries.ensures.exact.marks c.write_recoveries.ensures.first))
+    (each_mark-map Mark (λ told e at. inr (Over_ g c, recoveries_over g c told, rewriting c.name_recoveries.new.members.newest gives m0.own at.0.touched, at.1))
+    (each_mark-both (exact_then g c).marks (then g c)))
+
+pub returns-clause-over : goal.returns-clause-over
+returns-clause-over g c = λ told.
+    let m0 = c.args.members.now in
+    let m2 = c.name_recoveries.new.members in
+    let m3 = c.write_others.new.members in
+    let gives = c.args.change.now.gives in
+    let tape3 = g.B.Bank.tape c.write_others.new.bank in
+    record {
+      over = Over_ g c;
+      recoveries = recoveries_over g c told;
+      newest = ap (λ (m : Members). m.newest) c.write_others.ensures.members;
+      stage = rewriting m2.newest gives m0.own ((exact_then g c).end told).touched;
+      kept = each_mark-last (then g c) told;
+      whole = subst (λ (o : List (Option Sb)). (s : ℕ) → has_slot c.args.live s ≡ true → has_slot m3.lost s ≡ false → is_recovery (give_of gives s) ≡ false
+          → (v : List ℕ) × IsPlanned m2.newest (give_of gives s) (own_in o s) v × (disk (g.B.Bank.given c.args.bank.now).start tape3 s 8 ≡ v ∷ [])) (same_own g c)
+          (subst (λ (b : Given). (s : ℕ) → has_slot c.args.live s ≡ true → has_slot m3.lost s ≡ false → is_recovery (give_of gives s) ≡ false
+          → (v : List ℕ) × IsPlanned m2.newest (give_of gives s) (own_in m2.own s) v × (disk b.start tape3 s 8 ≡ v ∷ [])) c.write_recoveries.ensures.given (c.write_others.ensures.written told));
+      more = stay g c;
+    }

@@ -19,6 +19,7 @@ use Rattle.superblocks.specs.declared.change.Give.{Give}
 use Rattle.superblocks.specs.Stages.{AreLeft, AreFirstKept, IsCatchingUp, IsCaughtUp, IsTaking, IsStaged, IsInUpdate}
 use Rattle.superblocks.specs.declared.change.Give.TheVariants.{Same}
 use Rattle.superblocks.specs.Rounds.{Round, round_at, first_newest, members_at, IsCaughtUpTo, IsFirstRewriting, IsPastFirst, IsInNaming, IsNamed, IsInRounds}
+use Rattle.superblocks.specs.Losing.{AreTakenInTurn, IsPastTurns, planned_at, IsInTurns, IsNamedSince}
 use Rattle.superblocks.proofs.Namings.{rewriting, rewritten, first_rewriting}
 use Rattle.superblocks.proofs.Exact.{catching, taking, left_live, left_not_lost}
 
@@ -379,7 +380,7 @@ module _ (g : Over) (c : After-name_lost g) (first : AreFirstKept c.args.change.
       let m3 = c.write_planned.new.members in
       let m4 = c.name_lost.new.members in
       subst (λ (m : Members). IsNamed m c.args.change.now c.args.before c.args.live over (round_at m4.newest m4.lost (g.B.Bank.given c.args.bank.now).start tape4)) members3
-      (subst (λ (b : Given). IsNamed m3 c.args.change.now c.args.before c.args.live (round_at m3.newest m3.lost b.start tape3) (round_at m4.newest m4.lost b.start tape4)) (given_then g c) (c.name_lost.ensures.rounds told))
+      (subst (λ (b : Given). IsNamed m3 c.args.change.now c.args.before c.args.live (round_at m3.newest m3.lost b.start tape3) (round_at m4.newest m4.lost b.start tape4)) (given_then g c) (c.name_lost.ensures.rounds told).0)
 
 pub returns-clause-rounds : goal.returns-clause-rounds
 returns-clause-rounds g c = λ first.
@@ -399,3 +400,85 @@ returns-clause-rounds g c = λ first.
 
 pub returns-clause-past : goal.returns-clause-past
 returns-clause-past g c = λ first told. record { first = over g c first; past = past_first g c first told; named = named3 g c first told }
+
+-- ---- whichever slots are lost
+
+module _ (g : Over) (c : After-name_lost g) where
+  abbrev Mid : Round
+  Mid = round_at c.args.members.now.newest c.catch_up.new.members.lost (g.B.Bank.given c.args.bank.now).start (g.B.Bank.tape c.catch_up.new.bank)
+
+  abbrev First : Round
+  First = round_at c.write_planned.new.members.newest c.write_planned.new.members.lost (g.B.Bank.given c.args.bank.now).start (g.B.Bank.tape c.write_planned.new.bank)
+
+  abbrev Planned : Members
+  Planned = planned_at c.args.members.now c.args.change.now c.args.before Mid
+
+  caught_mid : g.B.Bank.tells → IsCaughtUpTo c.args.members.now.newest c.args.members.now.own c.args.live c.args.members.now.lost (disk (g.B.Bank.given c.args.bank.now).start (g.B.Bank.tape c.args.bank.now)) Mid
+  caught_mid told = record {
+    newest = refl;
+    stage = rewriting c.args.members.now.newest (replicate 32 Same) c.args.members.now.own (c.catch_up.ensures.exact.end told).touched;
+    level = c.catch_up.ensures.level told;
+    more = c.catch_up.ensures.losses.stay;
+    still = each_mark-last c.catch_up.ensures.still told;
+    due = c.catch_up.ensures.who;
+  }
+
+  planned_is : c.plan_newest.new.members ≡ Planned
+  planned_is = c.plan_newest.ensures ∙ ap (λ (m : Members). record m { newest = record (planned_newest c.args.change.now.shared m.newest) { dev_roles = with_roles m c.args.change.now c.args.before m.lost m.newest.dev_roles } })
+      c.catch_up.ensures.members
+
+  turns_then : EachMark g.B.Bank.tells (g.B.Bank.given c.args.bank.now).start (g.B.Bank.tape c.catch_up.new.bank) (g.B.Bank.tape c.write_planned.new.bank)
+      (AreTakenInTurn Planned c.args.change.now c.args.before c.args.live (disk (g.B.Bank.given c.args.bank.now).start (g.B.Bank.tape c.catch_up.new.bank)))
+  turns_then =
+      let tape1 = g.B.Bank.tape c.catch_up.new.bank in
+      let tape3 = g.B.Bank.tape c.write_planned.new.bank in
+      subst (λ (m : Members). EachMark g.B.Bank.tells (g.B.Bank.given c.args.bank.now).start tape1 tape3 (AreTakenInTurn m c.args.change.now c.args.before c.args.live (disk (g.B.Bank.given c.args.bank.now).start tape1))) planned_is
+      (subst (λ (b : Given). EachMark g.B.Bank.tells b.start tape1 tape3 (AreTakenInTurn c.plan_newest.new.members c.args.change.now c.args.before c.args.live (disk b.start tape1))) c.catch_up.ensures.given c.write_planned.ensures.turns)
+
+  past_turns : g.B.Bank.tells → IsPastTurns Planned c.args.change.now c.args.before c.args.live (disk (g.B.Bank.given c.args.bank.now).start (g.B.Bank.tape c.catch_up.new.bank)) First
+  past_turns told =
+      let m3 = c.write_planned.new.members in
+      let tape1 = g.B.Bank.tape c.catch_up.new.bank in
+      let tape3 = g.B.Bank.tape c.write_planned.new.bank in
+      subst (λ (m : Members). IsPastTurns m c.args.change.now c.args.before c.args.live (disk (g.B.Bank.given c.args.bank.now).start tape1) First) planned_is
+      (subst (λ (b : Given). IsPastTurns c.plan_newest.new.members c.args.change.now c.args.before c.args.live (disk b.start tape1) (round_at m3.newest m3.lost b.start tape3)) c.catch_up.ensures.given (c.write_planned.ensures.over told))
+
+  members_then : c.write_planned.new.members ≡ members_at c.args.members.now First
+  members_then =
+      let m3 = c.write_planned.new.members in
+      c.write_planned.ensures.members ∙ ap (λ (m : Members). record m { newest = m3.newest; lost = m3.lost }) c.plan_newest.ensures
+      ∙ ap (λ (m : Members). record m { newest = m3.newest; lost = m3.lost }) c.catch_up.ensures.members
+
+  naming_then : EachMark g.B.Bank.tells (g.B.Bank.given c.args.bank.now).start (g.B.Bank.tape c.write_planned.new.bank) (g.B.Bank.tape c.name_lost.new.bank)
+      (IsInNaming (members_at c.args.members.now First) c.args.change.now c.args.before c.args.live First)
+  naming_then =
+      let tape3 = g.B.Bank.tape c.write_planned.new.bank in
+      let tape4 = g.B.Bank.tape c.name_lost.new.bank in
+      let m3 = c.write_planned.new.members in
+      subst (λ (m : Members). EachMark g.B.Bank.tells (g.B.Bank.given c.args.bank.now).start tape3 tape4 (IsInNaming m c.args.change.now c.args.before c.args.live First)) members_then
+      (subst (λ (b : Given). EachMark g.B.Bank.tells b.start tape3 tape4 (IsInNaming m3 c.args.change.now c.args.before c.args.live (round_at m3.newest m3.lost b.start tape3))) (given_then g c) c.name_lost.ensures.naming)
+
+  named_then : g.B.Bank.tells → IsNamedSince (members_at c.args.members.now First) c.args.change.now c.args.before c.args.live c.catch_up.new.members.lost First
+      (round_at c.name_lost.new.members.newest c.name_lost.new.members.lost (g.B.Bank.given c.args.bank.now).start (g.B.Bank.tape c.name_lost.new.bank))
+  named_then told =
+      let tape3 = g.B.Bank.tape c.write_planned.new.bank in
+      let tape4 = g.B.Bank.tape c.name_lost.new.bank in
+      let m3 = c.write_planned.new.members in
+      let m4 = c.name_lost.new.members in
+      let lost = c.catch_up.new.members.lost in
+      subst (λ (m : Members). IsNamedSince m c.args.change.now c.args.before c.args.live lost First (round_at m4.newest m4.lost (g.B.Bank.given c.args.bank.now).start tape4)) members_then
+      (subst (λ (b : Given). IsNamedSince m3 c.args.change.now c.args.before c.args.live lost (round_at m3.newest m3.lost b.start tape3) (round_at m4.newest m4.lost b.start tape4)) (given_then g c) (c.name_lost.ensures.rounds told))
+
+pub returns-clause-turns : goal.returns-clause-turns
+returns-clause-turns g c =
+    let m0 = c.args.members.now in
+    let begin = (g.B.Bank.given c.args.bank.now).start in
+    let Mark = IsInTurns m0 c.args.change.now c.args.before c.args.live (disk begin (g.B.Bank.tape c.args.bank.now)) in
+    each_mark-then (each_mark-map Mark (λ told e at. inl (record { stage = rewriting m0.newest (replicate 32 Same) m0.own at.0.touched; still = at.1 }))
+    (each_mark-both c.catch_up.ensures.exact.marks c.catch_up.ensures.still))
+    (each_mark-then
+    (each_mark-map Mark (λ told e at. inr (inl (Mid g c, caught_mid g c told, at))) (turns_then g c))
+    (each_mark-map Mark (λ told e at. inr (inr (Mid g c, caught_mid g c told, First g c, past_turns g c told, at))) (naming_then g c)))
+
+pub returns-clause-turned : goal.returns-clause-turned
+returns-clause-turned g c = λ told. record { mid = Mid g c; caught = caught_mid g c told; first = First g c; past = past_turns g c told; named = (named_then g c told).0; again = λ some s is none. (named_then g c told).1 (λ same. absurd (let both = sym is ∙ ap (λ (l : ℕ). has_slot l s) same ∙ none in cc)) some }

@@ -5,8 +5,9 @@ use Rattle.bank.specs.declared.bank.Operation.{Operation}
 use Rattle.bank.specs.Given.{Given}
 use Rattle.bank.specs.Tape.{contents}
 use Rattle.superblocks.specs.Reading.{is_backup}
+use Rattle.superblocks.specs.Found.{IsInSectors, AreInSectors}
 use Rattle.superblocks.specs.Writing.{IsMember, AreWritable}
-use Rattle.superblocks.proofs.Looked.{writable-none, writable-found, read-none, read-found, read-lost, read-seen, read-rest, read-as}
+use Rattle.superblocks.proofs.Looked.{sectors-none, sectors-found, writable-none, writable-found, read-none, read-found, read-lost, read-seen, read-rest, read-as}
 use Rattle.superblocks.proofs.election.reads.read_superblocks.Goals as goal
 use Rattle.superblocks.proofs.election.reads.read_superblocks.Goals.{in-Ok, in-Err}
 
@@ -15,6 +16,8 @@ loop-slot-init g c = record {
   same_tape = λ told. refl;
   same_given = refl;
   writable = subst (λ seen. AreWritable (g.B.Bank.given c.args.bank.now) seen) (sym c.in_ok-seen.ensures) (writable-none (g.B.Bank.given c.args.bank.now));
+  sectors = λ told. subst (λ seen. AreInSectors (contents (g.B.Bank.given c.args.bank.now).start (g.B.Bank.tape c.args.bank.now) (length (g.B.Bank.tape c.args.bank.now))) seen) (sym c.in_ok-seen.ensures)
+      (sectors-none (contents (g.B.Bank.given c.args.bank.now).start (g.B.Bank.tape c.args.bank.now) (length (g.B.Bank.tape c.args.bank.now))));
   read = read-as c.in_ok-seen.ensures refl
       (read-none g.B.Bank.tells (g.B.Bank.given c.args.bank.now) c.args.backup _ (g.B.Bank.faults_of c.args.bank.now));
 }
@@ -37,6 +40,13 @@ loop-slot-preserved g c =
             (λ sb e. subst (λ (b : Given). IsMember b (Some sb) c.loop-slot.slot) was.same_given (w.in-Ok.ensures.writable sb e)))
         | in-Err w ↦ subst (λ seen. AreWritable given seen) (sym w.seen-is) was.writable
       ];
+      sectors = λ told. elim c.match-read_member.branch [
+        | in-Ok w ↦ subst (λ seen. AreInSectors (contents given.start tape (length tape)) seen) (sym (w.seen-is ∙ w.set.ensures.own))
+            (sectors-found (contents given.start tape (length tape)) c.loop-slot.seen c.loop-slot.slot w.in-Ok.superblock (omega (arith, was.read.count)) (was.sectors told)
+            (λ sb e. subst (λ (t : List Operation). IsInSectors (contents given.start t (length t) c.loop-slot.slot)) (was.same_tape told)
+            (subst (λ (b : Given). IsInSectors (contents b.start (g.B.Bank.tape c.loop-slot.bank) (length (g.B.Bank.tape c.loop-slot.bank)) c.loop-slot.slot)) was.same_given (w.in-Ok.ensures.sectors told sb e))))
+        | in-Err w ↦ subst (λ seen. AreInSectors (contents given.start tape (length tape)) seen) (sym w.seen-is) (was.sectors told)
+      ];
       read = elim c.match-read_member.branch [
         | in-Ok w ↦ read-as (w.seen-is ∙ w.set.ensures.own) w.lost-is
             (read-found _ _ _ _ c.loop-slot.slot c.loop-slot.seen c.loop-slot.lost _ _ _ w.in-Ok.superblock (omega arith) (omega arith) known was.read
@@ -52,3 +62,6 @@ returns-clause-seen g c = read-seen c.requires (omega (arith, c.slots-slot-end.e
 
 pub returns-clause-rest : goal.returns-clause-rest
 returns-clause-rest g c = read-rest c.requires (omega (arith, c.slots-slot-end.ensures)) c.loop-slot.invariant.read
+
+pub returns-clause-sectors : goal.returns-clause-sectors
+returns-clause-sectors g c = λ told. c.loop-slot.invariant.sectors told
