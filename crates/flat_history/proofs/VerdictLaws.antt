@@ -1,5 +1,5 @@
 -- Where no role was ever taken, no image is refused.
-use Rattle.std.proofs.Common.{◌≡◌, ◌≢◌, ◌⊎◌, inl, inr, ℕ, zero, suc, ◌+◌, ◌-◌, ◌*◌, ◌==◌, ◌<◌, ◌≤◌, Bool, true, false, not, ◌&&◌, ◌||◌, cond, List, [], ◌∷◌, take, drop, refl, sym, ap, ap₂, ◌∙◌, subst, Option, Some, None, option_map, find, fold, ltb, ltb-true, arith}
+use Rattle.std.proofs.Common.{◌≡◌, ◌≢◌, ◌⊎◌, inl, inr, ℕ, zero, suc, ◌+◌, ◌-◌, ◌*◌, ◌==◌, ◌<◌, ◌≤◌, Bool, true, false, not, ◌&&◌, ◌||◌, cond, List, [], ◌∷◌, take, drop, refl, ap, ap₂, ◌∙◌, subst, Option, Some, None, option_map, find, fold, ltb-true, arith}
 use Rattle.std.specs.Option.{option_map_or, option_or}
 use Rattle.std.specs.List.{list_all}
 use Rattle.md_base.specs.declared.places.Shape.{Shape}
@@ -15,7 +15,7 @@ use Rattle.flat_history.specs.declared.events.Event.TheVariants.{Lost, Step}
 use Rattle.flat_history.specs.declared.events.StepKind.TheVariants.{TakenOver}
 use Rattle.flat_history.specs.declared.events.Entry.{Entry}
 use Rattle.flat_history.specs.World.{World, reading_at}
-use Rattle.flat_history.specs.Losses.{takes, regains, loses, gone_surely, gone_perhaps, is_gone, gone_count}
+use Rattle.flat_history.specs.Losses.{takes, gone_surely, gone_perhaps, is_gone, gone_count}
 use Rattle.superblocks.specs.Verdict.{first_of_all, missing_count, too_many, members_missing, unsupported, bad_field, fresh_from, two_holders, shared_dev, dirty_degraded, off_unit, judged_fields, is_bad_entry, is_missing, holds_data, unit_of, members_refusal}
 use Rattle.sb1.specs.Features.{refused_bits}
 use Rattle.flat_history.specs.Stands.{verdict, refusal_of, backup_absent, has_room, reach_of}

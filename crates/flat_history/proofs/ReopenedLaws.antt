@@ -1,0 +1,105 @@
+-- What was flushed or stopped is found again.
+use Rattle.std.proofs.Common.{◌≡◌, ℕ, ◌<◌, ◌≤◌, ◌⊎◌, inl, inr, List, [], ◌∷◌, length, take, fold, refl, sym, ap, ◌∙◌, subst, arith, take_all, Some, None, IsTrue}
+use Rattle.std.specs.Prelude.{slice_index_or}
+use Rattle.std.specs.List.{list_all}
+use Rattle.std.proofs.lemmas.List.Sums.{fold-append}
+use Rattle.std.proofs.lemmas.Bool.{le-leb}
+use Rattle.md_base.specs.Sectors.{Sector}
+use Rattle.bank.specs.Tape.{Contents, IsImage, IsIn}
+use Rattle.bank.proofs.Images.{drawn-image, disk-some}
+use Rattle.flat_history.specs.declared.events.Event.{Event}
+use Rattle.flat_history.specs.declared.events.Event.TheVariants.{Flushed, Stopped}
+use Rattle.flat_history.specs.declared.events.Entry.{Entry}
+use Rattle.flat_history.specs.World.{World, contents_at, opening_list}
+use Rattle.flat_history.specs.Stands.{stands, verdict}
+use Rattle.flat_history.specs.Flat.{values_of, values_after, first_values}
+use Rattle.flat_history.specs.CrashSafe.{made_by, last_resized, MayBeJudgedBy, StandsFor, IsJudged, IsRefusedRightly}
+use Rattle.flat_history.specs.Growing.{EndBy}
+use Rattle.flat_history.specs.Images.{keeps_roles}
+use Rattle.flat_history.specs.Reopened.{EndsSettled, OpensWith, SettledListsAreFound}
+use Rattle.flat_history.proofs.VerdictLaws.{all-assemble}
+
+-- the contents at a mark are an image there
+contents-image : (world : World) (mark : ℕ) → mark ≤ length world.tape → IsImage world.start world.tape mark (contents_at world mark)
+contents-image world mark within = drawn-image world.start world.tape mark (contents_at world mark) within (λ s k. disk-some world.start (take mark world.tape) s k)
+
+-- all entries were made by a mark behind them
+all-made : (mark : ℕ) (entries : List Entry) → EndBy mark entries → made_by mark entries ≡ length entries
+all-made mark [] ends = refl
+all-made mark (e ∷ entries) ends = rw (le-leb e.end mark ends.0) (let rest : made_by mark entries ≡ length entries = all-made mark entries ends.1 in omega (arith, rest))
+
+-- behind a flush or a stop each sector has its present value alone
+one-value : (vs : List Sector) (v : Sector) → IsIn (take 1 vs) v → v ≡ slice_index_or (take 1 vs) 0 []
+one-value [] v none = absurd none
+one-value (w ∷ vs) v (inl e) = e
+one-value (w ∷ vs) v (inr none) = absurd none
+
+abbrev step : ℕ → List Sector → Entry → List Sector
+step x values e = values_after x values e.event
+
+settles : (x : ℕ) (vs : List Sector) (event : Event) → (event ≡ Flushed) ⊎ (event ≡ Stopped) → values_after x vs event ≡ take 1 vs
+settles x vs event (inl flushed) = ap (values_after x vs) flushed
+settles x vs event (inr stopped) = ap (values_after x vs) stopped
+
+settled-values : (list : List Sector) (entries : List Entry) (x : ℕ) → EndsSettled entries → (vs : List Sector) × (values_of list entries x ≡ take 1 vs)
+unfolding values_of
+settled-values list entries x settled =
+    let was : List Sector = fold (step x) (first_values list x) settled.before in (
+      was,
+      ap (λ es. fold (step x) (first_values list x) es) settled.is
+          ∙ fold-append (step x) (first_values list x) settled.before (settled.entry ∷ []) ∙ settles x was settled.entry.event settled.event,
+    )
+
+-- what is judged there is judged by all entries
+judged-all : (world : World) (entries : List Entry) (mark : ℕ) (c : Contents) → IsTrue (list_all (λ e. keeps_roles e.event) entries) → last_resized entries ≡ None
+    → EndBy mark entries → verdict world.scope c ≡ None → IsJudged world entries mark c → StandsFor world entries c
+judged-all world entries mark c keeps same ends accepted judged = by_kind judged.judgement
+  where
+    made : made_by mark entries ≡ length entries
+    made = all-made mark entries ends
+
+    whole : (n : ℕ) → length entries ≤ n → take n entries ≡ entries
+    whole n le = take_all n entries le
+
+    by_list : (js : List Entry) → MayBeJudgedBy world entries (made_by mark entries) judged.j js → js ≡ entries
+    by_list js (inl e) =
+        let le : made_by mark entries ≤ judged.j = judged.made in
+        e ∙ whole judged.j (omega (arith, le, made))
+    by_list js (inr out) =
+        let all : take (made_by mark entries) entries ≡ entries = whole (made_by mark entries) (omega (arith, made)) in
+        let some : last_resized entries ≡ Some out.0 = subst (λ es. last_resized es ≡ Some out.0) all out.1.last in
+        absurd (cc)
+
+    refused : (k j : ℕ) → IsRefusedRightly world entries k j c → ⊥
+    refused k j (inl dirty) = let is = dirty.refused in absurd (cc)
+    refused k j (inr missing) = let is = missing.refused in absurd (cc)
+
+    by_kind : ((js : List Entry) × MayBeJudgedBy world entries (made_by mark entries) judged.j js × StandsFor world js c)
+        ⊎ IsRefusedRightly world entries (made_by mark entries) judged.j c → StandsFor world entries c
+    by_kind (inl found) = subst (λ js. StandsFor world js c) (by_list found.0 found.1) found.2
+    by_kind (inr wrong) = absurd (refused (made_by mark entries) judged.j wrong)
+
+opens-with : (world next : World) (entries : List Entry) → next.start ≡ world.start → next.tape ≡ world.tape → next.scope ≡ world.scope
+    → EndsSettled entries → StandsFor world entries (contents_at world next.first) → OpensWith next (opening_list world) entries
+unfolding opening_list
+opens-with world next entries start tape scope settled found = record {
+  count = ap length same ∙ found.sized;
+  each = λ x below.
+      let short : x < length (stands world.scope (contents_at world next.first)) = subst (λ l. x < length l) same below in
+      let value : (vs : List Sector) × (values_of (opening_list world) entries x ≡ take 1 vs) = settled-values (opening_list world) entries x settled in
+      ap (λ l. slice_index_or l x []) same
+      ∙ one-value value.0 (slice_index_or (stands world.scope (contents_at world next.first)) x [])
+      (subst (λ vs. IsIn vs (slice_index_or (stands world.scope (contents_at world next.first)) x [])) value.1 (found.sectors x short))
+      ∙ ap (λ vs. slice_index_or vs 0 []) (sym value.1);
+}
+  where
+    same : opening_list next ≡ stands world.scope (contents_at world next.first)
+    same = rw scope (rw start (rw tape refl))
+
+pub settled-found : SettledListsAreFound
+settled-found world next entries last keeps resized safe by_last again settled =
+    let image : IsImage world.start world.tape next.first (contents_at world next.first) = contents-image world next.first again.within in
+    let at = safe next.first again.later by_last again.flushes in
+    opens-with world next entries again.start again.tape again.scope settled
+    (judged-all world entries next.first (contents_at world next.first) keeps resized again.made
+    (all-assemble world entries next.first (contents_at world next.first) keeps at image) (at (contents_at world next.first) image))

@@ -1,0 +1,40 @@
+-- The list that an epoch leaves is the one that the next epoch opens with.
+use Rattle.std.specs.Prelude.{◌≡◌, ◌⊎◌, ℕ, ◌<◌, ◌≤◌, List, [], ◌∷◌, ◌++◌, length, slice_index_or, None, IsTrue}
+use Rattle.std.specs.List.{list_all}
+use Rattle.md_base.specs.Sectors.{Sector}
+use Rattle.bank.specs.Tape.{OnlyFlushesBetween}
+use Rattle.flat_history.specs.declared.events.Event.TheVariants.{Flushed, Stopped}
+use Rattle.flat_history.specs.declared.events.Entry.{Entry}
+use Rattle.flat_history.specs.World.{World, opening_list}
+use Rattle.flat_history.specs.Flat.{length_of, now}
+use Rattle.flat_history.specs.Legal.{last_end}
+use Rattle.flat_history.specs.CrashSafe.{last_resized, IsCrashSafe}
+use Rattle.flat_history.specs.Growing.{EndBy}
+use Rattle.flat_history.specs.Images.{keeps_roles}
+
+-- the last entry is a flush or a stop
+pub record EndsSettled (entries : List Entry) : Type 0 where
+  pub before : List Entry
+  pub entry : Entry
+  pub is : entries ≡ before ++ entry ∷ []
+  pub event : (entry.event ≡ Flushed) ⊎ (entry.event ≡ Stopped)
+
+-- The next epoch begins on the same bank, in the same slots, behind the last entry and nothing but flushes.
+pub record IsReopened (world : World) (entries : List Entry) (next : World) : Type 0 where
+  pub start : next.start ≡ world.start
+  pub tape : next.tape ≡ world.tape
+  pub scope : next.scope ≡ world.scope
+  pub later : world.first ≤ next.first
+  pub within : next.first ≤ length world.tape
+  pub made : EndBy next.first entries
+  pub flushes : OnlyFlushesBetween world.tape (last_end world entries) next.first
+
+-- it opens with what these entries make of a list
+pub record OpensWith (next : World) (list : List Sector) (entries : List Entry) : Type 0 where
+  pub count : length (opening_list next) ≡ length_of (length list) entries
+  pub each : (x : ℕ) → x < length (opening_list next) → slice_index_or (opening_list next) x [] ≡ now list entries x
+
+-- What was flushed or stopped is found again, sector by sector, where no role was lost and the length stayed.
+abbrev pub SettledListsAreFound : Type 0
+SettledListsAreFound = (world next : World) (entries : List Entry) (last : ℕ) → IsTrue (list_all (λ e. keeps_roles e.event) entries) → last_resized entries ≡ None
+    → IsCrashSafe world last entries → next.first ≤ last → IsReopened world entries next → EndsSettled entries → OpensWith next (opening_list world) entries
