@@ -1,5 +1,5 @@
 -- The list goes on to stand at its places.
-use Rattle.std.proofs.Common.{◌≡◌, ℕ, ◌+◌, ◌-◌, ◌/◌, ◌<◌, ◌≤◌, ◌⊎◌, inl, inr, List, [], ◌∷◌, ◌++◌, length, refl, sym, ◌∙◌, ap, subst, arith}
+use Rattle.std.proofs.Common.{◌≡◌, ℕ, ◌-◌, inl, inr, List, [], ◌∷◌, ◌++◌, refl, sym, ◌∙◌, arith}
 use Rattle.md_base.specs.Sectors.{Sector, sectors_of}
 use Rattle.md_base.proofs.SectorLaws.{length-sectors_of}
 use Rattle.md_base.specs.declared.answers.Who.{Who}
@@ -11,8 +11,8 @@ use Rattle.flat_history.specs.declared.events.Event.{Event}
 use Rattle.flat_history.specs.declared.events.Event.TheVariants.{Wrote}
 use Rattle.flat_history.specs.Flat.{now}
 use Rattle.flat_history.specs.Plain.{entries_of}
-use Rattle.array.specs.Whole.{Places, AreFit, in_row, list_size}
-use Rattle.array.specs.Rows.{HoldsList, AreGoodRows, IsWritten, IsPut, IsTouched}
+use Rattle.array.specs.Whole.{Places, AreFit, in_row}
+use Rattle.array.specs.Rows.{HoldsList, AreGoodRows, IsWritten, IsPut}
 use Rattle.array.specs.Moving.{AreRowsKept}
 use Rattle.array.proofs.RowParity.{parity-same}
 use Rattle.array.proofs.PlainLaws.{one}

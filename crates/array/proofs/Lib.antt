@@ -14,6 +14,7 @@ pub mod MemberLaws
 pub mod RowLaws
 pub mod PutLaws
 pub mod CallLaws
+pub mod LeftLaws
 pub mod NowLaws
 pub mod HoldLaws
 pub mod RecordLaws
@@ -26,3 +27,7 @@ pub mod PuttingLaws
 pub mod ReadWhole
 pub mod MarkedRight
 pub mod HeldKept
+pub mod MarksRight
+pub mod SafetyLaws
+pub mod LostLaws
+pub mod SafeLaws

@@ -1,8 +1,8 @@
 -- What an update that gives no slot anything else leaves of the roles.
-use Rattle.std.proofs.Common.{◌≡◌, ◌≢◌, ℕ, zero, suc, ◌+◌, ◌-◌, ◌<◌, ◌≤◌, ◌⊎◌, inl, inr, Bool, true, false, not, cond, ◌&&◌, ◌==◌, List, [], ◌∷◌, length, get_or, refl, sym, ap, ap₂, ◌∙◌, subst, arith, Option, Some, None, map, replicate, zero-le}
+use Rattle.std.proofs.Common.{◌≡◌, ◌≢◌, ℕ, zero, suc, ◌+◌, ◌-◌, ◌<◌, ◌≤◌, Bool, true, false, not, cond, ◌&&◌, List, [], ◌∷◌, length, get_or, refl, sym, ap, ◌∙◌, arith, Option, Some, None, map, replicate}
 use Rattle.std.specs.Option.{option_map_or}
 use Rattle.std.proofs.lemmas.Bool.Decides.{nat_tests}
-use Rattle.std.proofs.lemmas.List.{ext_get_or, get_or_past}
+use Rattle.std.proofs.lemmas.List.{ext_get_or}
 use Rattle.md_base.specs.Search.{tabulate, least_below}
 use Rattle.md_base.specs.Shapes.{has_slot}
 use Rattle.md_base.proofs.Least.{least_below-none, least_below-only}
@@ -31,7 +31,7 @@ holder-held slot (Recovering s) is = let same : s ≡ slot = cc in grind (arith,
 holder-held slot Missing is = absurd (cc)
 
 -- the role that a slot holds, of those from some place on
-role_from-found : (slot i : ℕ) (roles : List Role) (k : ℕ) → is_held_by slot (get_or roles k Missing) ≡ true
+pub role_from-found : (slot i : ℕ) (roles : List Role) (k : ℕ) → is_held_by slot (get_or roles k Missing) ≡ true
     → ((j : ℕ) → is_held_by slot (get_or roles j Missing) ≡ true → j ≡ k) → role_from slot i roles ≡ Some (i + k)
 role_from-found slot i [] k held only = absurd (cc)
 role_from-found slot i (state ∷ roles) zero held only =
@@ -45,7 +45,7 @@ role_from-found slot i (state ∷ roles) (suc k) held only =
     by true is = let e : 0 ≡ suc k = only 0 is in absurd (omega (arith, e))
     by false is = refl
 
-role_from-holds : (slot i : ℕ) (roles : List Role) (r : ℕ) → role_from slot i roles ≡ Some r → (i ≤ r) × (is_held_by slot (get_or roles (r - i) Missing) ≡ true)
+pub role_from-holds : (slot i : ℕ) (roles : List Role) (r : ℕ) → role_from slot i roles ≡ Some r → (i ≤ r) × (is_held_by slot (get_or roles (r - i) Missing) ≡ true)
 role_from-holds slot i [] r is = absurd (cc)
 role_from-holds slot i (state ∷ roles) r is = by (is_held_by slot state) refl is (λ found. role_from-holds slot (i + 1) roles r found)
   where

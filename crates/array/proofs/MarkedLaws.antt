@@ -1,33 +1,28 @@
 -- What a mark leaves of an array whose roles are whole.
-use Rattle.std.proofs.Common.{◌≡◌, ◌≢◌, ◌⊎◌, inl, inr, ℕ, ◌+◌, ◌<◌, ◌≤◌, ◌&&◌, Bool, true, false, not, nat_lt, List, [], ◌∷◌, ◌++◌, length, take, drop, take_all, map, Option, Some, unwrap_or, refl, sym, ◌∙◌, ap, ap₂, subst, arith}
+use Rattle.std.proofs.Common.{◌≡◌, ◌≢◌, inl, inr, ℕ, ◌+◌, ◌<◌, ◌≤◌, ◌&&◌, Bool, true, false, nat_lt, List, [], ◌∷◌, ◌++◌, length, take, drop, take_all, refl, sym, ◌∙◌, ap, subst, arith}
 use Rattle.std.proofs.lemmas.List.{take-append-drop}
 use Rattle.std.specs.Prelude.{slice_index_or}
 use Rattle.std.proofs.lemmas.Bool.Decides.{nat_tests}
 use Rattle.md_base.specs.Sectors.{Sector}
 use Rattle.md_base.specs.Shapes.{has_slot}
 use Rattle.md_base.specs.declared.places.Shape.{Shape}
-use Rattle.md_base.specs.declared.status.Role.{Role}
-use Rattle.md_base.specs.declared.status.Role.TheVariants.{Whole, Missing}
-use Rattle.bank.specs.Given.{Given, IsFaulted, NeverFalls}
-use Rattle.bank.specs.Tape.{Contents, Kept, EachMark, contents, disk, value_after}
+use Rattle.bank.specs.Given.{Given}
+use Rattle.bank.specs.Tape.{Contents, Kept, EachMark, disk, value_after}
 use Rattle.bank.specs.declared.bank.Operation.{Operation}
 use Rattle.bank.proofs.Laws.{choices-present}
-use Rattle.bank.proofs.Causes.{faulted_longer}
 use Rattle.superblocks.specs.declared.members.Members.{Members}
-use Rattle.superblocks.specs.Reading.{shape_of, role_state, holder, is_whole, data_offset_of}
+use Rattle.superblocks.specs.Reading.{shape_of}
 use Rattle.superblocks.proofs.SlotSets.{none_there}
 use Rattle.superblocks.specs.Updating.{AreLosses}
-use Rattle.superblocks.specs.Outcome.{live_set}
-use Rattle.row_io.specs.Rows.{reading_of, is_missing, present, role_without}
-use Rattle.array.specs.Whole.{Places, in_row}
-use Rattle.array.specs.Placed.{places_of, AreWhole, IsPlaced, AreLost, AreUnlost, AreLess}
-use Rattle.array.specs.Marking.{marking, IsMarked, AreOthersPresent}
+use Rattle.row_io.specs.Rows.{reading_of, is_missing, present}
+use Rattle.array.specs.Placed.{places_of, AreWhole, IsPlaced, AreUnlost, AreLess}
+use Rattle.array.specs.Marking.{IsMarked, AreOthersPresent}
 use Rattle.array.specs.Losing.{AreGone}
-use Rattle.array.specs.Moving.{AreRowsKept, AreRowsFlushed, Grows, IsMoved, AreFailed}
+use Rattle.array.specs.Moving.{AreRowsKept, AreRowsFlushed, Grows, AreFailed}
 use Rattle.array.specs.Flushing.{AreMembersFlushed}
 use Rattle.array.proofs.MemberLaws.{holder-is}
-use Rattle.array.proofs.PlacedLaws.{kept-roles, none-lost}
-use Rattle.array.proofs.MovedLaws.{less-whole, gone-less}
+use Rattle.array.proofs.PlacedLaws.{kept-roles}
+use Rattle.array.proofs.MovedLaws.{gone-less}
 
 -- ---- the tape
 
@@ -59,7 +54,7 @@ others-present {given = given} {before = before} {after = after} marked told s k
         ∙ ap (λ (l : List Operation). value_after s k (given.start s k) l ∷ []) (sym (take_all (length tape) tape (le_refl (length tape))))
 
 -- the rows lie behind the superblocks
-behind-superblocks : (given : Given) (m : Members) → IsPlaced given m → AreWhole m → (role row : ℕ) → role < (shape_of m.newest).disks → (places_of m).offset role + row ≢ 8
+pub behind-superblocks : (given : Given) (m : Members) → IsPlaced given m → AreWhole m → (role row : ℕ) → role < (shape_of m.newest).disks → (places_of m).offset role + row ≢ 8
 behind-superblocks given m placed whole role row lt e =
     absurd (let at = placed.behind role ((places_of m).slot role) (holder-is given m placed whole role lt) in omega (arith, e, at))
 

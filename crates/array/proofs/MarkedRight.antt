@@ -177,7 +177,7 @@ module _ {tells : Type 0} (scope : Scope) (given : Given) (clean : Bool) (old ne
 
   -- ---- the members say what is stored
 
-  as-planned : AreSaidAsPlanned scope (m.held told).known old.lost (m.held told).known old (marking old clean) new.own
+  as-planned : AreSaidAsPlanned scope (m.held told).known old.lost (m.held told).known old (marking old clean) (next_newest old (marking old clean) old.lost old.lost) new.own
   as-planned = stay-said scope (m.held told).known old.lost (m.held told).known old (marking old clean) new.own (disk given.start before) (m.held told).updated.held (λ s is. is) change-fits (m.held told).live
       (subst (λ (n : Sb). AreKept n (replicate 32 Same) old.own (m.held told).known new.own) plan kept) (m.held told).said
       (no-new-spares scope (m.held told).known old clean (disk given.start before) (m.held told).said (m.held told).updated.held (m.held told).live m.events)

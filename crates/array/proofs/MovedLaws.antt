@@ -1,26 +1,26 @@
 -- What device calls leave of an array's places.
-use Rattle.std.proofs.Common.{◌≡◌, ◌≢◌, ◌⊎◌, inl, inr, ℕ, zero, suc, ◌+◌, ◌*◌, ◌<◌, ◌≤◌, ◌==◌, ◌&&◌, Bool, true, false, not, cond, nat_lt, max, bit_or, List, [], ◌∷◌, ◌++◌, length, get_or, map, Option, Some, None, refl, sym, ◌∙◌, ap, ap₂, subst, arith, append_assoc, append-nil}
+use Rattle.std.proofs.Common.{◌≡◌, ◌≢◌, ◌⊎◌, inl, inr, ℕ, ◌*◌, ◌<◌, ◌==◌, ◌&&◌, Bool, true, false, not, cond, nat_lt, max, List, [], ◌++◌, get_or, Option, Some, None, refl, sym, ◌∙◌, ap, ap₂, subst, arith, append_assoc, append-nil}
 use Rattle.std.proofs.lemmas.Bool.Decides.{nat_tests}
-use Rattle.std.proofs.lemmas.Bool.{cases_lt}
+use Rattle.std.proofs.lemmas.Bool.{cases_lt, cases_eq}
 use Rattle.std.proofs.lemmas.List.{get_or_past}
 use Rattle.std.proofs.lemmas.Nat.Bits.{bit_at_or}
 use Rattle.md_base.specs.Shapes.{has_slot, data_disks}
 use Rattle.md_base.specs.declared.places.Shape.{Shape}
 use Rattle.md_base.specs.declared.status.Role.{Role}
 use Rattle.md_base.specs.declared.status.Role.TheVariants.{Whole, Recovering, Missing}
-use Rattle.bank.specs.Given.{Given, IsFaulted, NeverFalls}
+use Rattle.bank.specs.Given.{Given, IsFaulted}
 use Rattle.bank.specs.declared.bank.Operation.{Operation}
 use Rattle.superblocks.specs.declared.members.Members.{Members}
 use Rattle.superblocks.specs.Reading.{shape_of, role_state, holder, is_whole}
 use Rattle.superblocks.proofs.SlotSets.{none_there}
-use Rattle.row_io.specs.Rows.{reading_of, is_missing, missing_count, role_without, members_without, HaveFailed}
-use Rattle.row_io.proofs.Losses.{state_after, state_kept, holder-after}
-use Rattle.array.specs.Whole.{Places, list_size}
+use Rattle.row_io.specs.Rows.{reading_of, is_missing, missing_count, role_without, members_without}
+use Rattle.row_io.proofs.Losses.{state_after, state_kept}
+use Rattle.array.specs.Whole.{list_size}
 use Rattle.array.specs.Placed.{places_of, AreWhole, IsPlaced, AreLost, AreUnlost, AreLess}
 use Rattle.array.specs.Losing.{AreGone}
 use Rattle.array.specs.Moving.{Grows, IsMoved}
 use Rattle.array.specs.Kept.{missing_in}
-use Rattle.array.proofs.PlacedLaws.{kept-roles, none-lost, places-same, whole-same, state-without}
+use Rattle.array.proofs.PlacedLaws.{kept-roles, none-lost, places-same, state-without}
 use Rattle.array.proofs.MemberLaws.{less-without, none_missing}
 
 -- ---- the tape
@@ -39,7 +39,7 @@ grows-then {before = before} one two = record {
 -- ---- the places
 
 -- the role's slot isn't lost, where the role is whole afterwards
-whole-kept : (lost slot : ℕ) (state : Role) → not (is_whole (role_without lost state)) ≡ false → holder state ≡ Some slot → has_slot lost slot ≡ false
+pub whole-kept : (lost slot : ℕ) (state : Role) → not (is_whole (role_without lost state)) ≡ false → holder state ≡ Some slot → has_slot lost slot ≡ false
 whole-kept lost slot (Whole s) whole held = by (has_slot lost s) refl whole
   where
     by : (b : Bool) → has_slot lost s ≡ b → not (is_whole (cond b Missing (Whole s))) ≡ false → has_slot lost slot ≡ false
@@ -178,3 +178,11 @@ module _ (given : Given) (shape : Shape) (old new : Members) (lost : ℕ) (befor
 -- with a role missing, not every role is whole
 pub not-whole : (given : Given) (m : Members) → IsPlaced given m → 0 < missing_in m → AreWhole m → ⊥
 not-whole given m placed some whole = absurd (let none = none_missing given m placed whole in omega (arith, none, some))
+
+-- where no role is missing afterwards, none was lost
+pub lost-none : (given : Given) (shape : Shape) (old new : Members) (lost : ℕ) (before after : ℕ → ℕ) → AreLost given shape old new lost before after → shape ≡ shape_of old.newest → shape_of new.newest ≡ shape_of old.newest
+    → AreWhole new → lost ≡ 0
+lost-none given shape old new lost before after did same kept whole = elim (cases_eq lost 0) [
+  | inl is ↦ is
+  | inr some ↦ absurd (not-whole given new did.placed (subst (λ (s : Shape). 0 < missing_count (reading_of new) s) (same ∙ sym kept) (did.missing some)) whole)
+]

@@ -12,7 +12,7 @@ use Rattle.flat_history.specs.Flat.{values_after, values_of, first_values, now, 
 use Rattle.array.specs.Rows.{row_sector}
 
 -- the values of a sector after some more entries
-values-more : (list : List Sector) (entries added : List Entry) (x : ℕ) → values_of list (entries ++ added) x ≡ fold (λ values e. values_after x values e.event) (values_of list entries x) added
+pub values-more : (list : List Sector) (entries added : List Entry) (x : ℕ) → values_of list (entries ++ added) x ≡ fold (λ values e. values_after x values e.event) (values_of list entries x) added
 unfolding values_of
 values-more list entries added x = fold-append (λ values e. values_after x values e.event) (first_values list x) entries added
 

@@ -1,29 +1,24 @@
 -- An array's places after slots were lost, and after its superblocks were marked.
-use Rattle.std.proofs.Common.{◌≡◌, ◌≢◌, ℕ, zero, suc, ◌+◌, ◌-◌, ◌*◌, ◌<◌, ◌≤◌, ◌⊎◌, inl, inr, Bool, true, false, not, cond, ◌&&◌, ◌==◌, List, [], ◌∷◌, length, get_or, refl, sym, ap, ap₂, ◌∙◌, subst, arith, Option, Some, None, map, replicate, max, unwrap_or}
-use Rattle.std.specs.Prelude.{IsTrue, ◌^◌, pos, ◌-ℤ◌}
+use Rattle.std.proofs.Common.{◌≡◌, ℕ, zero, suc, ◌-◌, ◌<◌, ◌≤◌, ◌⊎◌, inl, inr, Bool, true, false, not, cond, ◌==◌, List, [], ◌∷◌, length, get_or, refl, sym, ap, ap₂, ◌∙◌, subst, arith, Option, Some, None, map, replicate, max, unwrap_or}
+use Rattle.std.specs.Prelude.{◌^◌, pos, ◌-ℤ◌}
 use Rattle.std.specs.Option.{option_map_or}
 use Rattle.std.proofs.lemmas.Bool.Decides.{nat_tests}
-use Rattle.md_base.specs.Search.{tabulate}
 use Rattle.md_base.specs.Shapes.{has_slot, is_valid_shape, is_multiple}
 use Rattle.md_base.specs.declared.places.Shape.{Shape}
 use Rattle.md_base.specs.declared.status.Role.{Role}
 use Rattle.md_base.specs.declared.status.Role.TheVariants.{Whole, Recovering, Missing}
 use Rattle.bank.specs.Given.{Given}
 use Rattle.sb1.specs.declared.sb.Sb.{Sb}
-use Rattle.sb1.specs.Superblock.{sb_of}
-use Rattle.superblocks.specs.declared.change.Give.{Give}
 use Rattle.superblocks.specs.declared.change.Give.TheVariants.{Same}
 use Rattle.superblocks.specs.declared.members.Members.{Members}
-use Rattle.superblocks.specs.Reading.{Reading, count_of, is_reshaping, is_clean, shape_of, target_of, final_shape, role_count, role_state, holder, own_of, data_offset_of}
+use Rattle.superblocks.specs.Reading.{count_of, is_reshaping, is_clean, shape_of, role_count, role_state, holder, data_offset_of}
 use Rattle.superblocks.specs.Reads.{SaysSame}
-use Rattle.superblocks.specs.Update.{own_in, give_of, planned}
+use Rattle.superblocks.specs.Update.{own_in, planned}
 use Rattle.superblocks.specs.Updating.{IsLater, planned_newest}
-use Rattle.superblocks.specs.Outcome.{AreLive, AreStored, IsPlannedOwn, IsStored, planned_roles}
+use Rattle.superblocks.specs.Outcome.{AreLive, AreStored, IsPlannedOwn, planned_roles}
 use Rattle.superblocks.proofs.SlotSets.{none_there}
-use Rattle.superblocks.proofs.PlannedSb.{planned-of, IsPlannedOf}
+use Rattle.superblocks.proofs.PlannedSb.{planned-of}
 use Rattle.row_io.specs.Rows.{reading_of, is_missing, role_without, IsHolder}
-use Rattle.row_io.specs.Writes.{AreApart}
-use Rattle.array.specs.Whole.{Places}
 use Rattle.array.specs.Placed.{places_of, AreWhole, IsPlaced, AreUnlost, AreLess}
 use Rattle.array.specs.Marking.{resync_of, marking}
 use Rattle.array.proofs.MarkLaws.{give_of-same, roles-kept}

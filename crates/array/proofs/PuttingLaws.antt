@@ -1,23 +1,23 @@
 -- A write's three stretches, or a flush's two, one after another.
-use Rattle.std.proofs.Common.{◌≡◌, ◌≢◌, ◌⊎◌, inl, inr, ℕ, ◌+◌, ◌/◌, ◌<◌, ◌≤◌, ◌&&◌, Bool, true, false, not, nat_lt, List, length, map, get_or, Option, Some, refl, sym, ◌∙◌, ap, ap₂, subst, arith}
+use Rattle.std.proofs.Common.{◌≡◌, ◌≢◌, inl, inr, ℕ, ◌<◌, ◌&&◌, Bool, true, false, nat_lt, List, get_or, refl, sym, ◌∙◌, ap, subst, arith}
 use Rattle.std.proofs.lemmas.Bool.Decides.{nat_tests}
 use Rattle.std.proofs.lemmas.Bool.{cases_eq}
 use Rattle.md_base.specs.Shapes.{has_slot}
 use Rattle.md_base.specs.declared.places.Shape.{Shape}
 use Rattle.md_base.specs.declared.status.Role.{Role}
 use Rattle.md_base.specs.declared.status.Role.TheVariants.{Missing}
-use Rattle.bank.specs.Given.{Given, IsFaulted, NeverFalls}
+use Rattle.bank.specs.Given.{Given, NeverFalls}
 use Rattle.bank.specs.Tape.{Contents}
 use Rattle.bank.specs.declared.bank.Operation.{Operation}
 use Rattle.bank.proofs.Causes.{faulted_longer}
 use Rattle.layout.proofs.Limits.{limited}
 use Rattle.superblocks.specs.declared.members.Members.{Members}
 use Rattle.superblocks.specs.Reading.{shape_of, role_state, holder}
-use Rattle.row_io.specs.Rows.{reading_of, is_missing, missing_count, present}
+use Rattle.row_io.specs.Rows.{reading_of, is_missing, present}
 use Rattle.row_io.proofs.Tables.{count_below-above}
 use Rattle.array.specs.Whole.{Places, in_row}
 use Rattle.array.specs.Rows.{AreBuffered, IsPut}
-use Rattle.array.specs.Placed.{places_of, AreWhole, IsPlaced, AreLost, AreUnlost, AreLess}
+use Rattle.array.specs.Placed.{places_of, AreWhole, IsPlaced, AreLost}
 use Rattle.array.specs.Marking.{AreOthersPresent}
 use Rattle.array.specs.Losing.{AreGone}
 use Rattle.array.specs.Flushing.{OnlyFlushesAdded}

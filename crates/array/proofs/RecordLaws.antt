@@ -1,32 +1,29 @@
 -- What is kept of the history after a call, by what the call entered.
-use Rattle.std.proofs.Common.{◌≡◌, ◌≢◌, ℕ, zero, suc, ◌+◌, ◌<◌, ◌≤◌, ◌==◌, ◌||◌, inl, inr, Bool, true, false, cond, Option, Some, None, List, [], ◌∷◌, ◌++◌, length, refl, sym, ◌∙◌, ap, subst, arith}
+use Rattle.std.proofs.Common.{◌≡◌, ℕ, zero, suc, ◌+◌, ◌<◌, ◌≤◌, ◌==◌, ◌||◌, inl, inr, Bool, true, false, cond, Option, None, List, [], ◌∷◌, ◌++◌, length, refl, sym, ◌∙◌, ap, subst, arith}
 use Rattle.std.proofs.lemmas.Bool.Decides.{nat_tests}
 use Rattle.std.proofs.lemmas.Bool.{cases_lt}
 use Rattle.std.proofs.lemmas.List.Folds.{list_any-append}
-use Rattle.std.specs.Prelude.{fold, slice_index_or, IsTrue, IsFalse}
+use Rattle.std.specs.Prelude.{fold, IsTrue, IsFalse}
 use Rattle.std.specs.List.{list_any}
 use Rattle.md_base.specs.Search.{count_below}
 use Rattle.md_base.specs.Sectors.{Sector}
 use Rattle.md_base.specs.Shapes.{has_slot}
 use Rattle.md_base.specs.declared.answers.Who.{Who}
-use Rattle.md_base.specs.declared.answers.Refusal.TheVariants.{PastEnd, TooManyMissing}
 use Rattle.bank.specs.declared.bank.Operation.{Operation}
 use Rattle.superblocks.specs.declared.members.Members.{Members}
 use Rattle.superblocks.specs.Reading.{shape_of}
-use Rattle.row_io.specs.Rows.{reading_of, is_missing, missing_count}
+use Rattle.row_io.specs.Rows.{reading_of, is_missing}
 use Rattle.flat_history.specs.declared.events.Entry.{Entry}
 use Rattle.flat_history.specs.declared.events.Event.{Event}
-use Rattle.flat_history.specs.declared.events.Event.TheVariants.{Read, Wrote, Torn, Refused}
-use Rattle.flat_history.specs.Flat.{next_number, length_of, length_after, limit_of, limit_after, values_after, visible_of, last_of}
-use Rattle.flat_history.specs.Transfers.{last_end_from, IsReadOver}
-use Rattle.flat_history.specs.World.{World, opening_list}
+use Rattle.flat_history.specs.Flat.{next_number, length_of, length_after, limit_of, limit_after, visible_of}
+use Rattle.flat_history.specs.World.{World}
 use Rattle.flat_history.specs.Growing.{grown}
-use Rattle.flat_history.specs.Plain.{Opening, IsOneMissing, IsPlainLegal, loses_role, lost_count, entries_of}
+use Rattle.flat_history.specs.Plain.{IsOneMissing, IsPlainLegal, loses_role, entries_of}
 use Rattle.array.specs.Losing.{losses_of}
 use Rattle.array.specs.Kept.{opening_of, IsRecorded, AreTold, missing_in}
-use Rattle.array.proofs.PlainLaws.{one, plain-later, plain-add_up, IsCallOf, call_plain}
+use Rattle.array.proofs.PlainLaws.{plain-later, plain-add_up, IsCallOf, call_plain}
 use Rattle.array.proofs.CallLaws.{begins-behind, last_end-behind, told-losses}
-use Rattle.array.proofs.NowLaws.{length-more, limit-more, visible-is}
+use Rattle.array.proofs.NowLaws.{visible-is}
 use Rattle.array.proofs.RightLaws.{opening-grown}
 
 -- these events change neither the length nor the limit, nor what the list holds

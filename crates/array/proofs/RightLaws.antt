@@ -1,13 +1,13 @@
 -- What a stop may leave stays right over writes that the flat list allows and over flushes, and makes a mark safe.
-use Rattle.std.proofs.Common.{◌≡◌, ◌≢◌, ℕ, zero, suc, ◌+◌, ◌<◌, ◌≤◌, ◌⊎◌, inl, inr, Bool, true, false, cond, ◌&&◌, ◌==◌, List, [], ◌∷◌, ◌++◌, length, take, drop, refl, sym, ap, ◌∙◌, subst, arith, leb, zero-le, Option, Some}
-use Rattle.std.specs.Prelude.{slice_index_or, IsTrue, ⊤}
+use Rattle.std.proofs.Common.{◌≡◌, ◌≢◌, ℕ, suc, ◌+◌, ◌<◌, ◌≤◌, ◌⊎◌, inl, inr, Bool, true, false, cond, ◌&&◌, ◌==◌, List, [], ◌∷◌, ◌++◌, length, take, drop, refl, sym, ap, ◌∙◌, subst, arith, leb, Some}
+use Rattle.std.specs.Prelude.{IsTrue}
 use Rattle.std.proofs.lemmas.Bool.{cases_lt, lt-leb, le-leb}
 use Rattle.std.proofs.lemmas.Bool.Decides.{nat_tests}
 use Rattle.md_base.specs.Sectors.{Sector}
 use Rattle.md_base.specs.declared.answers.Who.{Who}
 use Rattle.bank.specs.declared.bank.Operation.{Operation}
 use Rattle.bank.specs.declared.bank.Operation.TheVariants.{Write, Flush}
-use Rattle.bank.specs.Tape.{Contents, IsDrawn, IsIn, IsImage, EachMark, disk, run, choices_after}
+use Rattle.bank.specs.Tape.{Contents, IsDrawn, IsIn, disk, run}
 use Rattle.bank.proofs.Images.{image-drawn}
 use Rattle.bank.proofs.Laws.{contents-earlier}
 use Rattle.bank.proofs.Marks.{Along}
@@ -19,10 +19,10 @@ use Rattle.flat_history.specs.declared.events.Event.{Event}
 use Rattle.flat_history.specs.Flat.{rest_of_call, length_of, values_of}
 use Rattle.flat_history.specs.Plain.{entries_of}
 use Rattle.flat_history.specs.World.{World, opening_list}
-use Rattle.flat_history.specs.CrashSafe.{made_by, first_call_len, may_be_made, StandsFor, IsSafeAt, IsSafeFor, IsJudged}
+use Rattle.flat_history.specs.CrashSafe.{made_by, first_call_len, may_be_made, StandsFor, IsSafeAt, IsSafeFor}
 use Rattle.flat_history.specs.Growing.{grown, EndBy, MadeFrom, IsSafeThroughout}
 use Rattle.flat_history.proofs.GrowingLaws.{calls-owe}
-use Rattle.array.specs.Whole.{Places, AreFit, slot_of, sector_of, placed, list_size, IsReadWhole, AreDrawnSuperblocks, AreReadWhole, AreAllowed, AreRight, IsAllowedWrite, AreAllowedWrites}
+use Rattle.array.specs.Whole.{Places, AreFit, slot_of, sector_of, placed, list_size, IsReadWhole, AreReadWhole, AreAllowed, AreRight, IsAllowedWrite, AreAllowedWrites}
 use Rattle.array.proofs.WholeLaws.{stands-length, stands-at, assembles}
 use Rattle.array.proofs.PlainLaws.{rest_whole}
 

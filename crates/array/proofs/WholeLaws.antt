@@ -1,33 +1,25 @@
 -- What an array with every role whole stands for, and when a mark of it is safe.
-use Rattle.std.proofs.Common.{◌≡◌, ℕ, ◌+◌, ◌*◌, ◌<◌, ◌≤◌, Bool, true, false, cond, List, [], ◌∷◌, ◌++◌, length, take, drop, get_or, refl, sym, ap, ap₂, ◌∙◌, subst, arith, Option, Some, None, unwrap_or, option_map, ltb, min, inl}
+use Rattle.std.proofs.Common.{◌≡◌, ℕ, ◌+◌, ◌*◌, ◌<◌, Bool, true, false, cond, List, [], length, get_or, refl, ap, ap₂, ◌∙◌, arith, Option, Some, None, unwrap_or, option_map, ltb, min}
 use Rattle.std.specs.Option.{option_map_or}
 use Rattle.std.specs.Prelude.{slice_index_or}
 use Rattle.std.proofs.lemmas.Bool.Decides.{nat_tests}
 use Rattle.md_base.specs.declared.places.Shape.{Shape}
 use Rattle.md_base.specs.declared.places.Span.{Span}
 use Rattle.md_base.specs.declared.status.Role.{Role}
-use Rattle.md_base.specs.declared.status.Role.TheVariants.{Whole}
-use Rattle.md_base.specs.declared.answers.Refusal.{Refusal}
 use Rattle.md_base.specs.declared.answers.Refusal.TheVariants.{NoSuperblock}
 use Rattle.md_base.specs.Sectors.{Sector}
-use Rattle.md_base.specs.Search.{tabulate}
 use Rattle.md_base.specs.Shapes.{data_disks}
 use Rattle.md_base.proofs.Tabulated.{length-tabulate, get_or-tabulate}
-use Rattle.bank.specs.Tape.{Contents, IsDrawn, IsIn}
-use Rattle.sb1.specs.declared.sb.Sb.{Sb}
+use Rattle.bank.specs.Tape.{Contents}
 use Rattle.layout.specs.Layout.{place, row_roles}
 use Rattle.layout.proofs.Places.{place-row_below, place-role_below}
 use Rattle.parity.specs.Parity.{fill}
 use Rattle.backup.specs.Section.{section_sector}
-use Rattle.superblocks.specs.Reading.{Scope, Reading, reading, is_reshaping, shape_of, target_of, final_shape, next_window, list_length, role_state, rows_held, holder, data_offset_of}
-use Rattle.flat_history.specs.ActiveSection.{section_for, active_section}
+use Rattle.superblocks.specs.Reading.{Scope, Reading, reading, is_reshaping, shape_of, target_of, final_shape, next_window, list_length, rows_held, holder, data_offset_of}
+use Rattle.flat_history.specs.ActiveSection.{section_for}
 use Rattle.flat_history.specs.Stands.{stands, verdict, refusal_of, held_sector, held_row, placed_sector, shape_for, standing_sector, covers}
 use Rattle.flat_history.proofs.SameLaws.{stands-is}
-use Rattle.flat_history.specs.declared.events.Entry.{Entry}
-use Rattle.flat_history.specs.Flat.{length_of, values_of}
-use Rattle.flat_history.specs.World.{World, opening_list}
-use Rattle.flat_history.specs.CrashSafe.{made_by, may_be_made, StandsFor, IsSafeFor, IsJudged}
-use Rattle.array.specs.Whole.{Places, AreFit, in_row, placed, list_size, IsReadWhole, AreDrawnSuperblocks, AreReadWhole, AreAllowed, AreRight}
+use Rattle.array.specs.Whole.{Places, AreFit, in_row, placed, list_size, IsReadWhole}
 
 module _ (scope : Scope) (p : Places) (fit : AreFit p) (c : Contents) (r : Reading) (whole : IsReadWhole scope p r) where
   no_target : (reshaping : Bool) → is_reshaping r.newest ≡ reshaping → reshaping ≡ false → target_of r.newest ≡ None

@@ -1,7 +1,6 @@
 -- What an array keeps, over plain data.
-use Rattle.std.specs.Prelude.{◌≡◌, ◌≢◌, ◌⊎◌, ℕ, ◌+◌, ◌-◌, ◌*◌, ◌^◌, ◌<◌, ◌≤◌, ◌++◌, Bool, true, false, not, List, [], ◌∷◌, length, drop, Option, Some, None, Result, Ok, Err, IsTrue, ⊤}
+use Rattle.std.specs.Prelude.{◌≡◌, ◌⊎◌, ℕ, ◌+◌, ◌<◌, ◌≤◌, ◌++◌, Bool, true, false, not, List, [], ◌∷◌, length, drop, Option, Some, None, Result, Ok, Err, IsTrue, IfSome, ⊤}
 use Rattle.std.specs.List.{list_any, list_all, All}
-use Rattle.md_base.specs.Sectors.{Sector}
 use Rattle.md_base.specs.declared.answers.Who.{Who}
 use Rattle.md_base.specs.declared.answers.Fault.{Fault}
 use Rattle.md_base.specs.declared.answers.Fault.TheVariants.{Refused as IsRefusedWith, NoMemory}
@@ -12,27 +11,27 @@ use Rattle.bank.specs.Given.{Given, sizes, IsFaulted}
 use Rattle.bank.specs.Tape.{disk}
 use Rattle.superblocks.specs.declared.members.Members.{Members}
 use Rattle.superblocks.specs.Reading.{Scope, Reading, reading, is_clean, shape_of, role_state, holder}
-use Rattle.superblocks.specs.Outcome.{live_set}
-use Rattle.superblocks.specs.Crash.{IsUpdatedTo}
+use Rattle.array.specs.Held.{IsHeldBy}
 use Rattle.row_io.specs.Rows.{reading_of, present, is_missing, missing_count}
 use Rattle.flat_history.specs.declared.events.Entry.{Entry}
 use Rattle.flat_history.specs.declared.events.Event.{Event}
 use Rattle.flat_history.specs.declared.events.Event.TheVariants.{Torn, Flushed, Lost, SpareLost, Stopped, Refused}
 use Rattle.flat_history.specs.declared.events.Request.{Request}
-use Rattle.flat_history.specs.World.{World, opening_list}
+use Rattle.flat_history.specs.World.{World, opening_list, reading_at}
 use Rattle.flat_history.specs.Flat.{now, values_of, length_of, limit_of}
+use Rattle.flat_history.specs.Legal.{told_left}
 use Rattle.flat_history.specs.Transfers.{last_end_from}
 use Rattle.flat_history.specs.Losses.{was_dirty}
 use Rattle.flat_history.specs.Opened.{OpensSound}
-use Rattle.flat_history.specs.Epochs.{HasRoomForEvents}
+use Rattle.flat_history.specs.Epochs.{HasRoomForEvents, OpensAlike}
 use Rattle.flat_history.specs.Growing.{IsSafeThroughout}
 use Rattle.flat_history.specs.Plain.{Opening, IsPlainLegal, PlainFitsIn, loses_role, is_no_loss, entries_of}
-use Rattle.array.specs.Whole.{Places, list_size, IsReadWhole, AreRight}
+use Rattle.array.specs.Whole.{list_size, slot_of, sector_of, IsReadWhole, AreReadWhole, AreRight}
 use Rattle.array.specs.Placed.{places_of, AreWhole, IsPlaced, AreUnlost}
 use Rattle.array.specs.Rows.{HoldsList, AreGoodRows}
 use Rattle.array.specs.Losing.{losses_of}
-use Rattle.array.specs.Marking.{marking}
 use Rattle.array.specs.Parts.{Parts}
+use Rattle.array.specs.Status.{left_of}
 
 -- these slots of a bank, looked at for an array
 abbrev pub scope_in : Given → List ℕ → ℕ → Option ℕ → Scope
@@ -44,10 +43,6 @@ world_in given tape scope first = record { start = given.start; tape = tape; sco
 
 abbrev pub opening_of : World → Opening
 opening_of world = record { list = opening_list world; first = world.first }
-
--- the slots that hold a role or are spares
-abbrev pub live_of : Members → ℕ
-live_of members = live_set members (marking members false)
 
 -- what is kept of the history over a bank that tells its contents
 pub record IsRecorded (world : World) (size : ℕ) (entries : List Entry) : Type 0 where
@@ -70,28 +65,38 @@ pub record OpensGood (world : World) : Type 0 where
   pub clean : was_dirty world ≡ false
   pub sound : OpensSound world
 
+-- the event count rose by no more than the operations since the opening
+pub record IsCounted (world : World) (members : Members) : Type 0 where
+  pub found : Reading
+  pub is : reading_at world world.first ≡ Some found
+  pub events : members.newest.events + world.first ≤ found.newest.events + length world.tape
+
 -- Every mark so far is safe, what a stop may leave now is right, and the next update may start.
 pub record IsSafe (world : World) (members : Members) (entries : List Entry) : Type 0 where
   pub past : IsSafeThroughout world entries
   pub right : AreRight world.scope (places_of members) (values_of (opening_list world) entries) (disk world.start world.tape)
-  pub next : IsUpdatedTo world.scope members.lost (live_of members) members.newest members.own (disk world.start world.tape)
+  pub next : IsHeldBy world.scope members (disk world.start world.tape)
+  pub counted : IsCounted world members
 
 pub record IsKept (tells : Type 0) (given : Given) (tape : List Operation) (scope : Scope) (first : ℕ) (entries : List Entry)
-    (members : Members) : Type 0 where
+    (members : Members) (unsynced : Bool) : Type 0 where
   pub slots : given.slots ≤ 32
   pub placed : IsPlaced given members
   pub unlost : AreUnlost members
   pub told : AreTold members entries
   pub sized : length_of (list_size (places_of members)) entries ≡ list_size (places_of members)
   pub unlimited : limit_of entries ≡ None
+  pub left : IfSome (told_left entries) (λ n. n ≡ left_of unsynced members)
   pub recorded : tells → IsRecorded (world_in given tape scope first) (list_size (places_of members)) entries
   pub holds : tells → AreWhole members → HoldsList (places_of members) (present given tape) (now (opening_list (world_in given tape scope first)) entries)
   pub good : tells → AreWhole members → OpensGood (world_in given tape scope first) → AreGoodRows (places_of members) (present given tape)
+  pub sizes_are : scope.sizes ≡ sizes given
+  pub safe : tells → HasNoLoss entries → HasRoomForEvents (world_in given tape scope first) → OpensAlike (world_in given tape scope first) → IsSafe (world_in given tape scope first) members entries
 
 -- what an array keeps besides: room for the entry of its end, and buffers for the rows of one call
 pub record IsReady (tells : Type 0) (given : Given) (tape : List Operation) (scope : Scope) (first : ℕ) (entries : List Entry)
-    (members : Members) (room rows buffer : ℕ) : Type 0 where
-  pub kept : IsKept tells given tape scope first entries members
+    (members : Members) (unsynced : Bool) (room rows buffer : ℕ) : Type 0 where
+  pub kept : IsKept tells given tape scope first entries members unsynced
   pub room_left : 1 ≤ room
   pub rows_fit : 128 ≤ rows
   pub buffer_fits : 1048576 ≤ buffer
@@ -219,6 +224,11 @@ pub record IsAdoptable (tells : Type 0) (given : Given) (tape : List Operation) 
   pub whole : AreWhole members
   pub reads : tells → (r : Reading) × (reading scope (present given tape) ≡ Some r) × IsReadWhole scope (places_of members) r
   pub good : tells → OpensGood (world_in given tape scope (length tape)) → AreGoodRows (places_of members) (present given tape)
+  pub sizes_are : scope.sizes ≡ sizes given
+  pub single : tells → (x : ℕ) → x < list_size (places_of members) → disk given.start tape (slot_of (places_of members) x) (sector_of (places_of members) x) ≡ present given tape (slot_of (places_of members) x) (sector_of (places_of members) x) ∷ []
+  pub superblocks : tells → AreReadWhole scope (places_of members) (disk given.start tape)
+  pub next : tells → OpensAlike (world_in given tape scope (length tape)) → IsHeldBy scope members (disk given.start tape)
+  pub newest : tells → (r : Reading) → reading scope (present given tape) ≡ Some r → members.newest.events ≤ r.newest.events
 
 -- an array that was just taken over
 pub record IsAdopted {B : Type 0} (tells : Type 0) (bank : B) (tape : List Operation) (slots : ℕ) (backup : Option ℕ) (members : Members) (made : Parts B) : Type 0 where

@@ -1,9 +1,8 @@
 -- The clean mark: an update of the superblocks that changes nothing else.
-use Rattle.std.specs.Prelude.{◌≡◌, ◌≢◌, ℕ, ◌+◌, ◌-◌, ◌^◌, min, Bool, List, replicate, if◌then◌else◌, Option, None}
+use Rattle.std.specs.Prelude.{◌≡◌, ◌≢◌, ℕ, ◌+◌, ◌-◌, ◌^◌, min, Bool, List, replicate, if◌then◌else◌, None}
 use Rattle.bank.specs.declared.bank.Operation.{Operation}
 use Rattle.bank.specs.Given.{Given}
 use Rattle.bank.specs.Tape.{Contents, EachMark, disk}
-use Rattle.sb1.specs.declared.sb.Sb.{Sb}
 use Rattle.superblocks.specs.declared.change.Give.TheVariants.{Same}
 use Rattle.superblocks.specs.declared.change.Change.{Change}
 use Rattle.superblocks.specs.declared.members.Members.{Members}

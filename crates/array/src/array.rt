@@ -9,6 +9,7 @@ ghost use Rattle.array.specs.Placed.{places_of};
 ghost use Rattle.array.specs.Kept.{IsRefusalOf};
 
 mod adopting;
+mod asking;
 mod ending;
 mod reading;
 mod settling;
@@ -58,7 +59,7 @@ impl<B: Bank> Model for Array<B> {
     } };
 
     ghost invariant = { λ a. IsReady B.tells (B.given a.bank) (B.tape a.bank) (scope_in (B.given a.bank) a.epoch.uuid a.epoch.given a.backup)
-        a.epoch.first a.epoch.entries.items a.members a.epoch.entries.room (vec_capacity a.rows) (length a.buffer.items) };
+        a.epoch.first a.epoch.entries.items a.members a.unsynced a.epoch.entries.room (vec_capacity a.rows) (length a.buffer.items) };
 }
 
 // The sectors of the flat list: so many data disks times the rows of each.
@@ -92,7 +93,8 @@ fn refusal_of(members: &Members, visible: u64, to: u64) -> Option<Refusal>
 impl<B: Bank> Array<B> {
     /// How many sectors can be read and written.
     pub fn visible(&self) -> u64
-        ensures { result ≡ list_size (places_of self.now.members) }
+        ensures length { result ≡ list_size (places_of self.now.members) }
+        ensures few { list_size (places_of self.now.members) < 2 ^ 63 }
     {
         list_length(&shape_in(&self.members), self.members.newest.size)
     }

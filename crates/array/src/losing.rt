@@ -1,11 +1,11 @@
 //! What device calls lose of an array whose roles are whole.
 
-ghost use Rattle.std.specs.Prelude.{◌≡◌, ◌≢◌, ◌+◌, ◌*◌, ◌/◌, ◌^◌, ◌<◌, ◌≤◌, ◌&&◌, ℕ, true, false, nat_lt, length, vec_capacity, IsTrue};
+ghost use Rattle.std.specs.Prelude.{◌≡◌, ◌≢◌, ◌+◌, ◌*◌, ◌/◌, ◌^◌, ◌<◌, ◌≤◌, ◌&&◌, ℕ, List, true, false, nat_lt, length, vec_capacity, IsTrue};
 ghost use Rattle.bank.specs.Given.{NeverFalls};
-ghost use Rattle.md_base.specs.Sectors.{IsWhole};
+ghost use Rattle.md_base.specs.Sectors.{Sector, IsWhole};
 ghost use Rattle.md_base.specs.Shapes.{has_slot, is_valid_shape};
 ghost use Rattle.md_base.specs.declared.answers.Refusal.TheVariants.{TooManyMissing as TooMany};
-ghost use Rattle.superblocks.specs.Reading.{shape_of, is_clean};
+ghost use Rattle.superblocks.specs.Reading.{Scope, shape_of, is_clean};
 ghost use Rattle.row_io.specs.Rows.{reading_of, is_missing, present};
 ghost use Rattle.array.specs.Whole.{list_size};
 ghost use Rattle.array.specs.Rows.{IsPut};
@@ -13,6 +13,7 @@ ghost use Rattle.array.specs.Placed.{places_of, AreWhole, IsPlaced, AreUnlost};
 ghost use Rattle.array.specs.Marking.{AreOthersPresent};
 ghost use Rattle.array.specs.Losing.{AreGone};
 ghost use Rattle.array.specs.Moving.{AreRowsKept, AreRowsFlushed, Grows, IsMoved, AreFailed};
+ghost use Rattle.array.specs.Safety.{HasMarkRoom, IsRightAt, IsStretch, AreMore, AreNone};
 ghost use Rattle.array.specs.Kept.{missing_in};
 
 use crate::flushes::{flush_members, holders};
@@ -68,6 +69,7 @@ pub fn too_many(members: &Members) -> Refusal
 
 // Marks the array clean or dirty. The spares that were lost in this.
 fn mark_members<B: Bank>(members: &mut Members, bank: &mut B, clean: bool) -> u32
+    requires slots { (B.given bank.old).slots ≤ 32 }
     requires placed { IsPlaced (B.given bank.old) members.old }
     requires unlost { AreUnlost members.old }
     requires whole { AreWhole members.old }
@@ -76,6 +78,9 @@ fn mark_members<B: Bank>(members: &mut Members, bank: &mut B, clean: bool) -> u3
     ensures others { B.tells → AreOthersPresent (present (B.given bank.old) (B.tape bank.old)) (present (B.given bank.old) (B.tape bank.new)) }
     ensures flushed { B.tells → AreRowsFlushed (places_of members.old) (B.given bank.old) (B.tape bank.old) → AreRowsFlushed (places_of members.old) (B.given bank.old) (B.tape bank.new) }
     ensures clean { is_clean members.new.newest ≡ clean }
+    ensures none { AreWhole members.new → AreNone result → members.new.lost ≡ members.old.lost }
+    ensures right { B.tells → (scope : Scope) → (values : ℕ → List Sector) → IsRightAt (B.given bank.old) scope values members.old (B.tape bank.old) → HasMarkRoom members.old (B.tape bank.old) (B.tape bank.new) → members.new.lost ≡ members.old.lost
+        → IsStretch scope (places_of members.old) values (B.given bank.old).start (B.tape bank.old) (B.tape bank.new) members.old members.new }
     ensures failed { AreFailed members.old members.new result (B.faults_of bank.old) (B.faults_of bank.new) }
     ensures given { B.given bank.new ≡ B.given bank.old }
     ensures counts { NeverFalls (B.faults_of bank.old) (B.faults_of bank.new) }
@@ -87,6 +92,7 @@ fn mark_members<B: Bank>(members: &mut Members, bank: &mut B, clean: bool) -> u3
 
 // The dirty mark, where the array is clean. The spares that were lost in this.
 fn raise<B: Bank>(members: &mut Members, bank: &mut B) -> u32
+    requires slots { (B.given bank.old).slots ≤ 32 }
     requires placed { IsPlaced (B.given bank.old) members.old }
     requires unlost { AreUnlost members.old }
     requires whole { AreWhole members.old }
@@ -94,6 +100,9 @@ fn raise<B: Bank>(members: &mut Members, bank: &mut B) -> u32
     ensures grows { Grows B.tells (B.tape bank.old) (B.tape bank.new) }
     ensures others { B.tells → AreOthersPresent (present (B.given bank.old) (B.tape bank.old)) (present (B.given bank.old) (B.tape bank.new)) }
     ensures dirty { is_clean members.new.newest ≡ false }
+    ensures none { AreWhole members.new → AreNone result → members.new.lost ≡ members.old.lost }
+    ensures right { B.tells → (scope : Scope) → (values : ℕ → List Sector) → IsRightAt (B.given bank.old) scope values members.old (B.tape bank.old) → HasMarkRoom members.old (B.tape bank.old) (B.tape bank.new) → members.new.lost ≡ members.old.lost
+        → IsStretch scope (places_of members.old) values (B.given bank.old).start (B.tape bank.old) (B.tape bank.new) members.old members.new }
     ensures failed { AreFailed members.old members.new result (B.faults_of bank.old) (B.faults_of bank.new) }
     ensures given { B.given bank.new ≡ B.given bank.old }
     ensures counts { NeverFalls (B.faults_of bank.old) (B.faults_of bank.new) }
@@ -115,6 +124,7 @@ pub fn put<B: Bank>(
     rows: &mut Vec<u64>,
     buffer: &mut Vec<u8>,
 ) -> Loss
+    requires slots { (B.given bank.old).slots ≤ 32 }
     requires placed { IsPlaced (B.given bank.old) members.old }
     requires unlost { AreUnlost members.old }
     requires whole { AreWhole members.old }
@@ -132,6 +142,9 @@ pub fn put<B: Bank>(
     ensures put { result.roles ≡ 0 → B.tells → IsPut (places_of members.old) first from.now
         (present (B.given bank.old) (B.tape bank.old)) (present (B.given bank.old) (B.tape bank.new)) }
     ensures dirty { result.roles ≡ 0 → is_clean members.new.newest ≡ false }
+    ensures right { B.tells → (scope : Scope) → (values more : ℕ → List Sector) → IsRightAt (B.given bank.old) scope values members.old (B.tape bank.old)
+        → HasMarkRoom members.old (B.tape bank.old) (B.tape bank.new) → AreMore (places_of members.old) first from.now values more → AreWhole members.new → AreNone result.spares
+        → IsStretch scope (places_of members.old) more (B.given bank.old).start (B.tape bank.old) (B.tape bank.new) members.old members.new }
     ensures untouched { result.begun ≡ false → B.tells
         → AreOthersPresent (present (B.given bank.old) (B.tape bank.old)) (present (B.given bank.old) (B.tape bank.new)) }
     ensures given { B.given bank.new ≡ B.given bank.old }
@@ -179,6 +192,9 @@ pub fn settle<B: Bank>(members: &mut Members, bank: &mut B, unsynced: bool) -> L
     ensures gone { AreGone members.old members.new result.roles result.spares (B.faults_of bank.old) (B.faults_of bank.new) }
     ensures some { result.begun ≡ false → 0 < missing_in members.new }
     ensures flushed { result.begun ≡ true → B.tells → AreRowsFlushed (places_of members.old) (B.given bank.old) (B.tape bank.new) }
+    ensures right { B.tells → (scope : Scope) → (values : ℕ → List Sector) → IsRightAt (B.given bank.old) scope values members.old (B.tape bank.old)
+        → HasMarkRoom members.old (B.tape bank.old) (B.tape bank.new) → AreWhole members.new → AreNone result.spares
+        → IsStretch scope (places_of members.old) values (B.given bank.old).start (B.tape bank.old) (B.tape bank.new) members.old members.new }
     ensures clean { result.begun ≡ true → unsynced ≡ false → is_clean members.new.newest ≡ true }
     ensures rows { B.tells → AreRowsKept (places_of members.old) (present (B.given bank.old) (B.tape bank.old)) (present (B.given bank.old) (B.tape bank.new)) }
     ensures given { B.given bank.new ≡ B.given bank.old }

@@ -2,9 +2,9 @@
 
 ghost use Rattle.std.specs.Prelude.{◌≡◌, ◌≢◌, [], ◌∷◌, length, IfOk, IfErr};
 ghost use Rattle.bank.specs.Given.{NeverFalls};
-ghost use Rattle.flat_history.specs.Epochs.{world_of};
+ghost use Rattle.flat_history.specs.Epochs.{world_of, IsEpochRight, HasRoomForEvents, OpensAlike};
 ghost use Rattle.array.specs.Whole.{list_size};
-ghost use Rattle.array.specs.Moving.{AreRowsFlushed};
+ghost use Rattle.array.specs.Moving.{AreRowsFlushed, Grows};
 ghost use Rattle.row_io.specs.Rows.{present};
 ghost use Rattle.flat_history.specs.World.{opening_list};
 ghost use Rattle.flat_history.specs.Flat.{next_number, now};
@@ -12,7 +12,7 @@ ghost use Rattle.flat_history.specs.Plain.{IsPlainLegal};
 ghost use Rattle.flat_history.specs.declared.events.Event.TheVariants.{Halted, Stopped};
 ghost use Rattle.array.specs.Rows.{HoldsList, AreGoodRows};
 ghost use Rattle.array.specs.Placed.{places_of, AreWhole};
-ghost use Rattle.array.specs.Kept.{world_for, opening_of, OpensGood, IsEntered, IsBehind, IsUnsettled, IsFaultFor, IsEndOf, IsSameArray, AreLossesOf};
+ghost use Rattle.array.specs.Kept.{world_for, opening_of, OpensGood, HasNoLoss, IsEntered, IsBehind, IsUnsettled, IsFaultFor, IsEndOf, IsSameArray, AreLossesOf};
 
 use crate::array::Array;
 use crate::calls::{check_number, enter};
@@ -33,6 +33,8 @@ impl<B: Bank> Array<B> {
             → HoldsList (places_of self.members) (present (B.given self.bank) (B.tape self.bank)) (now (opening_list (world_for (B.given self.bank) (B.tape self.bank) self)) self.entries) }
         ensures good { B.tells → AreWhole self.members → OpensGood (world_for (B.given self.bank) (B.tape self.bank) self)
             → AreGoodRows (places_of self.members) (present (B.given self.bank) (B.tape self.bank)) }
+        ensures right { B.tells → HasNoLoss result.1.entries.items → HasRoomForEvents (world_of (B.given result.0) (B.tape result.0) self.backup result.1) → OpensAlike (world_of (B.given result.0) (B.tape result.0) self.backup result.1)
+            → IsEpochRight (B.given result.0) (B.tape result.0) self.backup result.1 }
         ensures uuid { result.1.uuid ≡ self.uuid }
         ensures given { result.1.given ≡ self.given }
         ensures first { result.1.first ≡ self.first }
@@ -62,8 +64,11 @@ impl<B: Bank> Array<B> {
         ensures stopped { IfOk result (λ r. IsBehind who self.entries r.1.entries.items Stopped) }
         ensures whole { IfOk result (λ r. AreWhole self.members) }
         ensures flushed { IfOk result (λ r. B.tells → AreRowsFlushed (places_of self.members) (B.given self.bank) (B.tape r.0)) }
+        ensures grows { IfOk result (λ r. Grows B.tells (B.tape self.bank) (B.tape r.0)) }
         ensures losses { IfOk result (λ r. AreLossesOf self.members (B.faults_of self.bank) (B.faults_of r.0) self.entries r.1.entries.items) }
         ensures legal { IfOk result (λ r. B.tells → IsPlainLegal (opening_of (world_of (B.given r.0) (B.tape r.0) self.backup r.1)) (length (B.tape r.0)) r.1.entries.items) }
+        ensures right { IfOk result (λ r. B.tells → HasNoLoss r.1.entries.items → HasRoomForEvents (world_of (B.given r.0) (B.tape r.0) self.backup r.1) → OpensAlike (world_of (B.given r.0) (B.tape r.0) self.backup r.1)
+            → IsEpochRight (B.given r.0) (B.tape r.0) self.backup r.1) }
         ensures uuid { IfOk result (λ r. r.1.uuid ≡ self.uuid) }
         ensures slots { IfOk result (λ r. r.1.given ≡ self.given) }
         ensures first { IfOk result (λ r. r.1.first ≡ self.first) }
@@ -72,6 +77,7 @@ impl<B: Bank> Array<B> {
         ensures never_falls { IfOk result (λ r. NeverFalls (B.faults_of self.bank) (B.faults_of r.0)) }
         ensures refused { IfErr result (λ e. IsUnsettled who self.entries e.0.entries e.1) }
         ensures caused { IfErr result (λ e. IsFaultFor (list_size (places_of self.members)) 0 self.members e.0.members e.1) }
+        ensures left_grows { IfErr result (λ e. Grows B.tells (B.tape self.bank) (B.tape e.0.bank)) }
         ensures left_losses { IfErr result (λ e. AreLossesOf self.members (B.faults_of self.bank) (B.faults_of e.0.bank) self.entries e.0.entries) }
         ensures left_ended { IfErr result (λ e. IsEndOf B.tells e.0.first e.0.entries (B.tape e.0.bank)) }
         ensures left_never_falls { IfErr result (λ e. NeverFalls (B.faults_of self.bank) (B.faults_of e.0.bank)) }

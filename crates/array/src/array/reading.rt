@@ -39,7 +39,7 @@ impl<B: Bank> Array<B> {
         requires next { who.number ≡ next_number who.caller self.old.entries }
         requires caller { who.caller ≢ 254 }
         requires whole { IsWhole into.old }
-        requires short { at + length into.old / 512 < 2 ^ 53 }
+        requires short { at + length into.old / 512 < 2 ^ 63 }
         ensures answered { IsAnswered (list_size (places_of self.old.members)) (AsksRead at (length into.old / 512)) who self.old.entries self.new.entries (Read at (sectors_of into.new)) result }
         ensures holds { OnOk result (B.tells → AreSectors (now (opening_list (world_for (B.given self.old.bank) (B.tape self.old.bank) self.old)) self.old.entries) at into.new) }
         ensures unread { OnErr result (into.new ≡ into.old) }

@@ -8,7 +8,7 @@ ghost use Rattle.flat_history.specs.declared.events.Request.TheVariants.{Flush a
 ghost use Rattle.array.specs.Whole.{list_size};
 ghost use Rattle.array.specs.Placed.{places_of};
 ghost use Rattle.superblocks.specs.Reading.{is_clean};
-ghost use Rattle.array.specs.Moving.{AreRowsFlushed};
+ghost use Rattle.array.specs.Moving.{AreRowsFlushed, Grows};
 ghost use Rattle.array.specs.Kept.{world_for, IsSettled, IsSettling, IsAnswered, IsCausedBy, IsSameArray, AreLossesOf, IsEndOf, OnNoMemory};
 
 use crate::array::{Array, refusal_of};
@@ -27,6 +27,7 @@ impl<B: Bank> Array<B> {
         ensures answered { IsSettled who self.old.entries self.new.entries event result }
         ensures unchanged { OnNoMemory result (self.new ≡ self.old) }
         ensures flushed { OnOk result (B.tells → AreRowsFlushed (places_of self.old.members) (B.given self.old.bank) (B.tape self.new.bank)) }
+        ensures grows { Grows B.tells (B.tape self.old.bank) (B.tape self.new.bank) }
         ensures clean { OnOk result (self.old.unsynced ≡ false → is_clean self.new.members.newest ≡ true) }
         ensures caused { IsCausedBy (list_size (places_of self.old.members)) 0 self.old.members self.new.members result }
         ensures losses { AreLossesOf self.old.members (B.faults_of self.old.bank) (B.faults_of self.new.bank) self.old.entries self.new.entries }
@@ -77,6 +78,7 @@ impl<B: Bank> Array<B> {
         ensures answered { IsAnswered (list_size (places_of self.old.members)) AsksFlush who self.old.entries self.new.entries Flushed result }
         ensures unchanged { OnNoMemory result (self.new ≡ self.old) }
         ensures flushed { OnOk result (B.tells → AreRowsFlushed (places_of self.old.members) (B.given self.old.bank) (B.tape self.new.bank)) }
+        ensures grows { Grows B.tells (B.tape self.old.bank) (B.tape self.new.bank) }
         ensures clean { OnOk result (self.old.unsynced ≡ false → is_clean self.new.members.newest ≡ true) }
         ensures caused { IsCausedBy (list_size (places_of self.old.members)) 0 self.old.members self.new.members result }
         ensures losses { AreLossesOf self.old.members (B.faults_of self.old.bank) (B.faults_of self.new.bank) self.old.entries self.new.entries }

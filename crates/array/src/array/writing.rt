@@ -11,6 +11,7 @@ ghost use Rattle.flat_history.specs.declared.events.Request.TheVariants.{Write a
 ghost use Rattle.array.specs.Whole.{list_size};
 ghost use Rattle.array.specs.Placed.{places_of};
 ghost use Rattle.array.specs.Marking.{AreOthersPresent};
+ghost use Rattle.array.specs.Moving.{Grows};
 ghost use Rattle.array.specs.Kept.{world_for, IsAnswered, IsCausedBy, IsSameArray, AreLossesOf, IsEndOf, OnNoMemory, has_torn};
 
 use crate::array::{Array, list_length, refusal_of};
@@ -27,9 +28,10 @@ impl<B: Bank> Array<B> {
         requires caller { who.caller ≢ 254 }
         requires whole { IsWhole from.now }
         requires few { length from.now / 512 ≤ 128 }
-        requires short { at + length from.now / 512 < 2 ^ 53 }
+        requires short { at + length from.now / 512 < 2 ^ 63 }
         ensures answered { IsAnswered (list_size (places_of self.old.members)) (AsksWrite at (sectors_of from.now)) who self.old.entries self.new.entries (Wrote at (sectors_of from.now)) result }
         ensures unchanged { OnNoMemory result (self.new ≡ self.old) }
+        ensures grows { Grows B.tells (B.tape self.old.bank) (B.tape self.new.bank) }
         ensures dirty { OnOk result (is_clean self.new.members.newest ≡ false) }
         ensures untouched { OnErr result (IsFalse (has_torn self.old.entries self.new.entries) → B.tells
             → AreOthersPresent (present (B.given self.old.bank) (B.tape self.old.bank)) (present (B.given self.old.bank) (B.tape self.new.bank))) }

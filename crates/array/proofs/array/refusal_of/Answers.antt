@@ -1,7 +1,5 @@
-use Rattle.std.proofs.Common.{◌≡◌, ℕ, ◌<◌, ◌≤◌, Bool, true, false, refl, sym, ◌∙◌, ap, subst, arith}
-use Rattle.md_base.specs.Search.{count_below}
+use Rattle.std.proofs.Common.{◌≡◌, ℕ, ◌<◌, Bool, true, false, refl, sym, subst, arith}
 use Rattle.md_base.specs.declared.places.Shape.{Shape}
-use Rattle.superblocks.specs.Reading.{shape_of}
 use Rattle.row_io.specs.Rows.{reading_of, is_missing}
 use Rattle.row_io.proofs.Tables.{count_below-above}
 use Rattle.array.proofs.array.refusal_of.Goals as goal

@@ -1,14 +1,12 @@
-use Rattle.std.proofs.Common.{◌≡◌, ◌≢◌, ◌<◌, ◌≤◌, ◌⊎◌, ℕ, inl, inr, Bool, true, false, not, ◌&&◌, Some, None, Option, List, length, get_or, sym, ap, ◌∙◌, subst, arith, refl}
+use Rattle.std.proofs.Common.{◌≡◌, ◌<◌, ℕ, inl, inr, Bool, true, false, not, ◌&&◌, Some, None, Option, List, length, get_or, sym, ap, ◌∙◌, arith, refl}
 use Rattle.std.specs.Prelude.{◌^◌, ◌-◌}
 use Rattle.std.proofs.lemmas.Bool.{cases_lt, agree_below_at}
 use Rattle.std.proofs.lemmas.List.{get_or_past}
-use Rattle.bank.specs.Given.{IsFaulted}
 use Rattle.md_base.specs.Shapes.{has_slot}
 use Rattle.md_base.specs.declared.status.Role.{Role}
 use Rattle.md_base.specs.declared.status.Role.TheVariants.{Missing}
-use Rattle.superblocks.specs.Reading.{shape_of, role_state, holder}
+use Rattle.superblocks.specs.Reading.{shape_of, holder}
 use Rattle.superblocks.proofs.SlotSets.{none_above}
-use Rattle.row_io.specs.Rows.{reading_of}
 use Rattle.array.proofs.flushes.flush_members.Goals as goal
 
 pub holders-requires-clause-small : goal.holders-requires-clause-small

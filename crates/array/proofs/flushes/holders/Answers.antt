@@ -1,13 +1,10 @@
-use Rattle.std.proofs.Common.{◌≡◌, ◌<◌, ◌≤◌, ◌⊎◌, ℕ, inl, inr, Bool, true, false, ◌||◌, Some, None, Option, List, length, get_or, sym, ap, ◌∙◌, subst, arith, refl}
+use Rattle.std.proofs.Common.{◌≡◌, ◌⊎◌, ℕ, inl, inr, Bool, true, false, ◌||◌, Some, None, Option, length, get_or, sym, ap, ◌∙◌, arith, refl}
 use Rattle.std.proofs.lemmas.Bool.{cases_eq, cases_lt}
 use Rattle.std.proofs.lemmas.List.{get_or_past}
 use Rattle.md_base.specs.Shapes.{has_slot}
-use Rattle.md_base.specs.declared.status.Role.{Role}
 use Rattle.md_base.specs.declared.status.Role.TheVariants.{Missing}
-use Rattle.superblocks.specs.Reading.{role_state, holder}
+use Rattle.superblocks.specs.Reading.{holder}
 use Rattle.superblocks.specs.Update.{is_held_by}
-use Rattle.superblocks.proofs.SlotSets.{none_there}
-use Rattle.row_io.specs.Rows.{reading_of}
 use Rattle.array.proofs.MarkLaws.{held-holder, holder-held}
 use Rattle.array.proofs.flushes.holders.Goals as goal
 

@@ -1,18 +1,17 @@
-use Rattle.std.proofs.Common.{◌≡◌, ◌≢◌, ◌⊎◌, inl, inr, ◌+◌, ◌<◌, ◌≤◌, ◌&&◌, nat_lt, ℕ, List, length, Bool, true, false, refl, sym, ◌∙◌, ap, subst, arith}
+use Rattle.std.proofs.Common.{◌≡◌, ◌&&◌, nat_lt, refl, sym, ◌∙◌, ap, subst, arith}
 use Rattle.md_base.specs.declared.places.Shape.{Shape}
-use Rattle.bank.specs.Given.{Given, NeverFalls}
-use Rattle.bank.specs.declared.bank.Operation.{Operation}
-use Rattle.superblocks.specs.declared.members.Members.{Members}
-use Rattle.superblocks.specs.Reading.{shape_of, is_clean}
+use Rattle.bank.specs.Given.{Given}
+use Rattle.superblocks.specs.Reading.{shape_of}
 use Rattle.row_io.specs.Rows.{present, reading_of, is_missing}
-use Rattle.array.specs.Placed.{places_of, AreWhole, IsPlaced, AreLost, AreUnlost}
+use Rattle.array.specs.Placed.{places_of, IsPlaced, AreLost}
 use Rattle.array.specs.Marking.{AreOthersPresent}
-use Rattle.array.specs.Moving.{AreFailed, AreRowsFlushed, IsMoved}
-use Rattle.array.proofs.Flushed.{contents-added}
+use Rattle.array.specs.Moving.{AreRowsFlushed}
 use Rattle.array.proofs.MemberLaws.{are_lost}
-use Rattle.array.proofs.MovedLaws.{moved-lost, gone-lost, missing-lost, grows-then}
-use Rattle.array.proofs.MarkedLaws.{gone-marked, rows-flushed, rows-others, gone-none}
-use Rattle.array.proofs.PuttingLaws.{moved-from, failed-since, others-at, grows-flushed, kept-flushed, others-kept}
+use Rattle.array.proofs.MovedLaws.{moved-lost, gone-lost, missing-lost, not-whole, grows-then}
+use Rattle.array.proofs.MarkedLaws.{gone-marked, rows-flushed, gone-none}
+use Rattle.array.proofs.PuttingLaws.{moved-from, failed-since, grows-flushed, kept-flushed, others-kept}
+use Rattle.array.specs.Safety.{HasMarkRoom, IsRightAt}
+use Rattle.array.proofs.SafetyLaws.{flush-stretch, stretch-then, stretch-last, stretch-from, at-from}
 use Rattle.array.proofs.losing.settle.Goals as goal
 
 pub lose_slots-requires-clause-small : goal.lose_slots-requires-clause-small
@@ -210,3 +209,55 @@ returns-clause-rows g c = λ told.
     let none1 : failed ≡ 0 = omega (arith, c.if-failed-ne0.false) in
     others-kept given m (present given tape0) (present given tape1) (present given tape2) c.requires.placed c.requires.whole (kept-flushed given m tape0 tape1 (did1.tape told))
     (subst (λ (b : Given). AreOthersPresent (present b tape1) (present b tape2)) did1.given (did2.others told))
+
+pub returns-then-failed-ne0-clause-right : goal.returns-then-failed-ne0-clause-right
+returns-then-failed-ne0-clause-right g c = λ told scope values at room whole no_spares.
+    let m = c.args.members.now in
+    let given = g.B.Bank.given c.args.bank.now in
+    let did1 = c.flush_members-failed.ensures in
+    let f0 = g.B.Bank.faults_of c.args.bank.now in
+    let f1 = g.B.Bank.faults_of c.flush_members-failed.new.bank in
+    let failed = c.flush_members-failed.result in
+    let tape0 = g.B.Bank.tape c.args.bank.now in
+    let tape1 = g.B.Bank.tape c.flush_members-failed.new.bank in
+    let shape = shape_of m.newest in
+    let n = c.lose_slots.new.members in
+    let lost : AreLost given shape m n failed f0 f1 = are_lost given shape m n failed f0 f1 c.requires.placed c.lose_slots.ensures did1.failed did1.counts.never_falls in
+    absurd (not-whole given n lost.placed (missing-lost given shape m n failed f0 f1 c.requires.placed lost refl c.if-failed-ne0.true) whole)
+
+pub returns-then-unsynced-is_clean-clause-right : goal.returns-then-unsynced-is_clean-clause-right
+returns-then-unsynced-is_clean-clause-right g c = λ told scope values at room whole no_spares.
+    let m = c.args.members.now in
+    let given = g.B.Bank.given c.args.bank.now in
+    let did1 = c.flush_members-failed.ensures in
+    let f0 = g.B.Bank.faults_of c.args.bank.now in
+    let f1 = g.B.Bank.faults_of c.flush_members-failed.new.bank in
+    let failed = c.flush_members-failed.result in
+    let tape0 = g.B.Bank.tape c.args.bank.now in
+    let tape1 = g.B.Bank.tape c.flush_members-failed.new.bank in
+    let shape = shape_of m.newest in
+    flush-stretch given scope m values tape0 tape1 (did1.tape told) at.right at.next
+
+pub returns-clause-right : goal.returns-clause-right
+returns-clause-right g c = λ told scope values at room whole no_spares.
+    let m = c.args.members.now in
+    let given = g.B.Bank.given c.args.bank.now in
+    let did1 = c.flush_members-failed.ensures in
+    let f0 = g.B.Bank.faults_of c.args.bank.now in
+    let f1 = g.B.Bank.faults_of c.flush_members-failed.new.bank in
+    let failed = c.flush_members-failed.result in
+    let tape0 = g.B.Bank.tape c.args.bank.now in
+    let tape1 = g.B.Bank.tape c.flush_members-failed.new.bank in
+    let shape = shape_of m.newest in
+    let m2 = c.mark_members-spares.new.members in
+    let did2 = c.mark_members-spares.ensures in
+    let f2 = g.B.Bank.faults_of c.mark_members-spares.new.bank in
+    let given1 = g.B.Bank.given c.flush_members-failed.new.bank in
+    let tape2 = g.B.Bank.tape c.mark_members-spares.new.bank in
+    let spares = c.mark_members-spares.result in
+    let none1 : failed ≡ 0 = omega (arith, c.if-failed-ne0.false) in
+    let one = flush-stretch given scope m values tape0 tape1 (did1.tape told) at.right at.next in
+    let mid : IsRightAt given scope values m tape1 = record { right = stretch-last one; next = one.next } in
+    let room1 : HasMarkRoom m tape1 tape2 = let longer = one.marks.longer tt in omega (arith, room, longer) in
+    stretch-then one (stretch-from given given1 m m m2 tape1 tape1 tape2 scope values did1.given refl refl
+    (did2.right told scope values (at-from given given1 m m tape1 tape1 scope values did1.given refl refl mid) room1 (did2.none whole no_spares)))

@@ -1,4 +1,4 @@
-use Rattle.std.proofs.Common.{◌≡◌, ◌+◌, ◌<◌, ◌≤◌, ◌++◌, length}
+use Rattle.std.proofs.Common.{◌≡◌, ◌+◌, ◌≤◌, ◌++◌, length}
 use Rattle.flat_history.specs.Plain.{entries_of}
 use Rattle.array.specs.Losing.{role_losses, IsSameEpoch}
 use Rattle.array.proofs.losses.enter_roles.Given as goal

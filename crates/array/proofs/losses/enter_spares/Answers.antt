@@ -1,5 +1,4 @@
-use Rattle.std.proofs.Common.{◌≡◌, ◌+◌, ◌<◌, ◌≤◌, ◌++◌, ℕ, List, length, length-append, sym, ap, subst, ◌∙◌, refl, arith}
-use Rattle.flat_history.specs.declared.events.Entry.{Entry}
+use Rattle.std.proofs.Common.{◌≡◌, ◌+◌, ◌++◌, ℕ, List, length, length-append, sym, ap, subst, ◌∙◌, refl, arith}
 use Rattle.flat_history.specs.declared.events.Event.{Event}
 use Rattle.flat_history.specs.Plain.{entries_of}
 use Rattle.array.specs.Losing.{spare_losses, spare_loss}

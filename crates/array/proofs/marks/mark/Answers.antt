@@ -1,19 +1,17 @@
-use Rattle.std.proofs.Common.{◌≡◌, ℕ, ◌<◌, ◌≤◌, replicate, refl, sym, ◌∙◌, ap, subst, arith, min, ◌+◌, ◌-◌}
+use Rattle.std.proofs.Common.{◌≡◌, ℕ, ◌≤◌, refl, sym, subst, min, ◌+◌, ◌-◌}
 use Rattle.std.specs.Prelude.{◌^◌}
 use Rattle.bank.specs.Given.{Given}
 use Rattle.bank.specs.Tape.{EachMark, disk}
 use Rattle.superblocks.specs.Plans.{next_newest}
 use Rattle.superblocks.specs.Stages.{AreLeft, IsInUpdate, IsStaged}
-use Rattle.md_base.specs.declared.places.Shape.{Shape}
 use Rattle.layout.proofs.Limits.{limited}
 use Rattle.superblocks.specs.declared.change.Change.{Change}
-use Rattle.superblocks.specs.declared.change.Give.TheVariants.{Same}
 use Rattle.superblocks.specs.Reading.{role_count, shape_of}
 use Rattle.superblocks.specs.Update.{IsRoleGive, give_of}
-use Rattle.superblocks.specs.Updating.{IsUpdate, IsWrittenBy, ArePlanned, AreNamed, IsLater, IsSomeLeft, planned_newest, AreLosses}
-use Rattle.superblocks.specs.Outcome.{with_added, live_set, is_in_update, is_left, AreStored, AreGivesOfLive, planned_roles, planned_spares}
-use Rattle.array.specs.Placed.{IsPlaced, AreUnlost, AreLess}
-use Rattle.array.specs.Marking.{marking, IsMarked}
+use Rattle.superblocks.specs.Updating.{IsUpdate, IsWrittenBy, ArePlanned, AreNamed, IsLater, IsSomeLeft, planned_newest}
+use Rattle.superblocks.specs.Outcome.{with_added, live_set, is_left, AreStored, AreGivesOfLive, planned_roles, planned_spares}
+use Rattle.array.specs.Placed.{IsPlaced}
+use Rattle.array.specs.Marking.{marking}
 use Rattle.array.proofs.MarkLaws.{give_of-same}
 use Rattle.array.proofs.PlacedLaws.{marked-less, marked-count, placed-less, less-unlost}
 use Rattle.array.proofs.marks.mark.Goals as goal

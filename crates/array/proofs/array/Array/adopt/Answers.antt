@@ -1,4 +1,4 @@
-use Rattle.std.proofs.Common.{◌≤◌, arith}
+use Rattle.std.proofs.Common.{arith}
 use Rattle.array.proofs.ReadyLaws.{ready_adopted}
 use Rattle.array.proofs.array.Array.adopt.Goals as goal
 

@@ -1,29 +1,25 @@
-use Rattle.std.proofs.Common.{◌≡◌, ◌+◌, ◌*◌, ◌/◌, ◌<◌, ◌≤◌, ◌++◌, ◌∷◌, [], ℕ, List, length, Bool, true, false, not, Some, refl, sym, ◌∙◌, ap, subst, arith}
-use Rattle.md_base.specs.Shapes.{data_disks}
-use Rattle.md_base.specs.Sectors.{Sector, sectors_of}
-use Rattle.md_base.proofs.SectorLaws.{length-sectors_of}
-use Rattle.md_base.specs.declared.places.Shape.{Shape}
+use Rattle.std.proofs.Common.{◌≡◌, ◌++◌, ◌∷◌, [], Bool, true, false, not, refl, sym, ◌∙◌, ap, arith}
 use Rattle.md_base.specs.declared.answers.Refusal.{Refusal}
 use Rattle.md_base.specs.declared.answers.Refusal.TheVariants.{TooManyMissing}
-use Rattle.flat_history.specs.declared.events.Entry.{Entry}
-use Rattle.flat_history.specs.declared.events.Event.TheVariants.{Wrote, Refused}
-use Rattle.flat_history.specs.declared.events.Request.TheVariants.{Write as AsksWrite}
+use Rattle.flat_history.specs.declared.events.Event.TheVariants.{Refused}
 use Rattle.flat_history.specs.Flat.{next_number}
 use Rattle.flat_history.specs.Plain.{entries_of}
 use Rattle.array.specs.Whole.{list_size}
 use Rattle.array.specs.Placed.{places_of}
-use Rattle.array.specs.Losing.{losses_of, failure_events}
-use Rattle.array.specs.Kept.{scope_in, IsReplied, IsRefusedFor, missing_in}
+use Rattle.array.specs.Losing.{losses_of}
+use Rattle.array.specs.Kept.{scope_in, missing_in}
 use Rattle.array.proofs.MovedLaws.{moved-same, grows-none}
-use Rattle.array.proofs.ReadyLaws.{ready, ready_refused, ready_lost, ready_settled, ready_failed, ready_wrote, settles-of, scope-same, list-same}
-use Rattle.array.proofs.LossLaws.{losses-behind, losses-failure, ended-behind, ended-failure, behind-alone, refused-zero, settling-no-loss, torn-told}
-use Rattle.array.proofs.ReplyLaws.{refused_reply, failed_reply, replied, write_kind}
-use Rattle.array.proofs.CallLaws.{losses-are, torn-losses}
+use Rattle.array.proofs.ReadyLaws.{ready, ready_refused, ready_lost, ready_settled, settles-of, scope-same, list-same}
+use Rattle.array.proofs.LossLaws.{losses-behind, ended-behind, behind-alone, refused-zero, settling-no-loss}
 use Rattle.array.proofs.array.Array.settle_entering.Goals as goal
 
 flip : (b : Bool) → not b ≡ true → b ≡ false
 flip true e = absurd (cc)
 flip false e = refl
+
+back : (b : Bool) → not b ≡ false → b ≡ true
+back true e = refl
+back false e = absurd (cc)
 
 pub invariant_of-self-in-Some : goal.invariant_of-self-in-Some
 invariant_of-self-in-Some g c =
@@ -119,7 +115,7 @@ invariant_of-self-2 g c =
     let end = c.ops-end-2.result in
     ready (entries_of c.args.who end (losses_of roles spares ++ c.args.event ∷ []))
     (ready_settled c.args.who end was.kept number c.requires.caller c.ops-end-2.ensures did.moved did.grows roles spares before after did.gone c.args.event (settles-of c.args.event c.requires.event)
-    (λ t whole. did.rows t))
+    did.rows (did.flushed (back c.settle-lost.result.begun c.if-not-lost.false)) (λ t values at room whole none. did.right t (scope_in given a.epoch.uuid a.epoch.given a.backup) values at room whole none))
     did.given (scope-same given a.backup did.given c.enter_behind-2.ensures.uuid c.enter_behind-2.ensures.given) c.enter_behind-2.ensures.first c.make_room.ensures.items c.enter_behind-2.ensures.items
     (omega (arith, c.enter_behind-2.ensures.room, c.in-Ok.ensures.ok)) was.rows_fit was.buffer_fits
 

@@ -1,4 +1,4 @@
-use Rattle.std.proofs.Common.{◌≡◌, ◌+◌, ◌*◌, ◌/◌, ◌<◌, ◌≤◌, ◌++◌, ◌∷◌, [], ℕ, List, length, Bool, true, false, not, Some, refl, sym, ◌∙◌, ap, subst, arith}
+use Rattle.std.proofs.Common.{◌≡◌, ◌+◌, ◌*◌, ◌/◌, ◌≤◌, ◌++◌, ◌∷◌, [], ℕ, List, length, refl, sym, ◌∙◌, ap, subst, arith}
 use Rattle.md_base.specs.Shapes.{data_disks}
 use Rattle.md_base.specs.Sectors.{Sector, sectors_of}
 use Rattle.md_base.proofs.SectorLaws.{length-sectors_of}
@@ -15,8 +15,8 @@ use Rattle.array.specs.Placed.{places_of}
 use Rattle.array.specs.Losing.{losses_of, failure_events}
 use Rattle.array.specs.Kept.{scope_in, IsReplied, IsRefusedFor, missing_in}
 use Rattle.array.proofs.MovedLaws.{moved-same, grows-none}
-use Rattle.array.proofs.ReadyLaws.{ready, ready_refused, ready_lost, ready_settled, ready_failed, ready_wrote, settles-of, scope-same, list-same}
-use Rattle.array.proofs.LossLaws.{losses-behind, losses-failure, ended-behind, ended-failure, behind-alone, refused-zero, settling-no-loss, torn-told}
+use Rattle.array.proofs.ReadyLaws.{ready, ready_refused, ready_failed, ready_wrote, scope-same, list-same}
+use Rattle.array.proofs.LossLaws.{losses-behind, losses-failure, ended-behind, ended-failure, torn-told}
 use Rattle.array.proofs.ReplyLaws.{refused_reply, failed_reply, replied, write_kind}
 use Rattle.array.proofs.CallLaws.{losses-are, torn-losses}
 use Rattle.array.proofs.array.Array.write.Goals as goal
@@ -184,7 +184,8 @@ invariant_of-self-2 g c =
     let none : roles ≡ 0 = omega (arith, c.if-roles-ne0.false) in
     ready (entries_of c.args.who end (losses_of roles spares ++ Wrote c.args.at body ∷ []))
     (ready_wrote c.args.who end was.kept number c.requires.caller c.ops-end-2.ensures did.moved did.grows roles spares before after did.gone c.args.at c.args.from.now
-    (omega (arith, c.in-None.ensures.0, visible)) (λ t whole. did.put none t))
+    (omega (arith, c.in-None.ensures.0, visible)) (λ t whole. did.put none t)
+    (λ t values more at room are whole no_spares. did.right t (scope_in given a.epoch.uuid a.epoch.given a.backup) values more at room are whole no_spares))
     did.given (scope-same given a.backup did.given c.enter_behind.ensures.uuid c.enter_behind.ensures.given) c.enter_behind.ensures.first c.make_room.ensures.items
     (c.enter_behind.ensures.items ∙ ap (λ (b : List Sector). c.make_room.new.self.items ++ entries_of c.args.who end (losses_of roles spares ++ Wrote c.args.at b ∷ [])) c.in-Ok.ensures)
     (omega (arith, c.enter_behind.ensures.room, c.in-Ok-make_room.ensures.ok)) (omega (arith, was.rows_fit, did.rows)) (rw did.buffer was.buffer_fits)

@@ -1,0 +1,125 @@
+//! What an array tells of itself.
+
+ghost use Rattle.std.specs.Prelude.{◌≡◌, ◌≢◌, ◌^◌, ◌≤◌, [], ◌∷◌, length, IfOk, IfErr, IsTrue};
+ghost use Rattle.md_base.specs.Shapes.{is_valid_shape};
+ghost use Rattle.superblocks.specs.Reading.{shape_of};
+ghost use Rattle.flat_history.specs.Flat.{next_number};
+ghost use Rattle.flat_history.specs.declared.events.Event.TheVariants.{Shown};
+ghost use Rattle.array.specs.Kept.{world_for, IsEntered, IsSameArray, IsEndOf};
+ghost use Rattle.array.specs.Status.{left_of, IsStatusFor};
+
+use crate::array::{Array, list_length};
+use crate::calls::{check_number, enter};
+use crate::losing::shape_in;
+use bank::Bank;
+use flat_history::Event;
+use md_base::{NoMemory, RoleList, SlotList, Status, Who};
+use std::alloc::Global;
+use superblocks::Members;
+use superblocks::says::is_clean;
+
+// The same roles, in a list of their own.
+fn copy_roles(alloc: Global, roles: &RoleList) -> Result<RoleList, NoMemory>
+    requires { length roles.now ≤ 16 }
+    ensures { IfOk result (λ copy. copy ≡ roles.now) }
+{
+    let mut copy = match RoleList::new(alloc) {
+        Ok(copy) => copy,
+        Err(_) => return Err(NoMemory {}),
+    };
+    for role in 0..roles.len() as u32 {
+        copy.push(roles.get(role));
+    }
+    Ok(copy)
+}
+
+// The same slots, in a list of their own, where they fit into one.
+fn copy_slots(alloc: Global, slots: &SlotList) -> Result<SlotList, NoMemory>
+    ensures { IfOk result (λ copy. copy ≡ slots.now) }
+{
+    let mut copy = match SlotList::new(alloc) {
+        Ok(copy) => copy,
+        Err(_) => return Err(NoMemory {}),
+    };
+    if slots.len() > 32 {
+        return Err(NoMemory {});
+    }
+    for place in 0..slots.len() {
+        copy.push(slots.get(place));
+    }
+    Ok(copy)
+}
+
+// The steps that are left: where the array was opened dirty, each stripe and the end of its resync.
+fn steps_left(members: &Members, unsynced: bool) -> u64
+    requires shape { IsTrue (is_valid_shape (shape_of members.now.newest)) }
+    requires size { members.now.newest.size ≤ 2 ^ 48 }
+    ensures { result ≡ left_of unsynced members.now }
+{
+    if !unsynced {
+        return 0;
+    }
+    let chunk = shape_in(members).chunk as u64;
+    members.newest.size / chunk + 1
+}
+
+impl<B: Bank> Array<B> {
+    // What the array tells of itself, in memory of its own.
+    fn told(&self) -> Result<Status, NoMemory>
+        ensures { IfOk result (λ status. IsStatusFor self.now status) }
+    {
+        let roles = match copy_roles(self.alloc, &self.members.roles) {
+            Ok(roles) => roles,
+            Err(none) => return Err(none),
+        };
+        let spares = match copy_slots(self.alloc, &self.members.spares) {
+            Ok(spares) => spares,
+            Err(none) => return Err(none),
+        };
+        let shape = shape_in(&self.members);
+        let sectors = list_length(&shape, self.members.newest.size);
+        Ok(Status {
+            shape,
+            target: None,
+            position: 0,
+            size: self.members.newest.size,
+            length: sectors,
+            visible: sectors,
+            clean: is_clean(&self.members.newest),
+            events: self.members.newest.events,
+            left: steps_left(&self.members, self.unsynced),
+            roles,
+            spares,
+        })
+    }
+
+    /// What the array tells of itself, entered in its history. It makes no device call.
+    pub fn status(&mut self, who: Who) -> Result<Status, NoMemory>
+        requires next { who.number ≡ next_number who.caller self.old.entries }
+        requires caller { who.caller ≢ 254 }
+        ensures entered { IfOk result (λ status. IsEntered B.tells (B.tape self.old.bank) who self.old.entries self.new.entries (Shown status ∷ [])) }
+        ensures told { IfOk result (λ status. IsStatusFor self.old status) }
+        ensures unchanged { IfErr result (λ none. self.new ≡ self.old) }
+        ensures bank { self.new.bank ≡ self.old.bank }
+        ensures members { self.new.members ≡ self.old.members }
+        ensures ended { IsEndOf B.tells self.new.first self.new.entries (B.tape self.new.bank) }
+        ensures same { IsSameArray B.tells self.old self.new (world_for (B.given self.old.bank) (B.tape self.old.bank) self.old) (world_for (B.given self.new.bank) (B.tape self.new.bank) self.new) }
+    {
+        let shown = match self.told() {
+            Ok(shown) => shown,
+            Err(none) => return Err(none),
+        };
+        let status = match self.told() {
+            Ok(status) => status,
+            Err(none) => return Err(none),
+        };
+        match self.epoch.entries.make_room(2) {
+            Ok(()) => {}
+            Err(none) => return Err(none),
+        }
+        check_number(&self.epoch.entries, who);
+        let end = self.bank.ops();
+        enter(&mut self.epoch, who, end, Event::Shown { status: shown });
+        Ok(status)
+    }
+}
