@@ -1,9 +1,10 @@
 -- From what is judged of the superblocks that were found to what is answered of the contents.
-use Rattle.std.proofs.Common.{◌≡◌, ◌⊎◌, inl, inr, ℕ, Bool, true, false, cond, nat_lt, refl, sym, ap, ◌∙◌, subst, List, [], ◌∷◌, length, take, map, slice_index, Option, Some, None, Result, Ok, Err, IfOk, IfErr, option_map, arith, ◌≤◌, zero, suc, ◌+◌, ◌-◌, get_or, replicate, drop}
+use Rattle.std.proofs.Common.{◌≡◌, ◌⊎◌, inl, inr, ℕ, Bool, true, false, cond, nat_lt, refl, sym, ap, ◌∙◌, subst, List, [], ◌∷◌, length, take, map, slice_index, Option, Some, None, Result, Ok, Err, IfOk, IfErr, IfSome, option_map, arith, ◌<◌, ◌≤◌, zero, suc, ◌+◌, ◌-◌, ◌^◌, get_or, replicate, drop}
 use Rattle.std.specs.Prelude.{not, ◌&&◌, ◌||◌, bytes_eq}
 use Rattle.std.specs.Option.{option_or, option_map_or}
 use Rattle.std.proofs.lemmas.List.{length-map, length-take-le, get_or-take, get_or-drop, get_or-replicate, get_or_past, length-replicate}
 use Rattle.std.proofs.lemmas.Bool.{cases_lt}
+use Rattle.std.proofs.lemmas.Bool.Decides.{nat_tests}
 use Rattle.std.proofs.lemmas.Slice.Eq.{bytes_eq-Decides}
 use Rattle.md_base.specs.declared.answers.Fault.{Fault}
 use Rattle.md_base.specs.declared.answers.Fault.TheVariants.{Refused, NoMemory}
@@ -18,11 +19,12 @@ use Rattle.superblocks.specs.Reading.{Scope, Reading, reading, reading_of, readi
 use Rattle.superblocks.specs.Verdict.{members_refusal, members_verdict, first_of_all, fresh_from, unsupported, bad_field, two_holders, members_missing, dirty_degraded, off_unit, AreValidShapes}
 use Rattle.superblocks.specs.Election.{seen_superblocks, uuid_for, reading_in, IsElected}
 use Rattle.superblocks.specs.Writing.{AreWritable}
+use Rattle.superblocks.specs.Found.{AreInSectors}
 use Rattle.superblocks.proofs.ValidFields.{valid-shapes}
 use Rattle.superblocks.proofs.Elected.{map-tabulate}
 use Rattle.flat_history.specs.Stands.{verdict, refusal_of, backup_absent, has_room, reach_of}
 use Rattle.assemble.specs.declared.opening.Opened.{Opened}
-use Rattle.assemble.specs.Opening.{scope_of, array_of, AreGiven, IsOpened, IsRefused, IsReshapeRefused, HasCause}
+use Rattle.assemble.specs.Opening.{scope_of, array_of, AreGiven, AreOfGiven, AreCounted, IsOpened, IsRefused, IsReshapeRefused, HasCause}
 use Rattle.assemble.specs.Looking.{lengths_scope, IsMade, IsReshape, IsJudged}
 
 -- ---- the shapes of what is refused for nothing are valid
@@ -75,7 +77,7 @@ module _ (scope : Scope) (sb : Sb) where
       by_reshape true is = absurd (some (backup_absent scope sb) (sym (ap (λ b. option_or (backup_absent scope sb) (cond b (Some (Unsupported 4)) None)) is) ∙ e))
       by_reshape false is = is
 
-  still_none : is_reshaping sb ≡ false → backup_absent scope sb ≡ None
+  pub still_none : is_reshaping sb ≡ false → backup_absent scope sb ≡ None
   still_none is = ap (λ b. cond (not b || has_room scope (reach_of sb)) None (Some BackupAbsent)) is
 
 pub reshape-refused : (scope : Scope) (own : List (Option Sb)) (lost : ℕ) (members : Members) (refusal : Refusal)
@@ -135,7 +137,7 @@ module _ (sectors : ℕ → ℕ) (own : List (Option Sb)) (r : Reading) (says : 
       let same : reading_by sectors own sb ≡ r = cc in
       (is ∙ ap (λ (r : Reading). Some r.newest) same, ap (λ (r : Reading). r.own) same)
 
-  reading-made : (newest_of own ≡ Some r.newest) × (own ≡ r.own)
+  pub reading-made : (newest_of own ≡ Some r.newest) × (own ≡ r.own)
   reading-made = by_newest (newest_of own) refl says
 
 -- ---- each slot's own superblock is one that was found in it
@@ -187,6 +189,18 @@ module _ (bank : Given) (sectors : ℕ → ℕ) (n lost : ℕ) (uuid : List ℕ)
       contrary : get_or members.own (n + (s - n)) None ≡ Some sb → get_or members.own (n + (s - n)) None ≡ get_or (replicate (32 - n) None) (s - n) None → ⊥
       contrary is there = none-some (sym (there ∙ none-there (32 - n) (s - n)) ∙ is)
 
+  pub own-below : (s : ℕ) (sb : Sb) → get_or members.own s None ≡ Some sb → s < n
+  own-below s sb e = elim (cases_lt s n) [
+    | inl within ↦ within
+    | inr past ↦
+        let rest : drop n members.own ≡ replicate (32 - n) None =
+        subst (λ k. drop k members.own ≡ replicate (32 - k) None) kept-count elected.others in
+        let at : n + (s - n) ≡ s = omega (arith, past) in
+        let there : get_or members.own (n + (s - n)) None ≡ get_or (replicate (32 - n) None) (s - n) None =
+        sym (get_or-drop n members.own (s - n) None) ∙ ap (λ l. get_or l (s - n) None) rest in
+        absurd (none-some (sym (there ∙ none-there (32 - n) (s - n)) ∙ ap (λ k. get_or members.own k None) at ∙ e))
+  ]
+
 -- ---- the answer
 
 -- the members' refusals, and then the backup's
@@ -210,7 +224,7 @@ module _ (scope : Scope) (c : Contents) where
   unfolding verdict reading
   verdict-refused refusal e = refused-first (reading scope c) refusal e
 
-  verdict-for : (r : Reading) → reading scope c ≡ Some r → members_verdict sectors (superblocks scope c) ≡ None
+  pub verdict-for : (r : Reading) → reading scope c ≡ Some r → members_verdict sectors (superblocks scope c) ≡ None
       → verdict scope c ≡ backup_absent scope r.newest
   unfolding verdict reading
   verdict-for r is none = refused-for (reading scope c) r is none
@@ -318,6 +332,37 @@ module _ (tells : Type 0) (bank : Given) (c : Contents) (backup : Option ℕ) (a
         λ s sb e. writable s sb (own-found bank (sizes bank).sectors bank.slots lost uuid seen few count opened.members made.elected s sb e)
     by_found (Err fault) why writable = tt
 
+    by_own : (r : Result Opened Fault) → IsJudged (scope []) own lost r → ((s : ℕ) → has_slot lost s ≡ true → get_or seen s None ≡ None)
+        → IfOk r (λ opened. AreOfGiven opened.given opened.members.own)
+    by_own (Ok opened) made none = λ s sb e.
+        let found = own-found bank (sizes bank).sectors bank.slots lost uuid seen few count opened.members made.elected s sb e in
+        let below = own-below bank (sizes bank).sectors bank.slots lost uuid seen few count opened.members made.elected s sb e in
+        ap (λ n. has_slot n s) made.given ∙ is-given (nat_lt s bank.slots) (has_slot given s) (has_slot lost s) (lt s bank.slots below) (bits s)
+        (λ gone. none-some (sym (none s gone) ∙ found))
+      where
+        lt : (a b : ℕ) → a < b → nat_lt a b ≡ true
+        lt a b h = grind (arith, nat_tests, h)
+
+        is-given : (a b l : Bool) → a ≡ true → l ≡ (a && not b) → (l ≡ true → ⊥) → b ≡ true
+        is-given a true l known e stays = refl
+        is-given a false l known e stays = absurd (stays (e ∙ ap (λ x. x && true) known))
+    by_own (Err fault) why none = tt
+
+    by_name : (r : Result Opened Fault) → IsJudged (scope []) own lost r → IfOk r (λ opened. IfSome asked (λ u. opened.members.newest.set_uuid ≡ u))
+    by_name (Ok opened) made = name asked (newest-array uuid found opened.members.newest
+        (reading-made (sizes bank).sectors own (reading_in (length own) opened.members) made.elected.says).0)
+      where
+        name : (asked : Option (List ℕ)) → opened.members.newest.set_uuid ≡ uuid_for asked found → IfSome asked (λ u. opened.members.newest.set_uuid ≡ u)
+        name None is = tt
+        name (Some u) is = is
+    by_name (Err fault) why = tt
+
+    by_sectors : (r : Result Opened Fault) (k : Contents) → IsJudged (scope []) own lost r → (tells → AreInSectors k seen)
+        → IfOk r (λ opened. tells → AreInSectors k opened.members.own)
+    by_sectors (Ok opened) k made stand =
+        λ told s sb e. stand told s sb (own-found bank (sizes bank).sectors bank.slots lost uuid seen few count opened.members made.elected s sb e)
+    by_sectors (Err fault) k why stand = tt
+
     by_err : (r : Result Opened Fault) → IsJudged (scope []) own lost r → IfErr r (HasCause tells bank c backup asked before after)
     by_err (Ok opened) made = tt
     by_err (Err (Refused refusal)) why = is-refused refusal why
@@ -329,6 +374,15 @@ module _ (tells : Type 0) (bank : Given) (c : Contents) (backup : Option ℕ) (a
     pub ok-writable : AreWritable bank seen → IfOk result (λ opened. AreWritable bank opened.members.own)
     ok-writable writable = by_found result (as-judged judged) writable
 
+    pub ok-sectors : (k : Contents) → (tells → AreInSectors k seen) → IfOk result (λ opened. tells → AreInSectors k opened.members.own)
+    ok-sectors k stand = by_sectors result k (as-judged judged) stand
+
+    pub ok-own : ((s : ℕ) → has_slot lost s ≡ true → get_or seen s None ≡ None) → IfOk result (λ opened. AreOfGiven opened.given opened.members.own)
+    ok-own none = by_own result (as-judged judged) none
+
+    pub ok-named : IfOk result (λ opened. IfSome asked (λ u. opened.members.newest.set_uuid ≡ u))
+    ok-named = by_name result (as-judged judged)
+
     pub err-caused : IfErr result (HasCause tells bank c backup asked before after)
     err-caused = by_err result (as-judged judged)
 
@@ -337,3 +391,14 @@ pub given-as : (result : Result Opened Fault) (given : ℕ) (P : ℕ → Type 0)
     → IfOk result (λ opened. P opened.given)
 given-as (Ok opened) given P is p = subst P (sym is) p
 given-as (Err fault) given P is p = tt
+
+pub on-ok : {P : Type 0} (result : Result Opened Fault) → P → IfOk result (λ opened. P)
+on-ok (Ok opened) p = p
+on-ok (Err fault) p = tt
+
+pub counted-by : (bank : Given) (lengths : List ℕ) → ((s : ℕ) → slice_index lengths s ≡ (sizes bank).sectors s) → ((s : ℕ) → slice_index lengths s < 2 ^ 64) → AreCounted bank
+counted-by bank lengths are small s h =
+    subst (λ (n : ℕ). n < 2 ^ 64) (are s ∙ ap (λ (b : Bool). cond b (bank.sectors s) 0) (below s bank.slots h)) (small s)
+  where
+    below : (a b : ℕ) → a < b → nat_lt a b ≡ true
+    below a b h = grind (arith, nat_tests, h)

@@ -2,3 +2,13 @@ pub mod LookedAt
 pub mod Judged
 pub mod SafeLaws
 pub mod OpenedHeld
+pub mod EntryLaws
+pub mod CreateLaws
+pub mod FillLaws
+pub mod MadeLaws
+pub mod FirstLaws
+pub mod NewLaws
+pub mod NewZeros
+pub mod PlacedFound
+pub mod Adopting
+pub mod RunningLaws

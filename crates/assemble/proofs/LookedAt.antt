@@ -16,6 +16,7 @@ use Rattle.bank.proofs.Causes.{faulted_longer}
 use Rattle.superblocks.specs.Reading.{seen_superblock, is_backup}
 use Rattle.superblocks.specs.Election.{members_scope, seen_superblocks, OnlyMembersFail, AreLost}
 use Rattle.superblocks.specs.Writing.{AreWritable}
+use Rattle.superblocks.specs.Found.{AreInSectors}
 use Rattle.superblocks.proofs.LostSlots.{has-all_but}
 use Rattle.assemble.specs.Opening.{scope_of, AreGiven, AreFlushed}
 use Rattle.array.specs.Flushing.{AreTried, OnlyFlushesAdded, OnlyItsSlotsFail}
@@ -60,6 +61,22 @@ pub writable-left : (bank : Given) (found seen : List (Option Sb)) (lost : ℕ)
     → ((s : ℕ) → s < 32 → get_or seen s None ≡ cond (has_slot lost s) None (get_or found s None)) → length seen ≡ 32
     → AreWritable bank found → AreWritable bank seen
 writable-left bank found seen lost kept long was s sb e = elim (cases_lt s 32) [
+  | inl within ↦ was s sb (there (has_slot lost s) (sym (kept s within) ∙ e))
+  | inr past ↦ absurd (contrary (sym (get_or_past seen s None (omega (arith, long, past))) ∙ e))
+]
+  where
+    there : (b : Bool) → cond b None (get_or found s None) ≡ Some sb → get_or found s None ≡ Some sb
+    there true e = absurd (cc)
+    there false e = e
+
+    contrary : ◌≡◌ {A = Option Sb} None (Some sb) → ⊥
+    contrary e = absurd (cc)
+
+-- and stand in sectors too
+pub sectors-left : (c : Contents) (found seen : List (Option Sb)) (lost : ℕ)
+    → ((s : ℕ) → s < 32 → get_or seen s None ≡ cond (has_slot lost s) None (get_or found s None)) → length seen ≡ 32
+    → AreInSectors c found → AreInSectors c seen
+sectors-left c found seen lost kept long was s sb e = elim (cases_lt s 32) [
   | inl within ↦ was s sb (there (has_slot lost s) (sym (kept s within) ∙ e))
   | inr past ↦ absurd (contrary (sym (get_or_past seen s None (omega (arith, long, past))) ∙ e))
 ]

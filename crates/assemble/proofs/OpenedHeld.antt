@@ -6,6 +6,7 @@ use Rattle.md_base.specs.declared.answers.Refusal.{Refusal}
 use Rattle.md_base.specs.declared.answers.Refusal.TheVariants.{NoSuperblock}
 use Rattle.md_base.specs.Shapes.{has_slot}
 use Rattle.md_base.proofs.Tabulated.{get_or-tabulate}
+use Rattle.sb1.specs.declared.sb.Sb.{Sb}
 use Rattle.bank.specs.declared.bank.Operation.{Operation}
 use Rattle.bank.specs.Given.{Given}
 use Rattle.bank.specs.Tape.{Contents, contents, disk}
@@ -17,11 +18,11 @@ use Rattle.superblocks.specs.Outcome.{set_of, is_in_update, live_set}
 use Rattle.superblocks.specs.Held.{own_at}
 use Rattle.superblocks.specs.Stages.{AreLeft}
 use Rattle.superblocks.specs.Election.{reading_in}
-use Rattle.superblocks.specs.Found.{AreLikeNewest, AreInSectors}
+use Rattle.superblocks.specs.Found.{AreLikeNewest, IsInSectors, AreInSectors}
 use Rattle.superblocks.proofs.SlotSets.{has-set_of}
 use Rattle.superblocks.proofs.Accepted.{IsAccepted, is-accepted}
 use Rattle.superblocks.proofs.SaidSlots.{read-parts}
-use Rattle.superblocks.proofs.FoundHeld.{found-held, found-exact, found-said, live-seen}
+use Rattle.superblocks.proofs.FoundHeld.{found-of, found-held, found-exact, found-said, live-seen}
 use Rattle.superblocks.proofs.StageReads.{held-reads}
 use Rattle.flat_history.specs.Stands.{verdict, refusal_of, backup_absent}
 use Rattle.array.specs.Marking.{marking}
@@ -46,7 +47,7 @@ module _ {tells : Type 0} (bank : Given) (tape : List Operation) (backup : Optio
     (is : IsOpened tells bank (contents bank.start tape (length tape)) backup asked opened) (flushed : AreFlushed bank.start tape opened.given)
     (inside : (s : ℕ) → has_slot opened.given s ≡ true → s < bank.slots)
     (alike : AreLikeNewest (scope_of bank backup opened.given opened.members.newest.set_uuid) opened.members.newest (contents bank.start tape (length tape)))
-    (sectors : AreInSectors (scope_of bank backup opened.given opened.members.newest.set_uuid) (contents bank.start tape (length tape))) where
+    (stands : AreInSectors (contents bank.start tape (length tape)) opened.members.own) where
   abbrev scope : Scope
   scope = scope_of bank backup opened.given opened.members.newest.set_uuid
 
@@ -74,6 +75,9 @@ module _ {tells : Type 0} (bank : Given) (tape : List Operation) (backup : Optio
 
   inside-seen : (s : ℕ) → is_seen scope s ≡ true → s < bank.slots
   inside-seen s seen = inside s (given-seen s seen)
+
+  sectors : (s : ℕ) (sb : Sb) → own_at scope s (c s) ≡ Some sb → IsInSectors (c s)
+  sectors s sb found = stands s sb (own-is s (inside-seen s (found-of scope s (c s) sb found).seen) ∙ found)
 
   live-kept : (s : ℕ) → has_slot (set_of 32 (is_live m.roles m.spares)) s ≡ true → has_slot m.lost s ≡ false
   live-kept s live =

@@ -1,3 +1,9 @@
 pub mod Opening
 pub mod Looking
 pub mod Safe
+pub mod Making
+pub mod Creating
+pub mod Filling
+pub mod Made
+pub mod NewList
+pub mod Running

@@ -1,14 +1,10 @@
 -- What is known while the slots of a bank are read and flushed.
-use Rattle.std.specs.Prelude.{◌≡◌, ◌⊎◌, ℕ, ◌<◌, true, false, List, [], ◌∷◌, length, slice_index, Option, Some, None, Result, Ok, Err, IsTrue, IsFalse}
+use Rattle.std.specs.Prelude.{◌≡◌, ◌⊎◌, ℕ, List, [], length, slice_index, Option, Some, None, Result, Ok, Err, IsTrue, IsFalse}
 use Rattle.std.specs.Option.{option_or}
 use Rattle.md_base.specs.declared.answers.Fault.{Fault}
 use Rattle.md_base.specs.declared.answers.Fault.TheVariants.{Refused, NoMemory}
 use Rattle.md_base.specs.declared.answers.Refusal.{Refusal}
 use Rattle.md_base.specs.declared.answers.Refusal.TheVariants.{Unsupported}
-use Rattle.md_base.specs.Shapes.{has_slot}
-use Rattle.bank.specs.declared.bank.Operation.{Operation}
-use Rattle.bank.specs.Given.{Given, IsFaulted}
-use Rattle.bank.specs.Tape.{contents, disk}
 use Rattle.sb1.specs.declared.sb.Sb.{Sb}
 use Rattle.superblocks.specs.Reading.{Scope, Reading, reading_of, is_reshaping}
 use Rattle.superblocks.specs.Verdict.{members_verdict}

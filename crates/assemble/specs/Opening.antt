@@ -1,14 +1,16 @@
 -- What an opening finds in the slots of a bank, and what it answers.
-use Rattle.std.specs.Prelude.{◌≡◌, ◌⊎◌, ℕ, ◌<◌, ◌≤◌, not, ◌&&◌, nat_lt, IsTrue, IsFalse, List, [], ◌∷◌, ◌++◌, length, take, Option, Some, None}
+use Rattle.std.specs.Prelude.{◌≡◌, ◌⊎◌, ℕ, ◌^◌, ◌<◌, not, ◌&&◌, nat_lt, IsTrue, IsFalse, List, [], ◌∷◌, length, take, Option, Some, None}
 use Rattle.md_base.specs.declared.answers.Fault.{Fault}
 use Rattle.md_base.specs.declared.answers.Fault.TheVariants.{Refused, NoMemory}
 use Rattle.md_base.specs.declared.answers.Refusal.{Refusal}
 use Rattle.md_base.specs.declared.answers.Refusal.TheVariants.{Unsupported}
 use Rattle.md_base.specs.Shapes.{has_slot}
+use Rattle.sb1.specs.declared.sb.Sb.{Sb}
 use Rattle.bank.specs.declared.bank.Operation.{Operation}
 use Rattle.bank.specs.Given.{Given, sizes, IsFaulted}
-use Rattle.bank.specs.Tape.{Contents, contents, disk, AreFlushes}
+use Rattle.bank.specs.Tape.{Contents, contents, disk}
 use Rattle.superblocks.specs.Reading.{Scope, Reading, reading, is_reshaping}
+use Rattle.superblocks.specs.Update.{own_in}
 use Rattle.superblocks.specs.Election.{seen_superblocks, uuid_for, reading_in, IsElected}
 use Rattle.flat_history.specs.Stands.{verdict}
 use Rattle.assemble.specs.declared.opening.Opened.{Opened}
@@ -26,6 +28,14 @@ pub record AreGiven (bank : Given) (given : ℕ) (before after : ℕ → ℕ) : 
   pub known : (s : ℕ) → IsTrue (has_slot given s) → s < bank.slots
   pub sound : (s : ℕ) → IsTrue (has_slot given s) → before s ≡ 0
   pub failed : (s : ℕ) → s < bank.slots → IsFalse (has_slot given s) → IsFaulted s before after
+
+-- each slot that has one of these superblocks is given
+abbrev pub AreOfGiven : ℕ → List (Option Sb) → Type 0
+AreOfGiven given own = (s : ℕ) (sb : Sb) → own_in own s ≡ Some sb → IsTrue (has_slot given s)
+
+-- the sectors of each slot are counted in 64 bits
+abbrev pub AreCounted : Given → Type 0
+AreCounted bank = (s : ℕ) → s < bank.slots → bank.sectors s < 2 ^ 64
 
 -- a stop leaves what these slots hold now, and nothing else
 abbrev pub AreFlushed : Contents → List Operation → ℕ → Type 0

@@ -38,5 +38,5 @@ OpeningsAreHeld = (bank : Given) (tape : List Operation) (backup : Option ℕ) (
     → AreFlushed bank.start tape opened.given
     → ((s : ℕ) → IsTrue (has_slot opened.given s) → s < bank.slots)
     → AreLikeNewest (scope_of bank backup opened.given opened.members.newest.set_uuid) opened.members.newest (contents bank.start tape (length tape))
-    → AreInSectors (scope_of bank backup opened.given opened.members.newest.set_uuid) (contents bank.start tape (length tape))
+    → AreInSectors (contents bank.start tape (length tape)) opened.members.own
     → IsHeldBy (scope_of bank backup opened.given opened.members.newest.set_uuid) opened.members (disk bank.start tape)

@@ -1,5 +1,6 @@
 //! Laws of the definitions.
 
+ghost use Rattle.assemble.specs.NewList.{NewArraysAreZeros};
 ghost use Rattle.assemble.specs.Safe.{OpeningsAreSafe, OpeningsAreHeld};
 
 /// At the mark of an opening every image is what is stored: it assembles, to the list that stands.
@@ -10,4 +11,9 @@ pub fn openings_are_safe()
 /// At the mark of an opening the superblocks are held, from where an update may start.
 pub fn openings_are_held()
     ensures { OpeningsAreHeld }
+{}
+
+/// A new array stands for a list of zeros, and the parity of each of its rows fits.
+pub fn new_arrays_are_zeros()
+    ensures { NewArraysAreZeros }
 {}

@@ -1,12 +1,23 @@
-//! An array that is stored in a bank's slots is opened.
+//! An array is made in a bank's slots, and one that is stored there is opened.
 #![tactic(auto)]
 
+mod creating;
+mod device;
 pub mod laws;
+mod lists;
+mod making;
 mod opening;
 mod reshape;
+mod running;
 mod slots;
+mod storing;
+mod used;
+mod zeros;
 
+pub use creating::refusal_of_create;
+pub use making::make;
 pub use opening::{Opened, open};
+pub use running::{assemble, create};
 
 #[cfg(test)]
 mod tests;

@@ -1,12 +1,13 @@
 //! An opening.
 
-ghost use Rattle.std.specs.Prelude.{◌≡◌, ◌≤◌, ◌<◌, ◌-◌, IfOk, IfErr, IfSome, None, length, map, take, drop, replicate};
+ghost use Rattle.std.specs.Prelude.{◌≡◌, ◌≤◌, ◌<◌, ◌-◌, ◌^◌, ℕ, IfOk, IfErr, IfSome, None, length, map, take, drop, replicate, slice_index};
 ghost use Rattle.bank.specs.Tape.{contents};
 ghost use Rattle.superblocks.specs.Reading.{of_array};
 ghost use Rattle.superblocks.specs.Election.{uuid_for};
 ghost use Rattle.superblocks.specs.Writing.{AreWritable};
+ghost use Rattle.superblocks.specs.Found.{AreInSectors};
 ghost use Rattle.assemble.specs.Looking.{lengths_scope, IsJudged};
-ghost use Rattle.assemble.specs.Opening.{IsOpened, AreGiven, AreFlushed, HasCause};
+ghost use Rattle.assemble.specs.Opening.{IsOpened, AreGiven, AreOfGiven, AreCounted, AreFlushed, HasCause};
 ghost use Rattle.array.specs.Flushing.{OnlyFlushesAdded, OnlyItsSlotsFail};
 
 use crate::reshape::reshape_refusal;
@@ -41,6 +42,11 @@ pub fn open<B: Bank>(
         IfOk result (λ opened. IsOpened B.tells slots (contents slots.start tape (length tape)) backup uuid opened) }
     ensures given { IfOk result (λ opened. AreGiven (B.given bank.old) opened.given (B.faults_of bank.old) (B.faults_of bank.new)) }
     ensures writable { IfOk result (λ opened. AreWritable (B.given bank.old) opened.members.own) }
+    ensures own { IfOk result (λ opened. AreOfGiven opened.given opened.members.own) }
+    ensures counted { IfOk result (λ opened. AreCounted (B.given bank.old)) }
+    ensures named { IfOk result (λ opened. IfSome uuid (λ asked. opened.members.newest.set_uuid ≡ asked)) }
+    ensures sectors { let slots = B.given bank.old in let tape = B.tape bank.new in
+        IfOk result (λ opened. B.tells → AreInSectors (contents slots.start tape (length tape)) opened.members.own) }
     ensures flushed { IfOk result (λ opened. B.tells → AreFlushed (B.given bank.old).start (B.tape bank.new) opened.given) }
     ensures refused { let slots = B.given bank.old in let tape = B.tape bank.new in IfErr result (λ fault.
         HasCause B.tells slots (contents slots.start tape (length tape)) backup uuid (B.faults_of bank.old) (B.faults_of bank.new) fault) }
@@ -76,6 +82,7 @@ fn judge(
     requires backup { IfSome backup (λ slot. slot < length lengths.now) }
     requires rest { drop (length lengths.now) found.seen ≡ replicate (32 - length lengths.now) None }
     ensures given { IfOk result (λ opened. opened.given ≡ found.given) }
+    ensures counted { (s : ℕ) → slice_index lengths.now s < 2 ^ 64 }
     ensures judged { let seen = take (length lengths.now) found.seen in
         IsJudged (lengths_scope backup found.given lengths.now) (map (of_array (uuid_for uuid seen)) seen) found.lost result }
 {

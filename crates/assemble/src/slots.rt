@@ -1,10 +1,11 @@
 //! The slots of a bank are looked at: their superblocks are read, and they are flushed.
 
-ghost use Rattle.std.specs.Prelude.{◌≡◌, ◌<◌, ◌≤◌, ◌-◌, ℕ, [], None, IfOk, nat_lt, not, ◌&&◌, take, drop, replicate, length, slice_index_or, if◌then◌else◌};
+ghost use Rattle.std.specs.Prelude.{◌≡◌, ◌<◌, ◌≤◌, ◌-◌, ℕ, true, [], None, IfOk, nat_lt, not, ◌&&◌, take, drop, replicate, length, slice_index_or, if◌then◌else◌};
 ghost use Rattle.md_base.specs.Shapes.{has_slot};
 ghost use Rattle.bank.specs.Tape.{contents};
 ghost use Rattle.superblocks.specs.Election.{seen_superblocks};
 ghost use Rattle.superblocks.specs.Writing.{AreWritable};
+ghost use Rattle.superblocks.specs.Found.{AreInSectors};
 ghost use Rattle.assemble.specs.Opening.{scope_of, AreGiven, AreFlushed};
 ghost use Rattle.array.specs.Flushing.{OnlyFlushesAdded, OnlyItsSlotsFail};
 
@@ -60,6 +61,9 @@ pub fn look<B: Bank>(alloc: Global, bank: &mut B, backup: Option<u32>) -> Result
     ensures rest { let bank_given = B.given bank.old in IfOk result (λ found. drop bank_given.slots found.seen ≡ replicate (32 - bank_given.slots) None) }
     ensures count { IfOk result (λ found. length found.seen ≡ 32) }
     ensures writable { IfOk result (λ found. AreWritable (B.given bank.old) found.seen) }
+    ensures sectors { let bank_given = B.given bank.old in let tape = B.tape bank.new in IfOk result (λ found. B.tells →
+        AreInSectors (contents bank_given.start tape (length tape)) found.seen) }
+    ensures none { IfOk result (λ found. (s : ℕ) → has_slot found.lost s ≡ true → slice_index_or found.seen s None ≡ None) }
     ensures slots { IfOk result (λ found. AreGiven (B.given bank.old) found.given (B.faults_of bank.old) (B.faults_of bank.new)) }
     ensures lost { IfOk result (λ found. (s : ℕ) → has_slot found.lost s ≡ (nat_lt s (B.given bank.old).slots && not (has_slot found.given s))) }
     ensures flushed { IfOk result (λ found. B.tells → AreFlushed (B.given bank.old).start (B.tape bank.new) found.given) }

@@ -1,6 +1,8 @@
 //! Openings of arrays that real md wrote, and of a reshape that was made for this.
 
 mod images;
+mod made;
+mod running;
 
 use super::*;
 use bank::{Bank, MemoryBank, Op};

@@ -1,4 +1,4 @@
-use Rattle.std.proofs.Common.{inr, refl, sym, ◌∙◌, slice_index}
+use Rattle.std.proofs.Common.{inr, refl, sym, ◌∙◌, slice_index, arith}
 use Rattle.assemble.specs.Looking.{lengths_scope}
 use Rattle.assemble.proofs.Judged.{elected-valid, reshape-refused, none-still}
 use Rattle.assemble.proofs.opening.judge.Goals as goal
@@ -18,3 +18,12 @@ returns-in-None-clause-judged c = record {
   given = refl;
   still = none-still (lengths_scope c.args.backup c.args.found.given c.args.lengths.now) c.in-Ok.members.newest (sym c.reshape_refusal.ensures ∙ c.in-None.is);
 }
+
+pub returns-in-Err-clause-counted : goal.returns-in-Err-clause-counted
+returns-in-Err-clause-counted c = λ s. let h = c.type_inv.lengths s in omega (arith, h)
+
+pub returns-in-Some-clause-counted : goal.returns-in-Some-clause-counted
+returns-in-Some-clause-counted c = λ s. let h = c.type_inv.lengths s in omega (arith, h)
+
+pub returns-in-None-clause-counted : goal.returns-in-None-clause-counted
+returns-in-None-clause-counted c = λ s. let h = c.type_inv.lengths s in omega (arith, h)

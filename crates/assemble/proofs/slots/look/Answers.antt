@@ -1,9 +1,13 @@
-use Rattle.std.proofs.Common.{◌≡◌, ℕ, subst, ap, ◌∙◌, nat_lt}
+use Rattle.std.proofs.Common.{◌≡◌, ℕ, List, length, subst, sym, ap, ◌∙◌, nat_lt}
 use Rattle.std.specs.Prelude.{not, ◌&&◌}
 use Rattle.md_base.specs.Shapes.{has_slot}
+use Rattle.bank.specs.declared.bank.Operation.{Operation}
 use Rattle.bank.specs.Given.{Given}
-use Rattle.array.specs.Flushing.{AreTried, OnlyItsSlotsFail}
-use Rattle.assemble.proofs.LookedAt.{writable-left, seen-given, rest-none}
+use Rattle.bank.specs.Tape.{Contents, contents}
+use Rattle.superblocks.specs.Found.{AreInSectors}
+use Rattle.array.specs.Flushing.{AreTried, OnlyFlushesAdded, OnlyItsSlotsFail}
+use Rattle.array.proofs.Flushed.{contents-added}
+use Rattle.assemble.proofs.LookedAt.{writable-left, sectors-left, seen-given, rest-none}
 use Rattle.assemble.proofs.slots.look.Goals as goal
 
 pub returns-clause-seen : goal.returns-clause-seen
@@ -34,3 +38,13 @@ pub returns-clause-writable : goal.returns-clause-writable
 returns-clause-writable g c =
     writable-left (g.B.Bank.given c.args.bank.now) c.in-Ok.found.0 c.forget.new.seen c.flush_slots-lost.result
     c.forget.ensures.each c.forget.ensures.count c.in-Ok.ensures.writable
+
+pub returns-clause-sectors : goal.returns-clause-sectors
+returns-clause-sectors g c = λ told.
+    let start : Contents = (g.B.Bank.given c.args.bank.now).start in
+    let same : contents start (g.B.Bank.tape c.flush_slots-lost.new.bank) (length (g.B.Bank.tape c.flush_slots-lost.new.bank)) ≡ contents start (g.B.Bank.tape c.args.bank.now) (length (g.B.Bank.tape c.args.bank.now)) =
+    contents-added start (g.B.Bank.tape c.args.bank.now) (g.B.Bank.tape c.flush_slots-lost.new.bank)
+    (subst (λ (tape : List Operation). OnlyFlushesAdded tape (g.B.Bank.tape c.flush_slots-lost.new.bank)) (c.read_superblocks.ensures.tape told) (c.flush_slots-lost.ensures.tape told)) in
+    subst (λ (k : Contents). AreInSectors k c.forget.new.seen) (sym same)
+    (sectors-left (contents start (g.B.Bank.tape c.args.bank.now) (length (g.B.Bank.tape c.args.bank.now))) c.in-Ok.found.0 c.forget.new.seen c.flush_slots-lost.result
+    c.forget.ensures.each c.forget.ensures.count (c.in-Ok.ensures.sectors told))

@@ -1,0 +1,316 @@
+-- Where the rows of an opened array stand: each role whole, on a slot of its own.
+use Rattle.std.proofs.Common.{◌≡◌, inl, inr, ℕ, zero, suc, ◌+◌, ◌*◌, ◌^◌, ◌<◌, ◌≤◌, ◌==◌, Bool, true, false, cond, not, ◌||◌, ◌&&◌, nat_lt, nat_le, List, [], ◌∷◌, length, take, drop, get_or, Option, Some, None, unwrap_or, option_map, refl, sym, ◌∙◌, ap, subst, arith}
+use Rattle.std.specs.Prelude.{find, max}
+use Rattle.std.specs.Option.{option_or, option_map_or}
+use Rattle.std.specs.List.{list_any}
+use Rattle.std.proofs.lemmas.Bool.{cases_lt}
+use Rattle.std.proofs.lemmas.Bool.Decides.{nat_tests}
+use Rattle.std.proofs.lemmas.List.{get_or-take, get_or_past, length-take}
+use Rattle.std.proofs.lemmas.List.Folds.{list_any-append}
+use Rattle.md_base.specs.declared.status.Role.{Role}
+use Rattle.md_base.specs.declared.status.Role.TheVariants.{Whole, Recovering, Missing}
+use Rattle.md_base.specs.declared.places.Shape.{Shape}
+use Rattle.md_base.specs.declared.answers.Refusal.{Refusal}
+use Rattle.md_base.specs.declared.answers.Refusal.TheVariants.{NoSuperblock, BadField}
+use Rattle.md_base.specs.Shapes.{is_valid_shape, is_multiple, is_level, is_layout, has_slot}
+use Rattle.md_base.specs.Search.{tabulate, least_below}
+use Rattle.md_base.proofs.Tabulated.{length-tabulate, get_or-tabulate}
+use Rattle.sb1.specs.declared.sb.Sb.{Sb}
+use Rattle.bank.specs.Given.{Given, sizes}
+use Rattle.superblocks.specs.declared.members.Members.{Members}
+use Rattle.superblocks.specs.Reading.{Reading, reading_by, newest_of, holder_from, spares_from, holds_role, state_of, is_fresh, is_spare, is_recovering, is_reshaping, entry_of, role_count, shape_of, target_of, is_whole, role_state, holder, data_offset_of}
+use Rattle.superblocks.specs.Verdict.{members_refusal, bad_field, judged_fields, is_bad_entry, is_bad_size}
+use Rattle.superblocks.specs.Election.{reading_in, IsElected}
+use Rattle.superblocks.specs.Update.{is_held_by, is_live}
+use Rattle.superblocks.specs.Writing.{IsMember, AreWritable}
+use Rattle.superblocks.proofs.Accepted.{IsAccepted, is-accepted}
+use Rattle.row_io.specs.Rows.{reading_of, is_missing}
+use Rattle.row_io.proofs.Apart.{readings-are-apart}
+use Rattle.array.specs.Placed.{IsPlaced, AreWhole, AreUnlost}
+use Rattle.assemble.specs.Opening.{AreOfGiven, AreCounted}
+use Rattle.assemble.proofs.Judged.{elected-valid, reading-made}
+
+-- ---- whose superblock it is
+
+-- the slot s, from slot i on in this list, holds the role
+record IsHolderFrom (N : Sb) (role i : ℕ) (X : List (Option Sb)) (s : ℕ) : Type 0 where
+  pub index : ℕ
+  pub at : s ≡ i + index
+  pub sb : Sb
+  pub own : get_or X index None ≡ Some sb
+  pub holds : holds_role N role sb ≡ true
+
+held-slot : (sb : Sb) (i s : ℕ) → holder (state_of i sb) ≡ Some s → s ≡ i
+held-slot sb i s e = by (is_recovering sb) e
+  where
+    by : (b : Bool) → holder (cond b (Recovering i) (Whole i)) ≡ Some s → s ≡ i
+    by true e = cc
+    by false e = cc
+
+holder-there : (N : Sb) (role i : ℕ) (X : List (Option Sb)) (s : ℕ) → holder (holder_from N role i X) ≡ Some s → IsHolderFrom N role i X s
+holder-there N role i [] s is = absurd (cc)
+holder-there N role i (None ∷ X) s is =
+    let found = holder-there N role (i + 1) X s is in
+    record { index = suc found.index; at = omega (arith, found.at); sb = found.sb; own = found.own; holds = found.holds }
+holder-there N role i (Some sb ∷ X) s is = by (holds_role N role sb) refl (λ e. holder-there N role (i + 1) X s e) is
+  where
+    by : (b : Bool) → holds_role N role sb ≡ b → (holder (holder_from N role (i + 1) X) ≡ Some s → IsHolderFrom N role (i + 1) X s)
+        → holder (cond b (state_of i sb) (holder_from N role (i + 1) X)) ≡ Some s → IsHolderFrom N role i (Some sb ∷ X) s
+    by true holds rest is = record { index = 0; at = held-slot sb i s is ∙ omega arith; sb = sb; own = refl; holds = holds }
+    by false fails rest is =
+        let found = rest is in
+        record { index = suc found.index; at = omega (arith, found.at); sb = found.sb; own = found.own; holds = found.holds }
+
+-- the slot s, from slot i on, has a superblock
+record IsThere (i : ℕ) (X : List (Option Sb)) (s : ℕ) : Type 0 where
+  pub index : ℕ
+  pub at : s ≡ i + index
+  pub sb : Sb
+  pub own : get_or X index None ≡ Some sb
+
+spare-there : (N : Sb) (sectors : ℕ → ℕ) (i : ℕ) (X : List (Option Sb)) (s : ℕ) → list_any (λ spare. spare == s) (spares_from N sectors i X) ≡ true → IsThere i X s
+spare-there N sectors i [] s is = absurd (cc)
+spare-there N sectors i (None ∷ X) s is =
+    let found = spare-there N sectors (i + 1) X s is in
+    record { index = suc found.index; at = omega (arith, found.at); sb = found.sb; own = found.own }
+spare-there N sectors i (Some sb ∷ X) s is = by (is_spare N (sectors i) sb) (λ e. later (spare-there N sectors (i + 1) X s e)) is
+  where
+    later : IsThere (i + 1) X s → IsThere i (Some sb ∷ X) s
+    later found = record { index = suc found.index; at = omega (arith, found.at); sb = found.sb; own = found.own }
+
+    equal : (a b : ℕ) → (a == b) ≡ true → b ≡ a + 0
+    equal a b e = grind (arith, nat_tests, e)
+
+    here : (b : Bool) → (i == s) ≡ b → (list_any (λ spare. spare == s) (spares_from N sectors (i + 1) X) ≡ true → IsThere i (Some sb ∷ X) s)
+        → (b || list_any (λ spare. spare == s) (spares_from N sectors (i + 1) X)) ≡ true → IsThere i (Some sb ∷ X) s
+    here true same rest is = record { index = 0; at = equal i s same; sb = sb; own = refl }
+    here false other rest is = rest is
+
+    by : (b : Bool) → (list_any (λ spare. spare == s) (spares_from N sectors (i + 1) X) ≡ true → IsThere i (Some sb ∷ X) s)
+        → list_any (λ spare. spare == s) (cond b (i ∷ spares_from N sectors (i + 1) X) (spares_from N sectors (i + 1) X)) ≡ true → IsThere i (Some sb ∷ X) s
+    by true rest is = here (i == s) refl rest is
+    by false rest is = rest is
+
+held-by : (s : ℕ) (state : Role) → is_held_by s state ≡ true → holder state ≡ Some s
+held-by s (Whole slot) is = ap (λ (n : ℕ). Some n) (equal slot s is)
+  where
+    equal : (a b : ℕ) → (a == b) ≡ true → a ≡ b
+    equal a b e = grind (arith, nat_tests, e)
+held-by s (Recovering slot) is = ap (λ (n : ℕ). Some n) (equal slot s is)
+  where
+    equal : (a b : ℕ) → (a == b) ≡ true → a ≡ b
+    equal a b e = grind (arith, nat_tests, e)
+held-by s Missing is = absurd (cc)
+
+held-any : (n : ℕ) (f : ℕ → Role) (s : ℕ) → list_any (is_held_by s) (tabulate n f) ≡ true → (role : ℕ) × (holder (f role) ≡ Some s)
+unfolding tabulate
+held-any zero f s is = absurd (cc)
+held-any (suc n) f s is = by (list_any (is_held_by s) (tabulate n f)) (is_held_by s (f n)) (held-any n f s) (held-by s (f n)) (sym (list_any-append (is_held_by s) (tabulate n f) (f n ∷ [])) ∙ is)
+  where
+    by : (a b : Bool) → (a ≡ true → (role : ℕ) × (holder (f role) ≡ Some s)) → (b ≡ true → holder (f n) ≡ Some s) → (a || (b || false)) ≡ true → (role : ℕ) × (holder (f role) ≡ Some s)
+    by true b lesser here is = lesser refl
+    by false true lesser here is = (n, here refl)
+    by false false lesser here is = absurd (cc)
+
+-- ---- the size
+
+none-first : (a b : Option Refusal) → option_or a b ≡ None → a ≡ None
+none-first None b e = refl
+none-first (Some x) b e = absurd (cc)
+
+third-fails : (x y z : ℕ) (a b c : Bool) (rest : List (ℕ × Bool)) → option_map (λ (f : ℕ × Bool). BadField f.0) (find (λ (f : ℕ × Bool). f.1) ((x, a) ∷ (y, b) ∷ (z, c) ∷ rest)) ≡ None → c ≡ false
+third-fails x y z true b c rest e = absurd (cc)
+third-fails x y z false true c rest e = absurd (cc)
+third-fails x y z false false true rest e = absurd (cc)
+third-fails x y z false false false rest e = refl
+
+good-size : (N : Sb) → bad_field N [] ≡ None → is_bad_size N ≡ false
+good-size N e = third-fails 72 76 80 (not (is_level N.level)) (not (is_layout N.level N.layout)) (is_bad_size N) (drop 3 (judged_fields N []))
+    (none-first (option_map (λ (f : ℕ × Bool). BadField f.0) (find (λ (f : ℕ × Bool). f.1) (judged_fields N [])))
+    (option_map (λ (index : ℕ). BadField (256 + 2 * index)) (least_below N.max_dev (is_bad_entry N))) e)
+
+size-parts : (n : ℕ) (multiple rest : Bool) → not (nat_le 1 n && nat_le n (2 ^ 48) && multiple && rest) ≡ false → (n ≤ 2 ^ 48) × (multiple ≡ true)
+size-parts n multiple rest e = by (nat_le 1 n) (nat_le n (2 ^ 48)) multiple rest (is_at_most n (2 ^ 48)) e
+  where
+    is_at_most : (a b : ℕ) → nat_le a b ≡ true → a ≤ b
+    is_at_most a b e = grind (arith, nat_tests, e)
+
+    by : (a b c d : Bool) → (b ≡ true → n ≤ 2 ^ 48) → not (a && b && c && d) ≡ false → (n ≤ 2 ^ 48) × (c ≡ true)
+    by true true true d most e = (most refl, refl)
+    by true true false d most e = absurd (cc)
+    by true false c d most e = absurd (cc)
+    by false b c d most e = absurd (cc)
+
+-- ---- the members
+
+both : (a b : Bool) → (a && b) ≡ true → (a ≡ true) × (b ≡ true)
+both true b e = (refl, e)
+both false b e = absurd (cc)
+
+module _ (bank : Given) (few : bank.slots ≤ 32) (m : Members) (elected : IsElected (sizes bank).sectors (take bank.slots m.own) m.lost m)
+    (still : is_reshaping m.newest ≡ false) (writable : AreWritable bank m.own) (counted : AreCounted bank) where
+  abbrev X : List (Option Sb)
+  X = take bank.slots m.own
+
+  abbrev sec : ℕ → ℕ
+  sec = (sizes bank).sectors
+
+  count : length (take bank.slots m.own) ≤ bank.slots
+  count = omega (arith, length-take bank.slots m.own)
+
+  newest-is : newest_of (take bank.slots m.own) ≡ Some m.newest
+  newest-is = (reading-made sec X (reading_in (length X) m) elected.says).0
+
+  made : reading_by (sizes bank).sectors (take bank.slots m.own) m.newest ≡ reading_in (length (take bank.slots m.own)) m
+  made = one (reading_by sec X m.newest) (reading_in (length X) m) (sym (ap (option_map (reading_by sec X)) newest-is) ∙ elected.says)
+    where
+      one : (a b : Reading) → Some a ≡ Some b → a ≡ b
+      one a b e = cc
+
+  roles-are : m.roles ≡ tabulate (role_count m.newest) (λ role. holder_from m.newest role 0 (take bank.slots m.own))
+  roles-are = sym (ap (λ (q : Reading). q.roles) made)
+
+  spares-are : m.spares ≡ spares_from m.newest (sizes bank).sectors 0 (take bank.slots m.own)
+  spares-are = sym (ap (λ (q : Reading). q.spares) made)
+
+  accepted : IsAccepted (sizes bank).sectors m.newest (take bank.slots m.own)
+  accepted = is-accepted sec m.newest X
+      (sym (ap (λ (found : Option Sb). option_map_or (members_refusal sec) (option_map (reading_by sec X) found) (Some NoSuperblock)) newest-is) ∙ elected.accepted)
+
+  pub count-is : role_count m.newest ≡ (shape_of m.newest).disks
+  count-is = ap (λ (target : Option Shape). max (shape_of m.newest).disks (unwrap_or target (shape_of m.newest)).disks) none ∙ same (shape_of m.newest).disks
+    where
+      none : target_of m.newest ≡ None
+      none = ap (λ (b : Bool). cond b (Some (record { level = m.newest.new_level; layout = m.newest.new_layout; chunk = m.newest.new_chunk; disks = m.newest.raid_disks })) None) still
+
+      same : (a : ℕ) → max a a ≡ a
+      same a = omega arith
+
+  pub roles-long : length m.roles ≡ (shape_of m.newest).disks
+  roles-long = ap (λ (l : List Role). length l) roles-are ∙ length-tabulate (role_count m.newest) (λ role. holder_from m.newest role 0 X) ∙ count-is
+
+  own-at : (k : ℕ) (sb : Sb) → get_or (take bank.slots m.own) k None ≡ Some sb → (k < bank.slots) × (get_or m.own k None ≡ Some sb)
+  own-at k sb e = elim (cases_lt k (length X)) [
+    | inl within ↦ (let lt : k < bank.slots = omega (arith, within, count) in (lt, sym (get_or-take bank.slots m.own k None lt) ∙ e))
+    | inr past ↦ absurd (none sb (sym (get_or_past X k None past) ∙ e))
+  ]
+    where
+      none : (sb : Sb) → ◌≡◌ {A = Option Sb} None (Some sb) → ⊥
+      none sb e = absurd (cc)
+
+  -- the superblock of a role's holder, and where its rows are
+  record IsHeldAt (role s : ℕ) : Type 0 where
+    pub role_below : role < role_count m.newest
+    pub known : s < bank.slots
+    pub sb : Sb
+    pub own : get_or m.own s None ≡ Some sb
+    pub behind : 10 ≤ sb.data_offset
+    pub within : sb.data_offset + m.newest.size ≤ bank.sectors s
+
+  held-at : (role s : ℕ) → holder (role_state (reading_of m) role) ≡ Some s → IsHeldAt role s
+  held-at role s is = elim (cases_lt role (role_count m.newest)) [
+    | inl lt ↦ of lt (holder-there m.newest role 0 X s
+        (sym (ap (λ (l : List Role). holder (get_or l role Missing)) roles-are ∙ ap holder (get_or-tabulate (role_count m.newest) (λ role. holder_from m.newest role 0 X) role Missing lt)) ∙ is))
+    | inr past ↦ absurd (none s (sym (ap (λ (l : List Role). holder (get_or l role Missing)) roles-are
+        ∙ ap holder (get_or_past (tabulate (role_count m.newest) (λ role. holder_from m.newest role 0 X)) role Missing
+        (omega (arith, past, length-tabulate (role_count m.newest) (λ role. holder_from m.newest role 0 X))))) ∙ is))
+  ]
+    where
+      none : (s : ℕ) → ◌≡◌ {A = Option ℕ} None (Some s) → ⊥
+      none s e = absurd (cc)
+
+      equal : (a b : ℕ) → (a == b) ≡ true → a ≡ b
+      equal a b e = grind (arith, nat_tests, e)
+
+      less : (a b : ℕ) → a < b → nat_lt a b ≡ true
+      less a b h = grind (arith, nat_tests, h)
+
+      at_most : (a b : ℕ) → nat_le a b ≡ true → a ≤ b
+      at_most a b e = grind (arith, nat_tests, e)
+
+      of : role < role_count m.newest → IsHolderFrom m.newest role 0 (take bank.slots m.own) s → IsHeldAt role s
+      of lt found =
+          let same : found.index ≡ s = omega (arith, found.at) in
+          let own : get_or X s None ≡ Some found.sb = subst (λ (k : ℕ). get_or X k None ≡ Some found.sb) same found.own in
+          let there = own-at s found.sb own in
+          let holds = both (is_fresh m.newest found.sb) (entry_of m.newest found.sb.dev_number == role) found.holds in
+          let entry : entry_of m.newest found.sb.dev_number ≡ role = equal (entry_of m.newest found.sb.dev_number) role holds.1 in
+          let lies = both (nat_le 10 found.sb.data_offset) (nat_le (found.sb.data_offset + m.newest.size) (sec s))
+          (accepted.within s found.sb own holds.0 (less (entry_of m.newest found.sb.dev_number) (role_count m.newest) (omega (arith, lt, entry)))) in
+          let long : sec s ≡ bank.sectors s = ap (λ (b : Bool). cond b (bank.sectors s) 0) (less s bank.slots there.0) in
+          record {
+            role_below = lt;
+            known = there.0;
+            sb = found.sb;
+            own = there.1;
+            behind = at_most 10 found.sb.data_offset lies.0;
+            within = subst (λ (n : ℕ). found.sb.data_offset + m.newest.size ≤ n) long (at_most (found.sb.data_offset + m.newest.size) (sec s) lies.1);
+          }
+
+  offset-at : (role s : ℕ) → (found : IsHeldAt role s) → data_offset_of (reading_of m) s ≡ found.sb.data_offset
+  offset-at role s found = ap (λ (o : Option Sb). option_map_or (λ sb. sb.data_offset) o 0) found.own
+
+  -- the slot of a role that is whole
+  pub whole-state : (role : ℕ) → is_missing (reading_of m) role ≡ false → (slot : ℕ) × (role_state (reading_of m) role ≡ Whole slot)
+  whole-state role is = by (role_state (reading_of m) role) refl is
+    where
+      by : (state : Role) → role_state (reading_of m) role ≡ state → not (is_whole state) ≡ false → (slot : ℕ) × (role_state (reading_of m) role ≡ Whole slot)
+      by (Whole slot) is fine = (slot, is)
+      by (Recovering slot) is fine = absurd (cc)
+      by Missing is fine = absurd (cc)
+
+  pub unlost-found : (given : ℕ) → AreOfGiven given m.own → ((s : ℕ) → has_slot m.lost s ≡ (nat_lt s bank.slots && not (has_slot given s))) → AreUnlost m
+  unlost-found given own lost role slot held =
+      let found = held-at role slot held in
+      lost slot ∙ ap (λ (b : Bool). nat_lt slot bank.slots && not b) (own slot found.sb found.own) ∙ never (nat_lt slot bank.slots)
+    where
+      never : (b : Bool) → (b && false) ≡ false
+      never true = refl
+      never false = refl
+
+  sized : (m.newest.size ≤ 2 ^ 48) × (is_multiple m.newest.size m.newest.chunksize ≡ true)
+  sized = size-parts m.newest.size (is_multiple m.newest.size m.newest.chunksize) (not (is_reshaping m.newest) || is_multiple m.newest.size m.newest.new_chunk) (good-size m.newest accepted.fields)
+
+  live-there : (s : ℕ) → is_live m.roles m.spares s ≡ true → (sb : Sb) × (get_or m.own s None ≡ Some sb)
+  live-there s is = by (list_any (is_held_by s) m.roles) refl is
+    where
+      spare : IsThere 0 (take bank.slots m.own) s → (sb : Sb) × (get_or m.own s None ≡ Some sb)
+      spare found =
+          let same : found.index ≡ s = omega (arith, found.at) in
+          (found.sb, (own-at s found.sb (subst (λ (k : ℕ). get_or X k None ≡ Some found.sb) same found.own)).1)
+
+      by : (b : Bool) → list_any (is_held_by s) m.roles ≡ b → (b || list_any (λ spare. spare == s) m.spares) ≡ true → (sb : Sb) × (get_or m.own s None ≡ Some sb)
+      by true held is =
+          let role = held-any (role_count m.newest) (λ role. holder_from m.newest role 0 X) s (sym (ap (λ (l : List Role). list_any (is_held_by s) l) roles-are) ∙ held) in
+          let found = holder-there m.newest role.0 0 X s role.1 in
+          spare (record { index = found.index; at = found.at; sb = found.sb; own = found.own })
+      by false held is = spare (spare-there m.newest sec 0 X s (sym (ap (λ (l : List ℕ). list_any (λ spare. spare == s) l) spares-are) ∙ is))
+
+  pub valid-is : is_valid_shape (shape_of m.newest) ≡ true
+  valid-is = (elected-valid sec X m.lost m elected).old
+
+  module _ (whole : AreWhole m) where
+    pub placed-found : IsPlaced bank m
+    placed-found = record {
+      still = still;
+      valid = valid-is;
+      multiple = sized.1;
+      short = sized.0;
+      roles = roles-long;
+      states = λ role. elim (cases_lt role (shape_of m.newest).disks) [
+        | inl lt ↦ inr (whole-state role (whole role lt))
+        | inr past ↦ inl (get_or_past m.roles role Missing (omega (arith, past, roles-long)))
+      ];
+      holders = λ role slot is. (let found = held-at role slot is in
+          record {
+            small = omega (arith, found.known, few);
+            known = found.known;
+            short = counted slot found.known;
+            within = omega (arith, offset-at role slot found, found.within);
+          });
+      behind = λ role slot is. (let found = held-at role slot is in omega (arith, offset-at role slot found, found.behind));
+      apart = λ a b slot is is'. readings-are-apart sec X m.newest a b slot
+          (sym (ap (λ (l : List Role). holder (get_or l a Missing)) roles-are) ∙ is) (sym (ap (λ (l : List Role). holder (get_or l b Missing)) roles-are) ∙ is');
+      live = λ slot is. (let found = live-there slot is in
+          subst (λ (o : Option Sb). IsMember bank o slot) (sym found.1) (writable slot found.0 found.1));
+    }

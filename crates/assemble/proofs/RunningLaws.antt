@@ -1,0 +1,259 @@
+-- What runs was made, or found, as it is answered.
+use Rattle.std.proofs.Common.{◌≡◌, ◌⊎◌, inl, inr, ℕ, zero, suc, ◌+◌, ◌*◌, ◌<◌, ◌≤◌, Bool, true, false, cond, not, ◌&&◌, nat_lt, List, length, get_or, Option, Some, None, IfSome, Result, Ok, Err, IfOk, refl, sym, ◌∙◌, ap, subst, arith}
+use Rattle.std.proofs.lemmas.Bool.{cases_lt}
+use Rattle.std.proofs.lemmas.Bool.Decides.{nat_tests}
+use Rattle.std.proofs.lemmas.List.{get_or-take}
+use Rattle.md_base.specs.declared.answers.Fault.{Fault}
+use Rattle.md_base.specs.declared.answers.Fault.TheVariants.{Refused, NoMemory}
+use Rattle.md_base.specs.declared.answers.Refusal.{Refusal}
+use Rattle.md_base.specs.declared.answers.Refusal.TheVariants.{MembersMissing}
+use Rattle.md_base.specs.declared.status.Role.{Role}
+use Rattle.md_base.specs.declared.status.Role.TheVariants.{Whole, Missing}
+use Rattle.md_base.specs.declared.places.Shape.{Shape}
+use Rattle.md_base.specs.Shapes.{has_slot, data_disks}
+use Rattle.md_base.specs.Search.{count_below}
+use Rattle.md_base.proofs.Tabulated.{get_or-tabulate}
+use Rattle.sb1.specs.declared.sb.Sb.{Sb}
+use Rattle.bank.specs.declared.bank.Operation.{Operation}
+use Rattle.bank.specs.Given.{Given}
+use Rattle.bank.specs.Tape.{Contents, contents}
+use Rattle.superblocks.specs.declared.members.Members.{Members}
+use Rattle.superblocks.specs.Reading.{Scope, Reading, is_reshaping, is_backward, is_clean, is_backup, entry_of, shape_of, is_whole, role_state}
+use Rattle.superblocks.specs.Verdict.{is_role}
+use Rattle.superblocks.specs.Election.{reading_in}
+use Rattle.superblocks.specs.Held.{own_at}
+use Rattle.superblocks.specs.Reads.{HasNoLateRoles, IsNewestLike}
+use Rattle.superblocks.specs.Found.{AreLikeNewest, AreInSectors}
+use Rattle.superblocks.proofs.SaidSlots.{read-parts}
+use Rattle.superblocks.proofs.SlotSets.{none_there}
+use Rattle.superblocks.proofs.FoundHeld.{found-of}
+use Rattle.row_io.specs.Rows.{reading_of, is_missing, missing_count}
+use Rattle.flat_history.specs.Stands.{verdict}
+use Rattle.flat_history.specs.World.{World, opening_list, reading_at}
+use Rattle.flat_history.specs.Epochs.{OpensAlike}
+use Rattle.array.specs.declared.spec.CreateSpec.{CreateSpec}
+use Rattle.array.specs.Parts.{Parts}
+use Rattle.array.specs.Placed.{AreWhole, AreUnlost}
+use Rattle.array.specs.Kept.{world_in, world_for, scope_in, IsAdoptable, IsAdopted}
+use Rattle.assemble.specs.declared.opening.Opened.{Opened}
+use Rattle.assemble.specs.Opening.{scope_of, array_of, AreGiven, AreFlushed, IsOpened, IsReshapeRefused, HasCause}
+use Rattle.assemble.specs.Making.{created_sb}
+use Rattle.assemble.specs.Filling.{IsMade, AreZeros}
+use Rattle.assemble.specs.Made.{IsNew}
+use Rattle.assemble.specs.Running.{opened_of, IsBegun, OpensWithZeros, IsCreated, IsAssembled, IsMissingSome, HasAssembleCause}
+use Rattle.assemble.proofs.MadeLaws.{entry-is}
+use Rattle.assemble.proofs.SafeLaws.{opened-told}
+use Rattle.assemble.proofs.NewZeros.{new-arrays-are-zeros}
+use Rattle.assemble.proofs.Adopting.{adoptable}
+
+below : (a b : ℕ) → a < b → nat_lt a b ≡ true
+below a b h = grind (arith, nat_tests, h)
+
+not_below : (a b : ℕ) → b ≤ a → nat_lt a b ≡ false
+not_below a b h = grind (arith, nat_tests, h)
+
+both : (a b : Bool) → (a && b) ≡ true → (a ≡ true) × (b ≡ true)
+both true b e = (refl, e)
+both false b e = absurd (cc)
+
+-- ---- the superblocks that are made say the same
+
+module _ (spec : CreateSpec) (number sectors : ℕ) (sb : Sb) (is : IsMade spec number sectors sb) where
+  entry-early : (dev : ℕ) → dev < 128 → entry_of sb dev ≡ cond (nat_lt dev spec.shape.disks) dev 0xfffe
+  entry-early dev h =
+      ap (λ (s : Sb). entry_of s dev) is.made
+      ∙ ap (λ (b : Bool). cond b (get_or (created_sb spec number sectors is.second).dev_roles dev 0xfffe) 0xfffe) (below dev 128 h)
+      ∙ entry-is spec.shape.disks is.second dev h
+
+  entry-late : HasNoLateRoles sb
+  entry-late dev h =
+      ap (λ (s : Sb). is_role (entry_of s dev)) is.made
+      ∙ ap (λ (b : Bool). is_role (cond b (get_or (created_sb spec number sectors is.second).dev_roles dev 0xfffe) 0xfffe)) (not_below dev 128 h)
+
+made-alike : (spec : CreateSpec) (n n' sectors sectors' : ℕ) (a b : Sb) → IsMade spec n sectors a → IsMade spec n' sectors' b → IsNewestLike a b
+made-alike spec n n' sectors sectors' a b one other = record {
+  array = record {
+    level = ap (λ (s : Sb). s.level) one.made ∙ sym (ap (λ (s : Sb). s.level) other.made);
+    layout = ap (λ (s : Sb). s.layout) one.made ∙ sym (ap (λ (s : Sb). s.layout) other.made);
+    size = ap (λ (s : Sb). s.size) one.made ∙ sym (ap (λ (s : Sb). s.size) other.made);
+    chunksize = ap (λ (s : Sb). s.chunksize) one.made ∙ sym (ap (λ (s : Sb). s.chunksize) other.made);
+    raid_disks = ap (λ (s : Sb). s.raid_disks) one.made ∙ sym (ap (λ (s : Sb). s.raid_disks) other.made);
+    new_level = ap (λ (s : Sb). s.new_level) one.made ∙ sym (ap (λ (s : Sb). s.new_level) other.made);
+    reshape_position = ap (λ (s : Sb). s.reshape_position) one.made ∙ sym (ap (λ (s : Sb). s.reshape_position) other.made);
+    delta_disks = ap (λ (s : Sb). s.delta_disks) one.made ∙ sym (ap (λ (s : Sb). s.delta_disks) other.made);
+    new_layout = ap (λ (s : Sb). s.new_layout) one.made ∙ sym (ap (λ (s : Sb). s.new_layout) other.made);
+    new_chunk = ap (λ (s : Sb). s.new_chunk) one.made ∙ sym (ap (λ (s : Sb). s.new_chunk) other.made);
+    resync_offset = ap (λ (s : Sb). s.resync_offset) one.made ∙ sym (ap (λ (s : Sb). s.resync_offset) other.made);
+    reshaping = ap is_reshaping one.made ∙ sym (ap is_reshaping other.made);
+    backward = ap is_backward one.made ∙ sym (ap is_backward other.made);
+  };
+  entries = λ dev h. entry-early spec n sectors a one dev h ∙ sym (entry-early spec n' sectors' b other dev h);
+  late = entry-late spec n' sectors' b other;
+}
+
+-- ---- what is found in a slot is the member's
+
+module _ {tells : Type 0} (bank : Given) (c : Contents) (backup : Option ℕ) (asked : Option (List ℕ)) (opened : Opened)
+    (is : IsOpened tells bank c backup asked opened) (inside : (s : ℕ) → has_slot opened.given s ≡ true → s < bank.slots) (told : tells) where
+  abbrev scope : Scope
+  scope = scope_of bank backup opened.given opened.members.newest.set_uuid
+
+  own-found : (s : ℕ) (sb : Sb) → own_at (scope_of bank backup opened.given opened.members.newest.set_uuid) s (c s) ≡ Some sb → get_or opened.members.own s None ≡ Some sb
+  own-found s sb here =
+      let within : s < bank.slots = inside s (both (has_slot opened.given s) (not (is_backup backup s)) (found-of scope s (c s) sb here).seen).0 in
+      let parts = read-parts scope c (reading_in bank.slots opened.members) (is.says told) in
+      sym (get_or-take bank.slots opened.members.own s None within) ∙ ap (λ (q : Reading). get_or q.own s None) parts.1
+      ∙ get_or-tabulate bank.slots (λ slot. own_at scope slot (c slot)) s None within ∙ here
+
+-- ---- an array that was just made
+
+module _ {tells : Type 0} (bank : Given) (tape : List Operation) (backup : Option ℕ) (spec : CreateSpec) (opened : Opened) (new : IsNew bank spec opened)
+    (is : IsOpened tells bank (contents bank.start tape (length tape)) backup (Some spec.uuid) opened) where
+  abbrev c : Contents
+  c = contents bank.start tape (length tape)
+
+  inside : (s : ℕ) → has_slot opened.given s ≡ true → s < bank.slots
+  inside s given = less s bank.slots (sym (new.given s) ∙ given)
+    where
+      less : (a b : ℕ) → nat_lt a b ≡ true → a < b
+      less a b e = grind (arith, nat_tests, e)
+
+  state-is : (role : ℕ) → role < spec.shape.disks → role_state (reading_of opened.members) role ≡ Whole role
+  state-is role lt = ap (λ (l : List Role). get_or l role Missing) new.members.roles ∙ get_or-tabulate spec.shape.disks (λ role. Whole role) role Missing lt
+
+  pub new-whole : AreWhole opened.members
+  new-whole role lt = ap (λ (s : Role). not (is_whole s)) (state-is role (omega (arith, lt, ap (λ (s : Shape). s.disks) new.shape)))
+
+  pub new-unlost : AreUnlost opened.members
+  new-unlost role slot held = ap (λ (n : ℕ). has_slot n slot) new.members.lost ∙ none_there slot
+
+  made-of : (s : ℕ) (sb : Sb) → get_or opened.members.own s None ≡ Some sb → IsMade spec s (bank.sectors s) sb
+  made-of s sb at = elim (cases_lt s spec.shape.disks) [
+    | inl lt ↦ (let found = new.members.own.made s lt in subst (λ (x : Sb). IsMade spec s (bank.sectors s) x) (one found.0 sb (sym found.1 ∙ at)) found.2)
+    | inr past ↦ absurd (none sb (sym (new.members.own.none s past) ∙ at))
+  ]
+    where
+      one : (a b : Sb) → Some a ≡ Some b → a ≡ b
+      one a b e = cc
+
+      none : (sb : Sb) → ◌≡◌ {A = Option Sb} None (Some sb) → ⊥
+      none sb e = absurd (cc)
+
+  new-like : tells → AreLikeNewest (scope_of bank backup opened.given opened.members.newest.set_uuid) opened.members.newest (contents bank.start tape (length tape))
+  new-like told = record {
+    level = λ s sb here same. made-alike spec 0 s (bank.sectors 0) (bank.sectors s) opened.members.newest sb (made-of 0 opened.members.newest new.members.newest)
+        (made-of s sb (own-found bank c backup (Some spec.uuid) opened is inside told s sb here));
+    late = λ s sb here. entry-late spec s (bank.sectors s) sb (made-of s sb (own-found bank c backup (Some spec.uuid) opened is inside told s sb here));
+  }
+
+  new-alike : tells → OpensAlike (world_in bank tape (scope_of bank backup opened.given opened.members.newest.set_uuid) (length tape))
+  unfolding reading_at
+  new-alike told = subst (λ (o : Option Reading). IfSome o (λ q. AreLikeNewest (scope_of bank backup opened.given opened.members.newest.set_uuid) q.newest c)) (sym (is.says told)) (new-like told)
+
+  new-zeros : tells → AreZeros spec.shape.disks spec (contents bank.start tape (length tape))
+      → OpensWithZeros (data_disks spec.shape * spec.size) (opening_list (world_in bank tape (scope_of bank backup opened.given opened.members.newest.set_uuid) (length tape)))
+  unfolding opening_list
+  new-zeros told zeros =
+      let holds = (new-arrays-are-zeros bank backup spec c opened new (opened-told told is) zeros).1 in
+      record {
+        count = holds.count ∙ holds.size;
+        each = λ x lt. holds.each x (omega (arith, lt, holds.size));
+      }
+
+  pub new-adoptable : bank.slots ≤ 32 → (tells → AreFlushed bank.start tape opened.given) → (tells → AreInSectors (contents bank.start tape (length tape)) opened.members.own)
+      → IsAdoptable tells bank tape (scope_of bank backup opened.given opened.members.newest.set_uuid) opened.members
+  new-adoptable few flushed stand = adoptable bank tape backup (Some spec.uuid) opened few is inside flushed stand new.placed new-unlost new-whole
+
+-- ---- what was taken over
+
+module _ {B tells : Type 0} (device : B) (bank : Given) (tape : List Operation) (backup : Option ℕ) (opened : Opened) (made : Parts B)
+    (adopted : IsAdopted tells device tape opened.given backup opened.members made) where
+  same-opened : opened ≡ opened_of made
+  same-opened = λ i. record { members = sym adopted.members_are i; given = sym adopted.given i }
+
+  same-world : tells → world_in bank tape (scope_of bank backup opened.given opened.members.newest.set_uuid) (length tape) ≡ world_for bank tape made
+  same-world told = λ i. world_in bank tape (scope_in bank (sym adopted.uuid i) (sym adopted.given i) (sym adopted.backup_is i)) (sym (adopted.first told) i)
+
+  pub begun : AreWhole opened.members → IsBegun tells tape backup made
+  begun whole = record {
+    entries = adopted.entries;
+    first = adopted.first;
+    last = adopted.last;
+    backup_is = adopted.backup_is;
+    uuid = adopted.uuid ∙ sym (ap (λ (m : Members). m.newest.set_uuid) adopted.members_are);
+    unsynced = adopted.unsynced ∙ sym (ap (λ (m : Members). not (is_clean m.newest)) adopted.members_are);
+    whole = subst (λ (m : Members). AreWhole m) (sym adopted.members_are) whole;
+  }
+
+  pub created : (spec : CreateSpec) → IsNew bank spec opened → IsOpened tells bank (contents bank.start tape (length tape)) backup (Some spec.uuid) opened
+      → (tells → AreZeros spec.shape.disks spec (contents bank.start tape (length tape))) → IsCreated tells bank tape backup spec made
+  created spec new is zeros = record {
+    begun = begun (new-whole bank tape backup spec opened new is);
+    new = subst (λ (o : Opened). IsNew bank spec o) same-opened new;
+    opened = subst (λ (o : Opened). IsOpened tells bank (contents bank.start tape (length tape)) backup (Some spec.uuid) o) same-opened is;
+    zeros = λ told. subst (λ (w : World). OpensWithZeros (data_disks spec.shape * spec.size) (opening_list w)) (same-world told)
+        (new-zeros bank tape backup spec opened new is told (zeros told));
+    alike = λ told. subst (λ (w : World). OpensAlike w) (same-world told) (new-alike bank tape backup spec opened new is told);
+  }
+
+  pub assembled : (asked : Option (List ℕ)) (before after : ℕ → ℕ) → AreWhole opened.members → IsOpened tells bank (contents bank.start tape (length tape)) backup asked opened
+      → AreGiven bank opened.given before after → IfSome asked (λ uuid. opened.members.newest.set_uuid ≡ uuid) → IsAssembled tells bank tape backup asked before after made
+  assembled asked before after whole is given named = record {
+    begun = begun whole;
+    opened = subst (λ (o : Opened). IsOpened tells bank (contents bank.start tape (length tape)) backup asked o) same-opened is;
+    given = subst (λ (n : ℕ). AreGiven bank n before after) (sym adopted.given) given;
+    named = subst (λ (u : List ℕ). IfSome asked (λ uuid. u ≡ uuid)) (sym adopted.uuid) named;
+  }
+
+-- ---- what is refused
+
+pub caused : (tells : Type 0) (bank : Given) (c c' : Contents) (backup : Option ℕ) (asked : Option (List ℕ)) (before after : ℕ → ℕ) (fault : Fault)
+    → (tells → c' ≡ c) → HasCause tells bank c' backup asked before after fault → HasAssembleCause tells bank c backup asked before after fault
+caused tells bank c c' backup asked before after (Refused refusal) same cause = inl (record {
+  given = cause.given;
+  slots = cause.slots;
+  why = λ told. subst (λ (k : Contents). (verdict (scope_of bank backup cause.given (array_of bank backup cause.given asked k)) k ≡ Some refusal)
+      ⊎ IsReshapeRefused (scope_of bank backup cause.given (array_of bank backup cause.given asked k)) k refusal) (same told) (cause.why told);
+})
+caused tells bank c c' backup asked before after NoMemory same cause = tt
+
+pub missing : (tells : Type 0) (bank : Given) (c c' : Contents) (backup : Option ℕ) (asked : Option (List ℕ)) (before after : ℕ → ℕ) (opened : Opened) (refusal : Refusal)
+    → (tells → c' ≡ c) → IsOpened tells bank c' backup asked opened → AreGiven bank opened.given before after
+    → 0 < missing_count (reading_of opened.members) (shape_of opened.members.newest)
+    → refusal ≡ MembersMissing (missing_count (reading_of opened.members) (shape_of opened.members.newest)) 0
+    → HasAssembleCause tells bank c backup asked before after (Refused refusal)
+missing tells bank c c' backup asked before after opened refusal same is given some count = inr (record {
+  given = opened.given;
+  slots = given;
+  why = λ told. subst (λ (k : Contents). IsMissingSome (scope_of bank backup opened.given (array_of bank backup opened.given asked k)) k refusal) (same told)
+      (subst (λ (u : List ℕ). IsMissingSome (scope_of bank backup opened.given u) c' refusal) (is.array told) (record {
+        accepted = is.accepted told;
+        found = reading_in bank.slots opened.members;
+        says = is.says told;
+        still = is.still;
+        some = some;
+        count = count;
+      }));
+})
+
+-- none is missing where they are counted as 0
+pub none-missing : (m : Members) → missing_count (reading_of m) (shape_of m.newest) ≡ 0 → AreWhole m
+unfolding count_below
+none-missing m none role lt = each (shape_of m.newest).disks (is_missing (reading_of m)) none role lt
+  where
+    last : (n : ℕ) (b : Bool) → n + cond b 1 0 ≡ 0 → (n ≡ 0) × (b ≡ false)
+    last n true e = absurd (omega (arith, e))
+    last n false e = (omega (arith, e), refl)
+
+    each : (n : ℕ) (test : ℕ → Bool) → count_below n test ≡ 0 → (k : ℕ) → k < n → test k ≡ false
+    each zero test none k h = absurd (omega (arith, h))
+    each (suc n) test none k h =
+        let parts = last (count_below n test) (test n) none in
+        elim (cases_lt k n) [
+          | inl below ↦ each n test parts.0 k below
+          | inr past ↦ (let same : n ≡ k = omega (arith, h, past) in subst (λ (j : ℕ). test j ≡ false) same parts.1)
+        ]
+
+pub ok-then : {T E : Type 0} (result : Result T E) (P Q : T → Type 0) → ((x : T) → P x → Q x) → IfOk result P → IfOk result Q
+ok-then (Ok x) P Q step p = step x p
+ok-then (Err e) P Q step p = tt

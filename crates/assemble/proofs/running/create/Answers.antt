@@ -1,0 +1,29 @@
+use Rattle.std.proofs.Common.{List, subst, sym}
+use Rattle.bank.specs.declared.bank.Operation.{Operation}
+use Rattle.bank.specs.Given.{Given}
+use Rattle.array.specs.Kept.{IsAdoptable, IsAdopted}
+use Rattle.assemble.specs.declared.opening.Opened.{Opened}
+use Rattle.assemble.specs.Opening.{scope_of}
+use Rattle.assemble.specs.Running.{IsCreated}
+use Rattle.assemble.proofs.RunningLaws.{new-adoptable, created, ok-then}
+use Rattle.assemble.proofs.running.create.Goals as goal
+
+pub take_over-requires : goal.take_over-requires
+take_over-requires g c =
+    let bank : Given = g.B.Bank.given c.args.bank in
+    let tape : List Operation = g.B.Bank.tape c.make.new.bank in
+    let opened : Opened = c.in-Ok.opened in
+    subst (λ (b : Given). IsAdoptable g.B.Bank.tells b tape (scope_of b c.args.backup opened.given opened.members.newest.set_uuid) opened.members) (sym c.make.ensures.slots)
+    (new-adoptable bank tape c.args.backup c.args.spec opened c.in-Ok.ensures.new c.in-Ok.ensures.opened c.requires.few c.in-Ok.ensures.flushed c.in-Ok.ensures.sectors)
+
+pub returns-clause-created : goal.returns-clause-created
+returns-clause-created g c =
+    let bank : Given = g.B.Bank.given c.args.bank in
+    let tape : List Operation = g.B.Bank.tape c.make.new.bank in
+    let opened : Opened = c.in-Ok.opened in
+    ok-then c.take_over.result
+    (λ made. IsAdopted g.B.Bank.tells c.make.new.bank tape opened.given c.args.backup opened.members made)
+    (λ made. IsCreated g.B.Bank.tells bank (g.B.Bank.tape made.bank) c.args.backup c.args.spec made)
+    (λ made adopted. subst (λ (b : g.row.B.Denot). IsCreated g.B.Bank.tells bank (g.B.Bank.tape b) c.args.backup c.args.spec made) (sym adopted.bank_is)
+    (created c.make.new.bank bank tape c.args.backup opened made adopted c.args.spec c.in-Ok.ensures.new c.in-Ok.ensures.opened c.in-Ok.ensures.zeros))
+    c.take_over.ensures.adopted

@@ -1,0 +1,17 @@
+use Rattle.std.proofs.Common.{sym, subst, Option}
+use Rattle.sb1.specs.declared.sb.Sb.{Sb}
+use Rattle.row_io.specs.Rows.{present}
+use Rattle.assemble.specs.Filling.{IsStored}
+use Rattle.assemble.proofs.FirstLaws.{first-more, set-here}
+use Rattle.assemble.proofs.storing.store_next.Goals as goal
+
+pub returns-in-Ok-clause-first : goal.returns-in-Ok-clause-first
+returns-in-Ok-clause-first g c =
+    first-more (g.B.Bank.given c.args.bank.now) c.args.spec.now c.args.slot c.args.own.now c.set.new.self c.in-Ok.stored c.requires.few c.requires.first
+    c.set.ensures.own c.in-Ok.ensures.made c.in-Ok.ensures.short
+
+pub returns-in-Ok-clause-stored : goal.returns-in-Ok-clause-stored
+returns-in-Ok-clause-stored g c = λ told.
+    subst (λ (own : Option Sb). IsStored ((g.B.Bank.given c.args.bank.now).sectors c.args.slot) (present (g.B.Bank.given c.args.bank.now) (g.B.Bank.tape c.store_member.new.bank) c.args.slot) own)
+    (sym (set-here (g.B.Bank.given c.args.bank.now) c.args.spec.now c.args.slot c.args.own.now c.set.new.self c.in-Ok.stored c.requires.few c.requires.first c.set.ensures.own))
+    (c.in-Ok.ensures.stored told)
