@@ -1,5 +1,6 @@
 pub mod Decimals
 pub mod KindLaws
+pub mod LeastLaws
 pub mod RunLaws
 pub mod ScriptLaws
 pub mod SeedLaws

@@ -3,15 +3,16 @@ use Rattle.std.proofs.Common.{◌≡◌, ℕ, ◌^◌, Bool, true, false, cond, 
 use Rattle.std.specs.Str.{bytes_eq}
 use Rattle.std.specs.List.{list_all, filter_map, cons_option, enumerate_from, AllPass}
 use Rattle.std.specs.Option.{option_and_then}
-use Rattle.std.specs.Cmp.Lexicographic.{pointwise}
 use Rattle.std.proofs.lemmas.List.Sums.{AllPass-from_list_all}
 use Rattle.uuid.specs.Text.{parsed}
 use lib.Chars.{codes}
+use Rattle.md_base.specs.declared.places.Shape.{Shape}
+use Rattle.script.specs.Keys.{has_key}
 use Rattle.script.specs.Numbers.{words_of, number_below}
-use Rattle.script.specs.Grammar.{is_span, span_of, first_keys, created, create_of, read_of, write_of, line_of, is_printable, is_passed_over, asks_or_bad, meaning_of}
+use Rattle.script.specs.Grammar.{is_span, span_of, array_from, array_of, shape_of, create_keys, create_of, assemble_of, alone, read_of, write_of, line_of, is_printable, is_passed_over, asks_or_bad, meaning_of}
 use Rattle.script.specs.Script.{numbered, asked, is_within_limits}
 use Rattle.script.specs.declared.lines.Line.{Line}
-use Rattle.script.specs.declared.lines.Line.TheVariants.{Read, Write}
+use Rattle.script.specs.declared.lines.Line.TheVariants.{Create, Read, Write, Flush, Stop, Halt, Assemble}
 use Rattle.script.specs.declared.lines.Numbered.{Numbered}
 use Rattle.script.specs.declared.grammar.Meaning.{Meaning}
 use Rattle.script.specs.declared.grammar.Meaning.TheVariants.{PassedOver, Asks, Bad}
@@ -64,28 +65,48 @@ write_ok (x ∷ count ∷ seed ∷ more ∷ rest) line e = absurd (cc)
 
 create_ok : (values : List (List ℕ)) (line : Line) → create_of values ≡ Some line → is_within_limits line ≡ true
 create_ok [] line e = absurd (cc)
-create_ok (uuid ∷ keys) line e = by_keys (either_some (pointwise bytes_eq keys first_keys) (option_map created (parsed uuid)) None line e)
+create_ok (uuid ∷ words) line e = by_keys (either_some (list_all (has_key create_keys) words) (array_of uuid words) None line e)
   where
-    by_keys : (option_map created (parsed uuid) ≡ Some line) ⊎ (None ≡ Some line) → is_within_limits line ≡ true
-    by_keys (inl h) = let made = map_some created (parsed uuid) line h in ap is_within_limits (sym (made.2))
+    by_parts : (u : Option (List ℕ)) (s : Option Shape) (a b : Option ℕ) → array_from u s a b ≡ Some line → is_within_limits line ≡ true
+    by_parts None s a b h = absurd (cc)
+    by_parts (Some u) None a b h = absurd (cc)
+    by_parts (Some u) (Some s) None b h = absurd (cc)
+    by_parts (Some u) (Some s) (Some a) None h = absurd (cc)
+    by_parts (Some u) (Some s) (Some a) (Some b) h =
+        let made : Create (record { uuid = u; shape = s; size = a; offset = b }) ≡ line = cc in
+        ap is_within_limits (sym made)
+
+    by_keys : (array_of uuid words ≡ Some line) ⊎ (None ≡ Some line) → is_within_limits line ≡ true
+    by_keys (inl h) = by_parts (parsed uuid) (shape_of words) _ _ h
     by_keys (inr h) = absurd (cc)
+
+assemble_ok : (values : List (List ℕ)) (line : Line) → assemble_of values ≡ Some line → is_within_limits line ≡ true
+assemble_ok [] line e = let made : Assemble None ≡ line = cc in ap is_within_limits (sym made)
+assemble_ok (uuid ∷ []) line e =
+    let made = map_some (λ (bytes : List ℕ). Assemble (Some bytes)) (parsed uuid) line e in ap is_within_limits (sym (made.2))
+assemble_ok (uuid ∷ more ∷ rest) line e = absurd (cc)
+
+alone_ok : (verb line : Line) (values : List (List ℕ)) → is_within_limits verb ≡ true → alone verb values ≡ Some line → is_within_limits line ≡ true
+alone_ok verb line [] ok e = let made : verb ≡ line = cc in ap is_within_limits (sym made) ∙ ok
+alone_ok verb line (value ∷ rest) ok e = absurd (cc)
+
+-- one verb, or one of the others
+verb_ok : (b : Bool) (x y : Option Line) (line : Line) → (x ≡ Some line → is_within_limits line ≡ true) → (y ≡ Some line → is_within_limits line ≡ true)
+    → cond b x y ≡ Some line → is_within_limits line ≡ true
+verb_ok true x y line this others e = this e
+verb_ok false x y line this others e = others e
 
 line_ok : (words : List (List ℕ)) (line : Line) → line_of words ≡ Some line → is_within_limits line ≡ true
 line_ok [] line e = absurd (cc)
-line_ok (verb ∷ values) line e = first (either_some (bytes_eq verb (codes "create")) (create_of values) _ line e)
-  where
-    third : (write_of values ≡ Some line) ⊎ (None ≡ Some line) → is_within_limits line ≡ true
-    third (inl h) = write_ok values line h
-    third (inr h) = absurd (cc)
-
-    second : (read_of values ≡ Some line) ⊎ (cond (bytes_eq verb (codes "write")) (write_of values) None ≡ Some line) → is_within_limits line ≡ true
-    second (inl h) = read_ok values line h
-    second (inr h) = third (either_some (bytes_eq verb (codes "write")) (write_of values) None line h)
-
-    first : (create_of values ≡ Some line)
-        ⊎ (cond (bytes_eq verb (codes "read")) (read_of values) (cond (bytes_eq verb (codes "write")) (write_of values) None) ≡ Some line) → is_within_limits line ≡ true
-    first (inl h) = create_ok values line h
-    first (inr h) = second (either_some (bytes_eq verb (codes "read")) (read_of values) _ line h)
+line_ok (verb ∷ values) line e =
+    verb_ok (bytes_eq verb (codes "create")) (create_of values) _ line (create_ok values line)
+    (verb_ok (bytes_eq verb (codes "assemble")) (assemble_of values) _ line (assemble_ok values line)
+    (verb_ok (bytes_eq verb (codes "read")) (read_of values) _ line (read_ok values line)
+    (verb_ok (bytes_eq verb (codes "write")) (write_of values) _ line (write_ok values line)
+    (verb_ok (bytes_eq verb (codes "flush")) (alone Flush values) _ line (alone_ok Flush line values refl)
+    (verb_ok (bytes_eq verb (codes "stop")) (alone Stop values) _ line (alone_ok Stop line values refl)
+    (verb_ok (bytes_eq verb (codes "halt")) (alone Halt values) None line (alone_ok Halt line values refl) (λ h. absurd (cc))))))))
+    e
 
 meaning_ok : (text : List ℕ) (line : Line) → meaning_of text ≡ Asks line → is_within_limits line ≡ true
 meaning_ok text line e = by_tests (not (is_printable text)) (is_passed_over text) (line_of (words_of text)) (line_ok (words_of text) line) e

@@ -1,15 +1,16 @@
 -- What is known of a script once its first lines were read.
-use Rattle.std.proofs.Common.{◌≡◌, ℕ, zero, suc, ◌+◌, ◌<◌, ◌≤◌, Bool, true, false, cond, not, ◌||◌, ltb, leb, List, [], ◌∷◌, ◌++◌, length, take, get_or, refl, sym, ap, ap₂, ◌∙◌, subst, arith, ◌⊎◌, inl, inr, Some, None, Option, Ok, Err, zero-add, eq-or-lt_of_le, le_of_suc-le-suc}
+use Rattle.std.proofs.Common.{◌≡◌, ℕ, ◌+◌, ◌<◌, ◌≤◌, true, false, cond, ◌||◌, ltb, leb, List, [], ◌∷◌, ◌++◌, length, take, get_or, refl, sym, ap, ap₂, ◌∙◌, subst, arith, Some, None, Option, Ok, Err, zero-add}
 use Rattle.std.proofs.lemmas.Bool.Decides.{nat_tests}
 use Rattle.std.proofs.lemmas.List.{take_more, take_all, length-take-le, append-nil, get_or_default}
 use Rattle.std.proofs.lemmas.List.FromFn.{length-enumerate_from, get_or-enumerate_from}
 use Rattle.std.proofs.lemmas.List.Elements.{filter_map-append}
 use Rattle.std.proofs.lemmas.List.Sums.{sum_by-append}
 use Rattle.std.specs.List.{enumerate_from, filter_map, cons_option}
-use Rattle.std.specs.Option.{option_or, option_to_list}
+use Rattle.std.specs.Option.{option_to_list}
 use Rattle.md_base.specs.Search.{least_below}
+use Rattle.script.proofs.LeastLaws.{least_below-reached, least_below-passed}
 use Rattle.script.specs.Grammar.{meaning_of}
-use Rattle.script.specs.Script.{most_lines, most_bytes, most_sectors, lines_of, numbered, asked, sectors_of, total_sectors, is_in_place, is_refused, is_bad, unless_bad, script_of}
+use Rattle.script.specs.Script.{most_lines, most_bytes, most_sectors, lines_of, numbered, asked, sectors_of, total_sectors, is_refused, is_bad, unless_bad, script_of}
 use Rattle.script.specs.declared.lines.Line.{Line}
 use Rattle.script.specs.declared.lines.Numbered.{Numbered}
 use Rattle.script.specs.declared.grammar.Meaning.{Meaning}
@@ -37,25 +38,6 @@ asked-more lines k within =
     ∙ filter_map-append (λ p. numbered (p.0) (meaning_of (p.1))) (enumerate_from 1 (take k lines)) ((1 + length (take k lines), get_or lines k []) ∷ [])
     ∙ ap (λ rest. asked (take k lines) ++ rest) (cons_option-nil (numbered (1 + length (take k lines)) (meaning_of (get_or lines k [])))
     ∙ ap (λ n. option_to_list (numbered n (meaning_of (get_or lines k [])))) number)
-
--- the first that passes, once it is reached
-least_below-reached : (n : ℕ) (test : ℕ → Bool) (k : ℕ) → k < n → least_below k test ≡ None → test k ≡ true → least_below n test ≡ Some k
-unfolding least_below
-least_below-reached zero test k within before passes = absurd (omega (arith, within))
-least_below-reached (suc n) test k within before passes =
-    at_place (eq-or-lt_of_le (le_of_suc-le-suc within)) (λ lt. least_below-reached n test k lt before passes)
-  where
-    at_place : (k ≡ n) ⊎ (k < n) → (k < n → least_below n test ≡ Some k) → option_or (least_below n test) (cond (test n) (Some n) None) ≡ Some k
-    at_place (inr lt) found = ap (λ o. option_or o (cond (test n) (Some n) None)) (found lt)
-    at_place (inl same) found =
-        ap₂ (λ o b. option_or o (cond b (Some n) None)) (ap (λ m. least_below m test) (sym same) ∙ before) (ap test (sym same) ∙ passes)
-        ∙ ap (λ m. Some m) (sym same)
-
-least_below-passed : (test : ℕ → Bool) (k : ℕ) → least_below k test ≡ None → test k ≡ false → least_below (k + 1) test ≡ None
-unfolding least_below
-least_below-passed test k before fails =
-    let e : k + 1 ≡ suc k = omega arith in
-    ap (λ m. least_below m test) e ∙ ap₂ (λ o b. option_or o (cond b (Some k) None)) before fails
 
 -- what is known once the first k lines were read and none was bad
 pub record SoFar (lines : List (List ℕ)) (k : ℕ) (script : List Numbered) (sectors : ℕ) : Type 0 where
@@ -111,17 +93,15 @@ so_far-passed lines k script sectors so_far within few passed = record {
       (at_line lines k script sectors so_far few ∙ ap (is_refused script) passed);
 }
 
--- a line in its place that stays below the limit isn't refused
-taken : (script : List Numbered) (sectors : ℕ) (line : Line) → is_in_place script line ≡ true → sectors ≡ total_sectors script
+-- a line that stays below the limit isn't refused
+taken : (script : List Numbered) (sectors : ℕ) (line : Line) → sectors ≡ total_sectors script
     → sectors + sectors_of line ≤ most_sectors → is_refused script (Asks line) ≡ false
-taken script sectors line placed are fits =
-    let t : ltb most_sectors (total_sectors script + sectors_of line) ≡ false = grind (arith, nat_tests) in
-    ap₂ (λ a b. not a || b) placed t
+taken script sectors line are fits = grind (arith, nat_tests)
 
 pub so_far-asked : (lines : List (List ℕ)) (k : ℕ) (script : List Numbered) (sectors : ℕ) (line : Line) → SoFar lines k script sectors → k < length lines
-    → k < most_lines → meaning_of (get_or lines k []) ≡ Asks line → is_in_place script line ≡ true → sectors + sectors_of line ≤ most_sectors
+    → k < most_lines → meaning_of (get_or lines k []) ≡ Asks line → sectors + sectors_of line ≤ most_sectors
     → SoFar lines (k + 1) (script ++ record { number = k + 1; line = line } ∷ []) (sectors + sectors_of line)
-so_far-asked lines k script sectors line so_far within few asks placed fits = record {
+so_far-asked lines k script sectors line so_far within few asks fits = record {
   script_is = more lines k script sectors (Asks line) so_far within asks;
   sectors_are =
       ap (λ n. n + sectors_of line) so_far.sectors_are
@@ -130,23 +110,13 @@ so_far-asked lines k script sectors line so_far within few asks placed fits = re
   few_sectors = fits;
   few_lines = omega arith;
   none_bad = least_below-passed (is_bad lines) k so_far.none_bad
-      (at_line lines k script sectors so_far few ∙ ap (is_refused script) asks ∙ taken script sectors line placed so_far.sectors_are fits);
+      (at_line lines k script sectors so_far few ∙ ap (is_refused script) asks ∙ taken script sectors line so_far.sectors_are fits);
 }
 
--- a line out of its place is refused
-pub out_of_place : (script : List Numbered) (line : Line) → is_in_place script line ≡ false → is_refused script (Asks line) ≡ true
-out_of_place script line misplaced = ap (λ a. not a || ltb most_sectors (total_sectors script + sectors_of line)) misplaced
-
--- and so is one past the limit
+-- a line past the limit is refused
 pub past_limit : (script : List Numbered) (sectors : ℕ) (line : Line) → sectors ≡ total_sectors script → most_sectors < sectors + sectors_of line
     → is_refused script (Asks line) ≡ true
-past_limit script sectors line are past =
-    let t : ltb most_sectors (total_sectors script + sectors_of line) ≡ true = grind (arith, nat_tests) in
-    either (not (is_in_place script line)) (ltb most_sectors (total_sectors script + sectors_of line)) t
-  where
-    either : (a b : Bool) → b ≡ true → (a || b) ≡ true
-    either true b yes_it = refl
-    either false b yes_it = yes_it
+past_limit script sectors line are past = grind (arith, nat_tests)
 
 -- The whole script.
 pub too_long : (text : List ℕ) → most_bytes < length text → script_of text ≡ Err 0

@@ -2,11 +2,13 @@
 use Rattle.std.specs.Prelude.{ℕ, ◌+◌, ◌^◌, Bool, ◌&&◌, ◌||◌, not, ◌==◌, nat_lt, nat_le, if◌then◌else◌, List, [], ◌∷◌, slice_index, bytes_eq, codes, Option, Some, None, option_map}
 use Rattle.std.specs.List.{list_all}
 use Rattle.std.specs.Option.{option_and_then}
-use Rattle.std.specs.Cmp.Lexicographic.{pointwise}
 use Rattle.uuid.specs.Text.{parsed}
+use Rattle.md_base.specs.declared.places.Shape.{Shape}
+use Rattle.script.specs.Keys.{has_key, given}
+use Rattle.script.specs.Layouts.{layout_named}
 use Rattle.script.specs.Numbers.{is_space, words_of, number_below}
 use Rattle.script.specs.declared.lines.Line.{Line}
-use Rattle.script.specs.declared.lines.Line.TheVariants.{Create, Read, Write}
+use Rattle.script.specs.declared.lines.Line.TheVariants.{Create, Read, Write, Flush, Stop, Halt, Assemble}
 use Rattle.script.specs.declared.grammar.Meaning.{Meaning}
 use Rattle.script.specs.declared.grammar.Meaning.TheVariants.{PassedOver, Asks, Bad}
 
@@ -20,18 +22,49 @@ span_of x count =
     (λ start. option_and_then (λ n. if is_span (start, n) then Some (start, n) else None) (number_below (2 ^ 32) count))
     (number_below (2 ^ 64) x)
 
--- the one array that can be made so far
-abbrev pub first_keys : List (List ℕ)
-first_keys = codes "level=5" ∷ codes "disks=3" ∷ codes "chunk=8" ∷ codes "size=40" ∷ codes "offset=16" ∷ []
+abbrev pub given_number : ℕ → List ℕ → Option (List ℕ) → List (List ℕ) → Option ℕ
+given_number limit key default words = option_and_then (number_below limit) (given key default words)
 
-abbrev pub created : List ℕ → Line
-created uuid =
-    Create (record { uuid = uuid; shape = record { level = 5; layout = 2; chunk = 8; disks = 3 }; size = 40; offset = 16 })
+abbrev pub given_layout : List (List ℕ) → Option ℕ
+given_layout words = option_and_then layout_named (given (codes "layout=") (Some (codes "left-symmetric")) words)
 
--- `create UUID` and the keys
+-- a shape of these numbers
+abbrev pub shape_from : Option ℕ → Option ℕ → Option ℕ → Option ℕ → Option Shape
+shape_from (Some level) (Some disks) (Some chunk) (Some layout) =
+    Some (record { level = level; layout = layout; chunk = chunk; disks = disks })
+shape_from level disks chunk layout = None
+
+-- the shape that the keys give; level and disks have no default
+abbrev pub shape_of : List (List ℕ) → Option Shape
+shape_of words =
+    shape_from (given_number (2 ^ 32) (codes "level=") None words) (given_number (2 ^ 32) (codes "disks=") None words)
+    (given_number (2 ^ 32) (codes "chunk=") (Some (codes "1024")) words) (given_layout words)
+
+-- an array of these parts
+abbrev pub array_from : Option (List ℕ) → Option Shape → Option ℕ → Option ℕ → Option Line
+array_from (Some uuid) (Some shape) (Some size) (Some offset) =
+    Some (Create (record { uuid = uuid; shape = shape; size = size; offset = offset }))
+array_from uuid shape size offset = None
+
+-- the array that the keys give; its size has no default
+abbrev pub array_of : List ℕ → List (List ℕ) → Option Line
+array_of uuid words =
+    array_from (parsed uuid) (shape_of words) (given_number (2 ^ 64) (codes "size=") None words)
+    (given_number (2 ^ 64) (codes "offset=") (Some (codes "2048")) words)
+
+abbrev pub create_keys : List (List ℕ)
+create_keys = codes "level=" ∷ codes "disks=" ∷ codes "chunk=" ∷ codes "layout=" ∷ codes "size=" ∷ codes "offset=" ∷ []
+
+-- `create UUID key=value..`, of these keys alone, in any order
 abbrev pub create_of : List (List ℕ) → Option Line
 create_of [] = None
-create_of (uuid ∷ keys) = if pointwise bytes_eq keys first_keys then option_map created (parsed uuid) else None
+create_of (uuid ∷ words) = if list_all (has_key create_keys) words then array_of uuid words else None
+
+-- `assemble` or `assemble UUID`
+abbrev pub assemble_of : List (List ℕ) → Option Line
+assemble_of [] = Some (Assemble None)
+assemble_of (uuid ∷ []) = option_map (λ bytes. Assemble (Some bytes)) (parsed uuid)
+assemble_of values = None
 
 -- `read X COUNT`
 abbrev pub read_of : List (List ℕ) → Option Line
@@ -44,13 +77,22 @@ write_of (x ∷ count ∷ seed ∷ []) =
     option_and_then (λ span. option_map (λ n. Write span.0 span.1 n) (number_below (2 ^ 32) seed)) (span_of x count)
 write_of _ = None
 
+-- a line of one word
+abbrev pub alone : Line → List (List ℕ) → Option Line
+alone line [] = Some line
+alone line values = None
+
 -- a line by its first word
 abbrev pub line_of : List (List ℕ) → Option Line
 line_of [] = None
 line_of (verb ∷ values) =
     if bytes_eq verb (codes "create") then create_of values
+    else if bytes_eq verb (codes "assemble") then assemble_of values
     else if bytes_eq verb (codes "read") then read_of values
     else if bytes_eq verb (codes "write") then write_of values
+    else if bytes_eq verb (codes "flush") then alone Flush values
+    else if bytes_eq verb (codes "stop") then alone Stop values
+    else if bytes_eq verb (codes "halt") then alone Halt values
     else None
 
 -- printable ASCII and spaces

@@ -1,4 +1,6 @@
 pub mod Grammar
+pub mod Keys
+pub mod Layouts
 pub mod Looks
 pub mod Numbers
 pub mod Script

@@ -1,11 +1,10 @@
 -- What the text of a whole script asks, or which of its lines is the first bad one.
-use Rattle.std.specs.Prelude.{◌≡◌, ℕ, ◌+◌, ◌-◌, Bool, true, false, ◌&&◌, ◌||◌, not, ◌==◌, nat_lt, nat_le, if◌then◌else◌, List, [], length, take, sum_by, slice_index, slice_index_or, Option, Some, None, Result, Ok, Err}
+use Rattle.std.specs.Prelude.{◌≡◌, ℕ, ◌+◌, ◌-◌, Bool, true, false, ◌||◌, ◌==◌, nat_lt, nat_le, if◌then◌else◌, List, [], length, take, sum_by, slice_index, slice_index_or, Option, Some, None, Result, Ok, Err}
 use Rattle.std.specs.List.{slice_split, enumerate_from, filter_map}
 use Rattle.md_base.specs.Search.{least_below}
 use Rattle.script.specs.Grammar.{is_span, meaning_of}
-use Rattle.script.specs.declared.lines.CreateLine.{CreateLine}
 use Rattle.script.specs.declared.lines.Line.{Line}
-use Rattle.script.specs.declared.lines.Line.TheVariants.{Create, Read, Write}
+use Rattle.script.specs.declared.lines.Line.TheVariants.{Read, Write}
 use Rattle.script.specs.declared.lines.Numbered.{Numbered}
 use Rattle.script.specs.declared.lines.ScriptFault.{ScriptFault}
 use Rattle.script.specs.declared.lines.ScriptFault.TheVariants.{BadLine, NoMemory}
@@ -41,39 +40,24 @@ asked lines = filter_map (λ p. numbered p.0 (meaning_of p.1)) (enumerate_from 1
 
 -- how many sectors a line reads or writes
 abbrev pub sectors_of : Line → ℕ
-sectors_of (Create line) = 0
 sectors_of (Read start count) = count
 sectors_of (Write start count seed) = count
+sectors_of line = 0
 
--- the one array that can be made so far: 40 rows on three disks, with rotating parity
-abbrev pub is_first_array : CreateLine → Bool
-is_first_array line =
-    (line.shape.level == 5) && (line.shape.layout == 2) && (line.shape.chunk == 8) && (line.shape.disks == 3)
-    && (line.size == 40) && (line.offset == 16)
-
--- what a line reads or writes is a span, and what it makes is the one array
+-- what a line reads or writes is a span
 abbrev pub is_within_limits : Line → Bool
-is_within_limits (Create line) = is_first_array line
 is_within_limits (Read start count) = is_span (start, count)
 is_within_limits (Write start count seed) = is_span (start, count)
+is_within_limits line = true
 
 abbrev pub total_sectors : List Numbered → ℕ
 total_sectors asked = sum_by (λ numbered. sectors_of numbered.line) asked
 
-abbrev pub is_create : Line → Bool
-is_create (Create line) = true
-is_create (Read start count) = false
-is_create (Write start count seed) = false
-
--- a script makes its array first, and then reads and writes it
-abbrev pub is_in_place : List Numbered → Line → Bool
-is_in_place before line = if length before == 0 then is_create line else not (is_create line)
-
--- a line with this meaning can't stand after what was asked before
+-- refused are a line that isn't in the grammar, and one that goes past the limit with those before it
 abbrev pub is_refused : List Numbered → Meaning → Bool
 is_refused before Bad = true
 is_refused before PassedOver = false
-is_refused before (Asks line) = not (is_in_place before line) || nat_lt most_sectors (total_sectors before + sectors_of line)
+is_refused before (Asks line) = nat_lt most_sectors (total_sectors before + sectors_of line)
 
 -- the line behind the first k is bad
 abbrev pub is_bad : List (List ℕ) → ℕ → Bool

@@ -17,6 +17,7 @@ use Rattle.flat_history.specs.declared.events.Event.{Event}
 use Rattle.flat_history.specs.declared.events.Event.TheVariants.{Read, Wrote, Flushed, Added, Failed, Visible, Planned, Stepped, Stopped, Halted, Refused}
 use Rattle.script.specs.declared.reply.Lane.{Lane}
 use Rattle.script.specs.declared.reply.Lane.TheVariants.{Script, A, B, Worker}
+use Rattle.script.specs.Layouts.{layout_name}
 use Rattle.script.specs.Seeds.{seed_sector}
 
 -- ---- refusals
@@ -184,21 +185,6 @@ lane_text B = codes "b: "
 lane_text Worker = codes "worker: "
 
 -- ---- an array that was assembled
-
-abbrev pub layout_name : ℕ → Option (List ℕ)
-layout_name layout =
-    if layout == 0 then Some (codes "left-asymmetric")
-    else if layout == 1 then Some (codes "right-asymmetric")
-    else if layout == 2 then Some (codes "left-symmetric")
-    else if layout == 3 then Some (codes "right-symmetric")
-    else if layout == 4 then Some (codes "parity-first")
-    else if layout == 5 then Some (codes "parity-last")
-    else if layout == 16 then Some (codes "left-asymmetric-6")
-    else if layout == 17 then Some (codes "right-asymmetric-6")
-    else if layout == 18 then Some (codes "left-symmetric-6")
-    else if layout == 19 then Some (codes "right-symmetric-6")
-    else if layout == 20 then Some (codes "parity-first-6")
-    else None
 
 -- a layout by its name; no shape has a layout without one
 abbrev pub layout_text : ℕ → List ℕ

@@ -1,12 +1,14 @@
 //! What one line of a script asks.
 
-ghost use Rattle.std.specs.Prelude.{◌≡◌, ◌==◌, bytes_eq, map, slice_index};
+ghost use Rattle.std.specs.Prelude.{◌≡◌, ◌==◌, slice_index};
 ghost use Rattle.std.specs.List.{list_all};
-ghost use Rattle.std.specs.Cmp.Lexicographic.{pointwise};
 ghost use Rattle.uuid.specs.Text.{parsed};
-ghost use Rattle.script.specs.Grammar.{meaning_of, is_printable, line_of, first_keys, created, create_of, read_of, write_of, span_of};
+ghost use Rattle.script.specs.Grammar.{meaning_of, is_printable, line_of, alone, create_keys, create_of, shape_of, assemble_of, read_of, write_of, span_of};
+ghost use Rattle.script.specs.Keys.{has_key};
 ghost use Rattle.script.specs.Numbers.{is_space, words_of};
 
+use crate::keys::{have_keys, value_of};
+use crate::layouts::layout_named;
 use crate::lines::{CreateLine, Line};
 use crate::numbers::{Words, number, small_number};
 use md_base::Shape;
@@ -61,61 +63,87 @@ fn parse_line(mut words: Words<'_>) -> Option<Line>
     let verb = words.next()?;
     if verb == b"create".as_slice() {
         parse_create(words)
+    } else if verb == b"assemble".as_slice() {
+        parse_assemble(words)
     } else if verb == b"read".as_slice() {
         parse_read(words)
     } else if verb == b"write".as_slice() {
         parse_write(words)
+    } else if verb == b"flush".as_slice() {
+        parse_alone(words, Line::Flush)
+    } else if verb == b"stop".as_slice() {
+        parse_alone(words, Line::Stop)
+    } else if verb == b"halt".as_slice() {
+        parse_alone(words, Line::Halt)
     } else {
         None
     }
 }
 
-// `create UUID` and the keys of the one array that can be made so far.
+// A line of which no words are left.
+fn parse_alone(mut words: Words<'_>, line: Line) -> Option<Line>
+    ensures { result ≡ alone line (words_of words.entry.line.now) }
+{
+    match words.next() {
+        None => Some(line),
+        Some(_) => None,
+    }
+}
+
 fn parse_create(mut words: Words<'_>) -> Option<Line>
     ensures { result ≡ create_of (words_of words.entry.line.now) }
 {
     let uuid = words.next()?;
-    if !has_first_keys(words) {
+    if !has_create_keys(words) {
         return None;
     }
-    Some(first_array(parse_uuid(uuid)?))
-}
-
-fn has_first_keys(words: Words<'_>) -> bool
-    ensures { result ≡ pointwise bytes_eq (words_of words.entry.line.now) first_keys }
-{
-    let keys: [&[u8]; 5] = [b"level=5", b"disks=3", b"chunk=8", b"size=40", b"offset=16"];
-    are_words(words, &keys)
-}
-
-// Whether the words are these.
-fn are_words(mut words: Words<'_>, wanted: &[&[u8]]) -> bool
-    ensures { result ≡ pointwise bytes_eq (words_of words.entry.line.now) (map (λ word. word.now) wanted.now) }
-{
-    for word in wanted {
-        match words.next() {
-            Some(next) if next == *word => {}
-            _ => return false,
-        }
-    }
-    words.next().is_none()
-}
-
-fn first_array(uuid: [u8; 16]) -> Line
-    ensures { result ≡ created uuid }
-{
-    let shape = Shape {
-        level: 5,
-        layout: 2,
-        chunk: 8,
-        disks: 3,
-    };
-    Line::Create(CreateLine {
+    let uuid = parse_uuid(uuid)?;
+    let shape = parse_shape(words)?;
+    let size = number(value_of(words, b"size=", None)?)?;
+    let offset = number(value_of(words, b"offset=", Some(b"2048"))?)?;
+    Some(Line::Create(CreateLine {
         uuid,
         shape,
-        size: 40,
-        offset: 16,
+        size,
+        offset,
+    }))
+}
+
+fn has_create_keys(words: Words<'_>) -> bool
+    ensures { result ≡ list_all (has_key create_keys) (words_of words.entry.line.now) }
+{
+    let keys: [&[u8]; 6] = [
+        b"level=", b"disks=", b"chunk=", b"layout=", b"size=", b"offset=",
+    ];
+    have_keys(words, &keys)
+}
+
+fn parse_shape(words: Words<'_>) -> Option<Shape>
+    ensures { result ≡ shape_of (words_of words.entry.line.now) }
+{
+    let level = small_number(value_of(words, b"level=", None)?)?;
+    let disks = small_number(value_of(words, b"disks=", None)?)?;
+    let chunk = small_number(value_of(words, b"chunk=", Some(b"1024"))?)?;
+    let layout = layout_named(value_of(words, b"layout=", Some(b"left-symmetric"))?)?;
+    Some(Shape {
+        level,
+        layout,
+        chunk,
+        disks,
     })
+}
+
+fn parse_assemble(mut words: Words<'_>) -> Option<Line>
+    ensures { result ≡ assemble_of (words_of words.entry.line.now) }
+{
+    let Some(uuid) = words.next() else {
+        return Some(Line::Assemble { uuid: None });
+    };
+    if words.next().is_some() {
+        return None;
+    }
+    let uuid = parse_uuid(uuid)?;
+    Some(Line::Assemble { uuid: Some(uuid) })
 }
 
 // The bytes of the uuid that a word writes, if it writes one.

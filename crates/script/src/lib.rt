@@ -2,6 +2,8 @@
 #![tactic(auto)]
 
 pub mod grammar;
+pub mod keys;
+pub mod layouts;
 pub mod lines;
 pub mod numbers;
 pub mod reply;

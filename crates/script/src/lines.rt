@@ -1,7 +1,7 @@
 //! The lines of a whole script.
 
 ghost use Rattle.std.specs.Prelude.{◌≡◌, IfOk, IfErr, Ok};
-ghost use Rattle.script.specs.Script.{script_of, IsFaultOf, sectors_of, is_within_limits, without_end, is_in_place};
+ghost use Rattle.script.specs.Script.{script_of, IsFaultOf, sectors_of, is_within_limits, without_end};
 ghost use Rattle.std.specs.List.{AllPass};
 
 use crate::grammar::{Meaning, meaning_of_line};
@@ -15,6 +15,10 @@ pub enum Line {
     Create(CreateLine),
     Read { at: u64, count: u32 },
     Write { at: u64, count: u32, seed: u32 },
+    Flush,
+    Stop,
+    Halt,
+    Assemble { uuid: Option<[u8; 16]> },
 }
 
 /// The array that a `create` line asks for; size and offset are in sectors.
@@ -55,8 +59,8 @@ impl Line {
         ensures { result ≡ sectors_of self.now }
     {
         match self {
-            Line::Create(_) => 0,
             Line::Read { count, .. } | Line::Write { count, .. } => u64::from(*count),
+            _ => 0,
         }
     }
 }
@@ -69,13 +73,6 @@ fn without_last_newline(text: &[u8]) -> &[u8]
         [lines @ .., b'\n'] => lines,
         _ => text,
     }
-}
-
-// Whether the line may stand behind these.
-fn may_follow(before: &[Numbered], line: Line) -> bool
-    ensures { result ≡ is_in_place before.now line }
-{
-    matches!(line, Line::Create(_)) == before.is_empty()
 }
 
 /// The lines that a script's text asks to perform, or its first bad line.
@@ -101,9 +98,6 @@ pub fn read_script(alloc: Global, text: &[u8]) -> Result<Vec<Numbered>, ScriptFa
             Meaning::PassedOver => {}
             Meaning::Bad => return Err(ScriptFault::BadLine(number)),
             Meaning::Asks(line) => {
-                if !may_follow(&script, line) {
-                    return Err(ScriptFault::BadLine(number));
-                }
                 sectors += line.sectors();
                 if sectors > MOST_SECTORS {
                     return Err(ScriptFault::BadLine(number));

@@ -5,7 +5,7 @@ ghost use Rattle.std.specs.Iterator.{YieldsFirstRef, item_count};
 ghost use Rattle.script.specs.Numbers.{is_space, words_of, number_below};
 
 /// The words that are left of a line.
-#[derive(Drop)]
+#[derive(Clone, Copy)]
 pub struct Words<'a> {
     line: &'a [u8],
 }

@@ -4,6 +4,7 @@ ghost use Rattle.std.specs.Prelude.{◌≡◌, ℕ, ◌+◌, ◌<◌, ◌≤◌,
 ghost use Rattle.script.specs.Looks.{kind_seen};
 ghost use Rattle.script.specs.Texts.{assembled_text, busy_word, created_text, ending_text, event_text, field_word, is_same, kind_of, kind_text, kinds, lane_text, layout_text, refusal_text, refused, run_text, runs, runs_text, shape_text, shown_text, worker_refusal_text, waited_text, worker_text, Hex};
 
+use crate::layouts::layout_name;
 use crate::seeds::seed_contents;
 use flat_history::Event;
 use md_base::{BusyKind, Refusal, Sectors, Shape, ShapeField, Status};
@@ -243,19 +244,9 @@ fn field_name(field: ShapeField) -> &'static str
 fn push_layout(text: &mut Vec<u8>, layout: u32) -> Result<(), AllocError>
     ensures { OnOk result (text.new.items ≡ text.old.items ++ layout_text layout) }
 {
-    match layout {
-        0 => text.extend_from_slice(b"left-asymmetric"),
-        1 => text.extend_from_slice(b"right-asymmetric"),
-        2 => text.extend_from_slice(b"left-symmetric"),
-        3 => text.extend_from_slice(b"right-symmetric"),
-        4 => text.extend_from_slice(b"parity-first"),
-        5 => text.extend_from_slice(b"parity-last"),
-        16 => text.extend_from_slice(b"left-asymmetric-6"),
-        17 => text.extend_from_slice(b"right-asymmetric-6"),
-        18 => text.extend_from_slice(b"left-symmetric-6"),
-        19 => text.extend_from_slice(b"right-symmetric-6"),
-        20 => text.extend_from_slice(b"parity-first-6"),
-        _ => push_number(text, u64::from(layout)),
+    match layout_name(layout) {
+        Some(name) => text.extend_from_slice(name.as_bytes()),
+        None => push_number(text, u64::from(layout)),
     }
 }
 

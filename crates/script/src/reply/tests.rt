@@ -1,9 +1,9 @@
 //! Replies as a reader sees them; the expected texts were written by hand.
 
-use super::{push_event, push_refusal, push_waited, push_worker};
+use super::{push_assembled, push_event, push_refusal, push_waited, push_worker};
 use crate::seeds::seed_contents;
 use flat_history::Event;
-use md_base::{BusyKind, Refusal, Sectors, ShapeField, Wish};
+use md_base::{BusyKind, Refusal, RoleList, Sectors, Shape, ShapeField, SlotList, Status, Wish};
 use std::alloc::{AllocError, Global};
 use std::test::Fail;
 
@@ -185,6 +185,50 @@ fn events_have_their_texts(rt: HostRuntime) -> Result<(), Fail> {
             assert!(rt; is_shown(rt.alloc(), &event, want)?, "{want}");
         }
     }
+    Ok(())
+}
+
+// The text of an array of 128 rows on four disks, and on these where a reshape is active.
+fn assembled(alloc: Global, target: Option<Shape>) -> Result<Vec<u8>, AllocError> {
+    let status = Status {
+        shape: Shape {
+            level: 5,
+            layout: 2,
+            chunk: 8,
+            disks: 4,
+        },
+        target,
+        position: 0,
+        size: 128,
+        length: 384,
+        visible: 384,
+        clean: true,
+        events: 7,
+        left: 24,
+        roles: RoleList::new(alloc)?,
+        spares: SlotList::new(alloc)?,
+    };
+    let mut text = Vec::new(alloc);
+    push_assembled(&mut text, &status)?;
+    Ok(text)
+}
+
+#[test]
+fn arrays_are_shown(rt: HostRuntime) -> Result<(), Fail> {
+    let idle = assembled(rt.alloc(), None)?;
+    let want =
+        b"assembled level 5 disks 4 chunk 8 size 128 layout left-symmetric visible 384 left 24";
+    assert_eq!(rt; idle.as_slice(), want.as_slice());
+    let target = Shape {
+        level: 5,
+        layout: 2,
+        chunk: 8,
+        disks: 5,
+    };
+    let reshaped = assembled(rt.alloc(), Some(target))?;
+    let want =
+        b"assembled level 5 disks 5 chunk 8 size 128 layout left-symmetric visible 384 left 24";
+    assert_eq!(rt; reshaped.as_slice(), want.as_slice());
     Ok(())
 }
 

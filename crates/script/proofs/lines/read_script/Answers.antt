@@ -1,9 +1,9 @@
-use Rattle.std.proofs.Common.{◌≡◌, take, true, false, cond, ◌++◌, ◌∷◌, Err, ◌≤◌, ◌+◌, [], length, eqb, arith, rules, refl, sym, ap, ◌∙◌}
+use Rattle.std.proofs.Common.{◌≡◌, take, cond, ◌++◌, ◌∷◌, Err, ◌≤◌, ◌+◌, [], length, eqb, arith, rules, refl, sym, ap, ◌∙◌}
 use Rattle.std.proofs.lemmas.Iterator.Splits.{YieldsList-from_slice_split}
 use Rattle.std.proofs.lemmas.Iterator.Consumers.{YieldsList-from_enumerate, YieldsList-turn, YieldsList-end}
 use borrow.Author.Tests.{tests}
-use Rattle.script.specs.Script.{lines_of, without_end, is_refused, is_in_place}
-use Rattle.script.proofs.ScriptLaws.{so_far-start, so_far-bad, so_far-long, so_far-passed, so_far-asked, out_of_place, past_limit, too_long, bad_at, all_read, at_turn}
+use Rattle.script.specs.Script.{lines_of, without_end, is_refused}
+use Rattle.script.proofs.ScriptLaws.{so_far-start, so_far-bad, so_far-long, so_far-passed, so_far-asked, past_limit, too_long, bad_at, all_read, at_turn}
 use Rattle.std.proofs.lemmas.List.{length_push}
 use Rattle.script.specs.Grammar.{meaning_of}
 use Rattle.std.proofs.lemmas.List.FromFn.{length-enumerate_from}
@@ -55,20 +55,6 @@ returns-in-Bad-clause-bad c =
     (ap (is_refused c.loop-k.script.items) (ap meaning_of (sym (here.2)) ∙ sym c.in-Bad.ensures)) in
     bad_at c.args.text.now (length c.loop-k.yielded) (omega arith) bad ∙ ap (λ k. Err (k + 1)) (sym (here.1))
 
-pub returns-then-not-may_follow-clause-bad : goal.returns-then-not-may_follow-clause-bad
-returns-then-not-may_follow-clause-bad c =
-    let source = c.enumerate-k-items.ensures.source in
-    let count = c.enumerate-k-items.ensures.count in
-    let gives = c.into_iter-k-iterator.ensures.into_iter_gives in
-    let here = at_turn (lines_of c.args.text.now) (length c.loop-k.yielded) c.in-Some.k c.in-Some.line.now
-    (YieldsList-turn (YieldsList-from_enumerate (YieldsList-from_slice_split _ (λ b. eqb b 10) (without_end c.args.text.now)
-    (rw gives (rw source (c.split.ensures.rest ∙ c.without_last_newline.ensures))) (rw gives (rw source c.split.ensures.done)) refl (λ x b q h. search (rules, tests))) (rw gives count))
-    c.loop-k.yielded _ c.loop-k.yielded_by _ _ (c.in-Some.k, c.in-Some.line) c.in-Some.is c.next.ensures.steps) in
-    let misplaced : is_in_place c.loop-k.script.items c.in-Asks.line ≡ false = cc in
-    let bad = so_far-bad (lines_of c.args.text.now) (length c.loop-k.yielded) c.loop-k.script.items c.loop-k.sectors c.loop-k.invariant (here.0) (omega (arith, here))
-    (ap (is_refused c.loop-k.script.items) (ap meaning_of (sym (here.2)) ∙ sym c.in-Asks.ensures) ∙ out_of_place c.loop-k.script.items c.in-Asks.line misplaced) in
-    bad_at c.args.text.now (length c.loop-k.yielded) (omega arith) bad ∙ ap (λ k. Err (k + 1)) (sym (here.1))
-
 pub returns-then-sectors-gt-MOST_SECTORS-clause-bad : goal.returns-then-sectors-gt-MOST_SECTORS-clause-bad
 returns-then-sectors-gt-MOST_SECTORS-clause-bad c =
     let source = c.enumerate-k-items.ensures.source in
@@ -94,14 +80,13 @@ loop-k-preserved c =
     (rw gives (rw source (c.split.ensures.rest ∙ c.without_last_newline.ensures))) (rw gives (rw source c.split.ensures.done)) refl (λ x b q h. search (rules, tests))) (rw gives count))
     c.loop-k.yielded _ c.loop-k.yielded_by _ _ (c.in-Some.k, c.in-Some.line) c.in-Some.is c.next.ensures.steps) in
     let size = c.sectors-sectors.ensures in
-    let placed : is_in_place c.loop-k.script.items c.in-Asks.line ≡ true = cc in
     let kept = c.if-is_err.ensures.negation in
     let number : c.in-Some.k + 1 ≡ length c.loop-k.yielded + 1 = omega (arith, here) in
     let pushed = c.push.ensures.items ∙ ap (λ b. cond b (c.loop-k.script.items ++ record { number = c.in-Some.k + 1; line = c.in-Asks.line } ∷ []) c.loop-k.script.items) kept
     ∙ ap (λ n. c.loop-k.script.items ++ record { number = n; line = c.in-Asks.line } ∷ []) number in
     rw (length_push c.loop-k.yielded (c.in-Some.k, c.in-Some.line), pushed, size)
     (so_far-asked (lines_of c.args.text.now) (length c.loop-k.yielded) c.loop-k.script.items c.loop-k.sectors c.in-Asks.line c.loop-k.invariant (here.0) (omega (arith, here))
-    (ap meaning_of (sym (here.2)) ∙ sym c.in-Asks.ensures) placed (omega (arith, size)))
+    (ap meaning_of (sym (here.2)) ∙ sym c.in-Asks.ensures) (omega (arith, size)))
 
 pub returns-clause-lines : goal.returns-clause-lines
 returns-clause-lines c =
