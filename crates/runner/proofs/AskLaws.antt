@@ -1,74 +1,94 @@
--- A request that was answered, and its place in the history.
-use Rattle.std.proofs.Common.{◌≡◌, ◌≢◌, ℕ, zero, suc, ◌+◌, ◌/◌, ◌≤◌, Some, List, [], ◌∷◌, ◌++◌, length, take, drop, refl, sym, ◌∙◌, ap, subst, arith, append_assoc, length-append}
+-- A line that was answered by an array, and the place of its reply in the history.
+use Rattle.std.proofs.Common.{◌≡◌, ◌≢◌, ℕ, zero, suc, ◌+◌, ◌/◌, ◌≤◌, Some, List, [], ◌∷◌, ◌++◌, length, take, drop, Result, Ok, Err, refl, sym, ◌∙◌, ap, subst, arith, append_assoc, length-append}
 use Rattle.std.proofs.lemmas.List.{take_at}
 use Rattle.std.specs.Prelude.{slice_get}
 use Rattle.md_base.specs.declared.answers.Who.{Who}
-use Rattle.flat_history.specs.declared.events.Entry.{Entry}
-use Rattle.flat_history.specs.declared.events.Event.{Event}
-use Rattle.flat_history.specs.declared.events.Request.{Request}
-use Rattle.flat_history.specs.Flat.{rest_of_call, next_number}
-use Rattle.flat_history.specs.Plain.{Opening, PlainFits, entries_of}
-use Rattle.plain_array.specs.Kept.{IsReplied, IsAnswered}
-use Rattle.std.proofs.Common.{Result, Ok, Err}
 use Rattle.md_base.specs.declared.answers.Fault.{Fault}
 use Rattle.md_base.specs.declared.answers.Fault.TheVariants.{Refused as IsRefusedWith, NoMemory}
-use Rattle.flat_history.specs.declared.events.Event.TheVariants.{Refused}
 use Rattle.md_base.specs.Sectors.{Sector, sectors_of}
 use Rattle.md_base.proofs.SectorLaws.{length-sectors_of}
 use Rattle.md_base.proofs.Tabulated.{length-tabulate}
+use Rattle.flat_history.specs.declared.events.Entry.{Entry}
+use Rattle.flat_history.specs.declared.events.Event.{Event}
+use Rattle.flat_history.specs.declared.events.Event.TheVariants.{Stopped, Halted, Refused}
+use Rattle.flat_history.specs.Fits.{FitsStop}
+use Rattle.bank.specs.declared.bank.Operation.{Operation}
+use Rattle.md_base.specs.declared.answers.Refusal.{Refusal}
+use Rattle.md_base.specs.declared.answers.Refusal.TheVariants.{PastEnd, TooManyMissing}
+use Rattle.superblocks.specs.declared.members.Members.{Members}
+use Rattle.array.specs.Losing.{losses_of}
+use Rattle.flat_history.specs.declared.events.Request.{Request}
+use Rattle.flat_history.specs.Flat.{rest_of_call, next_number}
+use Rattle.flat_history.specs.Plain.{PlainFitsIn, entries_of}
+use Rattle.array.specs.Kept.{OnNoMemory, IsReplied, IsAnswered, IsEntered, IsBehind, IsRefusedFor}
+use Rattle.script.specs.declared.lines.Line.TheVariants.{Stop, Halt}
+use Rattle.script.specs.declared.lines.Line.{Line}
 use Rattle.script.specs.Seeds.{seeded, seed_sector}
-use Rattle.plain_array.proofs.PlainLaws.{one}
 use Rattle.runner.specs.Asked.{script_who, IsAskedAt}
-use Rattle.runner.specs.Replies.{IsReplyAt}
+use Rattle.runner.specs.Replies.{FitsLine, IsReplyAt}
 
-pub length-entries_of : (who : Who) (end : ℕ) (events : List Event) → length (entries_of who end events) ≡ length events
-length-entries_of who end [] = refl
-length-entries_of who end (event ∷ events) = ap suc (length-entries_of who end events)
+-- the entry of an event of a call
+abbrev pub one : Who → ℕ → Event → Entry
+one who end event = record { caller = who.caller; number = who.number; end = end; event = event }
 
 pub entries_of-append : (who : Who) (end : ℕ) (xs ys : List Event) → entries_of who end (xs ++ ys) ≡ entries_of who end xs ++ entries_of who end ys
 entries_of-append who end [] ys = refl
 entries_of-append who end (x ∷ xs) ys = ap (λ (l : List Entry). one who end x ∷ l) (entries_of-append who end xs ys)
 
--- the history before the reply, and with it
-module _ {opening : Opening} {request : Request} {who : Who} {old new : List Entry} {event : Event} (was : IsReplied opening request who old new event) where
-  before : List Entry
-  before = old ++ entries_of who was.end was.inner
+-- the history before the last entry of a call, and with it
+pub with_last : {new : List Entry} (old : List Entry) (who : Who) (end : ℕ) (inner : List Event) (event : Event) → new ≡ old ++ entries_of who end (inner ++ event ∷ [])
+    → new ≡ (old ++ entries_of who end inner) ++ one who end event ∷ []
+with_last old who end inner event is =
+    is ∙ ap (λ (l : List Entry). old ++ l) (entries_of-append who end inner (event ∷ [])) ∙ sym (append_assoc old (entries_of who end inner) (one who end event ∷ []))
 
-  pub with_reply : new ≡ (old ++ entries_of who was.end was.inner) ++ one who was.end event ∷ []
-  with_reply = was.is ∙ ap (λ (l : List Entry). old ++ l) (entries_of-append who was.end was.inner (event ∷ [])) ∙ sym (append_assoc old (entries_of who was.end was.inner) (one who was.end event ∷ []))
+pub with_reply : {size : ℕ} {line : Line} {old new : List Entry} {place : ℕ} (was : IsAskedAt size line old new place) → new ≡ (old ++ entries_of (script_who old) was.end was.inner) ++ one (script_who old) was.end was.event ∷ []
+with_reply {old = old} was = with_last old (script_who old) was.end was.inner was.event was.is
 
-  pub reply_length : length new ≡ length (old ++ entries_of who was.end was.inner) + 1
-  reply_length = ap (λ (l : List Entry). length l) with_reply ∙ length-append (old ++ entries_of who was.end was.inner) (one who was.end event ∷ [])
+reply_length : {size : ℕ} {line : Line} {old new : List Entry} {place : ℕ} (was : IsAskedAt size line old new place) → length new ≡ length (old ++ entries_of (script_who old) was.end was.inner) + 1
+reply_length {old = old} was = ap (λ (l : List Entry). length l) (with_reply was) ∙ length-append (old ++ entries_of (script_who old) was.end was.inner) (one (script_who old) was.end was.event ∷ [])
 
-pub grew : {opening : Opening} {request : Request} {who : Who} {old new : List Entry} {event : Event} → IsReplied opening request who old new event → 1 ≤ length new
-grew was = omega (arith, reply_length was)
+-- a call that was answered made the history longer
+pub grew : {size : ℕ} {request : Request} {who : Who} {old new : List Entry} {event : Event} → IsReplied size request who old new event → 1 ≤ length new
+grew {who = who} {old = old} {event = event} was =
+    let is = ap (λ (l : List Entry). length l) (with_last old who was.end was.inner event was.is) ∙ length-append (old ++ entries_of who was.end was.inner) (one who was.end event ∷ []) in omega (arith, is)
 
-pub asked_at : {opening : Opening} {request' : Request} {who : Who} {old new : List Entry} {event : Event} (request : Request) (place : ℕ) → IsReplied opening request' who old new event
-    → request' ≡ request → who ≡ script_who old → place + 1 ≡ length new → IsAskedAt opening request old new place
-asked_at {opening = opening} {request' = request'} {old = old} {new = new} {event = event} request place was same script at_end = record {
-  event = event;
-  replied = subst (λ (r : Request). IsReplied opening r (script_who old) old new event) same (subst (λ (w : Who). IsReplied opening request' w old new event) script was);
-  at_end = at_end;
-}
+-- a request that was answered is a line that was
+pub asked_at : {size : ℕ} {request : Request} {who : Who} {old new : List Entry} {event : Event} (line : Line) (place : ℕ) → IsReplied size request who old new event
+    → ((before : List Entry) (e : Entry) → PlainFitsIn size before e request → FitsLine size before e line) → who ≡ script_who old → place + 1 ≡ length new → IsAskedAt size line old new place
+asked_at {size = size} {request = request} {old = old} {new = new} {event = event} line place was fits script at_end =
+    let now = subst (λ (w : Who). IsReplied size request w old new event) script was in record {
+      inner = now.inner;
+      event = event;
+      end = now.end;
+      is = now.is;
+      fits = fits (old ++ entries_of (script_who old) now.end now.inner) (one (script_who old) now.end event) now.fits;
+      at_end = at_end;
+    }
 
 get-last : (xs : List Entry) (e : Entry) → slice_get (xs ++ e ∷ []) (length xs) ≡ Some e
 get-last [] e = refl
 get-last (x ∷ xs) e = get-last xs e
 
 -- the entry of the reply
-pub reply_at : {opening : Opening} {request : Request} {old new : List Entry} {place : ℕ} → IsAskedAt opening request old new place → IsReplyAt opening new place (next_number 0 old) request
-reply_at {opening = opening} {request = request} {old = old} {new = new} {place = place} asked =
-    let was = asked.replied in
-    let e = one (script_who old) was.end asked.event in
-    let before : List Entry = old ++ entries_of (script_who old) was.end was.inner in
-    let at : place ≡ length before = omega (arith, asked.at_end, reply_length was) in
+pub entry_there : {size : ℕ} {line : Line} {old new : List Entry} {place : ℕ} (asked : IsAskedAt size line old new place) → slice_get new place ≡ Some (one (script_who old) asked.end asked.event)
+entry_there {old = old} {new = new} {place = place} asked =
+    let e = one (script_who old) asked.end asked.event in
+    let before : List Entry = old ++ entries_of (script_who old) asked.end asked.inner in
+    let at : place ≡ length before = omega (arith, asked.at_end, reply_length asked) in
+    ap (λ (l : List Entry). slice_get l place) (with_reply asked) ∙ ap (λ (n : ℕ). slice_get (before ++ e ∷ []) n) at ∙ get-last before e
+
+pub reply_at : {size : ℕ} {line : Line} {old new : List Entry} {place : ℕ} → IsAskedAt size line old new place → IsReplyAt size new place (next_number 0 old) line
+reply_at {size = size} {line = line} {old = old} {new = new} {place = place} asked =
+    let e = one (script_who old) asked.end asked.event in
+    let before : List Entry = old ++ entries_of (script_who old) asked.end asked.inner in
+    let at : place ≡ length before = omega (arith, asked.at_end, reply_length asked) in
     record {
       entry = e;
-      there = ap (λ (l : List Entry). slice_get l place) (with_reply was) ∙ ap (λ (n : ℕ). slice_get (before ++ e ∷ []) n) at ∙ get-last before e;
+      there = entry_there asked;
       caller = refl;
       numbered = refl;
       last = ap (λ (l : List Entry). rest_of_call e l) (drop_past (place + 1) new (omega (arith, asked.at_end)));
-      fits = subst (λ (l : List Entry). PlainFits opening l e request) (sym (ap (λ (l : List Entry). take place l) (with_reply was) ∙ take_at before (e ∷ []) place (sym at))) was.fits;
+      fits = subst (λ (l : List Entry). FitsLine size l e line) (sym (ap (λ (l : List Entry). take place l) (with_reply asked) ∙ take_at before (e ∷ []) place (sym at))) asked.fits;
     }
   where
     drop_past : (n : ℕ) (l : List Entry) → length l ≤ n → drop n l ≡ []
@@ -81,17 +101,52 @@ reply_at {opening = opening} {request = request} {old = old} {new = new} {place 
     drop_past (suc n) (x ∷ l) le = drop_past n l (omega (arith, le))
 
 -- an answer that isn't want of memory is a reply
-pub answered_reply : (opening : Opening) (request : Request) (who : Who) (old new : List Entry) (event : Event) (r : Result (Unit {0}) Fault) → IsAnswered opening request who old new event r → r ≢ Err NoMemory
-    → (e : Event) × IsReplied opening request who old new e
-answered_reply opening request who old new event (Ok x) was some = (event, was)
-answered_reply opening request who old new event (Err (IsRefusedWith refusal)) was some = (Refused refusal, was)
-answered_reply opening request who old new event (Err NoMemory) was some = absurd (some refl)
+pub answered_reply : (size : ℕ) (request : Request) (who : Who) (old new : List Entry) (event : Event) (r : Result (Unit {0}) Fault) → IsAnswered size request who old new event r → r ≢ Err NoMemory
+    → (e : Event) × IsReplied size request who old new e
+answered_reply size request who old new event (Ok x) was some = (event, was)
+answered_reply size request who old new event (Err (IsRefusedWith refusal)) was some = (Refused refusal, was)
+answered_reply size request who old new event (Err NoMemory) was some = absurd (some refl)
 
 -- want of memory entered nothing
-pub answered_none : (opening : Opening) (request : Request) (who : Who) (old new : List Entry) (event : Event) (r : Result (Unit {0}) Fault) → IsAnswered opening request who old new event r → r ≡ Err NoMemory
+pub answered_none : (size : ℕ) (request : Request) (who : Who) (old new : List Entry) (event : Event) (r : Result (Unit {0}) Fault) → IsAnswered size request who old new event r → r ≡ Err NoMemory
     → new ≡ old
-answered_none opening request who old new event r was is = subst (λ (x : Result (Unit {0}) Fault). IsAnswered opening request who old new event x) is was
+answered_none size request who old new event r was is = subst (λ (x : Result (Unit {0}) Fault). IsAnswered size request who old new event x) is was
 
 -- the sectors that a seed gives
 pub seeded_count : (bytes : List ℕ) (seed at count : ℕ) → sectors_of bytes ≡ seeded seed at count → length bytes / 512 ≡ count
 seeded_count bytes seed at count is = sym (length-sectors_of bytes) ∙ ap (λ (l : List Sector). length l) is ∙ length-tabulate count (λ k. seed_sector seed (at + k))
+
+-- ---- the line ends the array
+
+pub asked_halt : {tells : Type 0} {tape : List Operation} {old new : List Entry} (size place : ℕ) (who : Who) → who ≡ script_who old → IsEntered tells tape who old new (Halted ∷ []) → place + 1 ≡ length new → (asked : IsAskedAt size Halt old new place) × (asked.event ≡ Halted) × (tells → asked.end ≡ length tape)
+asked_halt {tells = tells} {tape = tape} {old = old} {new = new} size place who script was at_end =
+    let now = subst (λ (w : Who). IsEntered tells tape w old new (Halted ∷ [])) script was in
+    (record { inner = []; event = Halted; end = now.end; is = now.is; fits = tt; at_end = at_end }, refl, now.at_end)
+
+pub asked_stop : {old new : List Entry} (size place : ℕ) (who : Who) → who ≡ script_who old → IsBehind who old new Stopped → place + 1 ≡ length new → (asked : IsAskedAt size Stop old new place) × (asked.event ≡ Stopped)
+asked_stop {old = old} {new = new} size place who script was at_end =
+    let now = subst (λ (w : Who). IsBehind w old new Stopped) script was in
+    (record { inner = losses_of now.roles now.spares; event = Stopped; end = now.end; is = now.is; fits = tt; at_end = at_end }, refl)
+
+-- a stop is refused where roles are missing
+fits_refused : (visible : ℕ) (old new : Members) (refusal : Refusal) → IsRefusedFor visible 0 old new refusal → FitsStop (Refused refusal)
+fits_refused visible old new (PastEnd told) (same, past, kept) = absurd (omega (arith, past))
+fits_refused visible old new (TooManyMissing count tolerance) is = tt
+fits_refused visible old new refusal is = absurd is
+
+pub asked_unstopped : {old new : List Entry} (size place visible : ℕ) (before after : Members) (who : Who) (refusal : Refusal) → who ≡ script_who old → IsBehind who old new (Refused refusal) → IsRefusedFor visible 0 before after refusal → place + 1 ≡ length new → (asked : IsAskedAt size Stop old new place) × (asked.event ≡ Refused refusal)
+asked_unstopped {old = old} {new = new} size place visible before after who refusal script was why at_end =
+    let now = subst (λ (w : Who). IsBehind w old new (Refused refusal)) script was in
+    (record { inner = losses_of now.roles now.spares; event = Refused refusal; end = now.end; is = now.is; fits = fits_refused visible before after refusal why; at_end = at_end }, refl)
+
+-- a call that entered something made the history longer
+pub behind_grew : {old new : List Entry} {event : Event} (who : Who) → IsBehind who old new event → 1 ≤ length new
+behind_grew {old = old} {event = event} who was =
+    let is = ap (λ (l : List Entry). length l) (with_last old who was.end (losses_of was.roles was.spares) event was.is) ∙ length-append (old ++ entries_of who was.end (losses_of was.roles was.spares)) (one who was.end event ∷ []) in omega (arith, is)
+
+pub halt_grew : {tells : Type 0} {tape : List Operation} {old new : List Entry} (who : Who) → IsEntered tells tape who old new (Halted ∷ []) → 1 ≤ length new
+halt_grew {old = old} who was = let is = ap (λ (l : List Entry). length l) was.is ∙ length-append old (one who was.end Halted ∷ []) in omega (arith, is)
+
+-- what holds where memory was short
+pub on_no_memory : {fact : Type 0} (r : Result (Unit {0}) Fault) → OnNoMemory r fact → r ≡ Err NoMemory → fact
+on_no_memory {fact = fact} r was is = subst (λ (x : Result (Unit {0}) Fault). OnNoMemory x fact) is was

@@ -1,23 +1,32 @@
 -- The replies to several lines, as the histories grow.
-use Rattle.std.proofs.Common.{◌≡◌, ℕ, zero, suc, ◌+◌, ◌<◌, ◌≤◌, ◌||◌, Bool, true, false, Option, Some, None, List, [], ◌∷◌, ◌++◌, length, take, drop, refl, sym, ◌∙◌, ap, subst, arith, append_assoc, append-nil}
+use Rattle.std.proofs.Common.{◌≡◌, ℕ, zero, suc, ◌+◌, ◌*◌, ◌≤◌, ◌||◌, Bool, true, false, Option, Some, None, List, [], ◌∷◌, ◌++◌, length, take, drop, refl, sym, ◌∙◌, ap, subst, arith, length-append}
 use Rattle.std.proofs.lemmas.List.{take-append-le, drop-append-le}
 use Rattle.std.proofs.lemmas.Option.{slice_get_within}
-use Rattle.std.specs.Prelude.{slice_get, MatchOption, if◌then◌else◌, IsSome, ⊤}
+use Rattle.std.specs.Prelude.{slice_get, MatchOption, if◌then◌else◌, IfSome, IsSome, nat_lt}
 use Rattle.std.specs.Option.{option_and_then, option_map_or}
-use Rattle.bank.specs.Given.{Given, NeverFalls}
+use Rattle.bank.specs.Given.{Given, sizes, NeverFalls}
+use Rattle.bank.specs.declared.bank.Operation.{Operation}
+use Rattle.bank.specs.Tape.{Contents, contents}
+use Rattle.bank.proofs.Laws.{contents-earlier}
+use Rattle.md_base.specs.declared.answers.Fault.TheVariants.{Refused as IsRefusedWith}
 use Rattle.md_base.specs.declared.answers.Refusal.{Refusal}
-use Rattle.md_base.specs.declared.answers.Refusal.TheVariants.{SlotFault}
-use Rattle.md_base.specs.declared.answers.Fault.{Fault}
-use Rattle.md_base.specs.declared.answers.Fault.TheVariants.{Refused as IsRefusedWith, NoMemory}
-use Rattle.plain_array.specs.Creating.{create_refusal}
-use Rattle.plain_array.specs.Kept.{IsNotMadeFor}
-use Rattle.plain_array.proofs.LossLaws.{faulted-wider}
-use Rattle.script.specs.declared.lines.CreateLine.{CreateLine}
-use Rattle.script.specs.declared.lines.Line.TheVariants.{Create, Read, Write}
+use Rattle.md_base.specs.declared.status.Status.{Status}
+use Rattle.md_base.specs.Sectors.{Sector}
+use Rattle.md_base.specs.Shapes.{data_disks, has_slot}
+use Rattle.flat_history.specs.World.{World, opening_list}
+use Rattle.flat_history.specs.Epochs.{OpensAlike}
+use Rattle.flat_history.specs.Growing.{grown}
+use Rattle.array.specs.Moving.{Grows}
+use Rattle.assemble.specs.Creating.{create_refusal}
+use Rattle.assemble.specs.Opening.{AreGiven, array_of, scope_of}
+use Rattle.assemble.specs.Made.{HasCreateCause, used_slot}
+use Rattle.assemble.specs.Running.{OpensWithZeros, HasAssembleCause}
+use Rattle.std.specs.List.{All}
+use Rattle.std.proofs.lemmas.List.Elements.{All-head, All-tail}
+use Rattle.array.specs.declared.spec.CreateSpec.{CreateSpec}
+use Rattle.script.specs.declared.lines.Line.TheVariants.{Create, Read, Write, Flush, Stop, Halt, Assemble}
 use Rattle.flat_history.specs.declared.events.Entry.{Entry}
-use Rattle.flat_history.specs.declared.events.Request.{Request}
-use Rattle.flat_history.specs.Flat.{rest_of_call, is_same_call, next_number}
-use Rattle.flat_history.specs.Plain.{Opening, PlainFits}
+use Rattle.flat_history.specs.Flat.{rest_of_call, is_same_call}
 use Rattle.script.specs.Texts.{event_text, lane_text}
 use Rattle.script.specs.declared.lines.Line.{Line}
 use Rattle.script.specs.declared.lines.Numbered.{Numbered}
@@ -25,10 +34,13 @@ use Rattle.runner.specs.declared.report.Outside.TheVariants.{Created, Assembled,
 use Rattle.runner.specs.declared.report.Answered.{Answered}
 use Rattle.runner.specs.declared.report.Answered.TheVariants.{Inside, Outside as IsOutside}
 use Rattle.runner.specs.declared.report.LineReply.{LineReply}
-use Rattle.runner.specs.Histories.{History, Opened, opening_at, entry_at}
-use Rattle.runner.specs.Replies.{Course, Setting, spec_of, unmade, IsMadeBy, IsRefusedOutside, asked_of, course_after, course_of, IsReplyAt, IsAnsweredInside, IsAnswer, IsEnd, IsReplyTo, AreReplies, opened_by, all_opened}
+use Rattle.runner.specs.Histories.{History, entry_at, is_end}
+use Rattle.runner.specs.Making.{Setting, held_at, history_world, IsUncreated, IsUnassembled, IsStoredNew, IsStoredAs}
+use Rattle.runner.specs.Replies.{Course, spec_of, FitsLine, IsMadeBy, IsFoundBy, IsRefusedOutside, at_rest, one_call_more, course_after, course_of, IsReplyAt, IsAnsweredInside, IsAnswer, IsEnd, IsReplyTo, AreReplies}
 use Rattle.runner.specs.Shown.{answer_text, reply_text, report_text, tells_refusal, is_refusal, has_refusal}
 use Rattle.runner.specs.States.{IsGrown, AreGrown, IsNamed}
+use Rattle.runner.proofs.Causes.{given-wider, create-later, assemble-later}
+use Rattle.runner.proofs.Worlds.{list-same, alike-later, new-later, stored-later}
 
 rest_append : (e : Entry) (xs ys : List Entry) → rest_of_call e xs ≡ [] → rest_of_call e ys ≡ [] → rest_of_call e (xs ++ ys) ≡ []
 rest_append e [] ys nothing after = after
@@ -62,10 +74,19 @@ named_stays olds news grown epoch place e is =
     ap (λ (o : Option History). option_and_then (λ h. slice_get h.entries place) o) (now.1)
     ∙ ap (λ (l : List Entry). slice_get l place) (now.2.grown) ∙ get_append was.0.entries now.2.more place e (was.2)
 
+-- what holds of all holds of one
+at_place : (P : Entry → Type 0) (entries : List Entry) (place : ℕ) (e : Entry) → All P entries → slice_get entries place ≡ Some e → P e
+at_place P [] place e all is = absurd (omega (arith, slice_get_within [] place e is))
+at_place P (x ∷ entries) zero e all is = subst P (some_same is) (All-head P x entries all)
+  where
+    some_same : {a b : Entry} → Some a ≡ Some b → a ≡ b
+    some_same is = cc
+at_place P (x ∷ entries) (suc place) e all is = at_place P entries place e (All-tail P x entries all) is
+
 -- a reply stays one, as later calls are entered
-reply_longer : {opening : Opening} {entries : List Entry} {place number : ℕ} {request : Request} (n : ℕ) (more : List Entry) → number < n → ((e : Entry) → e.number < n → rest_of_call e more ≡ [])
-    → IsReplyAt opening entries place number request → IsReplyAt opening (entries ++ more) place number request
-reply_longer {opening = opening} {entries = entries} {place = place} {request = request} n more lt later was =
+reply_longer : {size : ℕ} {entries : List Entry} {place number : ℕ} {line : Line} (more : List Entry) → All (λ e. rest_of_call e more ≡ []) entries
+    → IsReplyAt size entries place number line → IsReplyAt size (entries ++ more) place number line
+reply_longer {size = size} {entries = entries} {place = place} {line = line} more later was =
     let within = slice_get_within entries place was.entry was.there in
     record {
       entry = was.entry;
@@ -73,108 +94,228 @@ reply_longer {opening = opening} {entries = entries} {place = place} {request = 
       caller = was.caller;
       numbered = was.numbered;
       last = ap (λ (l : List Entry). rest_of_call was.entry l) (drop-append-le (place + 1) entries more (omega (arith, within)))
-          ∙ rest_append was.entry (drop (place + 1) entries) more was.last (later was.entry (omega (arith, was.numbered, lt)));
-      fits = subst (λ (l : List Entry). PlainFits opening l was.entry request) (sym (take-append-le place entries more (omega (arith, within)))) was.fits;
+          ∙ rest_append was.entry (drop (place + 1) entries) more was.last (at_place (λ e. rest_of_call e more ≡ []) entries place was.entry later was.there);
+      fits = subst (λ (l : List Entry). FitsLine size l was.entry line) (sym (take-append-le place entries more (omega (arith, within)))) was.fits;
     }
 
-inside_stays : {request : Request} {epoch place : ℕ} (olds news : List History) (course : Course) → AreGrown olds news → (was : IsAnsweredInside olds course epoch place request)
-    → course.calls < next_number 0 was.history.entries → IsAnsweredInside news course epoch place request
-inside_stays {request = request} {epoch = epoch} {place = place} olds news course grown was lt =
+inside_stays : (olds news : List History) (course : Course) {epoch place : ℕ} {line : Line} → AreGrown olds news → IsAnsweredInside olds course epoch place line → IsAnsweredInside news course epoch place line
+inside_stays olds news course {epoch = epoch} {place = place} {line = line} grown was =
     let now = history_stays olds news grown epoch was.history was.there in
     record {
       running = was.running;
       latest = was.latest;
       history = now.0;
       there = now.1;
-      replied = subst (λ (o : Opening). IsReplyAt o now.0.entries place course.calls request) (ap (λ (first : ℕ). opening_at record { first = first; entries = [] }) (sym now.2.first))
-          (subst (λ (l : List Entry). IsReplyAt (opening_at was.history) l place course.calls request) (sym now.2.grown) (reply_longer (next_number 0 was.history.entries) now.2.more lt now.2.later was.replied));
+      replied = subst (λ (l : List Entry). IsReplyAt course.size l place course.calls line) (sym now.2.grown) (reply_longer now.2.more now.2.later was.replied);
     }
-
--- arrays only come, and calls on one of them only go on
-pub course_grows : (course : Course) (replies : List LineReply)
-    → (course.opened ≤ (course_of course replies).opened) × ((course_of course replies).opened ≡ course.opened → course.calls ≤ (course_of course replies).calls)
-course_grows course [] = (omega arith, λ same. omega arith)
-course_grows course (reply ∷ replies) = step reply.what (course_grows (course_after course reply.what) replies)
-  where
-    step : (what : Answered) → ((course_after course what).opened ≤ (course_of (course_after course what) replies).opened)
-        × ((course_of (course_after course what) replies).opened ≡ (course_after course what).opened → (course_after course what).calls ≤ (course_of (course_after course what) replies).calls)
-        → (course.opened ≤ (course_of (course_after course what) replies).opened) × ((course_of (course_after course what) replies).opened ≡ course.opened → course.calls ≤ (course_of (course_after course what) replies).calls)
-    step (Inside epoch at) (le, calls) = (le, λ same. omega (arith, calls same))
-    step (IsOutside Created) (le, calls) = (omega (arith, le), λ same. absurd (omega (arith, le, same)))
-    step (IsOutside (Assembled epoch status)) (le, calls) = (omega (arith, le), λ same. absurd (omega (arith, le, same)))
-    step (IsOutside (Refused refusal)) (le, calls) = (le, calls)
-
--- the histories of a run that made one array at most, in which the script has made so many calls
-abbrev pub Covers : List History → Course → Type 0
-Covers [] course = ⊤
-Covers (h ∷ []) course = (course.opened ≤ 1) × (course.opened ≡ 1 → course.calls ≤ next_number 0 h.entries)
-Covers (h ∷ k ∷ more) course = ⊥
-
-covered : {request : Request} {epoch place : ℕ} (olds : List History) (course : Course) (replies : List LineReply) → (was : IsAnsweredInside olds course epoch place request)
-    → Covers olds (course_of (course_after course (Inside epoch place)) replies) → course.calls < next_number 0 was.history.entries
-covered {epoch = epoch} [] course replies was covers = absurd (omega (arith, slice_get_within [] epoch was.history was.there))
-covered {epoch = epoch} {place = place} (h ∷ []) course replies was covers =
-    let grows = course_grows (course_after course (Inside epoch place)) replies in
-    let within = slice_get_within (h ∷ []) epoch was.history was.there in
-    let first : epoch ≡ 0 = omega (arith, within) in
-    let same : h ≡ was.history = some_same (sym (ap (λ (k : ℕ). slice_get (h ∷ []) k) first) ∙ was.there) in
-    let one : (course_of (course_after course (Inside epoch place)) replies).opened ≡ 1 = omega (arith, covers.0, grows.0, was.latest, first) in
-    let calls : course.calls + 1 ≤ next_number 0 h.entries = omega (arith, covers.1 one, grows.1 (omega (arith, one, was.latest, first))) in
-    omega (arith, calls, ap (λ (x : History). next_number 0 x.entries) same)
-  where
-    some_same : {a b : History} → Some a ≡ Some b → a ≡ b
-    some_same is = cc
-covered (h ∷ k ∷ more) course replies was covers = absurd covers
 
 -- the same bank, over a longer time
 pub record IsWider (was now : Setting) : Type 0 where
+  pub told : now.tells → was.tells
   pub given : now.given ≡ was.given
   pub backup : now.backup ≡ was.backup
+  pub grows : Grows now.tells was.tape now.tape
   pub early : NeverFalls now.before was.before
   pub between : NeverFalls was.before was.now
   pub late : NeverFalls was.now now.now
 
-unmade_stays : (was now : Setting) → IsWider was now → (line : CreateLine) → unmade now line ≡ unmade was line
-unmade_stays was now wider line =
-    ap (λ (given : Given). create_refusal given now.backup (spec_of line)) wider.given ∙ ap (λ (backup : Option ℕ). create_refusal was.given backup (spec_of line)) wider.backup
+longer : (was now : Setting) → IsWider was now → now.tells → length was.tape ≤ length now.tape
+longer was now wider t = let more = wider.grows.more t in let long = ap (λ (l : List Operation). length l) (more.1) ∙ length-append was.tape (more.0) in omega (arith, long)
 
-made_stays : (was now : Setting) → IsWider was now → (line : Line) → IsMadeBy was line → IsMadeBy now line
-made_stays was now wider (Create line) is = unmade_stays was now wider line ∙ is
-made_stays was now wider (Read at count) is = is
-made_stays was now wider (Write at count seed) is = is
+-- what the slots held at an earlier mark
+held_stays : (was now : Setting) → IsWider was now → (mark : ℕ) → now.tells → mark ≤ length was.tape → held_at now mark ≡ held_at was mark
+held_stays was now wider mark t le =
+    let more = wider.grows.more t in
+    ap (λ (g : Given). contents g.start now.tape mark) wider.given ∙ ap (λ (l : List Operation). contents was.given.start l mark) (more.1)
+    ∙ (λ i s k. contents-earlier was.given.start was.tape (more.0) mark s k le i)
 
-not_made_stays : (was now : Setting) → IsWider was now → (unmade : Option Refusal) (fault : Fault) → IsNotMadeFor unmade was.before was.now fault → IsNotMadeFor unmade now.before now.now fault
-not_made_stays was now wider (Some refusal) fault is = is
-not_made_stays was now wider None (IsRefusedWith (SlotFault slot)) is = faulted-wider slot wider.early wider.between wider.late is
-not_made_stays was now wider None (IsRefusedWith refusal) is = absurd is
-not_made_stays was now wider None NoMemory is = is
+-- the world of a history, over the longer tape
+world_stays : (was now : Setting) (wider : IsWider was now) (history : History) (t : now.tells) → history_world now history ≡ grown (history_world was history) (wider.grows.more t).0
+world_stays was now wider history t =
+    ap (λ (g : Given). record { start = g.start; tape = now.tape; scope = record { uuid = history.uuid; given = history.given; backup = now.backup; sizes = sizes g }; first = history.first }) wider.given
+    ∙ ap (λ (b : Option ℕ). record { start = was.given.start; tape = now.tape; scope = record { uuid = history.uuid; given = history.given; backup = b; sizes = sizes was.given }; first = history.first }) wider.backup
+    ∙ ap (λ (l : List Operation). record { start = was.given.start; tape = l; scope = record { uuid = history.uuid; given = history.given; backup = was.backup; sizes = sizes was.given }; first = history.first }) (wider.grows.more t).1
 
-refused_stays : (was now : Setting) → IsWider was now → (running : Bool) (line : Line) (refusal : Refusal) → IsRefusedOutside was running line refusal → IsRefusedOutside now running line refusal
-refused_stays was now wider true (Create line) refusal is = is
-refused_stays was now wider true (Read at count) refusal is = is
-refused_stays was now wider true (Write at count seed) refusal is = is
-refused_stays was now wider false (Create line) refusal is =
-    subst (λ (o : Option Refusal). IsNotMadeFor o now.before now.now (IsRefusedWith refusal)) (sym (unmade_stays was now wider line)) (not_made_stays was now wider (unmade was line) (IsRefusedWith refusal) is)
-refused_stays was now wider false (Read at count) refusal is = is
-refused_stays was now wider false (Write at count seed) refusal is = is
+module _ (was now : Setting) (wider : IsWider was now) (end later : ℕ) (moved : now.tells → later ≡ end) (within : now.tells → end ≤ length was.tape) where
+  held : now.tells → held_at now later ≡ held_at was end
+  held t = ap (λ (n : ℕ). held_at now n) (moved t) ∙ held_stays was now wider end t (within t)
 
-answer_stays : (was now : Setting) → IsWider was now → (olds news : List History) (course : Course) (line : Line) (what : Answered) (replies : List LineReply) → AreGrown olds news → Covers olds (course_of (course_after course what) replies)
-    → IsAnswer was olds course line what → IsAnswer now news course line what
-answer_stays was now wider olds news course line (Inside epoch at) replies grown covers is = by_request (asked_of line) is
-  where
-    by_request : (request : Option Request) → MatchOption request ⊥ (λ r. IsAnsweredInside olds course epoch at r) → MatchOption request ⊥ (λ r. IsAnsweredInside news course epoch at r)
-    by_request None is = absurd is
-    by_request (Some r) is = inside_stays olds news course grown is (covered olds course replies is covers)
-answer_stays was now wider olds news course line (IsOutside Created) replies grown covers (idle, made) = (idle, made_stays was now wider line made)
-answer_stays was now wider olds news course line (IsOutside (Assembled epoch status)) replies grown covers is = is
-answer_stays was now wider olds news course line (IsOutside (Refused refusal)) replies grown covers is = refused_stays was now wider course.running line refusal is
+  uncreated_stays : (spec : CreateSpec) (refusal : Refusal) → IsUncreated was spec end refusal → IsUncreated now spec later refusal
+  uncreated_stays spec refusal is =
+      subst (λ (b : Option ℕ). HasCreateCause now.tells now.given (held_at now later) b spec now.before now.now (IsRefusedWith refusal)) (sym wider.backup)
+      (subst (λ (g : Given). HasCreateCause now.tells g (held_at now later) was.backup spec now.before now.now (IsRefusedWith refusal)) (sym wider.given)
+      (create-later wider.told wider.early wider.between wider.late was.given was.backup (held_at was end) (held_at now later) spec (λ t s at i. held t i s) (IsRefusedWith refusal) is))
 
--- an answer stays one over a longer time
-pub answer_wider : (was now : Setting) → IsWider was now → (histories : List History) (course : Course) (line : Line) (what : Answered) → IsAnswer was histories course line what → IsAnswer now histories course line what
-answer_wider was now wider histories course line (Inside epoch at) is = is
-answer_wider was now wider histories course line (IsOutside Created) (idle, made) = (idle, made_stays was now wider line made)
-answer_wider was now wider histories course line (IsOutside (Assembled epoch status)) is = is
-answer_wider was now wider histories course line (IsOutside (Refused refusal)) is = refused_stays was now wider course.running line refusal is
+  unassembled_stays : (asked : Option (List ℕ)) (refusal : Refusal) → IsUnassembled was asked end refusal → IsUnassembled now asked later refusal
+  unassembled_stays asked refusal is =
+      subst (λ (b : Option ℕ). HasAssembleCause now.tells now.given (held_at now later) b asked now.before now.now (IsRefusedWith refusal)) (sym wider.backup)
+      (subst (λ (g : Given). HasAssembleCause now.tells g (held_at now later) was.backup asked now.before now.now (IsRefusedWith refusal)) (sym wider.given)
+      (assemble-later wider.told wider.early wider.between wider.late was.given was.backup (held_at was end) (held_at now later) asked held (IsRefusedWith refusal) is))
+
+  refused_stays : (running : Bool) (line : Line) (refusal : Refusal) → IsRefusedOutside was running end line refusal → IsRefusedOutside now running later line refusal
+  refused_stays true (Create line) refusal is = is
+  refused_stays true (Read at count) refusal is = is
+  refused_stays true (Write at count seed) refusal is = is
+  refused_stays true Flush refusal is = is
+  refused_stays true Stop refusal is = is
+  refused_stays true Halt refusal is = is
+  refused_stays true (Assemble uuid) refusal is = is
+  refused_stays false (Create line) refusal is = uncreated_stays (spec_of line) refusal is
+  refused_stays false (Read at count) refusal is = is
+  refused_stays false (Write at count seed) refusal is = is
+  refused_stays false Flush refusal is = is
+  refused_stays false Stop refusal is = is
+  refused_stays false Halt refusal is = is
+  refused_stays false (Assemble uuid) refusal is = unassembled_stays uuid refusal is
+
+  -- a history that began within the former tape
+  begun_by : (history : History) → (was.tells → history.first ≡ end) → now.tells → history.first ≤ length was.tape
+  begun_by history first t = omega (arith, first (wider.told t), within t)
+
+  made_wider : (histories : List History) (epoch : ℕ) (line : Line) → IsMadeBy was histories epoch end line → IsMadeBy now histories epoch later line
+  made_wider histories epoch (Create line) is = record {
+    unrefused = ap (λ (g : Given). create_refusal g now.backup (spec_of line)) wider.given ∙ ap (λ (b : Option ℕ). create_refusal was.given b (spec_of line)) wider.backup ∙ is.unrefused;
+    history = is.history;
+    there = is.there;
+    named = is.named;
+    given = λ slot. is.given slot ∙ ap (λ (g : Given). nat_lt slot g.slots) (sym wider.given);
+    first = λ t. is.first (wider.told t) ∙ sym (moved t);
+    zeros = λ t. subst (λ (w : World). OpensWithZeros (data_disks line.shape * line.size) (opening_list w)) (sym (world_stays was now wider is.history t))
+        (subst (λ (l : List Sector). OpensWithZeros (data_disks line.shape * line.size) l)
+        (sym (list-same (history_world was is.history) (wider.grows.more t).0 (begun_by is.history is.first t))) (is.zeros (wider.told t)));
+    free = λ t. ap (λ (g : Given). used_slot (scope_of g now.backup is.history.given line.uuid) (held_at now later) line.shape.disks) wider.given
+        ∙ ap (λ (b : Option ℕ). used_slot (scope_of was.given b is.history.given line.uuid) (held_at now later) line.shape.disks) wider.backup
+        ∙ ap (λ (c : Contents). used_slot (scope_of was.given was.backup is.history.given line.uuid) c line.shape.disks) (held t) ∙ is.free (wider.told t);
+    stored = λ t. subst (λ (w : World). IsStoredNew w (spec_of line)) (sym (world_stays was now wider is.history t)) (new-later (history_world was is.history) (wider.grows.more t).0 (begun_by is.history is.first t) (is.stored (wider.told t)));
+    alike = λ t. subst OpensAlike (sym (world_stays was now wider is.history t)) (alike-later (history_world was is.history) (wider.grows.more t).0 (begun_by is.history is.first t) (is.alike (wider.told t)));
+  }
+  made_wider histories epoch (Read at count) is = is
+  made_wider histories epoch (Write at count seed) is = is
+  made_wider histories epoch Flush is = is
+  made_wider histories epoch Stop is = is
+  made_wider histories epoch Halt is = is
+  made_wider histories epoch (Assemble uuid) is = is
+
+  found_wider : (histories : List History) (epoch : ℕ) (line : Line) (status : Status) → IsFoundBy was histories epoch end line status → IsFoundBy now histories epoch later line status
+  found_wider histories epoch (Create line) status is = is
+  found_wider histories epoch (Read at count) status is = is
+  found_wider histories epoch (Write at count seed) status is = is
+  found_wider histories epoch Flush status is = is
+  found_wider histories epoch Stop status is = is
+  found_wider histories epoch Halt status is = is
+  found_wider histories epoch (Assemble asked) status is = record {
+    history = is.history;
+    there = is.there;
+    named = is.named;
+    given = subst (λ (g : Given). AreGiven g is.history.given now.before now.now) (sym wider.given) (given-wider wider.early wider.between wider.late is.given);
+    shown = is.shown;
+    at_end = λ t. is.at_end (wider.told t) ∙ sym (moved t);
+    first = λ t. is.first (wider.told t) ∙ sym (moved t);
+    elected = λ t. is.elected (wider.told t) ∙ sym (ap (λ (g : Given). array_of g now.backup is.history.given asked (held_at now later)) wider.given
+        ∙ ap (λ (b : Option ℕ). array_of was.given b is.history.given asked (held_at now later)) wider.backup
+        ∙ ap (λ (c : Contents). array_of was.given was.backup is.history.given asked c) (held t));
+    stored = λ t. subst (λ (w : World). IsStoredAs w status) (sym (world_stays was now wider is.history t))
+        (stored-later (history_world was is.history) (wider.grows.more t).0 (begun_by is.history is.first t) (is.stored (wider.told t)));
+  }
+
+  -- an answer stays one over a longer time
+  pub answer_wider : (histories : List History) (course : Course) (line : Line) (what : Answered) → IsAnswer was histories course line end what → IsAnswer now histories course line later what
+  answer_wider histories course line (Inside epoch at) is = is
+  answer_wider histories course line (IsOutside Created) (idle, made) = (idle, made_wider histories course.opened line made)
+  answer_wider histories course line (IsOutside (Assembled epoch status)) (idle, next, found) = (idle, next, found_wider histories course.opened line status found)
+  answer_wider histories course line (IsOutside (Refused refusal)) is = refused_stays course.running line refusal is
+
+-- the world of a history that went on
+world_grown : (setting : Setting) (old new : History) → IsGrown old new → history_world setting old ≡ history_world setting new
+world_grown setting old new grown =
+    ap (λ (u : List ℕ). record { start = setting.given.start; tape = setting.tape; scope = record { uuid = u; given = old.given; backup = setting.backup; sizes = sizes setting.given }; first = old.first }) (sym grown.uuid)
+    ∙ ap (λ (n : ℕ). record { start = setting.given.start; tape = setting.tape; scope = record { uuid = new.uuid; given = n; backup = setting.backup; sizes = sizes setting.given }; first = old.first }) (sym grown.given)
+    ∙ ap (λ (n : ℕ). record { start = setting.given.start; tape = setting.tape; scope = record { uuid = new.uuid; given = new.given; backup = setting.backup; sizes = sizes setting.given }; first = n }) (sym grown.first)
+
+made_stays : (setting : Setting) (olds news : List History) → AreGrown olds news → (epoch end : ℕ) (line : Line) → IsMadeBy setting olds epoch end line → IsMadeBy setting news epoch end line
+made_stays setting olds news grown epoch end (Create line) is =
+    let now = history_stays olds news grown epoch is.history is.there in
+    let same = world_grown setting is.history now.0 now.2 in
+    record {
+      unrefused = is.unrefused;
+      history = now.0;
+      there = now.1;
+      named = now.2.uuid ∙ is.named;
+      given = λ slot. ap (λ (n : ℕ). has_slot n slot) now.2.given ∙ is.given slot;
+      first = λ t. now.2.first ∙ is.first t;
+      zeros = λ t. subst (λ (w : World). OpensWithZeros (data_disks line.shape * line.size) (opening_list w)) same (is.zeros t);
+      free = λ t. ap (λ (n : ℕ). used_slot (scope_of setting.given setting.backup n line.uuid) (held_at setting end) line.shape.disks) now.2.given ∙ is.free t;
+      stored = λ t. subst (λ (w : World). IsStoredNew w (spec_of line)) same (is.stored t);
+      alike = λ t. subst OpensAlike same (is.alike t);
+    }
+made_stays setting olds news grown epoch end (Read at count) is = is
+made_stays setting olds news grown epoch end (Write at count seed) is = is
+made_stays setting olds news grown epoch end Flush is = is
+made_stays setting olds news grown epoch end Stop is = is
+made_stays setting olds news grown epoch end Halt is = is
+made_stays setting olds news grown epoch end (Assemble uuid) is = is
+
+found_stays : (setting : Setting) (olds news : List History) → AreGrown olds news → (epoch end : ℕ) (line : Line) (status : Status) → IsFoundBy setting olds epoch end line status → IsFoundBy setting news epoch end line status
+found_stays setting olds news grown epoch end (Create line) status is = is
+found_stays setting olds news grown epoch end (Read at count) status is = is
+found_stays setting olds news grown epoch end (Write at count seed) status is = is
+found_stays setting olds news grown epoch end Flush status is = is
+found_stays setting olds news grown epoch end Stop status is = is
+found_stays setting olds news grown epoch end Halt status is = is
+found_stays setting olds news grown epoch end (Assemble asked) status is =
+    let now = history_stays olds news grown epoch is.history is.there in
+    record {
+      history = now.0;
+      there = now.1;
+      named = subst (λ (u : List ℕ). IfSome asked (λ uuid. u ≡ uuid)) (sym now.2.uuid) is.named;
+      given = subst (λ (n : ℕ). AreGiven setting.given n setting.before setting.now) (sym now.2.given) is.given;
+      shown = record { end = is.shown.end; more = is.shown.more ++ now.2.more; is = now.2.grown ∙ ap (λ (l : List Entry). l ++ now.2.more) is.shown.is };
+      at_end = is.at_end;
+      first = λ t. now.2.first ∙ is.first t;
+      elected = λ t. now.2.uuid ∙ is.elected t ∙ ap (λ (n : ℕ). array_of setting.given setting.backup n asked (held_at setting end)) (sym now.2.given);
+      stored = λ t. subst (λ (w : World). IsStoredAs w status) (world_grown setting is.history now.0 now.2) (is.stored t);
+    }
+
+-- and as the histories grow
+answer_stays : (setting : Setting) (olds news : List History) (course : Course) (line : Line) (end : ℕ) (what : Answered) → AreGrown olds news → IsAnswer setting olds course line end what → IsAnswer setting news course line end what
+answer_stays setting olds news course line end (Inside epoch at) grown is = inside_stays olds news course grown is
+answer_stays setting olds news course line end (IsOutside Created) grown (idle, made) = (idle, made_stays setting olds news grown course.opened end line made)
+answer_stays setting olds news course line end (IsOutside (Assembled epoch status)) grown (idle, next, found) = (idle, next, found_stays setting olds news grown course.opened end line status found)
+answer_stays setting olds news course line end (IsOutside (Refused refusal)) grown is = is
+
+some_named : (o : Option Entry) → IsSome o → (e : Entry) × (o ≡ Some e)
+some_named None is = absurd (cc)
+some_named (Some e) is = (e, refl)
+
+-- an answer names an entry that is there
+pub answer_named : (setting : Setting) (histories : List History) (course : Course) (line : Line) (end : ℕ) (what : Answered) → IsAnswer setting histories course line end what → IsNamed histories what
+answer_named setting histories course line end (Inside epoch at) is =
+    subst (λ (o : Option Entry). IsSome o) (sym (ap (λ (o : Option History). option_and_then (λ h. slice_get h.entries at) o) is.there ∙ is.replied.there)) refl
+answer_named setting histories course line end (IsOutside outside) was = tt
+
+pub named_stay : (olds news : List History) (what : Answered) → AreGrown olds news → IsNamed olds what → IsNamed news what
+named_stay olds news (Inside epoch at) grown named =
+    let is = some_named (entry_at olds epoch at) named in
+    subst (λ (o : Option Entry). IsSome o) (sym (named_stays olds news grown epoch at is.0 (is.1))) refl
+named_stay olds news (IsOutside outside) grown named = tt
+
+-- the run stands where it stood
+pub course_stays : (olds news : List History) (course : Course) (line : Line) (what : Answered) → AreGrown olds news → IsNamed olds what → course_after news course line what ≡ course_after olds course line what
+course_stays olds news course line (Inside epoch at) grown named =
+    let is = some_named (entry_at olds epoch at) named in
+    let same : entry_at news epoch at ≡ entry_at olds epoch at = named_stays olds news grown epoch at is.0 (is.1) ∙ sym (is.1) in
+    ap (λ (o : Option Entry). if option_map_or (λ e. is_end e.event) o false then at_rest course.opened else one_call_more course) same
+course_stays olds news course line (IsOutside Created) grown named = refl
+course_stays olds news course line (IsOutside (Assembled epoch status)) grown named = refl
+course_stays olds news course line (IsOutside (Refused refusal)) grown named = refl
+
+pub courses_stay : (setting : Setting) (olds news : List History) (course : Course) (lines : List Numbered) (replies : List LineReply) → AreGrown olds news → AreReplies setting olds course lines replies
+    → course_of news course lines replies ≡ course_of olds course lines replies
+courses_stay setting olds news course [] replies grown was = refl
+courses_stay setting olds news course (line ∷ lines) [] grown was = refl
+courses_stay setting olds news course (line ∷ lines) (reply ∷ replies) grown (one, rest) =
+    ap (λ (c : Course). course_of news c lines replies) (course_stays olds news course line.line reply.what grown (answer_named setting olds course line.line reply.end reply.what one.answer))
+    ∙ courses_stay setting olds news (course_after olds course line.line reply.what) lines replies grown rest
 
 end_stays : (olds news : List History) (reply : LineReply) (what : Answered) → AreGrown olds news → IsEnd olds reply what → IsEnd news reply what
 end_stays olds news reply (Inside epoch at) grown was = by_entry (entry_at olds epoch at) refl was
@@ -184,29 +325,31 @@ end_stays olds news reply (Inside epoch at) grown was = by_entry (entry_at olds 
     by_entry (Some e) is end = subst (λ (o : Option Entry). MatchOption o ⊥ (λ entry. reply.end ≡ entry.end)) (sym (named_stays olds news grown epoch at e is)) end
 end_stays olds news reply (IsOutside outside) grown was = was
 
-pub replies_stay : (was now : Setting) → IsWider was now → (olds news : List History) (course : Course) (lines : List Numbered) (replies : List LineReply) → AreGrown olds news → Covers olds (course_of course replies)
+pub replies_stay : (was now : Setting) → IsWider was now → (olds news : List History) (course : Course) (lines : List Numbered) (replies : List LineReply) → AreGrown olds news
     → AreReplies was olds course lines replies → AreReplies now news course lines replies
-replies_stay was now wider olds news course [] [] grown covers is = is
-replies_stay was now wider olds news course [] (reply ∷ replies) grown covers is = absurd is
-replies_stay was now wider olds news course (line ∷ lines) [] grown covers is = absurd is
-replies_stay was now wider olds news course (line ∷ lines) (reply ∷ replies) grown covers (one, rest) = (
+replies_stay was now wider olds news course [] [] grown is = is
+replies_stay was now wider olds news course [] (reply ∷ replies) grown is = absurd is
+replies_stay was now wider olds news course (line ∷ lines) [] grown is = absurd is
+replies_stay was now wider olds news course (line ∷ lines) (reply ∷ replies) grown (one, rest) = (
   record {
     line = one.line;
     lane = one.lane;
     end = end_stays olds news reply reply.what grown one.end;
-    answer = answer_stays was now wider olds news course line.line reply.what replies grown covers one.answer;
+    within = λ t. omega (arith, one.within (wider.told t), longer was now wider t);
+    answer = answer_stays now olds news course line.line reply.end reply.what grown (answer_wider was now wider reply.end reply.end (λ t. refl) (λ t. one.within (wider.told t)) olds course line.line reply.what one.answer);
   },
-  replies_stay was now wider olds news (course_after course reply.what) lines replies grown covers rest,
+  subst (λ (c : Course). AreReplies now news c lines replies) (sym (course_stays olds news course line.line reply.what grown (answer_named was olds course line.line reply.end reply.what one.answer)))
+      (replies_stay was now wider olds news (course_after olds course line.line reply.what) lines replies grown rest),
 )
 
 -- one reply more
 pub replies_more : (setting : Setting) (histories : List History) (course : Course) (lines : List Numbered) (replies : List LineReply) (line : Numbered) (reply : LineReply)
-    → AreReplies setting histories course lines replies → IsReplyTo setting histories (course_of course replies) line reply
+    → AreReplies setting histories course lines replies → IsReplyTo setting histories (course_of histories course lines replies) line reply
     → AreReplies setting histories course (lines ++ line ∷ []) (replies ++ reply ∷ [])
 replies_more setting histories course [] [] line reply was one = (one, was)
 replies_more setting histories course [] (r ∷ replies) line reply was one = absurd was
 replies_more setting histories course (l ∷ lines) [] line reply was one = absurd was
-replies_more setting histories course (l ∷ lines) (r ∷ replies) line reply (first, rest) one = (first, replies_more setting histories (course_after course r.what) lines replies line reply rest one)
+replies_more setting histories course (l ∷ lines) (r ∷ replies) line reply (first, rest) one = (first, replies_more setting histories (course_after histories course l.line r.what) lines replies line reply rest one)
 
 -- the first so many replies answer the first so many lines
 pub replies_front : (setting : Setting) (histories : List History) (course : Course) (n : ℕ) (lines : List Numbered) (replies : List LineReply)
@@ -216,25 +359,14 @@ replies_front setting histories course (suc n) [] [] was = was
 replies_front setting histories course n [] (r ∷ replies) was = absurd was
 replies_front setting histories course n (l ∷ lines) [] was = absurd was
 replies_front setting histories course zero (l ∷ lines) (r ∷ replies) was = tt
-replies_front setting histories course (suc n) (l ∷ lines) (r ∷ replies) (first, rest) = (first, replies_front setting histories (course_after course r.what) n lines replies rest)
+replies_front setting histories course (suc n) (l ∷ lines) (r ∷ replies) (first, rest) = (first, replies_front setting histories (course_after histories course l.line r.what) n lines replies rest)
 
-pub course_more : (course : Course) (replies : List LineReply) (reply : LineReply) → course_of course (replies ++ reply ∷ []) ≡ course_after (course_of course replies) reply.what
-course_more course [] reply = refl
-course_more course (r ∷ replies) reply = course_more (course_after course r.what) replies reply
-
--- an answer names an entry that is there
-pub answer_named : (setting : Setting) (histories : List History) (course : Course) (line : Line) (what : Answered) → IsAnswer setting histories course line what → IsNamed histories what
-answer_named setting histories course line (Inside epoch at) was = by_request (asked_of line) was
-  where
-    by_request : (request : Option Request) → MatchOption request ⊥ (λ r. IsAnsweredInside histories course epoch at r) → IsSome (entry_at histories epoch at)
-    by_request None is = absurd is
-    by_request (Some r) is =
-        subst (λ (o : Option Entry). IsSome o) (sym (ap (λ (o : Option History). option_and_then (λ h. slice_get h.entries at) o) is.there ∙ is.replied.there)) refl
-answer_named setting histories course line (IsOutside outside) was = tt
-
-some_named : (o : Option Entry) → IsSome o → (e : Entry) × (o ≡ Some e)
-some_named None is = absurd (cc)
-some_named (Some e) is = (e, refl)
+pub course_more : (histories : List History) (course : Course) (lines : List Numbered) (replies : List LineReply) (line : Numbered) (reply : LineReply) → length lines ≡ length replies
+    → course_of histories course (lines ++ line ∷ []) (replies ++ reply ∷ []) ≡ course_after histories (course_of histories course lines replies) line.line reply.what
+course_more histories course [] [] line reply same = refl
+course_more histories course [] (r ∷ replies) line reply same = absurd (omega (arith, same))
+course_more histories course (l ∷ lines) [] line reply same = absurd (omega (arith, same))
+course_more histories course (l ∷ lines) (r ∷ replies) line reply same = course_more histories (course_after histories course l.line r.what) lines replies line reply (omega (arith, same))
 
 -- what an answer shows stays
 answer_shown : (olds news : List History) (what : Answered) → AreGrown olds news → IsNamed olds what → (answer_text news what ≡ answer_text olds what) × (is_refusal news what ≡ is_refusal olds what)
@@ -250,18 +382,8 @@ shown_stays setting olds news course [] [] grown was = (refl, refl)
 shown_stays setting olds news course [] (reply ∷ replies) grown was = absurd was
 shown_stays setting olds news course (line ∷ lines) [] grown was = absurd was
 shown_stays setting olds news course (line ∷ lines) (reply ∷ replies) grown (one, rest) =
-    let first = answer_shown olds news reply.what grown (answer_named setting olds course line.line reply.what one.answer) in
-    let others = shown_stays setting olds news (course_after course reply.what) lines replies grown rest in (
+    let first = answer_shown olds news reply.what grown (answer_named setting olds course line.line reply.end reply.what one.answer) in
+    let others = shown_stays setting olds news (course_after olds course line.line reply.what) lines replies grown rest in (
       ap (λ (t : List ℕ). (lane_text reply.lane ++ t ++ 10 ∷ []) ++ report_text news replies) (first.0) ∙ ap (λ (t : List ℕ). reply_text olds reply ++ t) (others.0),
       ap (λ (b : Bool). b || has_refusal news replies) (first.1) ∙ ap (λ (b : Bool). is_refusal olds reply.what || b) (others.1),
     )
-
--- one line more
-pub opened_more : (slots : ℕ) (lines : List Numbered) (replies : List LineReply) (line : Numbered) (reply : LineReply) → length lines ≡ length replies
-    → all_opened slots (lines ++ line ∷ []) (replies ++ reply ∷ []) ≡ all_opened slots lines replies ++ opened_by slots line.line reply.what
-opened_more slots [] [] line reply same = append-nil (opened_by slots line.line reply.what)
-opened_more slots [] (r ∷ replies) line reply same = absurd (omega (arith, same))
-opened_more slots (l ∷ lines) [] line reply same = absurd (omega (arith, same))
-opened_more slots (l ∷ lines) (r ∷ replies) line reply same =
-    ap (λ (o : List Opened). opened_by slots l.line r.what ++ o) (opened_more slots lines replies line reply (omega (arith, same)))
-    ∙ sym (append_assoc (opened_by slots l.line r.what) (all_opened slots lines replies) (opened_by slots line.line reply.what))

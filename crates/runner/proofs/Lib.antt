@@ -1,6 +1,12 @@
 pub mod AskLaws
+pub mod Causes
 pub mod Ends
+pub mod Found
 pub mod Growth
+pub mod Legal
+pub mod Losses
+pub mod Marks
 pub mod Steps
 pub mod Texts
 pub mod Turns
+pub mod Worlds

@@ -1,36 +1,38 @@
 -- One line more was performed and shown.
-use Rattle.std.proofs.Common.{◌≡◌, ℕ, suc, ◌+◌, ◌-◌, ◌<◌, ◌≤◌, ◌||◌, ◌⊎◌, inl, inr, Bool, true, false, Option, Some, None, List, [], ◌∷◌, ◌++◌, length, take, refl, sym, ◌∙◌, ap, subst, arith, append_assoc, append-nil, length-append}
+use Rattle.std.proofs.Common.{◌≡◌, ℕ, suc, ◌+◌, ◌-◌, ◌<◌, ◌≤◌, ◌||◌, ◌⊎◌, inl, inr, Bool, true, false, Option, Some, None, List, [], ◌∷◌, ◌++◌, length, take, drop, refl, sym, ◌∙◌, ap, subst, arith, append_assoc, append-nil, length-append}
+use Rattle.std.specs.Global.{Vec}
 use Rattle.std.proofs.lemmas.Bool.Decides.{nat_tests}
+use Rattle.std.proofs.lemmas.List.Elements.{All-nil}
 use Rattle.std.proofs.lemmas.List.{take_at, length-take-le}
 use Rattle.std.proofs.lemmas.List.Folds.{list_any-append}
 use Rattle.std.proofs.lemmas.Grind.{flat_map-append}
-use Rattle.std.proofs.Math.Seq.{take-suc, take-append-add}
+use Rattle.std.proofs.Math.Seq.{drop-cons, take-suc, take-append-add}
 use Rattle.std.proofs.Math.ListN.{get_or}
+use Rattle.std.specs.Prelude.{MatchOption}
 use Rattle.bank.specs.Given.{Given, NeverFalls}
+use Rattle.bank.specs.declared.bank.Operation.{Operation}
+use Rattle.array.specs.Moving.{Grows}
+use Rattle.flat_history.specs.declared.events.Entry.{Entry}
 use Rattle.text_io.specs.Causes.{HasRisen}
-use Rattle.plain_array.proofs.LossLaws.{losses-none, losses-then}
+use Rattle.flat_history.specs.declared.events.Epoch.{Epoch}
 use Rattle.script.specs.declared.lines.Numbered.{Numbered}
 use Rattle.runner.specs.declared.report.Answered.{Answered}
+use Rattle.runner.specs.declared.report.Answered.TheVariants.{Inside, Outside as IsOutside}
 use Rattle.runner.specs.declared.report.LineReply.{LineReply}
 use Rattle.runner.specs.declared.states.State.{State}
-use Rattle.runner.specs.declared.states.State.TheVariants.{Idle, Running}
+use Rattle.runner.specs.declared.states.State.TheVariants.{Idle}
 use Rattle.runner.specs.declared.sessions.Stop.{Stop}
 use Rattle.runner.specs.declared.sessions.Stop.TheVariants.{WriteFault, NoMemory as WantsMemory}
 use Rattle.runner.specs.declared.sessions.Session.{Session}
-use Rattle.runner.specs.Histories.{History, Opened}
-use Rattle.runner.specs.Replies.{Course, Setting, setting_of, at_rest, course_after, course_of, IsAnswer, IsReplyTo, AreReplies, opened_by, all_opened}
+use Rattle.runner.specs.Histories.{History, histories_of, entry_at}
+use Rattle.runner.specs.Making.{Setting, setting_of}
+use Rattle.runner.proofs.Legal.{grows_longer}
+use Rattle.runner.specs.Replies.{Course, at_rest, course_after, course_of, IsAnswer, IsEnd, IsReplyTo, AreReplies, AreInOrder}
 use Rattle.runner.specs.Shown.{reply_text, report_text, is_refusal, has_refusal}
-use Rattle.runner.specs.States.{histories_in, opened_in, course_in, RunsOwn, AreLossesFrom, AreGrown}
-use Rattle.runner.specs.Sessions.{counted, IsUnreplied, IsReplyMore, IsStep, IsCourse, taken_whole, IsTaken, IsStopCause, IsPerformed, IsShownTo}
-use Rattle.runner.proofs.Growth.{Covers, IsWider, answer_wider, replies_stay, replies_more, course_more, opened_more, shown_stays}
-
--- a run covers its own replies
-covers_in : {B : Type 0} (state : State B) (course : Course) → course_in state ≡ course → Covers (histories_in state) course
-covers_in (Idle bank) course is = tt
-covers_in (Running array) course is = (
-  omega (arith, ap (λ (c : Course). c.opened) is),
-  λ one. omega (arith, ap (λ (c : Course). c.calls) is),
-)
+use Rattle.runner.specs.States.{histories_in, course_in, RunsOwn, IsByScript, AreOfScript, AreLossesFrom, AreGrown, EndsBetween, IsNextCourse, IsCourseOrNext}
+use Rattle.runner.specs.Sessions.{counted, IsEndNow, IsUnreplied, IsReplyMore, IsStep, IsCourse, taken_whole, IsTaken, IsStopCause, IsCourseBehind, IsPerformed, IsShownTo}
+use Rattle.runner.proofs.Growth.{IsWider, answer_wider, replies_stay, replies_more, course_more, courses_stay, shown_stays}
+use Rattle.runner.proofs.Losses.{losses-none, losses-then}
 
 losses_add : {first before now : ℕ → ℕ} (olds news : List History) → NeverFalls first before → NeverFalls before now → AreLossesFrom first before [] olds → AreLossesFrom before now olds news → AreLossesFrom first now [] news
 losses_add [] [] early late was next = tt
@@ -38,6 +40,26 @@ losses_add {first = first} {before = before} {now = now} [] (new ∷ news) early
     (losses-then early late (losses-none first before []) one, losses_add [] news early late was more)
 losses_add (old ∷ olds) [] early late was next = absurd next
 losses_add (old ∷ olds) (new ∷ news) early late (was, others) (one, more) = (losses-then early late was one, losses_add olds news early late others more)
+
+-- ---- where the replies were made
+
+-- the present reply, by its answer
+reply_between : (setting : Setting) (histories : List History) (reply : LineReply) (what : Answered) → setting.tells → EndsBetween setting.began (length setting.tape) histories what → IsEnd histories reply what
+    → IsEndNow setting.tells (length setting.tape) reply what → (setting.began ≤ reply.end) × (reply.end ≤ length setting.tape)
+reply_between setting histories reply (Inside epoch at) t between end now = by_entry (entry_at histories epoch at) between end
+  where
+    by_entry : (o : Option Entry) → MatchOption o ⊥ (λ e. (setting.began ≤ e.end) × (e.end ≤ length setting.tape)) → MatchOption o ⊥ (λ e. reply.end ≡ e.end) → (setting.began ≤ reply.end) × (reply.end ≤ length setting.tape)
+    by_entry None is same = absurd is
+    by_entry (Some e) (low, high) same = (omega (arith, low, same), omega (arith, high, same))
+reply_between setting histories reply (IsOutside outside) t between end now = let same = now t in (omega (arith, between, same), omega (arith, same))
+
+order_later : (low mark high : ℕ) (replies : List LineReply) → mark ≤ high → AreInOrder low mark replies → AreInOrder low high replies
+order_later low mark high [] le was = omega (arith, le, was)
+order_later low mark high (r ∷ replies) le (one, rest) = (one, order_later r.end mark high replies le rest)
+
+order_more : (low mark high : ℕ) (replies : List LineReply) (reply : LineReply) → AreInOrder low mark replies → mark ≤ reply.end → reply.end ≤ high → AreInOrder low high (replies ++ reply ∷ [])
+order_more low mark high [] reply was le within = (omega (arith, was, le), within)
+order_more low mark high (r ∷ replies) reply (one, rest) le within = (one, order_more r.end mark high replies reply rest le within)
 
 counted_more : (a b : ℕ) → counted (counted a + b) ≡ counted (a + b)
 counted_more a b = grind (arith, nat_tests)
@@ -47,31 +69,41 @@ text_more : (histories : List History) (replies : List LineReply) (reply : LineR
 text_more histories replies reply =
     flat_map-append (λ r. reply_text histories r) replies (reply ∷ []) ∙ ap (λ (t : List ℕ). report_text histories replies ++ t) (append-nil (reply_text histories reply))
 
-module _ {B : Type 0} {given : Given} {backup : Option ℕ} {start mid now : ℕ → ℕ} {lines : List Numbered} {old : Session B} (new : Session B) (nothing numbered : Numbered)
-    (early : NeverFalls start mid) (late : NeverFalls mid now) (going : old.stopped ≡ None) (performed : IsPerformed (setting_of given backup start mid) lines old)
+module _ {B bank_tells : Type 0} {given : Given} {backup : Option ℕ} {first_tape mid_tape tape : List Operation} {start mid now : ℕ → ℕ} {lines : List Numbered} {old : Session B} (new : Session B) (nothing numbered : Numbered)
+    (early : NeverFalls start mid) (late : NeverFalls mid now) (grew_early : Grows bank_tells first_tape mid_tape) (grew : Grows bank_tells mid_tape tape) (going : old.stopped ≡ None) (performed : IsPerformed (setting_of bank_tells given first_tape mid_tape backup start mid) lines old)
     (lt : length old.replies.items < length lines) (here : get_or lines (length old.replies.items) nothing ≡ numbered) where
-  course_before : course_in old.state ≡ course_of at_rest old.replies.items
-  course_before = subst (λ (o : Option Stop). IsCourse o (course_of at_rest old.replies.items) (course_in old.state)) going performed.course
+  abbrev lines_before : List Numbered
+  lines_before = take (length old.replies.items) lines
 
-  wider_was : IsWider (setting_of given backup start mid) (setting_of given backup start now)
-  wider_was = record { given = refl; backup = refl; early = λ s. omega arith; between = early; late = late }
+  -- where the run stands by the former replies
+  abbrev told_before : List History → Course
+  told_before histories = course_of histories (at_rest 0) lines_before old.replies.items
 
-  wider_step : IsWider (setting_of given backup mid now) (setting_of given backup start now)
-  wider_step = record { given = refl; backup = refl; early = early; between = late; late = λ s. omega arith }
+  course_before : course_in old.state ≡ told_before (histories_in old.state)
+  course_before = subst (λ (o : Option Stop). IsCourse o (histories_in old.state) (drop (length old.replies.items) lines) (told_before (histories_in old.state)) (course_in old.state)) going performed.course
+
+  course_still : AreGrown (histories_in old.state) (histories_in new.state) → course_in old.state ≡ told_before (histories_in new.state)
+  course_still grown = course_before ∙ sym (courses_stay (setting_of bank_tells given first_tape mid_tape backup start mid) (histories_in old.state) (histories_in new.state) (at_rest 0) lines_before old.replies.items grown performed.replies)
+
+  wider_was : IsWider (setting_of bank_tells given first_tape mid_tape backup start mid) (setting_of bank_tells given first_tape tape backup start now)
+  wider_was = record { told = λ t. t; given = refl; backup = refl; grows = grew; early = λ s. omega arith; between = early; late = late }
+
+  wider_step : IsWider (setting_of bank_tells given mid_tape tape backup mid now) (setting_of bank_tells given first_tape tape backup start now)
+  wider_step = record { told = λ t. t; given = refl; backup = refl; grows = record { more = λ t. ([], sym (append-nil tape)) }; early = early; between = late; late = λ s. omega arith }
 
   -- the former replies still answer the former lines
   replies_still : AreGrown (histories_in old.state) (histories_in new.state)
-      → AreReplies (setting_of given backup start now) (histories_in new.state) at_rest (take (length old.replies.items) lines) old.replies.items
+      → AreReplies (setting_of bank_tells given first_tape tape backup start now) (histories_in new.state) (at_rest 0) (take (length old.replies.items) lines) old.replies.items
   replies_still grown =
-      replies_stay (setting_of given backup start mid) (setting_of given backup start now) wider_was (histories_in old.state) (histories_in new.state) at_rest (take (length old.replies.items) lines) old.replies.items grown
-      (covers_in old.state (course_of at_rest old.replies.items) course_before) performed.replies
+      replies_stay (setting_of bank_tells given first_tape mid_tape backup start mid) (setting_of bank_tells given first_tape tape backup start now) wider_was (histories_in old.state) (histories_in new.state) (at_rest 0) (take (length old.replies.items) lines) old.replies.items grown
+      performed.replies
 
   shown_still : AreGrown (histories_in old.state) (histories_in new.state)
       → (report_text (histories_in new.state) old.replies.items ≡ report_text (histories_in old.state) old.replies.items)
       × (has_refusal (histories_in new.state) old.replies.items ≡ has_refusal (histories_in old.state) old.replies.items)
-  shown_still grown = shown_stays (setting_of given backup start mid) (histories_in old.state) (histories_in new.state) at_rest (take (length old.replies.items) lines) old.replies.items grown performed.replies
+  shown_still grown = shown_stays (setting_of bank_tells given first_tape mid_tape backup start mid) (histories_in old.state) (histories_in new.state) (at_rest 0) (take (length old.replies.items) lines) old.replies.items grown performed.replies
 
-  module _ (is : IsReplyMore (setting_of given backup mid now) old new numbered) where
+  module _ (is : IsReplyMore (setting_of bank_tells given mid_tape tape backup mid now) old new numbered) where
     reply : LineReply
     reply = is.made.reply
 
@@ -81,23 +113,41 @@ module _ {B : Type 0} {given : Given} {backup : Option ℕ} {start mid now : ℕ
     lines_taken : take (length new.replies.items) lines ≡ take (length old.replies.items) lines ++ numbered ∷ []
     lines_taken = ap (λ (n : ℕ). take n lines) {y = suc (length old.replies.items)} (omega (arith, one_more)) ∙ take-suc lines (length old.replies.items) nothing lt ∙ ap (λ (l : Numbered). take (length old.replies.items) lines ++ l ∷ []) here
 
-    reply_to : IsReplyTo (setting_of given backup start now) (histories_in new.state) (course_of at_rest old.replies.items) numbered is.made.reply
+    between : bank_tells → (length mid_tape ≤ is.made.reply.end) × (is.made.reply.end ≤ length tape)
+    between t = reply_between (setting_of bank_tells given mid_tape tape backup mid now) (histories_in new.state) is.made.reply is.made.reply.what t (is.replied.turn.ends t) is.replied.end is.replied.at_end
+
+    answer_to : (what : Answered) → IsEndNow bank_tells (length tape) is.made.reply what
+        → IsAnswer (setting_of bank_tells given mid_tape tape backup mid now) (histories_in new.state) (told_before (histories_in new.state)) numbered.line (length tape) what
+        → IsAnswer (setting_of bank_tells given first_tape tape backup start now) (histories_in new.state) (told_before (histories_in new.state)) numbered.line is.made.reply.end what
+    answer_to (Inside epoch at) end was = was
+    answer_to (IsOutside outside) end was =
+        answer_wider (setting_of bank_tells given mid_tape tape backup mid now) (setting_of bank_tells given first_tape tape backup start now) wider_step (length tape) is.made.reply.end end (λ t. omega arith)
+        (histories_in new.state) (told_before (histories_in new.state)) numbered.line (IsOutside outside) was
+
+    reply_to : IsReplyTo (setting_of bank_tells given first_tape tape backup start now) (histories_in new.state) (told_before (histories_in new.state)) numbered is.made.reply
     reply_to = record {
       line = is.replied.line;
       lane = is.replied.lane;
       end = is.replied.end;
-      answer = answer_wider (setting_of given backup mid now) (setting_of given backup start now) wider_step (histories_in new.state) (course_of at_rest old.replies.items) numbered.line is.made.reply.what
-          (subst (λ (c : Course). IsAnswer (setting_of given backup mid now) (histories_in new.state) c numbered.line is.made.reply.what) course_before is.replied.turn.answer);
+      within = λ t. (between t).1;
+      answer = answer_to is.made.reply.what is.replied.at_end
+          (subst (λ (c : Course). IsAnswer (setting_of bank_tells given mid_tape tape backup mid now) (histories_in new.state) c numbered.line (length tape) is.made.reply.what) (course_still is.replied.turn.grown) is.replied.turn.answer);
     }
 
-    replies_new : AreReplies (setting_of given backup start now) (histories_in new.state) at_rest (take (length new.replies.items) lines) new.replies.items
-    replies_new = subst (λ (ls : List Numbered). AreReplies (setting_of given backup start now) (histories_in new.state) at_rest ls new.replies.items) (sym lines_taken)
-        (subst (λ (rs : List LineReply). AreReplies (setting_of given backup start now) (histories_in new.state) at_rest (take (length old.replies.items) lines ++ numbered ∷ []) rs) (sym is.more)
-        (replies_more (setting_of given backup start now) (histories_in new.state) at_rest (take (length old.replies.items) lines) old.replies.items numbered is.made.reply (replies_still is.replied.turn.grown) reply_to))
+    ends_new : bank_tells → AreInOrder (length first_tape) (length tape) new.replies.items
+    ends_new t = subst (λ (rs : List LineReply). AreInOrder (length first_tape) (length tape) rs) (sym is.more)
+        (order_more (length first_tape) (length mid_tape) (length tape) old.replies.items is.made.reply (performed.ends t) ((between t).0) ((between t).1))
 
-    course_new : course_in new.state ≡ course_of at_rest new.replies.items
-    course_new = is.replied.turn.course ∙ ap (λ (c : Course). course_after c is.made.reply.what) course_before ∙ sym (course_more at_rest old.replies.items is.made.reply)
-        ∙ ap (λ (rs : List LineReply). course_of at_rest rs) (sym is.more)
+    replies_new : AreReplies (setting_of bank_tells given first_tape tape backup start now) (histories_in new.state) (at_rest 0) (take (length new.replies.items) lines) new.replies.items
+    replies_new = subst (λ (ls : List Numbered). AreReplies (setting_of bank_tells given first_tape tape backup start now) (histories_in new.state) (at_rest 0) ls new.replies.items) (sym lines_taken)
+        (subst (λ (rs : List LineReply). AreReplies (setting_of bank_tells given first_tape tape backup start now) (histories_in new.state) (at_rest 0) (take (length old.replies.items) lines ++ numbered ∷ []) rs) (sym is.more)
+        (replies_more (setting_of bank_tells given first_tape tape backup start now) (histories_in new.state) (at_rest 0) (take (length old.replies.items) lines) old.replies.items numbered is.made.reply (replies_still is.replied.turn.grown) reply_to))
+
+    course_new : course_in new.state ≡ course_of (histories_in new.state) (at_rest 0) (take (length new.replies.items) lines) new.replies.items
+    course_new = is.replied.turn.course ∙ ap (λ (c : Course). course_after (histories_in new.state) c numbered.line is.made.reply.what) (course_still is.replied.turn.grown)
+        ∙ sym (course_more (histories_in new.state) (at_rest 0) lines_before old.replies.items numbered is.made.reply (length-take-le (length old.replies.items) lines (omega (arith, lt))))
+        ∙ ap (λ (ls : List Numbered). course_of (histories_in new.state) (at_rest 0) ls (old.replies.items ++ is.made.reply ∷ [])) (sym lines_taken)
+        ∙ ap (λ (rs : List LineReply). course_of (histories_in new.state) (at_rest 0) (take (length new.replies.items) lines) rs) (sym is.more)
 
     refused_new : new.refused ≡ has_refusal (histories_in new.state) new.replies.items
     refused_new = is.refused ∙ ap (λ (b : Bool). b || is.made.refused) (performed.refused ∙ sym ((shown_still is.replied.turn.grown).1))
@@ -109,23 +159,15 @@ module _ {B : Type 0} {given : Given} {backup : Option ℕ} {start mid now : ℕ
         or_false true = refl
         or_false false = refl
 
-    opened_new : opened_in new.state ≡ all_opened given.slots (take (length new.replies.items) lines) new.replies.items
-    opened_new = is.replied.turn.opened ∙ ap (λ (l : List Opened). l ++ opened_by given.slots numbered.line is.made.reply.what) (performed.opened (λ stopped. no_stop (sym going ∙ stopped)))
-        ∙ sym (opened_more given.slots (take (length old.replies.items) lines) old.replies.items numbered is.made.reply (length-take-le (length old.replies.items) lines (omega (arith, lt))))
-        ∙ ap (λ (ls : List Numbered). all_opened given.slots ls (old.replies.items ++ is.made.reply ∷ [])) (sym lines_taken)
-        ∙ ap (λ (rs : List LineReply). all_opened given.slots (take (length new.replies.items) lines) rs) (sym is.more)
-      where
-        no_stop : ◌≡◌ {A = Option Stop} None (Some WantsMemory) → ⊥
-        no_stop is = cc
-
-    performed_reply : (o : Option Stop) → new.stopped ≡ o → ((f c : Course) → c ≡ f → IsCourse o f c) → IsPerformed (setting_of given backup start now) lines new
+    performed_reply : (o : Option Stop) → new.stopped ≡ o → ((f c : Course) → c ≡ f → IsCourse o (histories_in new.state) (drop (length new.replies.items) lines) f c) → IsPerformed (setting_of bank_tells given first_tape tape backup start now) lines new
     performed_reply o stop course = record {
       own = is.replied.turn.own;
       few = omega (arith, one_more, lt);
       replies = replies_new;
-      course = subst (λ (x : Option Stop). IsCourse x (course_of at_rest new.replies.items) (course_in new.state)) (sym stop) (course (course_of at_rest new.replies.items) (course_in new.state) course_new);
-      opened = λ _. opened_new;
+      course = subst (λ (x : Option Stop). IsCourse x (histories_in new.state) (drop (length new.replies.items) lines) (course_of (histories_in new.state) (at_rest 0) (take (length new.replies.items) lines) new.replies.items) (course_in new.state)) (sym stop)
+          (course (course_of (histories_in new.state) (at_rest 0) (take (length new.replies.items) lines) new.replies.items) (course_in new.state) course_new);
       losses = losses_add (histories_in old.state) (histories_in new.state) early late performed.losses is.replied.turn.losses;
+      ends = ends_new;
       refused = refused_new;
     }
 
@@ -133,23 +175,27 @@ module _ {B : Type 0} {given : Given} {backup : Option ℕ} {start mid now : ℕ
     text_new = ap (λ (rs : List LineReply). report_text (histories_in new.state) rs) is.more ∙ text_more (histories_in new.state) old.replies.items is.made.reply
         ∙ ap (λ (t : List ℕ). t ++ reply_text (histories_in new.state) is.made.reply) ((shown_still is.replied.turn.grown).0)
 
-  performed_short : IsUnreplied (setting_of given backup mid now) old.state new.state → new.replies.items ≡ old.replies.items → new.refused ≡ old.refused → new.stopped ≡ Some WantsMemory
-      → IsPerformed (setting_of given backup start now) lines new
+  performed_short : IsUnreplied (setting_of bank_tells given mid_tape tape backup mid now) old.state new.state numbered.line → new.replies.items ≡ old.replies.items → new.refused ≡ old.refused → new.stopped ≡ Some WantsMemory
+      → IsPerformed (setting_of bank_tells given first_tape tape backup start now) lines new
   performed_short none same refused stop = record {
     own = none.own;
     few = omega (arith, lt, ap (λ (l : List LineReply). length l) same);
-    replies = subst (λ (rs : List LineReply). AreReplies (setting_of given backup start now) (histories_in new.state) at_rest (take (length rs) lines) rs) (sym same) (replies_still none.grown);
-    course = subst (λ (x : Option Stop). IsCourse x (course_of at_rest new.replies.items) (course_in new.state)) (sym stop)
-        (subst (λ (rs : List LineReply). IsCourse (Some WantsMemory) (course_of at_rest rs) (course_in new.state)) (sym same) (by_course none.course));
-    opened = λ not. absurd (not stop);
+    replies = subst (λ (rs : List LineReply). AreReplies (setting_of bank_tells given first_tape tape backup start now) (histories_in new.state) (at_rest 0) (take (length rs) lines) rs) (sym same) (replies_still none.grown);
+    course = subst (λ (x : Option Stop). IsCourse x (histories_in new.state) (drop (length new.replies.items) lines) (course_of (histories_in new.state) (at_rest 0) (take (length new.replies.items) lines) new.replies.items) (course_in new.state)) (sym stop)
+        (subst (λ (rs : List LineReply). IsCourse (Some WantsMemory) (histories_in new.state) (drop (length rs) lines) (course_of (histories_in new.state) (at_rest 0) (take (length rs) lines) rs) (course_in new.state)) (sym same) (by_course none.course));
     losses = losses_add (histories_in old.state) (histories_in new.state) early late performed.losses none.losses;
+    ends = λ t. subst (λ (rs : List LineReply). AreInOrder (length first_tape) (length tape) rs) (sym same) (order_later (length first_tape) (length mid_tape) (length tape) old.replies.items (grows_longer grew t) (performed.ends t));
     refused = refused ∙ performed.refused ∙ sym ((shown_still none.grown).1) ∙ ap (λ (rs : List LineReply). has_refusal (histories_in new.state) rs) (sym same);
   }
     where
-      by_course : (course_in new.state ≡ course_in old.state) ⊎ ((what : Answered) × (course_in new.state ≡ course_after (course_in old.state) what))
-          → (course_in new.state ≡ course_of at_rest old.replies.items) ⊎ ((what : Answered) × (course_in new.state ≡ course_after (course_of at_rest old.replies.items) what))
-      by_course (inl is) = inl (is ∙ course_before)
-      by_course (inr (what, is)) = inr (what, is ∙ ap (λ (c : Course). course_after c what) course_before)
+      first_behind : drop (length old.replies.items) lines ≡ numbered ∷ drop (suc (length old.replies.items)) lines
+      first_behind = drop-cons lines (length old.replies.items) nothing lt ∙ ap (λ (l : Numbered). l ∷ drop (suc (length old.replies.items)) lines) here
+
+      by_course : IsCourseOrNext (histories_in new.state) (course_in old.state) numbered.line (course_in new.state)
+          → (course_in new.state ≡ told_before (histories_in new.state)) ⊎ IsCourseBehind (histories_in new.state) (drop (length old.replies.items) lines) (told_before (histories_in new.state)) (course_in new.state)
+      by_course (inl is) = inl (is ∙ course_still none.grown)
+      by_course (inr next) = inr (subst (λ (ls : List Numbered). IsCourseBehind (histories_in new.state) ls (told_before (histories_in new.state)) (course_in new.state)) (sym first_behind)
+          (subst (λ (c : Course). IsNextCourse (histories_in new.state) c numbered.line (course_in new.state)) (course_still none.grown) next))
 
   module _ {tells : Type 0} {first before : List ℕ} {first_faults before_faults : ℕ} (after : List ℕ) (after_faults : ℕ) (shown : IsShownTo tells old first before first_faults before_faults) where
     taken_before : tells → before ≡ first ++ report_text (histories_in old.state) old.replies.items
@@ -159,8 +205,8 @@ module _ {B : Type 0} {given : Given} {backup : Option ℕ} {start mid now : ℕ
     shown_before = subst (λ (o : Option Stop). old.shown ≡ counted (length (report_text (histories_in old.state) (taken_whole o old.replies.items)))) going shown.shown
 
     -- a line was performed, by whether the run stops there
-    pub step : (o : Option Stop) → new.stopped ≡ o → IsStep tells (setting_of given backup mid now) old new numbered before after o → IsStopCause o before_faults after_faults → before_faults ≤ after_faults
-        → IsPerformed (setting_of given backup start now) lines new × IsShownTo tells new first after first_faults after_faults
+    pub step : (o : Option Stop) → new.stopped ≡ o → IsStep tells (setting_of bank_tells given mid_tape tape backup mid now) old new numbered before after o → IsStopCause o before_faults after_faults → before_faults ≤ after_faults
+        → IsPerformed (setting_of bank_tells given first_tape tape backup start now) lines new × IsShownTo tells new first after first_faults after_faults
     step None stop is cause le = (
       performed_reply is.reply None stop (λ f c same. same),
       record {
@@ -221,16 +267,16 @@ module _ {B : Type 0} {given : Given} {backup : Option ℕ} {start mid now : ℕ
         same_text = ap (λ (rs : List LineReply). report_text (histories_in new.state) rs) is.same ∙ (shown_still is.none.grown).0
 
 -- nothing was performed yet
-pub performed_none : {B : Type 0} {given : Given} {backup : Option ℕ} {start : ℕ → ℕ} (lines : List Numbered) (session : Session B) (bank : B) → session.state ≡ Idle bank → session.replies.items ≡ [] → session.refused ≡ false
-    → session.stopped ≡ None → IsPerformed (setting_of given backup start start) lines session
-performed_none {B = B} {given = given} {backup = backup} {start = start} lines session bank idle none refused going = record {
-  own = subst (λ (s : State B). RunsOwn s) (sym idle) tt;
+pub performed_none : {B bank_tells : Type 0} {given : Given} {backup : Option ℕ} {tape : List Operation} {start : ℕ → ℕ} (lines : List Numbered) (session : Session B) (bank : B) (epochs : Vec Epoch) → session.state ≡ Idle bank epochs → epochs.items ≡ []
+    → session.replies.items ≡ [] → session.refused ≡ false → session.stopped ≡ None → IsPerformed (setting_of bank_tells given tape tape backup start start) lines session
+performed_none {B = B} {bank_tells = bank_tells} {given = given} {backup = backup} {tape = tape} {start = start} lines session bank epochs idle empty none refused going = record {
+  own = subst (λ (s : State B). RunsOwn s) (sym idle) (subst (λ (l : List Epoch). AreOfScript (histories_of l)) (sym empty) (All-nil IsByScript));
   few = omega (arith, ap (λ (l : List LineReply). length l) none);
-  replies = subst (λ (rs : List LineReply). AreReplies (setting_of given backup start start) (histories_in session.state) at_rest (take (length rs) lines) rs) (sym none) tt;
-  course = subst (λ (o : Option Stop). IsCourse o (course_of at_rest session.replies.items) (course_in session.state)) (sym going)
-      (ap (λ (s : State B). course_in s) idle ∙ ap (λ (rs : List LineReply). course_of at_rest rs) (sym none));
-  opened = λ _. ap (λ (s : State B). opened_in s) idle ∙ ap (λ (rs : List LineReply). all_opened given.slots (take (length rs) lines) rs) (sym none);
-  losses = subst (λ (s : State B). AreLossesFrom start start [] (histories_in s)) (sym idle) tt;
+  replies = subst (λ (rs : List LineReply). AreReplies (setting_of bank_tells given tape tape backup start start) (histories_in session.state) (at_rest 0) (take (length rs) lines) rs) (sym none) tt;
+  course = subst (λ (o : Option Stop). IsCourse o (histories_in session.state) (drop (length session.replies.items) lines) (course_of (histories_in session.state) (at_rest 0) (take (length session.replies.items) lines) session.replies.items) (course_in session.state)) (sym going)
+      (ap (λ (s : State B). course_in s) idle ∙ ap (λ (l : List Epoch). at_rest (length l)) empty ∙ ap (λ (rs : List LineReply). course_of (histories_in session.state) (at_rest 0) (take (length rs) lines) rs) (sym none));
+  losses = subst (λ (s : State B). AreLossesFrom start start [] (histories_in s)) (sym idle) (subst (λ (l : List Epoch). AreLossesFrom start start [] (histories_of l)) (sym empty) tt);
+  ends = λ t. subst (λ (rs : List LineReply). AreInOrder (length tape) (length tape) rs) (sym none) (omega arith);
   refused = refused ∙ ap (λ (rs : List LineReply). has_refusal (histories_in session.state) rs) (sym none);
 }
 

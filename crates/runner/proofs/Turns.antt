@@ -1,38 +1,58 @@
 -- What one line does to a run, by the answer that it got.
-use Rattle.std.proofs.Common.{◌≡◌, ℕ, ◌+◌, ◌*◌, ◌<◌, ◌==◌, ◌&&◌, Bool, true, false, Option, Some, None, List, [], ◌∷◌, ◌++◌, refl, sym, ◌∙◌, ap, subst, arith, append-nil, replicate, Result, Ok, Err}
+use Rattle.std.proofs.Common.{◌≡◌, ℕ, ◌+◌, ◌*◌, ◌^◌, ◌<◌, ◌==◌, ◌&&◌, Bool, true, false, Option, Some, None, List, [], ◌∷◌, ◌++◌, length, length-append, refl, sym, ◌∙◌, ap, subst, arith, append-nil, append_assoc, Result, Ok, Err, inl, inr, ◌≤◌}
 use Rattle.std.proofs.lemmas.List.Sums.{fold-append}
+use Rattle.std.proofs.lemmas.List.{map-append, length-map}
 use Rattle.std.proofs.lemmas.Bool.Decides.{nat_tests}
-use Rattle.std.specs.Prelude.{slice_get, MatchOption, if◌then◌else◌, IsTrue}
-use Rattle.std.proofs.lemmas.List.Elements.{All-nil, All-cons, All-append}
+use Rattle.std.proofs.lemmas.List.Elements.{All-nil, All-cons, All-append, All-weaker}
+use Rattle.std.specs.Prelude.{slice_get, if◌then◌else◌, vec_capacity, MatchOption, IfOk, IfSome}
+use Rattle.std.specs.Global.{Vec}
+use Rattle.std.specs.List.{All}
+use Rattle.std.specs.Option.{option_and_then, option_map_or}
 use Rattle.md_base.specs.declared.places.Shape.{Shape}
 use Rattle.md_base.specs.declared.answers.NoMemory.{NoMemory}
-use Rattle.md_base.specs.Sectors.{zero_sector}
 use Rattle.md_base.specs.declared.answers.Refusal.{Refusal}
 use Rattle.md_base.specs.declared.answers.Refusal.TheVariants.{Running as IsRunning}
 use Rattle.md_base.specs.declared.answers.Who.{Who}
+use Rattle.md_base.specs.declared.status.Status.{Status}
 use Rattle.md_base.specs.Shapes.{data_disks}
-use Rattle.plain_array.specs.Parts.{Parts}
-use Rattle.plain_array.specs.Kept.{opening_of, IsSameArray, IsMade, AreLossesOf}
-use Rattle.plain_array.proofs.LossLaws.{losses-same}
-use Rattle.script.specs.declared.lines.CreateLine.{CreateLine}
-use Rattle.script.specs.Script.{is_first_array}
-use Rattle.plain_array.proofs.PlainLaws.{one}
+use Rattle.array.specs.Parts.{Parts}
+use Rattle.array.specs.Status.{IsStatusFor}
+use Rattle.array.specs.Whole.{list_size}
+use Rattle.array.specs.Placed.{places_of}
 use Rattle.flat_history.specs.declared.events.Entry.{Entry}
+use Rattle.flat_history.specs.declared.events.Epoch.{Epoch}
 use Rattle.flat_history.specs.declared.events.Event.{Event}
-use Rattle.flat_history.specs.declared.events.Request.{Request}
+use Rattle.flat_history.specs.declared.events.Event.TheVariants.{Shown, Stopped, Halted}
+use Rattle.flat_history.specs.declared.events.Request.TheVariants.{Read as AsksRead, Write as AsksWrite, Flush as AsksFlush}
 use Rattle.flat_history.specs.Flat.{rest_of_call, is_same_call, next_number, number_after}
-use Rattle.flat_history.specs.Plain.{Opening, entries_of}
+use Rattle.flat_history.specs.Plain.{Opening, IsPlainLegal, ArePlain, PlainAnswersIn, entries_of}
+use Rattle.flat_history.specs.Transfers.{last_end_from, IsTimedBetween}
+use Rattle.flat_history.specs.World.{World, opening_list}
+use Rattle.flat_history.specs.Epochs.{OpensAlike}
+use Rattle.bank.specs.Given.{sizes}
+use Rattle.superblocks.specs.declared.members.Members.{Members}
+use Rattle.array.specs.Kept.{IsEndOf, IsEntered, world_for}
+use Rattle.array.proofs.PlainLaws.{last-snoc}
+use Rattle.assemble.specs.Creating.{create_refusal}
+use Rattle.assemble.specs.Opening.{AreGiven, array_of, scope_of}
+use Rattle.assemble.specs.Made.{used_slot}
+use Rattle.assemble.specs.Running.{IsCreated, IsAssembled, OpensWithZeros}
+use Rattle.script.specs.declared.lines.CreateLine.{CreateLine}
 use Rattle.script.specs.declared.lines.Line.{Line}
-use Rattle.script.specs.declared.lines.Line.TheVariants.{Create, Read, Write}
+use Rattle.script.specs.declared.lines.Line.TheVariants.{Create, Read, Write, Flush, Assemble}
 use Rattle.runner.specs.declared.report.Outside.TheVariants.{Created, Assembled, Refused}
-use Rattle.runner.specs.declared.report.Answered.{Answered}
 use Rattle.runner.specs.declared.report.Answered.TheVariants.{Inside, Outside as IsOutside}
 use Rattle.runner.specs.declared.states.State.TheVariants.{Idle, Running}
-use Rattle.runner.specs.Asked.{script_who, IsAskedAt, IsPerformedLine}
-use Rattle.runner.specs.Histories.{Opened, opening_at}
-use Rattle.runner.specs.Replies.{Course, Setting, spec_of, unmade, asked_of, IsReplyAt, IsAnsweredInside, IsRefusedOutside, opened_by}
-use Rattle.runner.specs.States.{running_history, opened_in, IsGrown, IsTurn, IsNoTurn, IsTurnOrNone, RunsOwn, AreByScript}
-use Rattle.runner.proofs.AskLaws.{with_reply, reply_at}
+use Rattle.runner.specs.Asked.{script_who, IsAskedAt, IsAsked}
+use Rattle.runner.specs.Histories.{History, history_of, histories_of, entry_at, is_end, ends_epoch}
+use Rattle.runner.specs.Making.{Setting, held_at, history_world, IsStoredNew, IsStoredAs}
+use Rattle.runner.specs.Replies.{at_rest, begun, one_call_more, IsAnsweredInside, IsRefusedOutside, spec_of}
+use Rattle.superblocks.specs.Reading.{shape_of}
+use Rattle.script.specs.Seeds.{seeded}
+use Rattle.runner.specs.States.{EndsBetween, IsLossSince, AreLossesFrom, running_history, course_with, answer_at, IsGrown, AreGrown, AreLossesSince, IsTurn, IsNoTurn, IsTurnOrNone, RunsOwn, AreByScript, IsByScript, AreOfScript}
+use Rattle.runner.proofs.AskLaws.{one, with_reply, entry_there, reply_at}
+use Rattle.runner.proofs.Losses.{losses-kept, losses-last, losses-same, losses-came}
+use Rattle.runner.proofs.Found.{found_history, stored_made, stored_found}
 
 both_false : (a b : Bool) → b ≡ false → (a && b) ≡ false
 both_false true b is = is
@@ -49,150 +69,363 @@ pub later_call : (e : Entry) (who : Who) (end : ℕ) (events : List Event) → e
 later_call e who end [] lt = refl
 later_call e who end (event ∷ events) lt = ap (λ (t : Bool). if t then one who end event ∷ rest_of_call e (entries_of who end events) else []) (other_call e who end event lt)
 
--- what a call of the script enters
-pub grown_by_call : (first : ℕ) (old new : List Entry) (end : ℕ) (events : List Event) → new ≡ old ++ entries_of (script_who old) end events
-    → IsGrown (record { first = first; entries = old }) (record { first = first; entries = new })
-grown_by_call first old new end events is = record {
-  first = refl;
-  more = entries_of (script_who old) end events;
-  grown = is;
-  later = λ e lt. later_call e (script_who old) end events lt;
-}
-
 -- the entries of a call of the script are the script's
-by_script_call : (who : Who) (end : ℕ) (events : List Event) → who.caller ≡ 0 → AreByScript (entries_of who end events)
-by_script_call who end [] is = All-nil (λ e. e.caller ≡ 0)
-by_script_call who end (event ∷ events) is = All-cons (λ e. e.caller ≡ 0) (one who end event) (entries_of who end events) is (by_script_call who end events is)
+by_script_call : (number end : ℕ) (events : List Event) → AreByScript (number + 1) (entries_of (record { caller = 0; number = number }) end events)
+by_script_call number end [] = All-nil (λ e. (e.caller ≡ 0) × (e.number < number + 1))
+by_script_call number end (event ∷ events) =
+    All-cons (λ e. (e.caller ≡ 0) × (e.number < number + 1)) (one (record { caller = 0; number = number }) end event) (entries_of (record { caller = 0; number = number }) end events) (refl, omega arith) (by_script_call number end events)
 
-pub by_script_more : (old new : List Entry) (end : ℕ) (events : List Event) → new ≡ old ++ entries_of (script_who old) end events → AreByScript old → AreByScript new
-by_script_more old new end events is was = subst (λ (l : List Entry). AreByScript l) (sym is)
-    (All-append (λ e. e.caller ≡ 0) old (entries_of (script_who old) end events) was (by_script_call (script_who old) end events refl))
+-- ---- the history of the array that runs goes on
 
-grown_same : (first : ℕ) (old new : List Entry) → new ≡ old → IsGrown (record { first = first; entries = old }) (record { first = first; entries = new })
-grown_same first old new is = record {
-  first = refl;
-  more = [];
-  grown = is ∙ sym (append-nil old);
-  later = λ e lt. refl;
-}
+pub get_last : (hs : List History) (h : History) → slice_get (hs ++ h ∷ []) (length hs) ≡ Some h
+get_last [] h = refl
+get_last (x ∷ hs) h = get_last hs h
 
-number_entered : {opening : Opening} {request : Request} {old new : List Entry} {place : ℕ} → IsAskedAt opening request old new place → next_number 0 new ≡ next_number 0 old + 1
-number_entered {old = old} asked = ap (λ (l : List Entry). next_number 0 l) (with_reply asked.replied) ∙ fold-append (number_after 0) 0 (old ++ entries_of (script_who old) asked.replied.end asked.replied.inner) (one (script_who old) asked.replied.end asked.event ∷ [])
+none_later : (entries : List Entry) → All (λ e. rest_of_call e [] ≡ []) entries
+none_later [] = All-nil (λ (e : Entry). rest_of_call e [] ≡ [])
+none_later (e ∷ entries) = All-cons (λ (e : Entry). rest_of_call e [] ≡ []) e entries refl (none_later entries)
 
--- an array of the size that there is so far
-same_opening : (shape : Shape) (size first : ℕ) → data_disks shape * size ≡ 80 → opening_of shape size first ≡ opening_at (record { first = first; entries = [] })
-same_opening shape size first is = ap (λ (n : ℕ). record { list = replicate n zero_sector; first = first }) is
+grown_same : (h : History) → IsGrown h h
+grown_same h = record { uuid = refl; given = refl; first = refl; more = []; grown = sym (append-nil h.entries); later = none_later h.entries }
 
-module _ {B : Type 0} (setting : Setting) {old new : Parts B} (same : IsSameArray old new) (lost : AreLossesOf setting.before setting.now old.entries new.entries) (own : RunsOwn (Running old)) where
-  sized_still : data_disks new.shape * new.size ≡ 80
-  sized_still = ap (λ (s : Shape). data_disks s * new.size) same.shape ∙ ap (λ (n : ℕ). data_disks old.shape * n) same.size ∙ own.sized
+pub grown_kept : (hs : List History) → AreGrown hs hs
+grown_kept [] = tt
+grown_kept (h ∷ hs) = (grown_same h, grown_kept hs)
 
-  own_same : new.entries ≡ old.entries → RunsOwn (Running new)
-  own_same is = record { sized = sized_still; script = subst (λ (l : List Entry). AreByScript l) (sym is) own.script }
+pub grown_last : (hs : List History) (old new : History) → IsGrown old new → AreGrown (hs ++ old ∷ []) (hs ++ new ∷ [])
+grown_last [] old new is = (is, tt)
+grown_last (h ∷ hs) old new is = (grown_same h, grown_last hs old new is)
 
-  refirst : IsGrown (record { first = old.first; entries = old.entries }) (record { first = old.first; entries = new.entries }) → IsGrown (running_history old) (running_history new)
-  refirst is = record { first = same.first; more = is.more; grown = is.grown; later = is.later }
+grown_came : (hs : List History) (new : History) → AreGrown hs (hs ++ new ∷ [])
+grown_came [] new = tt
+grown_came (h ∷ hs) new = (grown_same h, grown_came hs new)
 
-  course_still : new.entries ≡ old.entries → ◌≡◌ {A = Course} (record { opened = 1; running = true; calls = next_number 0 new.entries }) (record { opened = 1; running = true; calls = next_number 0 old.entries })
-  course_still is = ap (λ (l : List Entry). record { opened = 1; running = true; calls = next_number 0 l }) is
+-- a call of the script, over the history of the array that runs
+module _ {size : ℕ} {line : Line} {place : ℕ} (hs : List History) (old new : History) (asked : IsAskedAt size line old.entries new.entries place) where
+  abbrev who : Who
+  who = script_who old.entries
 
-  opened_still : (line : Line) (what : Answered) → opened_by setting.given.slots line what ≡ [] → opened_in (Running new) ≡ opened_in (Running old) ++ opened_by setting.given.slots line what
-  opened_still line what nothing = ap (λ (u : List ℕ). record { uuid = u; given = new.given } ∷ []) same.uuid ∙ ap (λ (n : ℕ). record { uuid = old.uuid; given = n } ∷ []) same.given
-      ∙ ap (λ (l : List Opened). record { uuid = old.uuid; given = old.given } ∷ l) (sym nothing)
+  pub number_more : next_number 0 new.entries ≡ next_number 0 old.entries + 1
+  number_more = ap (λ (l : List Entry). next_number 0 l) (with_reply asked) ∙ fold-append (number_after 0) 0 (old.entries ++ entries_of who asked.end asked.inner) (one who asked.end asked.event ∷ [])
 
-  -- a request of the script was answered
-  turn_inside : (line : Line) (epoch place : ℕ) (request : Request) → asked_of line ≡ Some request → epoch ≡ 0 → IsAskedAt (opening_of old.shape old.size old.first) request old.entries new.entries place
-      → IsTurn setting (Running old) (Running new) line (Inside epoch place)
-  turn_inside line epoch place request is first asked = record {
-    own = record { sized = sized_still; script = by_script_more old.entries new.entries asked.replied.end _ asked.replied.is own.script };
-    losses = (lost, tt);
-    grown = (refirst (grown_by_call old.first old.entries new.entries asked.replied.end _ asked.replied.is), tt);
-    answer = subst (λ (o : Option Request). MatchOption o ⊥ (λ r. IsAnsweredInside (running_history new ∷ []) (record { opened = 1; running = true; calls = next_number 0 old.entries }) epoch place r)) (sym is)
-        (record {
-          running = refl;
-          latest = ap (λ (k : ℕ). k + 1) first;
-          history = running_history new;
-          there = ap (λ (k : ℕ). slice_get (running_history new ∷ []) k) first;
-          replied = subst (λ (o : Opening). IsReplyAt o new.entries place (next_number 0 old.entries) request)
-              (same_opening old.shape old.size old.first own.sized ∙ ap (λ (n : ℕ). opening_at (record { first = n; entries = [] })) (sym same.first)) (reply_at asked);
-        });
-    course = ap (λ (n : ℕ). record { opened = 1; running = true; calls = n }) (number_entered asked);
-    opened = opened_still line (Inside epoch place) (nothing_inside line);
-  }
-    where
-      nothing_inside : (line : Line) → opened_by setting.given.slots line (Inside epoch place) ≡ []
-      nothing_inside (Create spec) = refl
-      nothing_inside (Read at count) = refl
-      nothing_inside (Write at count seed) = refl
+  pub by_script_more : IsByScript old → IsByScript new
+  by_script_more was =
+      let n = next_number 0 old.entries in
+      subst (λ (l : List Entry). AreByScript (next_number 0 new.entries) l) (sym asked.is)
+      (subst (λ (k : ℕ). AreByScript k (old.entries ++ entries_of who asked.end (asked.inner ++ asked.event ∷ []))) (sym number_more)
+      (All-append (λ e. (e.caller ≡ 0) × (e.number < n + 1)) old.entries (entries_of who asked.end (asked.inner ++ asked.event ∷ []))
+      (All-weaker (λ e. (e.caller ≡ 0) × (e.number < n)) (λ e. (e.caller ≡ 0) × (e.number < n + 1)) (λ e own. (own.0, omega (arith, own.1))) old.entries was)
+      (by_script_call n asked.end (asked.inner ++ asked.event ∷ []))))
 
-  -- a create is refused
-  turn_refused : (line : Line) (refusal : Refusal) → asked_of line ≡ None → refusal ≡ IsRunning → new.entries ≡ old.entries → IsTurn setting (Running old) (Running new) line (IsOutside (Refused refusal))
-  turn_refused line refusal is running entries = record {
-    own = own_same entries;
-    losses = (lost, tt);
-    grown = (refirst (grown_same old.first old.entries new.entries entries), tt);
-    answer = by_line line is;
-    course = course_still entries;
-    opened = opened_still line (IsOutside (Refused refusal)) (nothing_refused line);
-  }
-    where
-      nothing_refused : (line : Line) → opened_by setting.given.slots line (IsOutside (Refused refusal)) ≡ []
-      nothing_refused (Create spec) = refl
-      nothing_refused (Read at count) = refl
-      nothing_refused (Write at count seed) = refl
-
-      by_line : (line : Line) → asked_of line ≡ None → IsRefusedOutside setting true line refusal
-      by_line (Create spec) is = running
-      by_line (Read at count) is = absurd (cc)
-      by_line (Write at count seed) is = absurd (cc)
-
-  no_turn : new.entries ≡ old.entries → IsNoTurn setting (Running old) (Running new)
-  no_turn entries = record {
-    own = own_same entries;
-    losses = (lost, tt);
-    grown = (refirst (grown_same old.first old.entries new.entries entries), tt);
-    course = course_still entries;
+  pub grown_more : new.uuid ≡ old.uuid → new.given ≡ old.given → new.first ≡ old.first → IsByScript old → IsGrown old new
+  grown_more uuid given first was = record {
+    uuid = uuid;
+    given = given;
+    first = first;
+    more = entries_of who asked.end (asked.inner ++ asked.event ∷ []);
+    grown = asked.is;
+    later = All-weaker (λ e. (e.caller ≡ 0) × (e.number < next_number 0 old.entries)) (λ e. rest_of_call e (entries_of who asked.end (asked.inner ++ asked.event ∷ [])) ≡ [])
+        (λ e own. later_call e who asked.end (asked.inner ++ asked.event ∷ []) (own.1)) old.entries was;
   }
 
-  -- what the running array answered
-  pub turn_running : (line : Line) (answer : Result Answered NoMemory) → IsPerformedLine (opening_of old.shape old.size old.first) old.entries new.entries line answer → IsTurnOrNone setting (Running old) (Running new) line answer
-  turn_running line (Ok (Inside epoch place)) (first, did) = by_request (asked_of line) refl did
-    where
-      by_request : (request : Option Request) → asked_of line ≡ request → MatchOption request ⊥ (λ r. IsAskedAt (opening_of old.shape old.size old.first) r old.entries new.entries place) → IsTurn setting (Running old) (Running new) line (Inside epoch place)
-      by_request None is asked = absurd asked
-      by_request (Some r) is asked = turn_inside line epoch place r is first asked
-  turn_running line (Ok (IsOutside Created)) did = absurd did
-  turn_running line (Ok (IsOutside (Assembled epoch status))) did = absurd did
-  turn_running line (Ok (IsOutside (Refused refusal))) (none, running, entries) = turn_refused line refusal none running entries
-  turn_running line (Err fault) entries = no_turn entries
+  pub answered_last : IsAnsweredInside (hs ++ new ∷ []) (record { opened = length hs + 1; running = true; calls = next_number 0 old.entries; size = size }) (length hs) place line
+  answered_last = record {
+    running = refl;
+    latest = refl;
+    history = new;
+    there = get_last hs new;
+    replied = reply_at asked;
+  }
 
--- the array that a line within the limits asks for
-first_size : (line : CreateLine) → IsTrue (is_first_array line) → data_disks line.shape * line.size ≡ 80
-first_size line is = grind (arith, nat_tests, is)
+  entry_last : entry_at (hs ++ new ∷ []) (length hs) place ≡ Some (one who asked.end asked.event)
+  entry_last = ap (λ (o : Option History). option_and_then (λ h. slice_get h.entries place) o) (get_last hs new) ∙ entry_there asked
 
--- an array was made as the line asks
-pub turn_created : {B : Type 0} {tells : Type 0} {ops : ℕ} {made : Parts B} (setting : Setting) (bank : B) (line : CreateLine) → IsMade tells ops setting.given.slots (spec_of line) made
-    → unmade setting line ≡ None → IsTrue (is_first_array line) → IsTurn setting (Idle bank) (Running made) (Create line) (IsOutside Created)
-turn_created {made = made} setting bank line was unrefused first = record {
-  own = record {
-    sized = ap (λ (s : Shape). data_disks s * made.size) was.shape ∙ ap (λ (n : ℕ). data_disks line.shape * n) was.size ∙ first_size line first;
-    script = subst (λ (l : List Entry). AreByScript l) (sym was.entries) (All-nil (λ e. e.caller ≡ 0));
-  };
-  losses = (losses-same setting.before setting.now [] made.entries was.entries, tt);
-  grown = tt;
-  answer = (refl, unrefused);
-  course = ap (λ (l : List Entry). record { opened = 1; running = true; calls = next_number 0 l }) was.entries;
-  opened = ap (λ (u : List ℕ). record { uuid = u; given = made.given } ∷ []) was.uuid ∙ ap (λ (n : ℕ). record { uuid = line.uuid; given = n } ∷ []) was.given;
-}
+  pub ends_last : ends_epoch (hs ++ new ∷ []) (length hs) place ≡ is_end asked.event
+  ends_last = ap (λ (o : Option Entry). option_map_or (λ e. is_end e.event) o false) entry_last
 
--- where no array runs, a line is refused
-pub turn_idle : {B : Type 0} (setting : Setting) (old new : B) (line : Line) (refusal : Refusal) → IsRefusedOutside setting false line refusal → IsTurn setting (Idle old) (Idle new) line (IsOutside (Refused refusal))
-turn_idle setting old new line refusal is = record { own = tt; losses = tt; grown = tt; answer = is; course = refl; opened = by_line line }
+  -- and when it ended
+  pub between_last : (low high : ℕ) → low ≤ asked.end → asked.end ≤ high → EndsBetween low high (hs ++ new ∷ []) (Inside (length hs) place)
+  between_last low high above below = subst (λ (o : Option Entry). MatchOption o ⊥ (λ e. (low ≤ e.end) × (e.end ≤ high))) (sym entry_last) (above, below)
+
+-- a read, a write and a flush end no epoch
+goes_read : (size : ℕ) (before : List Entry) (at count : ℕ) (event : Event) → PlainAnswersIn size before (AsksRead at count) event → is_end event ≡ false
+goes_read size before at count Stopped is = absurd is
+goes_read size before at count Halted is = absurd is
+goes_read size before at count event is = refl
+
+goes_write : (size : ℕ) (before : List Entry) (at : ℕ) (body : List (List ℕ)) (event : Event) → PlainAnswersIn size before (AsksWrite at body) event → is_end event ≡ false
+goes_write size before at body Stopped is = absurd is
+goes_write size before at body Halted is = absurd is
+goes_write size before at body event is = refl
+
+goes_flush : (size : ℕ) (before : List Entry) (event : Event) → PlainAnswersIn size before AsksFlush event → is_end event ≡ false
+goes_flush size before Stopped is = absurd is
+goes_flush size before Halted is = absurd is
+goes_flush size before event is = refl
+
+pub going_read : {size place : ℕ} {old new : List Entry} (at count : ℕ) (asked : IsAskedAt size (Read at count) old new place) → is_end asked.event ≡ false
+going_read {size = size} {old = old} at count asked = goes_read size (old ++ entries_of (script_who old) asked.end asked.inner) at count asked.event asked.fits.answers
+
+pub going_write : {size place : ℕ} {old new : List Entry} (at count seed : ℕ) (asked : IsAskedAt size (Write at count seed) old new place) → is_end asked.event ≡ false
+going_write {size = size} {old = old} at count seed asked = goes_write size (old ++ entries_of (script_who old) asked.end asked.inner) at (seeded seed at count) asked.event asked.fits.answers
+
+pub going_flush : {size place : ℕ} {old new : List Entry} (asked : IsAskedAt size Flush old new place) → is_end asked.event ≡ false
+going_flush {size = size} {old = old} asked = goes_flush size (old ++ entries_of (script_who old) asked.end asked.inner) asked.event asked.fits.answers
+
+-- ---- the array that runs was called
+
+-- between where the run stood and where it stands
+abbrev pub EndsWithin : Setting → ℕ → Type 0
+EndsWithin setting end = (setting.began ≤ end) × (end ≤ length setting.tape)
+
+-- a call whose entries end where the tape does
+pub at_the_end : {size place : ℕ} {line : Line} (setting : Setting) (old new : List Entry) (asked : IsAskedAt size line old new place) (first : ℕ) → setting.tells → setting.began ≤ length setting.tape
+    → IsEndOf setting.tells first new setting.tape → EndsWithin setting asked.end
+at_the_end setting old new asked first t longer ended =
+    let last = last_end-snoc first (old ++ entries_of (script_who old) asked.end asked.inner) (one (script_who old) asked.end asked.event) in
+    let same : asked.end ≡ length setting.tape = sym last ∙ sym (ap (λ (l : List Entry). last_end_from first l) (with_reply asked)) ∙ ended t in
+    (omega (arith, longer, same), omega (arith, same))
   where
-    by_line : (line : Line) → [] ≡ opened_by setting.given.slots line (IsOutside (Refused refusal))
-    by_line (Create spec) = refl
-    by_line (Read at count) = refl
-    by_line (Write at count seed) = refl
+    last_end-snoc : (first : ℕ) (xs : List Entry) (e : Entry) → last_end_from first (xs ++ e ∷ []) ≡ e.end
+    last_end-snoc first xs e = ap (λ (o : Option Entry). option_map_or (λ (x : Entry). x.end) o first) (last-snoc xs e)
 
-pub no_turn_idle : {B : Type 0} (setting : Setting) (old new : B) → IsNoTurn setting (Idle old) (Idle new)
-no_turn_idle setting old new = record { own = tt; losses = tt; grown = tt; course = refl }
+-- the entries of a call that end within a legal history, behind the former ones
+pub by_legal : {size place : ℕ} {line : Line} (setting : Setting) (opening : Opening) (old new : List Entry) (asked : IsAskedAt size line old new place) → last_end_from opening.first old ≡ setting.began
+    → IsPlainLegal opening (length setting.tape) new → EndsWithin setting asked.end
+by_legal setting opening old new asked began legal = by_inner asked.inner asked.is
+  where
+    timed : (before xs : List Entry) (y : Entry) (ys : List Entry) → ArePlain opening (length setting.tape) before (xs ++ y ∷ ys) → IsTimedBetween opening.first (length setting.tape) (before ++ xs) y
+    timed before [] y ys plain = subst (λ (l : List Entry). IsTimedBetween opening.first (length setting.tape) l y) (sym (append-nil before)) plain.0.timed
+    timed before (x ∷ xs) y ys plain = subst (λ (l : List Entry). IsTimedBetween opening.first (length setting.tape) l y) (append_assoc before (x ∷ []) xs) (timed (before ++ x ∷ []) xs y ys plain.1)
+
+    by_first : (e : Entry) (more : List Entry) → e.end ≡ asked.end → new ≡ old ++ e ∷ more → EndsWithin setting asked.end
+    by_first e more same is =
+        let first = timed [] old e more (subst (λ (l : List Entry). ArePlain opening (length setting.tape) [] l) is legal) in
+        (omega (arith, first.rises, began, same), omega (arith, first.within, same))
+
+    by_inner : (inner : List Event) → new ≡ old ++ entries_of (script_who old) asked.end (inner ++ asked.event ∷ []) → EndsWithin setting asked.end
+    by_inner [] is = by_first (one (script_who old) asked.end asked.event) [] refl is
+    by_inner (x ∷ inner) is = by_first (one (script_who old) asked.end x) (entries_of (script_who old) asked.end (inner ++ asked.event ∷ [])) refl is
+
+module _ {B : Type 0} (setting : Setting) (old new : Parts B) (epochs : Vec Epoch) (own : RunsOwn (Running old epochs)) (lost : AreLossesSince setting.before setting.now old.entries new.entries) (uuid : new.uuid ≡ old.uuid) (given : new.given ≡ old.given)
+    (first : new.first ≡ old.first) (shape : shape_of new.members.newest ≡ shape_of old.members.newest) (rows : new.members.newest.size ≡ old.members.newest.size) where
+  abbrev hs : List History
+  hs = histories_of epochs.items
+
+  abbrev k : ℕ
+  k = length epochs.items
+
+  len : length hs ≡ k
+  len = length-map epochs.items history_of
+
+  same_size : list_size (places_of new.members) ≡ list_size (places_of old.members)
+  same_size = ap (λ (s : Shape). data_disks s * new.members.newest.size) shape ∙ ap (λ (n : ℕ). data_disks (shape_of old.members.newest) * n) rows
+
+  -- it answered and goes on
+  pub turn_asked : (line : Line) (place : ℕ) (asked : IsAskedAt (list_size (places_of old.members)) line old.entries new.entries place) → (setting.tells → EndsWithin setting asked.end) → is_end asked.event ≡ false
+      → IsTurn setting (Running old epochs) (Running new epochs) line (Inside k place)
+  turn_asked line place asked ended goes = record {
+    own = record { former = own.former; script = by_script_more hs (running_history old) (running_history new) asked own.script; room = own.room; few = own.few };
+    losses = losses-last setting.before setting.now hs (running_history old) (running_history new) lost;
+    grown = grown_last hs (running_history old) (running_history new) (grown_more hs (running_history old) (running_history new) asked uuid given first own.script);
+    ends = λ t. subst (λ (n : ℕ). EndsBetween setting.began (length setting.tape) (hs ++ running_history new ∷ []) (Inside n place)) len
+        (between_last hs (running_history old) (running_history new) asked setting.began (length setting.tape) (ended t).0 (ended t).1);
+    answer = subst (λ (n : ℕ). IsAnsweredInside (hs ++ running_history new ∷ []) (record { opened = n + 1; running = true; calls = next_number 0 old.entries; size = list_size (places_of old.members) }) n place line) len
+        (answered_last hs (running_history old) (running_history new) asked);
+    course = ap (λ (n : ℕ). record { opened = k + 1; running = true; calls = n; size = list_size (places_of new.members) }) (number_more hs (running_history old) (running_history new) asked)
+        ∙ ap (λ (n : ℕ). record { opened = k + 1; running = true; calls = next_number 0 old.entries + 1; size = n }) same_size
+        ∙ sym (ap (λ (b : Bool). if b then at_rest (k + 1) else one_call_more (course_with k old))
+        (ap (λ (n : ℕ). ends_epoch (hs ++ running_history new ∷ []) n place) (sym len) ∙ ends_last hs (running_history old) (running_history new) asked ∙ goes));
+  }
+
+  -- memory was short for it
+  pub no_turn : (line : Line) → new.entries ≡ old.entries → IsNoTurn setting (Running old epochs) (Running new epochs) line
+  no_turn line same = record {
+    own = record { former = own.former; script = subst (λ (l : List Entry). AreByScript (next_number 0 l) l) (sym same) own.script; room = own.room; few = own.few };
+    losses = losses-last setting.before setting.now hs (running_history old) (running_history new) lost;
+    grown = grown_last hs (running_history old) (running_history new) (record { uuid = uuid; given = given; first = first; more = []; grown = same ∙ sym (append-nil old.entries); later = none_later old.entries });
+    course = inl (ap (λ (l : List Entry). record { opened = k + 1; running = true; calls = next_number 0 l; size = list_size (places_of new.members) }) same
+        ∙ ap (λ (n : ℕ). record { opened = k + 1; running = true; calls = next_number 0 old.entries; size = n }) same_size);
+  }
+
+  pub turn_of_ask : (line : Line) (r : Result ℕ NoMemory) → ((place : ℕ) (asked : IsAskedAt (list_size (places_of old.members)) line old.entries new.entries place) → is_end asked.event ≡ false)
+      → (setting.tells → setting.began ≤ length setting.tape) → IfOk r (λ place. IsEndOf setting.tells new.first new.entries setting.tape)
+      → IsAsked (list_size (places_of old.members)) line old.entries new.entries r → IsTurnOrNone setting (Running old epochs) (Running new epochs) line (answer_at k r)
+  turn_of_ask line (Ok place) going longer ended asked = turn_asked line place asked (λ t. at_the_end setting old.entries new.entries asked new.first t (longer t) ended) (going place asked)
+  turn_of_ask line (Err fault) going longer ended asked = no_turn line asked
+
+-- it was not called, and goes on
+pub turn_refused : {B : Type 0} (setting : Setting) (array : Parts B) (epochs : Vec Epoch) (line : Line) → RunsOwn (Running array epochs) → (setting.tells → setting.began ≤ length setting.tape) → IsRefusedOutside setting true (length setting.tape) line IsRunning
+    → IsTurn setting (Running array epochs) (Running array epochs) line (IsOutside (Refused IsRunning))
+turn_refused setting array epochs line own longer refused = record {
+  own = own;
+  losses = losses-kept setting.before setting.now (histories_of epochs.items ++ running_history array ∷ []);
+  grown = grown_kept (histories_of epochs.items ++ running_history array ∷ []);
+  ends = longer;
+  answer = refused;
+  course = refl;
+}
+
+-- ---- the array that ran has ended
+
+module _ {B : Type 0} (setting : Setting) (old : Parts B) (epoch : Epoch) (bank : B) (epochs ended : Vec Epoch) (items : ended.items ≡ epochs.items ++ epoch ∷ []) (own : RunsOwn (Running old epochs))
+    (lost : AreLossesSince setting.before setting.now old.entries epoch.entries.items) (uuid : epoch.uuid ≡ old.uuid) (given : epoch.given ≡ old.given) (first : epoch.first ≡ old.first) where
+  abbrev before : List History
+  before = histories_of epochs.items
+
+  abbrev count : ℕ
+  count = length epochs.items
+
+  counted : length before ≡ count
+  counted = length-map epochs.items history_of
+
+  pub now_are : histories_of ended.items ≡ before ++ history_of epoch ∷ []
+  now_are = ap (λ (l : List Epoch). histories_of l) items ∙ map-append history_of epochs.items (epoch ∷ [])
+
+  now_many : length ended.items ≡ count + 1
+  now_many = ap (λ (l : List Epoch). length l) items ∙ length-append epochs.items (epoch ∷ [])
+
+  pub turn_ended : (line : Line) (place : ℕ) (asked : IsAskedAt (list_size (places_of old.members)) line old.entries epoch.entries.items place) → (setting.tells → EndsWithin setting asked.end) → is_end asked.event ≡ true
+      → IsTurn setting (Running old epochs) (Idle bank ended) line (Inside count place)
+  turn_ended line place asked within ends = record {
+    own = subst (λ (l : List History). AreOfScript l) (sym now_are)
+        (All-append IsByScript before (history_of epoch ∷ []) own.former (All-cons IsByScript (history_of epoch) [] (by_script_more before (running_history old) (history_of epoch) asked own.script) (All-nil IsByScript)));
+    losses = subst (λ (l : List History). AreLossesFrom setting.before setting.now (before ++ running_history old ∷ []) l) (sym now_are) (losses-last setting.before setting.now before (running_history old) (history_of epoch) lost);
+    grown = subst (λ (l : List History). AreGrown (before ++ running_history old ∷ []) l) (sym now_are)
+        (grown_last before (running_history old) (history_of epoch) (grown_more before (running_history old) (history_of epoch) asked uuid given first own.script));
+    ends = λ t. subst (λ (l : List History). EndsBetween setting.began (length setting.tape) l (Inside count place)) (sym now_are)
+        (subst (λ (n : ℕ). EndsBetween setting.began (length setting.tape) (before ++ history_of epoch ∷ []) (Inside n place)) counted
+        (between_last before (running_history old) (history_of epoch) asked setting.began (length setting.tape) (within t).0 (within t).1));
+    answer = subst (λ (l : List History). IsAnsweredInside l (course_with count old) count place line) (sym now_are)
+        (subst (λ (n : ℕ). IsAnsweredInside (before ++ history_of epoch ∷ []) (record { opened = n + 1; running = true; calls = next_number 0 old.entries; size = list_size (places_of old.members) }) n place line) counted
+        (answered_last before (running_history old) (history_of epoch) asked));
+    course = ap (λ (n : ℕ). at_rest n) now_many
+        ∙ sym (ap (λ (b : Bool). if b then at_rest (count + 1) else one_call_more (course_with count old))
+        (ap (λ (l : List History). ends_epoch l count place) now_are ∙ ap (λ (n : ℕ). ends_epoch (before ++ history_of epoch ∷ []) n place) (sym counted)
+        ∙ ends_last before (running_history old) (history_of epoch) asked ∙ ends));
+  }
+
+-- ---- no array ran
+
+module _ {B : Type 0} (setting : Setting) (bank : B) (olds epochs : Vec Epoch) (same : epochs.items ≡ olds.items) (own : RunsOwn (Idle bank olds)) where
+  -- a line is refused
+  pub turn_idle : (left : B) (line : Line) (refusal : Refusal) → (setting.tells → setting.began ≤ length setting.tape) → IsRefusedOutside setting false (length setting.tape) line refusal → IsTurn setting (Idle bank olds) (Idle left epochs) line (IsOutside (Refused refusal))
+  turn_idle left line refusal longer is = record {
+    own = subst (λ (l : List Epoch). AreOfScript (histories_of l)) (sym same) own;
+    losses = subst (λ (l : List Epoch). AreLossesFrom setting.before setting.now (histories_of l) (histories_of epochs.items)) same (losses-kept setting.before setting.now (histories_of epochs.items));
+    grown = subst (λ (l : List Epoch). AreGrown (histories_of l) (histories_of epochs.items)) same (grown_kept (histories_of epochs.items));
+    ends = longer;
+    answer = is;
+    course = ap (λ (l : List Epoch). at_rest (length l)) same;
+  }
+
+  -- memory was short
+  pub no_turn_idle : (left : B) (line : Line) → IsNoTurn setting (Idle bank olds) (Idle left epochs) line
+  no_turn_idle left line = record {
+    own = subst (λ (l : List Epoch). AreOfScript (histories_of l)) (sym same) own;
+    losses = subst (λ (l : List Epoch). AreLossesFrom setting.before setting.now (histories_of l) (histories_of epochs.items)) same (losses-kept setting.before setting.now (histories_of epochs.items));
+    grown = subst (λ (l : List Epoch). AreGrown (histories_of l) (histories_of epochs.items)) same (grown_kept (histories_of epochs.items));
+    course = inl (ap (λ (l : List Epoch). at_rest (length l)) same);
+  }
+
+  -- an array was opened
+  module _ (array : Parts B) (room : length epochs.items < vec_capacity epochs) (few : length epochs.items < 2 ^ 32) (longer : setting.tells → setting.began ≤ length setting.tape) where
+    opened_own : IsByScript (running_history array) → RunsOwn (Running array epochs)
+    opened_own script = record {
+      former = subst (λ (l : List Epoch). AreOfScript (histories_of l)) (sym same) own;
+      script = script;
+      room = room;
+      few = few;
+    }
+
+    opened_losses : AreLossesSince setting.before setting.now [] array.entries → AreLossesFrom setting.before setting.now (histories_of olds.items) (histories_of epochs.items ++ running_history array ∷ [])
+    opened_losses lost = subst (λ (l : List Epoch). AreLossesFrom setting.before setting.now (histories_of l) (histories_of epochs.items ++ running_history array ∷ [])) same
+        (losses-came setting.before setting.now (histories_of epochs.items) (running_history array) lost)
+
+    opened_grown : AreGrown (histories_of olds.items) (histories_of epochs.items ++ running_history array ∷ [])
+    opened_grown = subst (λ (l : List Epoch). AreGrown (histories_of l) (histories_of epochs.items ++ running_history array ∷ [])) same (grown_came (histories_of epochs.items) (running_history array))
+
+    opened_there : slice_get (histories_of epochs.items ++ running_history array ∷ []) (length olds.items) ≡ Some (running_history array)
+    opened_there = ap (λ (n : ℕ). slice_get (histories_of epochs.items ++ running_history array ∷ []) n) (ap (λ (l : List Epoch). length l) (sym same) ∙ sym (length-map epochs.items history_of))
+        ∙ get_last (histories_of epochs.items) (running_history array)
+
+    opened_course : (calls size : ℕ) → next_number 0 array.entries ≡ calls → list_size (places_of array.members) ≡ size → course_with (length epochs.items) array ≡ begun (length olds.items) calls size
+    opened_course calls size numbered sized = ap (λ (l : List Epoch). record { opened = length l + 1; running = true; calls = next_number 0 array.entries; size = list_size (places_of array.members) }) same
+        ∙ ap (λ (n : ℕ). record { opened = length olds.items + 1; running = true; calls = n; size = list_size (places_of array.members) }) numbered
+        ∙ ap (λ (n : ℕ). record { opened = length olds.items + 1; running = true; calls = calls; size = n }) sized
+
+    no_entries : array.entries ≡ [] → IsByScript (running_history array)
+    no_entries none = subst (λ (l : List Entry). AreByScript (next_number 0 l) l) (sym none) (All-nil (λ e. (e.caller ≡ 0) × (e.number < 0)))
+
+    pub turn_created : (line : CreateLine) → create_refusal setting.given setting.backup (spec_of line) ≡ None → IsCreated setting.tells setting.given setting.tape setting.backup (spec_of line) array
+        → (setting.tells → used_slot (scope_of setting.given setting.backup array.given line.uuid) (held_at setting (length setting.tape)) line.shape.disks ≡ None)
+        → IsTurn setting (Idle bank olds) (Running array epochs) (Create line) (IsOutside Created)
+    turn_created line unrefused made free = record {
+      own = opened_own (no_entries made.begun.entries);
+      losses = opened_losses (losses-same setting.before setting.now [] array.entries made.begun.entries);
+      grown = opened_grown;
+      ends = longer;
+      answer = (
+        refl,
+        record {
+          unrefused = unrefused;
+          history = running_history array;
+          there = opened_there;
+          named = made.begun.uuid ∙ made.new.uuid;
+          given = made.new.given;
+          first = made.begun.first;
+          zeros = λ t. subst (λ (w : World). OpensWithZeros (data_disks line.shape * line.size) (opening_list w)) (world_is made.begun.backup_is) (made.zeros t);
+          free = free;
+          stored = λ t. subst (λ (w : World). IsStoredNew w (spec_of line)) (found_history setting array (running_history array) (sym made.begun.uuid) refl (sym (made.begun.first t)))
+              (stored_made setting.given setting.tape setting.backup (spec_of line) array made t);
+          alike = λ t. subst OpensAlike (world_is made.begun.backup_is) (made.alike t);
+        },
+      );
+      course = opened_course 0 (data_disks line.shape * line.size) (ap (λ (l : List Entry). next_number 0 l) made.begun.entries)
+          (ap (λ (s : Shape). data_disks s * array.members.newest.size) made.new.shape ∙ ap (λ (n : ℕ). data_disks line.shape * n) made.new.size);
+    }
+      where
+        world_is : array.backup ≡ setting.backup → world_for setting.given setting.tape array ≡ history_world setting (running_history array)
+        world_is is = ap (λ (b : Option ℕ). record { start = setting.given.start; tape = setting.tape; scope = record { uuid = array.uuid; given = array.given; backup = b; sizes = sizes setting.given }; first = array.first }) is
+
+    -- it was asked for its status
+    pub turn_found : (asked : Option (List ℕ)) (status : Status) (found : Parts B) → IsAssembled setting.tells setting.given setting.tape setting.backup asked setting.before setting.now found → IsStatusFor found status
+        → IsEntered setting.tells setting.tape (script_who found.entries) found.entries array.entries (Shown status ∷ []) → array.members ≡ found.members → array.uuid ≡ found.uuid → array.given ≡ found.given → array.first ≡ found.first
+        → IsTurn setting (Idle bank olds) (Running array epochs) (Assemble asked) (IsOutside (Assembled (length epochs.items) status))
+    turn_found asked status found is told entered members uuid given first = record {
+      own = opened_own (subst (λ (l : List Entry). AreByScript (next_number 0 l) l) (sym entries) (All-cons (λ e. (e.caller ≡ 0) × (e.number < 1)) first_entry [] (refl, omega arith) (All-nil (λ e. (e.caller ≡ 0) × (e.number < 1)))));
+      losses = opened_losses (record { more = first_entry ∷ []; grown = entries; failed = All-cons (λ e. IsLossSince setting.before setting.now e.event) first_entry [] tt (All-nil (λ e. IsLossSince setting.before setting.now e.event)) });
+      grown = opened_grown;
+      ends = longer;
+      answer = (
+        refl,
+        ap (λ (l : List Epoch). length l) same,
+        record {
+          history = running_history array;
+          there = opened_there;
+          named = subst (λ (u : List ℕ). IfSome asked (λ asked. u ≡ asked)) (sym uuid) is.named;
+          given = subst (λ (n : ℕ). AreGiven setting.given n setting.before setting.now) (sym given) is.given;
+          shown = record { end = entered.end; more = []; is = entries };
+          at_end = entered.at_end;
+          first = λ t. first ∙ is.begun.first t;
+          elected = λ t. uuid ∙ is.begun.uuid ∙ is.opened.array t ∙ ap (λ (n : ℕ). array_of setting.given setting.backup n asked (held_at setting (length setting.tape))) (sym given);
+          stored = λ t. subst (λ (w : World). IsStoredAs w status) (found_history setting found (running_history array) (sym is.begun.uuid ∙ sym uuid) (sym given) (sym (first ∙ is.begun.first t))) (stored_found setting.given setting.tape setting.backup asked status found is told t);
+        },
+      );
+      course = opened_course 1 status.length (ap (λ (l : List Entry). next_number 0 l) entries) (ap (λ (m : Members). list_size (places_of m)) members ∙ sym told.length);
+    }
+      where
+        first_entry : Entry
+        first_entry = record { caller = 0; number = 0; end = entered.end; event = Shown status }
+
+        entries : array.entries ≡ first_entry ∷ []
+        entries = entered.is ∙ ap (λ (l : List Entry). l ++ entries_of (script_who l) entered.end (Shown status ∷ [])) is.begun.entries
+
+    -- memory was short for its status
+    pub no_turn_found : (asked : Option (List ℕ)) → array.entries ≡ [] → IsNoTurn setting (Idle bank olds) (Running array epochs) (Assemble asked)
+    no_turn_found asked none = record {
+      own = opened_own (no_entries none);
+      losses = opened_losses (losses-same setting.before setting.now [] array.entries none);
+      grown = opened_grown;
+      course = inr (inr (refl, (list_size (places_of array.members), opened_course 0 (list_size (places_of array.members)) (ap (λ (l : List Entry). next_number 0 l) none) refl)));
+    }

@@ -1,5 +1,7 @@
 pub mod Asked
+pub mod Ended
 pub mod Histories
+pub mod Making
 pub mod Pace
 pub mod Replies
 pub mod Runs

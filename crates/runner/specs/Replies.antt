@@ -1,20 +1,24 @@
 -- The replies to the lines of a script, over the histories of its arrays.
-use Rattle.std.specs.Prelude.{◌≡◌, ℕ, ◌+◌, ◌-◌, ◌^◌, Bool, true, false, List, [], ◌∷◌, ◌++◌, drop, take, slice_get, Option, Some, None, MatchOption, IsTrue, IsFalse, ⊤}
+use Rattle.std.specs.Prelude.{◌≡◌, ℕ, ◌+◌, ◌*◌, ◌≤◌, Bool, true, false, if◌then◌else◌, nat_lt, List, [], ◌∷◌, length, drop, take, slice_get, Option, Some, None, MatchOption, IfSome, IsTrue, IsFalse, ⊤}
 use Rattle.md_base.specs.declared.answers.Refusal.{Refusal}
 use Rattle.md_base.specs.declared.answers.Refusal.TheVariants.{Running, NotRunning}
-use Rattle.md_base.specs.declared.answers.Fault.TheVariants.{Refused as IsRefusedWith}
-use Rattle.bank.specs.Given.{Given}
-use Rattle.plain_array.specs.declared.spec.CreateSpec.{CreateSpec}
-use Rattle.plain_array.specs.Creating.{create_refusal}
-use Rattle.plain_array.specs.Kept.{IsNotMadeFor}
+use Rattle.md_base.specs.declared.status.Status.{Status}
+use Rattle.md_base.specs.Shapes.{data_disks, has_slot}
+use Rattle.array.specs.declared.spec.CreateSpec.{CreateSpec}
 use Rattle.script.specs.declared.lines.CreateLine.{CreateLine}
 use Rattle.flat_history.specs.declared.events.Entry.{Entry}
-use Rattle.flat_history.specs.declared.events.Request.{Request}
-use Rattle.flat_history.specs.declared.events.Request.TheVariants.{Read as AsksRead, Write as AsksWrite}
+use Rattle.flat_history.specs.declared.events.Request.TheVariants.{Read as AsksRead, Write as AsksWrite, Flush as AsksFlush}
 use Rattle.flat_history.specs.Flat.{rest_of_call}
-use Rattle.flat_history.specs.Plain.{Opening, PlainFits}
+use Rattle.flat_history.specs.Fits.{FitsStop, FitsHalt}
+use Rattle.flat_history.specs.Plain.{PlainFitsIn}
+use Rattle.flat_history.specs.World.{opening_list}
+use Rattle.flat_history.specs.Epochs.{OpensAlike}
+use Rattle.assemble.specs.Creating.{create_refusal}
+use Rattle.assemble.specs.Opening.{AreGiven, array_of, scope_of}
+use Rattle.assemble.specs.Made.{used_slot}
+use Rattle.assemble.specs.Running.{OpensWithZeros}
 use Rattle.script.specs.declared.lines.Line.{Line}
-use Rattle.script.specs.declared.lines.Line.TheVariants.{Create, Read, Write}
+use Rattle.script.specs.declared.lines.Line.TheVariants.{Create, Read, Write, Flush, Stop, Halt, Assemble}
 use Rattle.script.specs.declared.lines.Numbered.{Numbered}
 use Rattle.script.specs.declared.reply.Lane.TheVariants.{Script as InScript}
 use Rattle.script.specs.Seeds.{seeded}
@@ -22,91 +26,150 @@ use Rattle.runner.specs.declared.report.Outside.TheVariants.{Created, Assembled,
 use Rattle.runner.specs.declared.report.Answered.{Answered}
 use Rattle.runner.specs.declared.report.Answered.TheVariants.{Inside, Outside as IsOutside}
 use Rattle.runner.specs.declared.report.LineReply.{LineReply}
-use Rattle.runner.specs.Histories.{History, Opened, opening_at, entry_at}
-
--- what a line asks of a running array: a create asks nothing
-abbrev pub asked_of : Line → Option Request
-asked_of (Create spec) = None
-asked_of (Read at count) = Some (AsksRead at count)
-asked_of (Write at count seed) = Some (AsksWrite at (seeded seed at count))
-
--- where a run stands between two lines: how many arrays were made, whether the last one runs, and how many calls the
--- script has made on it
-pub record Course : Type 0 where
-  pub opened : ℕ
-  pub running : Bool
-  pub calls : ℕ
-
-abbrev pub at_rest : Course
-at_rest = record { opened = 0; running = false; calls = 0 }
-
--- where it stands after an answer, and after several
-abbrev pub course_after : Course → Answered → Course
-course_after course (Inside epoch at) = record { opened = course.opened; running = course.running; calls = course.calls + 1 }
-course_after course (IsOutside Created) = record { opened = course.opened + 1; running = true; calls = 0 }
-course_after course (IsOutside (Assembled epoch status)) = record { opened = course.opened + 1; running = true; calls = 0 }
-course_after course (IsOutside (Refused refusal)) = course
-
-abbrev pub course_of : Course → List LineReply → Course
-course_of course [] = course
-course_of course (reply ∷ replies) = course_of (course_after course reply.what) replies
-
--- The entry at a place is the last of the script's call of this number, and its reply to the request.
-pub record IsReplyAt (opening : Opening) (entries : List Entry) (place number : ℕ) (request : Request) : Type 0 where
-  pub entry : Entry
-  pub there : slice_get entries place ≡ Some entry
-  pub caller : entry.caller ≡ 0
-  pub numbered : entry.number ≡ number
-  pub last : rest_of_call entry (drop (place + 1) entries) ≡ []
-  pub fits : PlainFits opening (take place entries) entry request
-
--- the request is answered by an entry of the array that runs, in the script's next call
-pub record IsAnsweredInside (histories : List History) (course : Course) (epoch place : ℕ) (request : Request) : Type 0 where
-  pub running : IsTrue course.running
-  pub latest : epoch + 1 ≡ course.opened
-  pub history : History
-  pub there : slice_get histories epoch ≡ Some history
-  pub replied : IsReplyAt (opening_at history) history.entries place course.calls request
-
--- what the bank of a run is: what never changes in it, its backup slot, and the counts of its slots' faults before and now
-pub record Setting : Type 0 where
-  pub given : Given
-  pub backup : Option ℕ
-  pub before : ℕ → ℕ
-  pub now : ℕ → ℕ
-
-abbrev pub setting_of : Given → Option ℕ → (ℕ → ℕ) → (ℕ → ℕ) → Setting
-setting_of given backup before now = record { given = given; backup = backup; before = before; now = now }
+use Rattle.runner.specs.Histories.{History, entry_at, ends_epoch}
+use Rattle.runner.specs.Making.{Setting, held_at, history_world, IsUncreated, IsUnassembled, IsStoredNew, IsStoredAs, BeginsShown}
 
 -- the array that a line asks for
 abbrev pub spec_of : CreateLine → CreateSpec
 spec_of line = record { uuid = line.uuid; shape = line.shape; size = line.size; offset = line.offset }
 
--- why it can't be made on this bank, without regard to slots that fail
-abbrev pub unmade : Setting → CreateLine → Option Refusal
-unmade setting line = create_refusal setting.given setting.backup (spec_of line)
+-- a reply's entry fits the line, over a list of so many sectors and by the entries before it
+abbrev pub FitsLine : ℕ → List Entry → Entry → Line → Type 0
+FitsLine size before e (Create spec) = ⊥
+FitsLine size before e (Read at count) = PlainFitsIn size before e (AsksRead at count)
+FitsLine size before e (Write at count seed) = PlainFitsIn size before e (AsksWrite at (seeded seed at count))
+FitsLine size before e Flush = PlainFitsIn size before e AsksFlush
+FitsLine size before e Stop = FitsStop e.event
+FitsLine size before e Halt = FitsHalt e.event
+FitsLine size before e (Assemble uuid) = ⊥
 
-abbrev pub IsMadeBy : Setting → Line → Type 0
-IsMadeBy setting (Create line) = unmade setting line ≡ None
-IsMadeBy setting (Read at count) = ⊥
-IsMadeBy setting (Write at count seed) = ⊥
+-- where a run stands between two lines: how many arrays were opened, whether the last one runs, and while it does, how many
+-- calls the script has made on it, and the sectors of its list
+pub record Course : Type 0 where
+  pub opened : ℕ
+  pub running : Bool
+  pub calls : ℕ
+  pub size : ℕ
 
--- the refusals that stand in no history: a create while an array runs, one that can't be made or whose slot has failed since, and
--- a read or write without an array
-abbrev pub IsRefusedOutside : Setting → Bool → Line → Refusal → Type 0
-IsRefusedOutside setting true (Create line) refusal = refusal ≡ Running
-IsRefusedOutside setting true (Read at count) refusal = ⊥
-IsRefusedOutside setting true (Write at count seed) refusal = ⊥
-IsRefusedOutside setting false (Create line) refusal = IsNotMadeFor (unmade setting line) setting.before setting.now (IsRefusedWith refusal)
-IsRefusedOutside setting false (Read at count) refusal = refusal ≡ NotRunning
-IsRefusedOutside setting false (Write at count seed) refusal = refusal ≡ NotRunning
+abbrev pub at_rest : ℕ → Course
+at_rest opened = record { opened = opened; running = false; calls = 0; size = 0 }
 
--- an answer to a line, where the run stands at this point
-abbrev pub IsAnswer : Setting → List History → Course → Line → Answered → Type 0
-IsAnswer setting histories course line (Inside epoch at) = MatchOption (asked_of line) ⊥ (λ request. IsAnsweredInside histories course epoch at request)
-IsAnswer setting histories course line (IsOutside Created) = IsFalse course.running × IsMadeBy setting line
-IsAnswer setting histories course line (IsOutside (Assembled epoch status)) = ⊥
-IsAnswer setting histories course line (IsOutside (Refused refusal)) = IsRefusedOutside setting course.running line refusal
+abbrev pub begun : ℕ → ℕ → ℕ → Course
+begun opened calls size = record { opened = opened + 1; running = true; calls = calls; size = size }
+
+abbrev pub one_call_more : Course → Course
+one_call_more course = record { opened = course.opened; running = course.running; calls = course.calls + 1; size = course.size }
+
+-- the sectors of the list that a line makes
+abbrev pub size_made : Line → ℕ
+size_made (Create line) = data_disks line.shape * line.size
+size_made (Read at count) = 0
+size_made (Write at count seed) = 0
+size_made Flush = 0
+size_made Stop = 0
+size_made Halt = 0
+size_made (Assemble uuid) = 0
+
+-- where it stands after an answer to a line, and after several; an array that was found was asked for its status
+abbrev pub course_after : List History → Course → Line → Answered → Course
+course_after histories course line (Inside epoch at) = if ends_epoch histories epoch at then at_rest course.opened else one_call_more course
+course_after histories course line (IsOutside Created) = begun course.opened 0 (size_made line)
+course_after histories course line (IsOutside (Assembled epoch status)) = begun course.opened 1 status.length
+course_after histories course line (IsOutside (Refused refusal)) = course
+
+abbrev pub course_of : List History → Course → List Numbered → List LineReply → Course
+course_of histories course [] replies = course
+course_of histories course (line ∷ lines) [] = course
+course_of histories course (line ∷ lines) (reply ∷ replies) = course_of histories (course_after histories course line.line reply.what) lines replies
+
+-- The entry at a place is the last of the script's call of this number, and its reply to the line.
+pub record IsReplyAt (size : ℕ) (entries : List Entry) (place number : ℕ) (line : Line) : Type 0 where
+  pub entry : Entry
+  pub there : slice_get entries place ≡ Some entry
+  pub caller : entry.caller ≡ 0
+  pub numbered : entry.number ≡ number
+  pub last : rest_of_call entry (drop (place + 1) entries) ≡ []
+  pub fits : FitsLine size (take place entries) entry line
+
+-- the line is answered by an entry of the array that runs, in the script's next call
+pub record IsAnsweredInside (histories : List History) (course : Course) (epoch place : ℕ) (line : Line) : Type 0 where
+  pub running : IsTrue course.running
+  pub latest : epoch + 1 ≡ course.opened
+  pub history : History
+  pub there : slice_get histories epoch ≡ Some history
+  pub replied : IsReplyAt course.size history.entries place course.calls line
+
+-- The next history is that of an array that was made as the line asks: nothing spoke against it, it has the uuid, all slots are given,
+-- and it begins where the reply was made; there its list is zero, its superblocks are alike and say what was asked for, and no slot
+-- behind them holds the array.
+pub record IsMadeAt (setting : Setting) (histories : List History) (epoch end : ℕ) (line : CreateLine) : Type 0 where
+  pub unrefused : create_refusal setting.given setting.backup (spec_of line) ≡ None
+  pub history : History
+  pub there : slice_get histories epoch ≡ Some history
+  pub named : history.uuid ≡ line.uuid
+  pub given : (slot : ℕ) → has_slot history.given slot ≡ nat_lt slot setting.given.slots
+  pub first : setting.tells → history.first ≡ end
+  pub zeros : setting.tells → OpensWithZeros (data_disks line.shape * line.size) (opening_list (history_world setting history))
+  pub free : setting.tells → used_slot (scope_of setting.given setting.backup history.given line.uuid) (held_at setting end) line.shape.disks ≡ None
+  pub stored : setting.tells → IsStoredNew (history_world setting history) (spec_of line)
+  pub alike : setting.tells → OpensAlike (history_world setting history)
+
+abbrev pub IsMadeBy : Setting → List History → ℕ → ℕ → Line → Type 0
+IsMadeBy setting histories epoch end (Create line) = IsMadeAt setting histories epoch end line
+IsMadeBy setting histories epoch end (Read at count) = ⊥
+IsMadeBy setting histories epoch end (Write at count seed) = ⊥
+IsMadeBy setting histories epoch end Flush = ⊥
+IsMadeBy setting histories epoch end Stop = ⊥
+IsMadeBy setting histories epoch end Halt = ⊥
+IsMadeBy setting histories epoch end (Assemble uuid) = ⊥
+
+-- The next history is that of an array that was found: of the uuid that was asked for, or else of the first superblock in its given
+-- slots. It begins where the reply was made, with the status that the reply tells and that stands in the superblocks there.
+pub record IsFoundAt (setting : Setting) (histories : List History) (epoch end : ℕ) (asked : Option (List ℕ)) (status : Status) : Type 0 where
+  pub history : History
+  pub there : slice_get histories epoch ≡ Some history
+  pub named : IfSome asked (λ uuid. history.uuid ≡ uuid)
+  pub given : AreGiven setting.given history.given setting.before setting.now
+  pub shown : BeginsShown history.entries status
+  pub at_end : setting.tells → shown.end ≡ end
+  pub first : setting.tells → history.first ≡ end
+  pub elected : setting.tells → history.uuid ≡ array_of setting.given setting.backup history.given asked (held_at setting end)
+  pub stored : setting.tells → IsStoredAs (history_world setting history) status
+
+abbrev pub IsFoundBy : Setting → List History → ℕ → ℕ → Line → Status → Type 0
+IsFoundBy setting histories epoch end (Create line) status = ⊥
+IsFoundBy setting histories epoch end (Read at count) status = ⊥
+IsFoundBy setting histories epoch end (Write at count seed) status = ⊥
+IsFoundBy setting histories epoch end Flush status = ⊥
+IsFoundBy setting histories epoch end Stop status = ⊥
+IsFoundBy setting histories epoch end Halt status = ⊥
+IsFoundBy setting histories epoch end (Assemble uuid) status = IsFoundAt setting histories epoch end uuid status
+
+-- the refusals that stand in no history: a create or an assemble while an array runs, or for what the bank holds, and the other
+-- lines without an array
+abbrev pub IsRefusedOutside : Setting → Bool → ℕ → Line → Refusal → Type 0
+IsRefusedOutside setting true end (Create line) refusal = refusal ≡ Running
+IsRefusedOutside setting true end (Assemble uuid) refusal = refusal ≡ Running
+IsRefusedOutside setting true end (Read at count) refusal = ⊥
+IsRefusedOutside setting true end (Write at count seed) refusal = ⊥
+IsRefusedOutside setting true end Flush refusal = ⊥
+IsRefusedOutside setting true end Stop refusal = ⊥
+IsRefusedOutside setting true end Halt refusal = ⊥
+IsRefusedOutside setting false end (Create line) refusal = IsUncreated setting (spec_of line) end refusal
+IsRefusedOutside setting false end (Assemble uuid) refusal = IsUnassembled setting uuid end refusal
+IsRefusedOutside setting false end (Read at count) refusal = refusal ≡ NotRunning
+IsRefusedOutside setting false end (Write at count seed) refusal = refusal ≡ NotRunning
+IsRefusedOutside setting false end Flush refusal = refusal ≡ NotRunning
+IsRefusedOutside setting false end Stop refusal = refusal ≡ NotRunning
+IsRefusedOutside setting false end Halt refusal = refusal ≡ NotRunning
+
+-- an answer to a line, given at this mark, where the run stands at this point
+abbrev pub IsAnswer : Setting → List History → Course → Line → ℕ → Answered → Type 0
+IsAnswer setting histories course line end (Inside epoch at) = IsAnsweredInside histories course epoch at line
+IsAnswer setting histories course line end (IsOutside Created) = IsFalse course.running × IsMadeBy setting histories course.opened end line
+IsAnswer setting histories course line end (IsOutside (Assembled epoch status)) =
+    IsFalse course.running × (epoch ≡ course.opened) × IsFoundBy setting histories course.opened end line status
+IsAnswer setting histories course line end (IsOutside (Refused refusal)) = IsRefusedOutside setting course.running end line refusal
 
 -- a reply that an entry gives was made when the entry ended
 abbrev pub IsEnd : List History → LineReply → Answered → Type 0
@@ -118,17 +181,8 @@ pub record IsReplyTo (setting : Setting) (histories : List History) (course : Co
   pub line : reply.line ≡ numbered.number
   pub lane : reply.lane ≡ InScript
   pub end : IsEnd histories reply reply.what
-  pub answer : IsAnswer setting histories course numbered.line reply.what
-
--- how the arrays of these lines were opened: each with the uuid that its line asks for, over all slots
-abbrev pub opened_by : ℕ → Line → Answered → List Opened
-opened_by slots (Create line) (IsOutside Created) = record { uuid = line.uuid; given = 2 ^ slots - 1 } ∷ []
-opened_by slots line what = []
-
-abbrev pub all_opened : ℕ → List Numbered → List LineReply → List Opened
-all_opened slots [] replies = []
-all_opened slots (line ∷ lines) [] = []
-all_opened slots (line ∷ lines) (reply ∷ replies) = opened_by slots line.line reply.what ++ all_opened slots lines replies
+  pub within : setting.tells → reply.end ≤ length setting.tape
+  pub answer : IsAnswer setting histories course numbered.line reply.end reply.what
 
 -- the replies answer the lines, one after another
 abbrev pub AreReplies : Setting → List History → Course → List Numbered → List LineReply → Type 0
@@ -136,4 +190,9 @@ AreReplies setting histories course [] [] = ⊤
 AreReplies setting histories course [] (reply ∷ replies) = ⊥
 AreReplies setting histories course (line ∷ lines) [] = ⊥
 AreReplies setting histories course (line ∷ lines) (reply ∷ replies) =
-    IsReplyTo setting histories course line reply × AreReplies setting histories (course_after course reply.what) lines replies
+    IsReplyTo setting histories course line reply × AreReplies setting histories (course_after histories course line.line reply.what) lines replies
+
+-- each reply was made at the mark of the one before it or later, the first at `low` or later, and the last at `high` or before
+abbrev pub AreInOrder : ℕ → ℕ → List LineReply → Type 0
+AreInOrder low high [] = low ≤ high
+AreInOrder low high (reply ∷ replies) = (low ≤ reply.end) × AreInOrder reply.end high replies

@@ -1,23 +1,32 @@
 -- The lines of a script performed one after another, and what was shown of it.
-use Rattle.std.specs.Prelude.{◌≡◌, ◌≢◌, ◌⊎◌, ℕ, ◌+◌, ◌-◌, ◌^◌, ◌≤◌, ◌||◌, Bool, List, [], ◌∷◌, ◌++◌, length, take, min, Option, Some, None, Result, Ok, Err, ⊤}
+use Rattle.std.specs.Prelude.{◌≡◌, ◌⊎◌, ℕ, ◌+◌, ◌-◌, ◌^◌, ◌≤◌, ◌||◌, Bool, List, [], ◌∷◌, ◌++◌, length, take, drop, min, Option, Some, None, Result, Ok, Err, ⊤}
 use Rattle.md_base.specs.declared.answers.NoMemory.{NoMemory}
+use Rattle.script.specs.declared.lines.Line.{Line}
 use Rattle.script.specs.declared.lines.Numbered.{Numbered}
 use Rattle.script.specs.declared.reply.Lane.TheVariants.{Script as InScript}
 use Rattle.text_io.specs.Causes.{HasRisen}
 use Rattle.runner.specs.declared.report.Answered.{Answered}
+use Rattle.runner.specs.declared.report.Answered.TheVariants.{Inside, Outside as IsOutside}
 use Rattle.runner.specs.declared.report.LineReply.{LineReply}
 use Rattle.runner.specs.declared.states.State.{State}
 use Rattle.runner.specs.declared.sessions.Made.{Made}
 use Rattle.runner.specs.declared.sessions.Stop.{Stop}
 use Rattle.runner.specs.declared.sessions.Stop.TheVariants.{WriteFault, NoMemory as WantsMemory}
 use Rattle.runner.specs.declared.sessions.Session.{Session}
-use Rattle.runner.specs.Replies.{Course, Setting, at_rest, course_after, course_of, IsEnd, AreReplies, all_opened}
+use Rattle.runner.specs.Histories.{History}
+use Rattle.runner.specs.Making.{Setting}
+use Rattle.runner.specs.Replies.{Course, at_rest, course_of, IsEnd, AreReplies, AreInOrder}
 use Rattle.runner.specs.Shown.{reply_text, report_text, is_refusal, has_refusal}
-use Rattle.runner.specs.States.{histories_in, opened_in, course_in, RunsOwn, AreLossesFrom, AreGrown, IsTurn}
+use Rattle.runner.specs.States.{histories_in, course_in, RunsOwn, AreLossesFrom, AreGrown, IsNextCourse, IsCourseOrNext, IsTurn}
 
 -- so many bytes, as far as a u64 can count
 abbrev pub counted : ℕ → ℕ
 counted bytes = min bytes (2 ^ 64 - 1)
+
+-- a reply that no entry gives was made now, at this mark
+abbrev pub IsEndNow : Type 0 → ℕ → LineReply → Answered → Type 0
+IsEndNow tells mark reply (Inside epoch at) = ⊤
+IsEndNow tells mark reply (IsOutside outside) = tells → reply.end ≡ mark
 
 -- a line got this reply
 pub record IsReplied {B : Type 0} (setting : Setting) (old new : State B) (numbered : Numbered) (reply : LineReply) (refused : Bool) : Type 0 where
@@ -25,18 +34,19 @@ pub record IsReplied {B : Type 0} (setting : Setting) (old new : State B) (numbe
   pub line : reply.line ≡ numbered.number
   pub lane : reply.lane ≡ InScript
   pub end : IsEnd (histories_in new) reply reply.what
+  pub at_end : IsEndNow setting.tells (length setting.tape) reply reply.what
   pub refusal : refused ≡ is_refusal (histories_in new) reply.what
 
 -- no reply was made, for want of memory: the line was not performed, or it was the last one
-pub record IsUnreplied {B : Type 0} (setting : Setting) (old new : State B) : Type 0 where
+pub record IsUnreplied {B : Type 0} (setting : Setting) (old new : State B) (line : Line) : Type 0 where
   pub own : RunsOwn new
   pub losses : AreLossesFrom setting.before setting.now (histories_in old) (histories_in new)
   pub grown : AreGrown (histories_in old) (histories_in new)
-  pub course : (course_in new ≡ course_in old) ⊎ ((what : Answered) × (course_in new ≡ course_after (course_in old) what))
+  pub course : IsCourseOrNext (histories_in new) (course_in old) line (course_in new)
 
 abbrev pub IsRepliedOrNot : {B : Type 0} → Setting → State B → State B → Numbered → List ℕ → Result Made NoMemory → Type 0
 IsRepliedOrNot setting old new numbered text (Ok made) = IsReplied setting old new numbered made.reply made.refused × (text ≡ reply_text (histories_in new) made.reply)
-IsRepliedOrNot setting old new numbered text (Err fault) = IsUnreplied setting old new
+IsRepliedOrNot setting old new numbered text (Err fault) = IsUnreplied setting old new numbered.line
 
 -- one reply more, which the sink was to take
 pub record IsReplyMore {B : Type 0} (setting : Setting) (old new : Session B) (numbered : Numbered) : Type 0 where
@@ -56,8 +66,8 @@ pub record IsShownInPart {B : Type 0} (tells : Type 0) (setting : Setting) (old 
   pub taken : tells → (n : ℕ) × (new_taken ≡ old_taken ++ take n (reply_text (histories_in new.state) reply.made.reply))
   pub shown : new.shown ≡ old.shown
 
-pub record IsUnshown {B : Type 0} (tells : Type 0) (setting : Setting) (old new : Session B) (old_taken new_taken : List ℕ) : Type 0 where
-  pub none : IsUnreplied setting old.state new.state
+pub record IsUnshown {B : Type 0} (tells : Type 0) (setting : Setting) (old new : Session B) (numbered : Numbered) (old_taken new_taken : List ℕ) : Type 0 where
+  pub none : IsUnreplied setting old.state new.state numbered.line
   pub same : new.replies.items ≡ old.replies.items
   pub refused : new.refused ≡ old.refused
   pub taken : new_taken ≡ old_taken
@@ -66,15 +76,21 @@ pub record IsUnshown {B : Type 0} (tells : Type 0) (setting : Setting) (old new 
 abbrev pub IsStep : {B : Type 0} → Type 0 → Setting → Session B → Session B → Numbered → List ℕ → List ℕ → Option Stop → Type 0
 IsStep tells setting old new numbered old_taken new_taken None = IsShownWhole tells setting old new numbered old_taken new_taken
 IsStep tells setting old new numbered old_taken new_taken (Some WriteFault) = IsShownInPart tells setting old new numbered old_taken new_taken
-IsStep tells setting old new numbered old_taken new_taken (Some WantsMemory) = IsUnshown tells setting old new old_taken new_taken
+IsStep tells setting old new numbered old_taken new_taken (Some WantsMemory) = IsUnshown tells setting old new numbered old_taken new_taken
 
 -- ---- several lines
 
--- where the run stands after these replies: a line may have been performed besides, where memory was short for its reply
-abbrev pub IsCourse : Option Stop → Course → Course → Type 0
-IsCourse None told course = course ≡ told
-IsCourse (Some WriteFault) told course = course ≡ told
-IsCourse (Some WantsMemory) told course = (course ≡ told) ⊎ ((what : Answered) × (course ≡ course_after told what))
+-- where the run stands once the first of these lines was performed
+abbrev pub IsCourseBehind : List History → List Numbered → Course → Course → Type 0
+IsCourseBehind histories [] told course = ⊥
+IsCourseBehind histories (line ∷ lines) told course = IsNextCourse histories told line.line course
+
+-- where it stands after these replies: the first of the lines behind them may have been performed besides, where memory was short
+-- for its reply
+abbrev pub IsCourse : Option Stop → List History → List Numbered → Course → Course → Type 0
+IsCourse None histories behind told course = course ≡ told
+IsCourse (Some WriteFault) histories behind told course = course ≡ told
+IsCourse (Some WantsMemory) histories behind told course = (course ≡ told) ⊎ IsCourseBehind histories behind told course
 
 -- the replies that the sink took whole: where it failed, all but the last
 abbrev pub taken_whole : Option Stop → List LineReply → List LineReply
@@ -98,10 +114,11 @@ IsStopCause (Some WantsMemory) before now = ⊤
 pub record IsPerformed {B : Type 0} (setting : Setting) (lines : List Numbered) (session : Session B) : Type 0 where
   pub own : RunsOwn session.state
   pub few : length session.replies.items ≤ length lines
-  pub replies : AreReplies setting (histories_in session.state) at_rest (take (length session.replies.items) lines) session.replies.items
-  pub course : IsCourse session.stopped (course_of at_rest session.replies.items) (course_in session.state)
-  pub opened : session.stopped ≢ Some WantsMemory → opened_in session.state ≡ all_opened setting.given.slots (take (length session.replies.items) lines) session.replies.items
+  pub replies : AreReplies setting (histories_in session.state) (at_rest 0) (take (length session.replies.items) lines) session.replies.items
+  pub course : IsCourse session.stopped (histories_in session.state) (drop (length session.replies.items) lines)
+      (course_of (histories_in session.state) (at_rest 0) (take (length session.replies.items) lines) session.replies.items) (course_in session.state)
   pub losses : AreLossesFrom setting.before setting.now [] (histories_in session.state)
+  pub ends : setting.tells → AreInOrder setting.began (length setting.tape) session.replies.items
   pub refused : session.refused ≡ has_refusal (histories_in session.state) session.replies.items
 
 -- their text went to the sink

@@ -1,102 +1,151 @@
 -- The bank of a run with or without an array on it, and what a line does to it.
-use Rattle.std.specs.Prelude.{◌≡◌, ℕ, ◌<◌, ◌≤◌, ◌*◌, ◌++◌, true, List, [], ◌∷◌, Result, Ok, Err, Option, IsSome, ⊤}
+use Rattle.std.specs.Prelude.{◌≡◌, ◌⊎◌, ℕ, ◌+◌, ◌<◌, ◌≤◌, ◌^◌, ◌++◌, true, List, [], ◌∷◌, length, vec_capacity, Option, MatchOption, Result, Ok, Err, IsSome, IsFalse, ⊤}
 use Rattle.std.specs.List.{All}
 use Rattle.md_base.specs.declared.answers.NoMemory.{NoMemory}
-use Rattle.md_base.specs.Shapes.{data_disks}
-use Rattle.bank.specs.Given.{Given}
+use Rattle.bank.specs.Given.{Given, IsFaulted}
 use Rattle.flat_history.specs.declared.events.Entry.{Entry}
+use Rattle.flat_history.specs.declared.events.Event.{Event}
+use Rattle.flat_history.specs.declared.events.Event.TheVariants.{Lost, SpareLost}
 use Rattle.flat_history.specs.Flat.{rest_of_call, next_number}
-use Rattle.plain_array.specs.Parts.{Parts}
-use Rattle.plain_array.specs.Creating.{IsLastSlot}
-use Rattle.plain_array.specs.Kept.{AreLossesOf}
+use Rattle.array.specs.Parts.{Parts}
+use Rattle.array.specs.Whole.{list_size}
+use Rattle.array.specs.Placed.{places_of}
 use Rattle.script.specs.declared.lines.Line.{Line}
+use Rattle.script.specs.declared.lines.Line.TheVariants.{Assemble}
 use Rattle.runner.specs.declared.report.Answered.{Answered}
 use Rattle.runner.specs.declared.report.Answered.TheVariants.{Inside, Outside}
 use Rattle.runner.specs.declared.states.State.{State}
 use Rattle.runner.specs.declared.states.State.TheVariants.{Idle, Running}
-use Rattle.runner.specs.Histories.{History, Opened, entry_at}
-use Rattle.runner.specs.Replies.{Course, Setting, at_rest, course_after, IsAnswer, opened_by}
+use Rattle.runner.specs.Histories.{History, histories_of, entry_at}
+use Rattle.runner.specs.Making.{Setting}
+use Rattle.runner.specs.Replies.{Course, at_rest, begun, course_after, IsAnswer}
 
 -- the history of an array that runs
 abbrev pub running_history : {B : Type 0} → Parts B → History
-running_history array = record { first = array.first; entries = array.entries }
+running_history array = record { uuid = array.uuid; given = array.given; first = array.first; entries = array.entries }
 
+-- those of the arrays that ran, and of the one that runs
 abbrev pub histories_in : {B : Type 0} → State B → List History
-histories_in (Idle bank) = []
-histories_in (Running array) = running_history array ∷ []
+histories_in (Idle bank epochs) = histories_of epochs.items
+histories_in (Running array epochs) = histories_of epochs.items ++ running_history array ∷ []
 
 abbrev pub bank_in : {B : Type 0} → State B → B
-bank_in (Idle bank) = bank
-bank_in (Running array) = array.bank
+bank_in (Idle bank epochs) = bank
+bank_in (Running array epochs) = array.bank
 
--- how the array that runs was opened
-abbrev pub opened_in : {B : Type 0} → State B → List Opened
-opened_in (Idle bank) = []
-opened_in (Running array) = record { uuid = array.uuid; given = array.given } ∷ []
+-- where a run stands while an array runs, behind so many others
+abbrev pub course_with : {B : Type 0} → ℕ → Parts B → Course
+course_with before array = record { opened = before + 1; running = true; calls = next_number 0 array.entries; size = list_size (places_of array.members) }
 
 -- where the run stands
 abbrev pub course_in : {B : Type 0} → State B → Course
-course_in (Idle bank) = at_rest
-course_in (Running array) = record { opened = 1; running = true; calls = next_number 0 array.entries }
+course_in (Idle bank epochs) = at_rest (length epochs.items)
+course_in (Running array epochs) = course_with (length epochs.items) array
 
--- all entries are of calls of the script
-abbrev pub AreByScript : List Entry → Type 0
-AreByScript entries = All (λ e. e.caller ≡ 0) entries
+-- the entries are of the script's calls, all before this number
+abbrev pub AreByScript : ℕ → List Entry → Type 0
+AreByScript number entries = All (λ e. (e.caller ≡ 0) × (e.number < number)) entries
 
--- an array of a run: it has the size of the one that can be made so far, and none but the script has called it
-pub record IsOwn {B : Type 0} (array : Parts B) : Type 0 where
-  pub sized : data_disks array.shape * array.size ≡ 80
-  pub script : AreByScript array.entries
+abbrev pub IsByScript : History → Type 0
+IsByScript history = AreByScript (next_number 0 history.entries) history.entries
+
+-- no history holds a call of another than the script
+abbrev pub AreOfScript : List History → Type 0
+AreOfScript histories = All (λ history. IsByScript history) histories
+
+-- the histories are of the script alone, and there is room for that of the array that runs
+pub record IsOwn (before : List History) (running : History) (count capacity : ℕ) : Type 0 where
+  pub former : AreOfScript before
+  pub script : IsByScript running
+  pub room : count < capacity
+  pub few : count < 2 ^ 32
 
 abbrev pub RunsOwn : {B : Type 0} → State B → Type 0
-RunsOwn (Idle bank) = ⊤
-RunsOwn (Running array) = IsOwn array
+RunsOwn (Idle bank epochs) = AreOfScript (histories_of epochs.items)
+RunsOwn (Running array epochs) = IsOwn (histories_of epochs.items) (running_history array) (length epochs.items) (vec_capacity epochs)
 
 -- the bank has few slots, and the backup is the last
 pub record IsFitBank (given : Given) (backup : Option ℕ) : Type 0 where
   pub few : given.slots ≤ 32
-  pub last : IsLastSlot given.slots backup
+  pub last : MatchOption backup ⊤ (λ slot. slot + 1 ≡ given.slots)
 
--- a history went on: what was added belongs to none of the script's former calls
+-- a history went on: what was added belongs to none of the former calls
 pub record IsGrown (old new : History) : Type 0 where
+  pub uuid : new.uuid ≡ old.uuid
+  pub given : new.given ≡ old.given
   pub first : new.first ≡ old.first
   pub more : List Entry
   pub grown : new.entries ≡ old.entries ++ more
-  pub later : (e : Entry) → e.number < next_number 0 old.entries → rest_of_call e more ≡ []
+  pub later : All (λ e. rest_of_call e more ≡ []) old.entries
 
 abbrev pub AreGrown : List History → List History → Type 0
 AreGrown [] news = ⊤
 AreGrown (old ∷ olds) [] = ⊥
 AreGrown (old ∷ olds) (new ∷ news) = IsGrown old new × AreGrown olds news
 
--- each role that was told lost since is that of a slot that has failed since
+-- an entry that tells a loss does so only where a slot has failed since
+abbrev pub IsLossSince : (ℕ → ℕ) → (ℕ → ℕ) → Event → Type 0
+IsLossSince before now (Lost role cause) = (slot : ℕ) × IsFaulted slot before now
+IsLossSince before now (SpareLost slot) = IsFaulted slot before now
+IsLossSince before now event = ⊤
+
+-- more entries stand behind the old ones, and each loss that they tell has its cause
+pub record AreLossesSince (before now : ℕ → ℕ) (old new : List Entry) : Type 0 where
+  pub more : List Entry
+  pub grown : new ≡ old ++ more
+  pub failed : All (λ e. IsLossSince before now e.event) more
+
 abbrev pub AreLossesFrom : (ℕ → ℕ) → (ℕ → ℕ) → List History → List History → Type 0
 AreLossesFrom before now [] [] = ⊤
-AreLossesFrom before now [] (new ∷ news) = AreLossesOf before now [] new.entries × AreLossesFrom before now [] news
+AreLossesFrom before now [] (new ∷ news) = AreLossesSince before now [] new.entries × AreLossesFrom before now [] news
 AreLossesFrom before now (old ∷ olds) [] = ⊥
-AreLossesFrom before now (old ∷ olds) (new ∷ news) = AreLossesOf before now old.entries new.entries × AreLossesFrom before now olds news
+AreLossesFrom before now (old ∷ olds) (new ∷ news) = AreLossesSince before now old.entries new.entries × AreLossesFrom before now olds news
+
+-- the entry that an answer names is there
+abbrev pub IsNamed : List History → Answered → Type 0
+IsNamed histories (Inside epoch at) = IsSome (entry_at histories epoch at)
+IsNamed histories (Outside outside) = ⊤
+
+-- an array was found, and has not told its status
+abbrev pub IsFoundUntold : Course → Line → Course → Type 0
+IsFoundUntold old (Assemble uuid) new = IsFalse old.running × ((size : ℕ) × (new ≡ begun old.opened 0 size))
+IsFoundUntold old line new = ⊥
+
+-- where the run stands after some answer to a line, or with an array that it found
+abbrev pub IsNextCourse : List History → Course → Line → Course → Type 0
+IsNextCourse histories old line new =
+    ((what : Answered) × IsNamed histories what × (new ≡ course_after histories old line what)) ⊎ IsFoundUntold old line new
+
+-- where the run stood before a line, or where it stands after it
+abbrev pub IsCourseOrNext : List History → Course → Line → Course → Type 0
+IsCourseOrNext histories old line new = (new ≡ old) ⊎ IsNextCourse histories old line new
+
+-- an answer stands for a moment between these marks
+abbrev pub EndsBetween : ℕ → ℕ → List History → Answered → Type 0
+EndsBetween low high histories (Inside epoch at) = MatchOption (entry_at histories epoch at) ⊥ (λ e. (low ≤ e.end) × (e.end ≤ high))
+EndsBetween low high histories (Outside outside) = low ≤ high
 
 -- one line was answered
 pub record IsTurn {B : Type 0} (setting : Setting) (old new : State B) (line : Line) (what : Answered) : Type 0 where
   pub own : RunsOwn new
   pub losses : AreLossesFrom setting.before setting.now (histories_in old) (histories_in new)
   pub grown : AreGrown (histories_in old) (histories_in new)
-  pub answer : IsAnswer setting (histories_in new) (course_in old) line what
-  pub course : course_in new ≡ course_after (course_in old) what
-  pub opened : opened_in new ≡ opened_in old ++ opened_by setting.given.slots line what
+  pub ends : setting.tells → EndsBetween setting.began (length setting.tape) (histories_in new) what
+  pub answer : IsAnswer setting (histories_in new) (course_in old) line (length setting.tape) what
+  pub course : course_in new ≡ course_after (histories_in new) (course_in old) line what
 
--- memory was short, and nothing was entered
-pub record IsNoTurn {B : Type 0} (setting : Setting) (old new : State B) : Type 0 where
+-- memory was short: nothing was entered, but the array that the line asks for may run
+pub record IsNoTurn {B : Type 0} (setting : Setting) (old new : State B) (line : Line) : Type 0 where
   pub own : RunsOwn new
   pub losses : AreLossesFrom setting.before setting.now (histories_in old) (histories_in new)
   pub grown : AreGrown (histories_in old) (histories_in new)
-  pub course : course_in new ≡ course_in old
+  pub course : IsCourseOrNext (histories_in new) (course_in old) line (course_in new)
 
 abbrev pub IsTurnOrNone : {B : Type 0} → Setting → State B → State B → Line → Result Answered NoMemory → Type 0
 IsTurnOrNone setting old new line (Ok what) = IsTurn setting old new line what
-IsTurnOrNone setting old new line (Err fault) = IsNoTurn setting old new
+IsTurnOrNone setting old new line (Err fault) = IsNoTurn setting old new line
 
--- the entry that an answer names is there
-abbrev pub IsNamed : List History → Answered → Type 0
-IsNamed histories (Inside epoch at) = IsSome (entry_at histories epoch at)
-IsNamed histories (Outside outside) = ⊤
+-- the answer by the entry at this place
+abbrev pub answer_at : ℕ → Result ℕ NoMemory → Result Answered NoMemory
+answer_at epoch (Ok place) = Ok (Inside epoch place)
+answer_at epoch (Err fault) = Err fault

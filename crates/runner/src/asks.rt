@@ -1,17 +1,19 @@
 //! One request of the script to a running array.
 
-ghost use Rattle.std.specs.Prelude.{◌≡◌, ◌≢◌, ◌+◌, ◌*◌, ◌/◌, ◌<◌, ◌≤◌, ◌^◌, ℕ, length, Err, IsTrue, IsFalse};
+ghost use Rattle.std.specs.Prelude.{◌≡◌, ◌≢◌, ◌+◌, ◌*◌, ◌/◌, ◌<◌, ◌≤◌, ◌^◌, ℕ, length, Err, IfOk, IfErr, IsTrue, IsFalse};
 ghost use Rattle.md_base.specs.declared.answers.Fault.TheVariants.{NoMemory as WantsMemory};
 ghost use Rattle.bank.specs.Given.{NeverFalls};
 ghost use Rattle.md_base.specs.Sectors.{IsWhole};
-ghost use Rattle.plain_array.specs.Kept.{opening_of, IsSameArray, AreLossesOf};
-ghost use Rattle.script.specs.Seeds.{seeded};
+ghost use Rattle.array.specs.Whole.{list_size};
+ghost use Rattle.array.specs.Placed.{places_of};
+ghost use Rattle.array.specs.Kept.{IsSameArray, AreLossesOf, IsEndOf, world_for};
+ghost use Rattle.array.specs.Moving.{Grows};
 ghost use Rattle.runner.specs.Asked.{IsAsked, script_who};
-ghost use Rattle.flat_history.specs.declared.events.Request.TheVariants.{Read as AsksRead, Write as AsksWrite};
+ghost use Rattle.script.specs.declared.lines.Line.TheVariants.{Read as ReadLine, Write as WriteLine, Flush as FlushLine};
 
+use array::Array;
 use bank::Bank;
 use md_base::{Fault, NoMemory, Who};
-use plain_array::Array;
 use script::seed_sectors;
 use std::alloc::Global;
 
@@ -24,7 +26,7 @@ pub fn script_call<B: Bank>(array: &Array<B>) -> Who
 }
 
 // The place of the last entry.
-fn last_place<B: Bank>(array: &Array<B>) -> u64
+pub fn last_place<B: Bank>(array: &Array<B>) -> u64
     requires { 1 ≤ length array.now.entries }
     ensures { result + 1 ≡ length array.now.entries }
 {
@@ -52,11 +54,14 @@ pub fn ask_read<B: Bank>(
 ) -> Result<u64, NoMemory>
     requires few { count ≤ 128 }
     requires short { at + count < 2 ^ 63 }
-    ensures asked { IsAsked (opening_of array.old.shape array.old.size array.old.first) (AsksRead at count) array.old.entries array.new.entries result }
-    ensures losses { AreLossesOf (B.faults_of array.old.bank) (B.faults_of array.new.bank) array.old.entries array.new.entries }
+    ensures asked { IsAsked (list_size (places_of array.old.members)) (ReadLine at count) array.old.entries array.new.entries result }
+    ensures ended { IfOk result (λ place. IsEndOf B.tells array.new.first array.new.entries (B.tape array.new.bank)) }
+    ensures unchanged { IfErr result (λ none. array.new ≡ array.old) }
+    ensures grows { Grows B.tells (B.tape array.old.bank) (B.tape array.new.bank) }
+    ensures losses { AreLossesOf array.old.members (B.faults_of array.old.bank) (B.faults_of array.new.bank) array.old.entries array.new.entries }
     ensures never_falls { NeverFalls (B.faults_of array.old.bank) (B.faults_of array.new.bank) }
     ensures given { B.given array.new.bank ≡ B.given array.old.bank }
-    ensures same { IsSameArray array.old array.new }
+    ensures same { IsSameArray B.tells array.old array.new (world_for (B.given array.old.bank) (B.tape array.old.bank) array.old) (world_for (B.given array.new.bank) (B.tape array.new.bank) array.new) }
 {
     let mut into = match vec![in alloc; 0u8; count as usize * 512] {
         Ok(into) => into,
@@ -80,11 +85,14 @@ pub fn ask_write<B: Bank>(
 ) -> Result<u64, NoMemory>
     requires few { count ≤ 128 }
     requires short { at + count < 2 ^ 63 }
-    ensures asked { IsAsked (opening_of array.old.shape array.old.size array.old.first) (AsksWrite at (seeded seed at count)) array.old.entries array.new.entries result }
-    ensures losses { AreLossesOf (B.faults_of array.old.bank) (B.faults_of array.new.bank) array.old.entries array.new.entries }
+    ensures asked { IsAsked (list_size (places_of array.old.members)) (WriteLine at count seed) array.old.entries array.new.entries result }
+    ensures ended { IfOk result (λ place. IsEndOf B.tells array.new.first array.new.entries (B.tape array.new.bank)) }
+    ensures unchanged { IfErr result (λ none. array.new ≡ array.old) }
+    ensures grows { Grows B.tells (B.tape array.old.bank) (B.tape array.new.bank) }
+    ensures losses { AreLossesOf array.old.members (B.faults_of array.old.bank) (B.faults_of array.new.bank) array.old.entries array.new.entries }
     ensures never_falls { NeverFalls (B.faults_of array.old.bank) (B.faults_of array.new.bank) }
     ensures given { B.given array.new.bank ≡ B.given array.old.bank }
-    ensures same { IsSameArray array.old array.new }
+    ensures same { IsSameArray B.tells array.old array.new (world_for (B.given array.old.bank) (B.tape array.old.bank) array.old) (world_for (B.given array.new.bank) (B.tape array.new.bank) array.new) }
 {
     let body = match seed_sectors(alloc, at, count, seed) {
         Ok(body) => body,
@@ -92,6 +100,25 @@ pub fn ask_write<B: Bank>(
     };
     let who = script_call(array);
     let answer = array.write(who, at, body.as_bytes());
+    if wants_memory(&answer) {
+        return Err(NoMemory {});
+    }
+    Ok(last_place(array))
+}
+
+/// Makes what was written durable. Ok is the place of the reply entry.
+pub fn ask_flush<B: Bank>(array: &mut Array<B>) -> Result<u64, NoMemory>
+    ensures asked { IsAsked (list_size (places_of array.old.members)) FlushLine array.old.entries array.new.entries result }
+    ensures ended { IfOk result (λ place. IsEndOf B.tells array.new.first array.new.entries (B.tape array.new.bank)) }
+    ensures unchanged { IfErr result (λ none. array.new ≡ array.old) }
+    ensures grows { Grows B.tells (B.tape array.old.bank) (B.tape array.new.bank) }
+    ensures losses { AreLossesOf array.old.members (B.faults_of array.old.bank) (B.faults_of array.new.bank) array.old.entries array.new.entries }
+    ensures never_falls { NeverFalls (B.faults_of array.old.bank) (B.faults_of array.new.bank) }
+    ensures given { B.given array.new.bank ≡ B.given array.old.bank }
+    ensures same { IsSameArray B.tells array.old array.new (world_for (B.given array.old.bank) (B.tape array.old.bank) array.old) (world_for (B.given array.new.bank) (B.tape array.new.bank) array.new) }
+{
+    let who = script_call(array);
+    let answer = array.flush(who);
     if wants_memory(&answer) {
         return Err(NoMemory {});
     }

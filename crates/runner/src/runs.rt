@@ -3,11 +3,14 @@
 ghost use Rattle.std.specs.Prelude.{◌≡◌, ◌≢◌, ◌↔◌, ◌⊎◌, ◌<◌, ◌≤◌, ◌+◌, ◌-◌, ◌^◌, ℕ, List, [], length, map, string_bytes, Option, Some, None, Ok, IfOk, IfSome, IsTrue, vec_len, vec_capacity};
 ghost use Rattle.std.specs.List.{AllPass};
 ghost use Rattle.bank.specs.Given.{NeverFalls};
+ghost use Rattle.array.specs.Moving.{Grows};
 ghost use Rattle.text_io.specs.Causes.{HasRisen};
 ghost use Rattle.script.specs.Script.{script_of, is_within_limits};
 ghost use Rattle.runner.specs.Pace.{AnswersSteps, asked_by};
-ghost use Rattle.runner.specs.Replies.{setting_of};
-ghost use Rattle.runner.specs.Runs.{histories_of, status_for, stop_of, slots_for, IsAfterLines, IsBeforeLines, IsNothing, AreTold, AreLinesPerformed, IsScriptPerformed, IsScriptBad, AreLegal, AreLossesFailed, AreEndedAt, IsEnded};
+ghost use Rattle.runner.specs.Ended.{IsRunKept, AreLegal, AreRight, AreFormer};
+ghost use Rattle.runner.specs.Histories.{history_of, histories_of};
+ghost use Rattle.runner.specs.Making.{setting_of};
+ghost use Rattle.runner.specs.Runs.{mark_behind, status_for, stop_of, slots_for, IsAfterLines, IsBeforeLines, IsNothing, AreTold, AreLinesPerformed, IsScriptPerformed, IsScriptBad, AreLossesFailed, AreEndedAt, IsEnded};
 ghost use Rattle.runner.specs.Sessions.{counted, taken_whole, IsTaken};
 ghost use Rattle.runner.specs.Shown.{report_text, has_refusal};
 ghost use Rattle.runner.specs.Source.{IsTextOf};
@@ -57,22 +60,68 @@ fn status_of(stopped: Option<Stop>, refused: bool) -> u8
     }
 }
 
-// Halts the array, if one runs, and puts its epoch into the list. It takes no memory.
-fn halt<B: Bank>(state: State<B>, epochs: &mut Vec<Epoch>) -> B
+// Halts the array, if one runs. It takes no memory.
+fn halt<B: Bank>(state: State<B>, backup: Option<u32>) -> (B, Vec<Epoch>)
     requires own { RunsOwn state }
-    requires none { epochs.old.items ≡ [] }
-    requires room { vec_len epochs.old < vec_capacity epochs.old }
-    ensures { IsEnded B.tells (B.tape result) (B.faults_of result) state result epochs.new.items }
+    requires former { IsRunKept B.tells (B.given (bank_in state)) (B.tape (bank_in state)) backup state }
+    ensures ended { IsEnded (B.faults_of result.0) state result.0 result.1.items }
+    ensures former { B.tells → AreFormer (B.given (bank_in state)) (B.tape result.0) backup (length (B.tape result.0)) result.1.items }
 {
+    let _ = backup;
     match state {
-        State::Idle(bank) => bank,
-        State::Running(array) => {
+        State::Idle(bank, epochs) => (bank, epochs),
+        State::Running(array, mut epochs) => {
             let who = script_call(&array);
             let (bank, epoch) = array.halt(who);
-            let _ = epochs.push(epoch);
-            bank
+            epochs.push_reserved(epoch);
+            (bank, epochs)
         }
     }
+}
+
+// Sets the last mark of an epoch.
+fn set_last(epoch: &mut Epoch, mark: u64)
+    ensures same { history_of epoch.new ≡ history_of epoch.old }
+    ensures last { epoch.new.last ≡ mark }
+{
+    epoch.last = mark;
+}
+
+// The first mark of the epoch behind this one, or this one where it is the last.
+fn mark_behind(epochs: &[Epoch], at: usize, ops: u64) -> u64
+    requires within { at < length epochs.now }
+    ensures { result ≡ mark_behind ops (histories_of epochs.now) at }
+{
+    match epochs.get(at + 1) {
+        Some(next) => next.first,
+        None => ops,
+    }
+}
+
+// Lets each epoch reach to the first mark of the next one, and the last to this one.
+fn end_epochs(epochs: &mut Vec<Epoch>, ops: u64)
+    ensures same { histories_of epochs.new.items ≡ histories_of epochs.old.items }
+    ensures ended { AreEndedAt ops epochs.new.items }
+{
+    for i in 0..epochs.len() {
+        let mark = mark_behind(epochs.as_slice(), i, ops);
+        set_last(&mut epochs[i], mark);
+    }
+}
+
+// Ends a run: the array is halted, if one runs, and each epoch reaches to the next one's first mark.
+fn end_run<B: Bank>(state: State<B>, backup: Option<u32>) -> (B, Vec<Epoch>)
+    requires own { RunsOwn state }
+    requires former { IsRunKept B.tells (B.given (bank_in state)) (B.tape (bank_in state)) backup state }
+    ensures ended { IsEnded (B.faults_of result.0) state result.0 result.1.items }
+    ensures legal { B.tells → AreLegal (B.given (bank_in state)) (B.tape result.0) backup result.1.items }
+    ensures right { B.tells → AreRight (B.given (bank_in state)) (B.tape result.0) backup result.1.items }
+    ensures marks { B.tells → AreEndedAt (length (B.tape result.0)) result.1.items }
+{
+    let (bank, mut epochs) = halt(state, backup);
+    let ops = bank.ops();
+    end_epochs(&mut epochs, ops);
+    (bank, epochs)
 }
 
 // A run that performed no line.
@@ -94,7 +143,7 @@ fn nothing_done<B: Bank>(alloc: Global, bank: B, status: u8, bad_line: u64) -> R
     }
 }
 
-// Performs the lines and halts the array.
+// Performs the lines and halts the array, if one runs.
 fn run_lines<B: Bank, K: Sink>(
     alloc: Global,
     bank: B,
@@ -105,20 +154,19 @@ fn run_lines<B: Bank, K: Sink>(
     requires limits { AllPass (λ numbered. is_within_limits numbered.line) lines.now }
     requires bank { IsFitBank (B.given bank) backup }
     ensures status { result.status ≡ status_for (stop_of result.status) (has_refusal (histories_of result.epochs.items) result.lines.items) }
-    ensures performed { AreLinesPerformed (setting_of (B.given bank) backup (B.faults_of bank) (B.faults_of result.bank)) lines.now (stop_of result.status) result.epochs.items result.lines.items }
+    ensures performed { AreLinesPerformed (setting_of B.tells (B.given bank) (B.tape bank) (B.tape result.bank) backup (B.faults_of bank) (B.faults_of result.bank)) lines.now (stop_of result.status) result.epochs.items result.lines.items }
     ensures taken { K.tells → IsTaken (stop_of result.status) (K.taken out.old) (K.taken out.new) (report_text (histories_of result.epochs.items) result.lines.items) }
     ensures shown { result.shown ≡ counted (length (report_text (histories_of result.epochs.items) (taken_whole (stop_of result.status) result.lines.items))) }
     ensures write_fault { result.status ≡ 5 → HasRisen (K.faults_of out.old) (K.faults_of out.new) }
     ensures sink_never_falls { K.faults_of out.old ≤ K.faults_of out.new }
-    ensures legal { B.tells → AreLegal (length (B.tape result.bank)) result.epochs.items }
+    ensures legal { B.tells → AreLegal (B.given bank) (B.tape result.bank) backup result.epochs.items }
+    ensures right { B.tells → AreRight (B.given bank) (B.tape result.bank) backup result.epochs.items }
     ensures ended { B.tells → AreEndedAt (length (B.tape result.bank)) result.epochs.items }
     ensures losses { AreLossesFailed (B.faults_of bank) (B.faults_of result.bank) result.epochs.items }
     ensures never_falls { NeverFalls (B.faults_of bank) (B.faults_of result.bank) }
+    ensures grows { Grows B.tells (B.tape bank) (B.tape result.bank) }
     ensures given { B.given result.bank ≡ B.given bank }
 {
-    let Ok(mut epochs) = Vec::with_capacity(alloc, 1) else {
-        return nothing_done(alloc, bank, NO_MEMORY, 0);
-    };
     let Session {
         state,
         replies,
@@ -127,7 +175,7 @@ fn run_lines<B: Bank, K: Sink>(
         refused,
         stopped,
     } = perform(alloc, bank, backup, lines, out);
-    let bank = halt(state, &mut epochs);
+    let (bank, epochs) = end_run(state, backup);
     Report {
         status: status_of(stopped, refused),
         bad_line: 0,
@@ -151,18 +199,20 @@ fn run_script<B: Bank, S: Source, K: Sink>(
     ensures bad_line { result.status ≡ 3 → IsScriptBad S.tells (S.left script.old) (S.left script.new) result.bad_line }
     ensures read_fault { result.status ≡ 4 → HasRisen (S.faults_of script.old) (S.faults_of script.new) }
     ensures write_fault { result.status ≡ 5 → HasRisen (K.faults_of out.old) (K.faults_of out.new) }
-    ensures performed { IsAfterLines result.status → IsScriptPerformed S.tells (S.left script.old) (S.left script.new) (setting_of (B.given bank) (Some 7) (B.faults_of bank) (B.faults_of result.bank)) (stop_of result.status) result.epochs.items result.lines.items }
-    ensures short { result.status ≡ 6 → IsScriptPerformed S.tells (S.left script.old) (S.left script.new) (setting_of (B.given bank) (Some 7) (B.faults_of bank) (B.faults_of result.bank)) (stop_of result.status) result.epochs.items result.lines.items
+    ensures performed { IsAfterLines result.status → IsScriptPerformed S.tells (S.left script.old) (S.left script.new) (setting_of B.tells (B.given bank) (B.tape bank) (B.tape result.bank) (Some 7) (B.faults_of bank) (B.faults_of result.bank)) (stop_of result.status) result.epochs.items result.lines.items }
+    ensures short { result.status ≡ 6 → IsScriptPerformed S.tells (S.left script.old) (S.left script.new) (setting_of B.tells (B.given bank) (B.tape bank) (B.tape result.bank) (Some 7) (B.faults_of bank) (B.faults_of result.bank)) (stop_of result.status) result.epochs.items result.lines.items
         ⊎ IsNothing result.lines.items result.epochs.items }
     ensures nothing { IsBeforeLines result.status → IsNothing result.lines.items result.epochs.items }
     ensures untouched { IsBeforeLines result.status → result.bank ≡ bank }
     ensures refusals { AreTold result.status (has_refusal (histories_of result.epochs.items) result.lines.items) }
     ensures taken { K.tells → IsTaken (stop_of result.status) (K.taken out.old) (K.taken out.new) (report_text (histories_of result.epochs.items) result.lines.items) }
     ensures shown { result.shown ≡ counted (length (report_text (histories_of result.epochs.items) (taken_whole (stop_of result.status) result.lines.items))) }
-    ensures legal { B.tells → AreLegal (length (B.tape result.bank)) result.epochs.items }
+    ensures legal { B.tells → AreLegal (B.given bank) (B.tape result.bank) (Some 7) result.epochs.items }
+    ensures right { B.tells → AreRight (B.given bank) (B.tape result.bank) (Some 7) result.epochs.items }
     ensures ended { B.tells → AreEndedAt (length (B.tape result.bank)) result.epochs.items }
     ensures losses { AreLossesFailed (B.faults_of bank) (B.faults_of result.bank) result.epochs.items }
     ensures never_falls { NeverFalls (B.faults_of bank) (B.faults_of result.bank) }
+    ensures grows { Grows B.tells (B.tape bank) (B.tape result.bank) }
     ensures source_never_falls { S.faults_of script.old ≤ S.faults_of script.new }
     ensures sink_never_falls { K.faults_of out.old ≤ K.faults_of out.new }
     ensures given { B.given result.bank ≡ B.given bank }
@@ -179,8 +229,8 @@ fn run_script<B: Bank, S: Source, K: Sink>(
     }
 }
 
-/// Reads the words, then the whole script, and then performs its lines, one after another, on an array that they make on
-/// the bank. Each reply is one piece for the sink, which is pushed before the next line. An array that still runs at the
+/// Reads the words, then the whole script, and then performs its lines, one after another, on the arrays that they make and
+/// find on the bank. Each reply is one piece for the sink, which is pushed before the next line. An array that still runs at the
 /// end is halted. The words are those of the command after the program's name; `memory` wants a bank of eight slots, the
 /// last of which is the backup. The pace is that of background work, of which there is none so far.
 pub fn run<
@@ -206,18 +256,20 @@ pub fn run<
     ensures bad_line { result.status ≡ 3 → IsScriptBad S.tells (S.left script.old) (S.left script.new) result.bad_line }
     ensures read_fault { result.status ≡ 4 → HasRisen (S.faults_of script.old) (S.faults_of script.new) }
     ensures write_fault { result.status ≡ 5 → HasRisen (K.faults_of out.old) (K.faults_of out.new) }
-    ensures performed { IsAfterLines result.status → IsScriptPerformed S.tells (S.left script.old) (S.left script.new) (setting_of (B.given bank) (Some 7) (B.faults_of bank) (B.faults_of result.bank)) (stop_of result.status) result.epochs.items result.lines.items }
-    ensures short { result.status ≡ 6 → IsScriptPerformed S.tells (S.left script.old) (S.left script.new) (setting_of (B.given bank) (Some 7) (B.faults_of bank) (B.faults_of result.bank)) (stop_of result.status) result.epochs.items result.lines.items
+    ensures performed { IsAfterLines result.status → IsScriptPerformed S.tells (S.left script.old) (S.left script.new) (setting_of B.tells (B.given bank) (B.tape bank) (B.tape result.bank) (Some 7) (B.faults_of bank) (B.faults_of result.bank)) (stop_of result.status) result.epochs.items result.lines.items }
+    ensures short { result.status ≡ 6 → IsScriptPerformed S.tells (S.left script.old) (S.left script.new) (setting_of B.tells (B.given bank) (B.tape bank) (B.tape result.bank) (Some 7) (B.faults_of bank) (B.faults_of result.bank)) (stop_of result.status) result.epochs.items result.lines.items
         ⊎ IsNothing result.lines.items result.epochs.items }
     ensures nothing { IsBeforeLines result.status → IsNothing result.lines.items result.epochs.items }
     ensures untouched { IsBeforeLines result.status → result.bank ≡ bank }
     ensures refusals { AreTold result.status (has_refusal (histories_of result.epochs.items) result.lines.items) }
     ensures taken { K.tells → IsTaken (stop_of result.status) (K.taken out.old) (K.taken out.new) (report_text (histories_of result.epochs.items) result.lines.items) }
     ensures shown { result.shown ≡ counted (length (report_text (histories_of result.epochs.items) (taken_whole (stop_of result.status) result.lines.items))) }
-    ensures legal { B.tells → AreLegal (length (B.tape result.bank)) result.epochs.items }
+    ensures legal { B.tells → AreLegal (B.given bank) (B.tape result.bank) (Some 7) result.epochs.items }
+    ensures right { B.tells → AreRight (B.given bank) (B.tape result.bank) (Some 7) result.epochs.items }
     ensures ended { B.tells → AreEndedAt (length (B.tape result.bank)) result.epochs.items }
     ensures losses { AreLossesFailed (B.faults_of bank) (B.faults_of result.bank) result.epochs.items }
     ensures never_falls { NeverFalls (B.faults_of bank) (B.faults_of result.bank) }
+    ensures grows { Grows B.tells (B.tape bank) (B.tape result.bank) }
     ensures source_never_falls { S.faults_of script.old ≤ S.faults_of script.new }
     ensures sink_never_falls { K.faults_of out.old ≤ K.faults_of out.new }
     ensures given { B.given result.bank ≡ B.given bank }

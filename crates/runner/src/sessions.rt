@@ -3,12 +3,15 @@
 ghost use Rattle.std.specs.Prelude.{◌≡◌, ◌≤◌, ◌||◌, ℕ, [], ◌++◌, length, slice_index, Some, None, OnOk, IsTrue, IsSome};
 ghost use Rattle.std.specs.List.{AllPass};
 ghost use Rattle.bank.specs.Given.{NeverFalls};
+ghost use Rattle.array.specs.Moving.{Grows};
 ghost use Rattle.text_io.specs.Causes.{HasRisen};
 ghost use Rattle.script.specs.Script.{is_within_limits};
 ghost use Rattle.runner.specs.Shown.{outside_text, answer_text, reply_text, is_refused_outside, is_refusal, tells_refusal};
 ghost use Rattle.runner.specs.States.{histories_in, bank_in, RunsOwn, IsFitBank, IsNamed};
-ghost use Rattle.runner.specs.Sessions.{IsRepliedOrNot, IsStep, IsStopCause, IsPerformed, IsShownTo};
-ghost use Rattle.runner.specs.Replies.{setting_of, IsEnd};
+ghost use Rattle.runner.specs.Sessions.{IsEndNow, IsRepliedOrNot, IsStep, IsStopCause, IsPerformed, IsShownTo};
+ghost use Rattle.runner.specs.Ended.{IsRunKept};
+ghost use Rattle.runner.specs.Making.{setting_of};
+ghost use Rattle.runner.specs.Replies.{IsEnd};
 ghost use Rattle.script.specs.declared.reply.Lane.TheVariants.{Script as InScript};
 
 use crate::report::{Answered, LineReply, Outside};
@@ -77,10 +80,7 @@ fn push_answer<B: Bank>(
     ensures { OnOk result (text.new.items ≡ text.old.items ++ answer_text (histories_in state.now) what.now) }
 {
     match what {
-        Answered::Inside { epoch, at } => match state {
-            State::Running(array) => push_event(text, &entry_of(array, *epoch, *at).event),
-            State::Idle(_) => Ok(()),
-        },
+        Answered::Inside { epoch, at } => push_event(text, &entry_of(state, *epoch, *at).event),
         Answered::Outside(outside) => push_outside(text, outside),
     }
 }
@@ -91,10 +91,7 @@ fn is_answer_refused<B: Bank>(state: &State<B>, what: &Answered) -> bool
     ensures { result ≡ is_refusal (histories_in state.now) what.now }
 {
     match what {
-        Answered::Inside { epoch, at } => match state {
-            State::Running(array) => is_refused(&entry_of(array, *epoch, *at).event),
-            State::Idle(_) => false,
-        },
+        Answered::Inside { epoch, at } => is_refused(&entry_of(state, *epoch, *at).event),
         Answered::Outside(Outside::Refused { .. }) => true,
         Answered::Outside(_) => false,
     }
@@ -107,11 +104,12 @@ fn reply_of<B: Bank>(state: &State<B>, line: u64, what: Answered) -> LineReply
     ensures lane { result.lane ≡ InScript }
     ensures what { result.what ≡ what }
     ensures end { IsEnd (histories_in state.now) result what }
+    ensures at_end { IsEndNow B.tells (length (B.tape (bank_in state.now))) result what }
 {
     let end = match (&what, state) {
-        (Answered::Inside { epoch, at }, State::Running(array)) => entry_of(array, *epoch, *at).end,
-        (Answered::Outside(_), State::Running(array)) => array.ops(),
-        (_, State::Idle(bank)) => bank.ops(),
+        (Answered::Inside { epoch, at }, _) => entry_of(state, *epoch, *at).end,
+        (Answered::Outside(_), State::Running(array, _)) => array.ops(),
+        (Answered::Outside(_), State::Idle(bank, _)) => bank.ops(),
     };
     LineReply {
         line,
@@ -148,8 +146,11 @@ fn reply_to<B: Bank>(
     requires limits { IsTrue (is_within_limits numbered.line) }
     requires bank { IsFitBank (B.given (bank_in state)) backup }
     requires own { RunsOwn state }
-    ensures replied { IsRepliedOrNot (setting_of (B.given (bank_in state)) backup (B.faults_of (bank_in state)) (B.faults_of (bank_in result.0))) state result.0 numbered text.new.items result.1 }
+    requires former { IsRunKept B.tells (B.given (bank_in state)) (B.tape (bank_in state)) backup state }
+    ensures former { IsRunKept B.tells (B.given (bank_in state)) (B.tape (bank_in result.0)) backup result.0 }
+    ensures replied { IsRepliedOrNot (setting_of B.tells (B.given (bank_in state)) (B.tape (bank_in state)) (B.tape (bank_in result.0)) backup (B.faults_of (bank_in state)) (B.faults_of (bank_in result.0))) state result.0 numbered text.new.items result.1 }
     ensures never_falls { NeverFalls (B.faults_of (bank_in state)) (B.faults_of (bank_in result.0)) }
+    ensures grows { Grows B.tells (B.tape (bank_in state)) (B.tape (bank_in result.0)) }
     ensures given { B.given (bank_in result.0) ≡ B.given (bank_in state) }
 {
     let (state, what) = answer(alloc, state, backup, numbered.line);
@@ -176,10 +177,13 @@ fn perform_line<B: Bank, K: Sink>(
     requires limits { IsTrue (is_within_limits numbered.line) }
     requires bank { IsFitBank (B.given (bank_in session.state)) backup }
     requires own { RunsOwn session.state }
-    ensures step { IsStep K.tells (setting_of (B.given (bank_in session.state)) backup (B.faults_of (bank_in session.state)) (B.faults_of (bank_in result.state))) session result numbered (K.taken out.old) (K.taken out.new) result.stopped }
+    requires former { IsRunKept B.tells (B.given (bank_in session.state)) (B.tape (bank_in session.state)) backup session.state }
+    ensures former { IsRunKept B.tells (B.given (bank_in session.state)) (B.tape (bank_in result.state)) backup result.state }
+    ensures step { IsStep K.tells (setting_of B.tells (B.given (bank_in session.state)) (B.tape (bank_in session.state)) (B.tape (bank_in result.state)) backup (B.faults_of (bank_in session.state)) (B.faults_of (bank_in result.state))) session result numbered (K.taken out.old) (K.taken out.new) result.stopped }
     ensures cause { IsStopCause result.stopped (K.faults_of out.old) (K.faults_of out.new) }
     ensures sink_never_falls { K.faults_of out.old ≤ K.faults_of out.new }
     ensures never_falls { NeverFalls (B.faults_of (bank_in session.state)) (B.faults_of (bank_in result.state)) }
+    ensures grows { Grows B.tells (B.tape (bank_in session.state)) (B.tape (bank_in result.state)) }
     ensures given { B.given (bank_in result.state) ≡ B.given (bank_in session.state) }
 {
     let Session {
@@ -263,14 +267,16 @@ pub fn perform<B: Bank, K: Sink>(
 ) -> Session<B>
     requires limits { AllPass (λ numbered. is_within_limits numbered.line) lines.now }
     requires bank { IsFitBank (B.given bank) backup }
-    ensures performed { IsPerformed (setting_of (B.given bank) backup (B.faults_of bank) (B.faults_of (bank_in result.state))) lines.now result }
+    ensures former { IsRunKept B.tells (B.given bank) (B.tape (bank_in result.state)) backup result.state }
+    ensures performed { IsPerformed (setting_of B.tells (B.given bank) (B.tape bank) (B.tape (bank_in result.state)) backup (B.faults_of bank) (B.faults_of (bank_in result.state))) lines.now result }
     ensures all { result.stopped ≡ None → length result.replies.items ≡ length lines.now }
     ensures shown { IsShownTo K.tells result (K.taken out.old) (K.taken out.new) (K.faults_of out.old) (K.faults_of out.new) }
     ensures never_falls { NeverFalls (B.faults_of bank) (B.faults_of (bank_in result.state)) }
+    ensures grows { Grows B.tells (B.tape bank) (B.tape (bank_in result.state)) }
     ensures given { B.given (bank_in result.state) ≡ B.given bank }
 {
     let mut session = Session {
-        state: State::Idle(bank),
+        state: State::Idle(bank, Vec::new(alloc)),
         replies: Vec::new(alloc),
         buffer: Vec::new(alloc),
         shown: 0,

@@ -1,32 +1,35 @@
 //! The bank of a run, with or without an array on it, and the answers that it gives to lines.
 
-ghost use Rattle.std.specs.Prelude.{◌≡◌, ◌<◌, ◌≤◌, ◌*◌, ℕ, [], ◌∷◌, Some, IsTrue, IsSome};
-ghost use Rattle.md_base.specs.Shapes.{data_disks};
+ghost use Rattle.std.specs.Prelude.{◌≡◌, ◌<◌, ◌≤◌, ◌^◌, ℕ, List, length, vec_capacity, Some, Ok, IfOk, IsTrue, IsSome};
 ghost use Rattle.bank.specs.Given.{NeverFalls};
-ghost use Rattle.plain_array.specs.Kept.{opening_of, IsSameArray, AreLossesOf};
+ghost use Rattle.array.specs.Moving.{Grows};
+ghost use Rattle.array.specs.Whole.{list_size};
+ghost use Rattle.array.specs.Placed.{places_of};
 ghost use Rattle.script.specs.Script.{is_within_limits};
-ghost use Rattle.runner.specs.Asked.{IsPerformedLine};
+ghost use Rattle.script.specs.declared.lines.Line.TheVariants.{Create as AsksCreate, Stop as AsksStop, Halt as AsksHalt, Assemble as AsksAssemble};
+ghost use Rattle.runner.specs.Ended.{IsRunKept};
 ghost use Rattle.runner.specs.Histories.{entry_at};
-ghost use Rattle.runner.specs.Replies.{setting_of};
-ghost use Rattle.runner.specs.States.{running_history, histories_in, bank_in, RunsOwn, IsFitBank, IsTurnOrNone, IsNamed};
-ghost use Rattle.runner.specs.declared.report.Answered.TheVariants.{Outside as AnsweredOutside};
+ghost use Rattle.runner.specs.Making.{setting_of};
+ghost use Rattle.runner.specs.States.{answer_at, histories_in, bank_in, RunsOwn, IsFitBank, IsTurnOrNone, IsNamed};
+ghost use Rattle.runner.specs.declared.report.Answered.TheVariants.{Inside as AnsweredInside, Outside as AnsweredOutside};
 ghost use Rattle.runner.specs.declared.report.Outside.TheVariants.{Refused as IsRefused};
-ghost use Rattle.runner.specs.declared.states.State.TheVariants.{Idle as IsIdle};
+ghost use Rattle.runner.specs.declared.states.State.TheVariants.{Idle as IsIdle, Running as IsRunning};
 
-use crate::asks::{ask_read, ask_write};
+use crate::asks::{ask_flush, ask_read, ask_write, last_place, script_call};
 use crate::report::{Answered, Outside};
+use array::{Array, CreateSpec};
+use assemble::{assemble, create};
 use bank::Bank;
-use flat_history::Entry;
+use flat_history::{Entry, Epoch};
 use md_base::{Fault, NoMemory, Refusal};
-use plain_array::{Array, CreateSpec, create};
-use script::Line;
+use script::{CreateLine, Line};
 use std::alloc::Global;
 
-/// The bank where no array runs, or the array.
+/// The bank where no array runs, or the array, and the epochs of the arrays that ran before.
 #[derive(Drop)]
 pub enum State<B: Bank> {
-    Idle(B),
-    Running(Array<B>),
+    Idle(B, Vec<Epoch>),
+    Running(Array<B>, Vec<Epoch>),
 }
 
 // A refusal that no history holds.
@@ -36,48 +39,167 @@ fn refused(refusal: Refusal) -> Answered
     Answered::Outside(Outside::Refused { refusal })
 }
 
-// The answer of the array that runs, the first of its run.
-fn answer_running<B: Bank>(
-    alloc: Global,
-    array: &mut Array<B>,
-    line: Line,
-) -> Result<Answered, NoMemory>
-    requires limits { IsTrue (is_within_limits line) }
-    ensures performed { IsPerformedLine (opening_of array.old.shape array.old.size array.old.first) array.old.entries array.new.entries line result }
-    ensures losses { AreLossesOf (B.faults_of array.old.bank) (B.faults_of array.new.bank) array.old.entries array.new.entries }
-    ensures never_falls { NeverFalls (B.faults_of array.old.bank) (B.faults_of array.new.bank) }
-    ensures given { B.given array.new.bank ≡ B.given array.old.bank }
-    ensures same { IsSameArray array.old array.new }
+// The number of the epoch behind these.
+fn next_epoch(epochs: &Vec<Epoch>) -> u32
+    requires few { length epochs.now.items < 2 ^ 32 }
+    ensures { result ≡ length epochs.now.items }
 {
-    let place = match line {
-        Line::Create(_) => {
-            return Ok(refused(Refusal::Running));
-        }
-        Line::Read { at, count } => ask_read(alloc, array, at, count),
-        Line::Write { at, count, seed } => ask_write(alloc, array, at, count, seed),
-    };
+    epochs.len() as u32
+}
+
+// The answer by an entry of the array that runs behind these epochs.
+fn inside(epochs: &Vec<Epoch>, at: u64) -> Answered
+    requires few { length epochs.now.items < 2 ^ 32 }
+    ensures { result ≡ AnsweredInside (length epochs.now.items) at }
+{
+    let epoch = next_epoch(epochs);
+    Answered::Inside { epoch, at }
+}
+
+// The answer of an array that goes on.
+fn goes_on<B: Bank>(
+    array: Array<B>,
+    epochs: Vec<Epoch>,
+    place: Result<u64, NoMemory>,
+) -> (State<B>, Result<Answered, NoMemory>)
+    requires few { length epochs.items < 2 ^ 32 }
+    ensures state { result.0 ≡ IsRunning array epochs }
+    ensures answer { result.1 ≡ answer_at (length epochs.items) place }
+{
     match place {
-        Ok(at) => Ok(Answered::Inside { epoch: 0, at }),
-        Err(fault) => Err(fault),
+        Ok(at) => {
+            let what = inside(&epochs, at);
+            (State::Running(array, epochs), Ok(what))
+        }
+        Err(fault) => (State::Running(array, epochs), Err(fault)),
     }
 }
 
-// The answer where no array runs.
-fn answer_idle<B: Bank>(
+// Stops the array that runs.
+fn stop_array<B: Bank>(
+    array: Array<B>,
+    mut epochs: Vec<Epoch>,
+    backup: Option<u32>,
+) -> (State<B>, Result<Answered, NoMemory>)
+    requires own { RunsOwn (IsRunning array epochs) }
+    requires former { IsRunKept B.tells (B.given array.bank) (B.tape array.bank) backup (IsRunning array epochs) }
+    ensures answered { IsTurnOrNone (setting_of B.tells (B.given array.bank) (B.tape array.bank) (B.tape (bank_in result.0)) backup (B.faults_of array.bank) (B.faults_of (bank_in result.0))) (IsRunning array epochs) result.0 AsksStop result.1 }
+    ensures former { IsRunKept B.tells (B.given array.bank) (B.tape (bank_in result.0)) backup result.0 }
+    ensures never_falls { NeverFalls (B.faults_of array.bank) (B.faults_of (bank_in result.0)) }
+    ensures grows { Grows B.tells (B.tape array.bank) (B.tape (bank_in result.0)) }
+    ensures given { B.given (bank_in result.0) ≡ B.given array.bank }
+{
+    let _ = backup;
+    let who = script_call(&array);
+    let left = match array.stop(who) {
+        Ok(ended) => {
+            let (bank, epoch) = ended;
+            let what = inside(&epochs, epoch.entries.len() as u64 - 1);
+            epochs.push_reserved(epoch);
+            return (State::Idle(bank, epochs), Ok(what));
+        }
+        Err(left) => left,
+    };
+    let (array, fault) = left;
+    match fault {
+        Fault::NoMemory => (State::Running(array, epochs), Err(NoMemory {})),
+        Fault::Refused(_) => {
+            let what = inside(&epochs, last_place(&array));
+            (State::Running(array, epochs), Ok(what))
+        }
+    }
+}
+
+// Halts the array that runs.
+fn halt_array<B: Bank>(
+    array: Array<B>,
+    mut epochs: Vec<Epoch>,
+    backup: Option<u32>,
+) -> (State<B>, Result<Answered, NoMemory>)
+    requires own { RunsOwn (IsRunning array epochs) }
+    requires former { IsRunKept B.tells (B.given array.bank) (B.tape array.bank) backup (IsRunning array epochs) }
+    ensures answered { IsTurnOrNone (setting_of B.tells (B.given array.bank) (B.tape array.bank) (B.tape (bank_in result.0)) backup (B.faults_of array.bank) (B.faults_of (bank_in result.0))) (IsRunning array epochs) result.0 AsksHalt result.1 }
+    ensures former { IsRunKept B.tells (B.given array.bank) (B.tape (bank_in result.0)) backup result.0 }
+    ensures bank { bank_in result.0 ≡ array.bank }
+{
+    let _ = backup;
+    let who = script_call(&array);
+    let (bank, epoch) = array.halt(who);
+    let what = inside(&epochs, epoch.entries.len() as u64 - 1);
+    epochs.push_reserved(epoch);
+    (State::Idle(bank, epochs), Ok(what))
+}
+
+// The answer of the array that runs.
+fn answer_running<B: Bank>(
     alloc: Global,
-    bank: B,
+    array: Array<B>,
+    epochs: Vec<Epoch>,
     backup: Option<u32>,
     line: Line,
 ) -> (State<B>, Result<Answered, NoMemory>)
     requires limits { IsTrue (is_within_limits line) }
+    requires own { RunsOwn (IsRunning array epochs) }
+    requires former { IsRunKept B.tells (B.given array.bank) (B.tape array.bank) backup (IsRunning array epochs) }
+    ensures answered { IsTurnOrNone (setting_of B.tells (B.given array.bank) (B.tape array.bank) (B.tape (bank_in result.0)) backup (B.faults_of array.bank) (B.faults_of (bank_in result.0))) (IsRunning array epochs) result.0 line result.1 }
+    ensures former { IsRunKept B.tells (B.given array.bank) (B.tape (bank_in result.0)) backup result.0 }
+    ensures never_falls { NeverFalls (B.faults_of array.bank) (B.faults_of (bank_in result.0)) }
+    ensures grows { Grows B.tells (B.tape array.bank) (B.tape (bank_in result.0)) }
+    ensures given { B.given (bank_in result.0) ≡ B.given array.bank }
+{
+    let mut array = array;
+    match line {
+        Line::Read { at, count } => {
+            let place = ask_read(alloc, &mut array, at, count);
+            goes_on(array, epochs, place)
+        }
+        Line::Write { at, count, seed } => {
+            let place = ask_write(alloc, &mut array, at, count, seed);
+            goes_on(array, epochs, place)
+        }
+        Line::Flush => {
+            let place = ask_flush(&mut array);
+            goes_on(array, epochs, place)
+        }
+        Line::Stop => stop_array(array, epochs, backup),
+        Line::Halt => halt_array(array, epochs, backup),
+        Line::Create(_) => (State::Running(array, epochs), Ok(refused(Refusal::Running))),
+        Line::Assemble { .. } => (State::Running(array, epochs), Ok(refused(Refusal::Running))),
+    }
+}
+
+// Whether there is room for the epoch of one array more.
+fn has_room(epochs: &mut Vec<Epoch>) -> bool
+    ensures same { epochs.new.items ≡ epochs.old.items }
+    ensures room { IsTrue result → length epochs.new.items < vec_capacity epochs.new }
+    ensures few { IsTrue result → length epochs.new.items < 2 ^ 32 }
+{
+    if epochs.len() >= u32::MAX as usize {
+        return false;
+    }
+    epochs.reserve(1).is_ok()
+}
+
+// Makes the array that a line asks for.
+fn create_array<B: Bank>(
+    alloc: Global,
+    bank: B,
+    mut epochs: Vec<Epoch>,
+    backup: Option<u32>,
+    line: CreateLine,
+) -> (State<B>, Result<Answered, NoMemory>)
     requires bank { IsFitBank (B.given bank) backup }
-    ensures answered { IsTurnOrNone (setting_of (B.given bank) backup (B.faults_of bank) (B.faults_of (bank_in result.0))) (IsIdle bank) result.0 line result.1 }
+    requires own { RunsOwn (IsIdle bank epochs) }
+    requires former { IsRunKept B.tells (B.given bank) (B.tape bank) backup (IsIdle bank epochs) }
+    ensures answered { IsTurnOrNone (setting_of B.tells (B.given bank) (B.tape bank) (B.tape (bank_in result.0)) backup (B.faults_of bank) (B.faults_of (bank_in result.0))) (IsIdle bank epochs) result.0 (AsksCreate line) result.1 }
+    ensures former { IsRunKept B.tells (B.given bank) (B.tape (bank_in result.0)) backup result.0 }
     ensures never_falls { NeverFalls (B.faults_of bank) (B.faults_of (bank_in result.0)) }
+    ensures grows { Grows B.tells (B.tape bank) (B.tape (bank_in result.0)) }
     ensures given { B.given (bank_in result.0) ≡ B.given bank }
 {
-    let Line::Create(line) = line else {
-        return (State::Idle(bank), Ok(refused(Refusal::NotRunning)));
-    };
+    if !has_room(&mut epochs) {
+        return (State::Idle(bank, epochs), Err(NoMemory {}));
+    }
     let uuid = line.uuid;
     let spec = CreateSpec {
         uuid,
@@ -85,22 +207,93 @@ fn answer_idle<B: Bank>(
         size: line.size,
         offset: line.offset,
     };
-    let (bank, fault) = match create(alloc, bank, backup, spec) {
+    let left = match create(alloc, bank, backup, spec) {
         Ok(array) => {
             return (
-                State::Running(array),
+                State::Running(array, epochs),
                 Ok(Answered::Outside(Outside::Created)),
             );
         }
         Err(left) => left,
     };
+    let (bank, fault) = left;
     match fault {
-        Fault::Refused(refusal) => (State::Idle(bank), Ok(refused(refusal))),
-        Fault::NoMemory => (State::Idle(bank), Err(NoMemory {})),
+        Fault::Refused(refusal) => (State::Idle(bank, epochs), Ok(refused(refusal))),
+        Fault::NoMemory => (State::Idle(bank, epochs), Err(NoMemory {})),
     }
 }
 
-/// The answer to one line. Where memory is short, nothing was entered.
+// Opens the array that a line asks for.
+fn assemble_array<B: Bank>(
+    alloc: Global,
+    bank: B,
+    mut epochs: Vec<Epoch>,
+    backup: Option<u32>,
+    uuid: Option<[u8; 16]>,
+) -> (State<B>, Result<Answered, NoMemory>)
+    requires bank { IsFitBank (B.given bank) backup }
+    requires own { RunsOwn (IsIdle bank epochs) }
+    requires former { IsRunKept B.tells (B.given bank) (B.tape bank) backup (IsIdle bank epochs) }
+    ensures answered { IsTurnOrNone (setting_of B.tells (B.given bank) (B.tape bank) (B.tape (bank_in result.0)) backup (B.faults_of bank) (B.faults_of (bank_in result.0))) (IsIdle bank epochs) result.0 (AsksAssemble uuid) result.1 }
+    ensures former { IsRunKept B.tells (B.given bank) (B.tape (bank_in result.0)) backup result.0 }
+    ensures never_falls { NeverFalls (B.faults_of bank) (B.faults_of (bank_in result.0)) }
+    ensures grows { Grows B.tells (B.tape bank) (B.tape (bank_in result.0)) }
+    ensures given { B.given (bank_in result.0) ≡ B.given bank }
+{
+    if !has_room(&mut epochs) {
+        return (State::Idle(bank, epochs), Err(NoMemory {}));
+    }
+    let left = match assemble(alloc, bank, backup, uuid) {
+        Ok(array) => {
+            let mut array = array;
+            let epoch = next_epoch(&epochs);
+            let who = script_call(&array);
+            return match array.status(who) {
+                Ok(status) => (
+                    State::Running(array, epochs),
+                    Ok(Answered::Outside(Outside::Assembled { epoch, status })),
+                ),
+                Err(fault) => (State::Running(array, epochs), Err(fault)),
+            };
+        }
+        Err(left) => left,
+    };
+    let (bank, fault) = left;
+    match fault {
+        Fault::Refused(refusal) => (State::Idle(bank, epochs), Ok(refused(refusal))),
+        Fault::NoMemory => (State::Idle(bank, epochs), Err(NoMemory {})),
+    }
+}
+
+// The answer where no array runs.
+fn answer_idle<B: Bank>(
+    alloc: Global,
+    bank: B,
+    epochs: Vec<Epoch>,
+    backup: Option<u32>,
+    line: Line,
+) -> (State<B>, Result<Answered, NoMemory>)
+    requires bank { IsFitBank (B.given bank) backup }
+    requires own { RunsOwn (IsIdle bank epochs) }
+    requires former { IsRunKept B.tells (B.given bank) (B.tape bank) backup (IsIdle bank epochs) }
+    ensures answered { IsTurnOrNone (setting_of B.tells (B.given bank) (B.tape bank) (B.tape (bank_in result.0)) backup (B.faults_of bank) (B.faults_of (bank_in result.0))) (IsIdle bank epochs) result.0 line result.1 }
+    ensures former { IsRunKept B.tells (B.given bank) (B.tape (bank_in result.0)) backup result.0 }
+    ensures never_falls { NeverFalls (B.faults_of bank) (B.faults_of (bank_in result.0)) }
+    ensures grows { Grows B.tells (B.tape bank) (B.tape (bank_in result.0)) }
+    ensures given { B.given (bank_in result.0) ≡ B.given bank }
+{
+    match line {
+        Line::Create(line) => create_array(alloc, bank, epochs, backup, line),
+        Line::Assemble { uuid } => assemble_array(alloc, bank, epochs, backup, uuid),
+        Line::Read { .. } => (State::Idle(bank, epochs), Ok(refused(Refusal::NotRunning))),
+        Line::Write { .. } => (State::Idle(bank, epochs), Ok(refused(Refusal::NotRunning))),
+        Line::Flush => (State::Idle(bank, epochs), Ok(refused(Refusal::NotRunning))),
+        Line::Stop => (State::Idle(bank, epochs), Ok(refused(Refusal::NotRunning))),
+        Line::Halt => (State::Idle(bank, epochs), Ok(refused(Refusal::NotRunning))),
+    }
+}
+
+/// The answer to one line. Where memory is short, nothing was entered, but an array may have been opened.
 pub fn answer<B: Bank>(
     alloc: Global,
     state: State<B>,
@@ -110,23 +303,32 @@ pub fn answer<B: Bank>(
     requires limits { IsTrue (is_within_limits line) }
     requires bank { IsFitBank (B.given (bank_in state)) backup }
     requires own { RunsOwn state }
-    ensures answered { IsTurnOrNone (setting_of (B.given (bank_in state)) backup (B.faults_of (bank_in state)) (B.faults_of (bank_in result.0))) state result.0 line result.1 }
+    requires former { IsRunKept B.tells (B.given (bank_in state)) (B.tape (bank_in state)) backup state }
+    ensures answered { IsTurnOrNone (setting_of B.tells (B.given (bank_in state)) (B.tape (bank_in state)) (B.tape (bank_in result.0)) backup (B.faults_of (bank_in state)) (B.faults_of (bank_in result.0))) state result.0 line result.1 }
+    ensures former { IsRunKept B.tells (B.given (bank_in state)) (B.tape (bank_in result.0)) backup result.0 }
     ensures never_falls { NeverFalls (B.faults_of (bank_in state)) (B.faults_of (bank_in result.0)) }
+    ensures grows { Grows B.tells (B.tape (bank_in state)) (B.tape (bank_in result.0)) }
     ensures given { B.given (bank_in result.0) ≡ B.given (bank_in state) }
 {
     match state {
-        State::Idle(bank) => answer_idle(alloc, bank, backup, line),
-        State::Running(mut array) => {
-            let what = answer_running(alloc, &mut array, line);
-            (State::Running(array), what)
-        }
+        State::Idle(bank, epochs) => answer_idle(alloc, bank, epochs, backup, line),
+        State::Running(array, epochs) => answer_running(alloc, array, epochs, backup, line),
     }
 }
 
 /// The entry that an answer names.
-pub fn entry_of<B: Bank>(array: &Array<B>, epoch: u32, at: u64) -> &Entry
-    requires { IsSome (entry_at (running_history array.now ∷ []) epoch at) }
-    ensures { entry_at (running_history array.now ∷ []) epoch at ≡ Some result.now }
+pub fn entry_of<B: Bank>(state: &State<B>, epoch: u32, at: u64) -> &Entry
+    requires { IsSome (entry_at (histories_in state.now) epoch at) }
+    ensures { entry_at (histories_in state.now) epoch at ≡ Some result.now }
 {
-    array.epoch().entries.get(at as usize)
+    match state {
+        State::Idle(_, epochs) => epochs[epoch as usize].entries.get(at as usize),
+        State::Running(array, epochs) => {
+            if (epoch as usize) < epochs.len() {
+                epochs[epoch as usize].entries.get(at as usize)
+            } else {
+                array.epoch().entries.get(at as usize)
+            }
+        }
+    }
 }

@@ -47,7 +47,7 @@ fn bank_of(alloc: Global, given: &Given<'_>) -> Result<MemoryBank, Fail>
 {
     let lengths = vec![in alloc; 64u64; 8]?;
     let calls = Vec::from_slice(alloc, given.calls)?;
-    Ok(MemoryBank::new(alloc, lengths, 400, calls)?)
+    Ok(MemoryBank::new(alloc, lengths, 800, calls)?)
 }
 
 fn steps(_turn: u64, left: u64) -> u64
@@ -76,10 +76,11 @@ fn ran<R: Threads + Wait + Sync>(
 }
 
 // The lines behind `create`, the calls of the bank that fail, the status and the replies. The array has 40 rows on three
-// disks; making it takes 3 * (40 writes + 1 flush) = 123 calls.
+// of the bank's eight slots. Making it takes 147 calls: 7 reads and 8 flushes, as all slots are looked at; 3 * (40 writes
+// and a flush) for the zeros; 3 * (a read, a write and a flush) for the superblocks.
 #[test]
 fn lines_are_answered_in_their_order(rt: HostRuntime) -> Result<(), Fail> {
-    let rows: [(&str, &[u64], u8, &[u8]); 6] = [
+    let rows: [(&str, &[u64], u8, &[u8]); 7] = [
         (
             "write 0 1 7\nread 0 2\n",
             &[],
@@ -88,19 +89,26 @@ fn lines_are_answered_in_their_order(rt: HostRuntime) -> Result<(), Fail> {
         ),
         ("read 79 1", &[], 0, b"created\nread 79 1: zero x1\n"),
         ("read 79 2\n", &[], 1, b"created\nrefused 1 PastEnd 80\n"),
-        // the first read of a device fails
+        // the first read of a row fails
         (
             "read 0 1\n",
-            &[123],
+            &[147],
             1,
             b"created\nrefused 2 TooManyMissing 1 0\n",
         ),
         // the first write of the second member fails
         (
             "write 0 1 7\nread 0 1\n",
-            &[41],
+            &[56],
             1,
             b"refused 9 SlotFault 1\nrefused 28 NotRunning\nrefused 28 NotRunning\n",
+        ),
+        // the superblock of the first member can't be read again
+        (
+            "stop\nassemble\nassemble\n",
+            &[150],
+            1,
+            b"created\nstopped\nrefused 24 MembersMissing 1 0\nrefused 24 MembersMissing 1 0\n",
         ),
         ("# nothing\n\n", &[], 0, b"created\n"),
     ];
@@ -120,6 +128,63 @@ fn lines_are_answered_in_their_order(rt: HostRuntime) -> Result<(), Fail> {
     Ok(())
 }
 
+// The lines of a script without that `create`, the status and the replies.
+#[test]
+fn arrays_come_and_go(rt: HostRuntime) -> Result<(), Fail> {
+    let rows: [(&str, u8, &[u8]); 7] = [
+        // a dirty array is found with its resync to do, one step for each of five stripes and one for its end
+        (
+            "create 6ba7b810-9dad-11d1-80b4-00c04fd430c8 level=5 disks=3 chunk=8 size=40 offset=16\nwrite 0 1 7\nflush\nwrite 0 1 7\nhalt\nassemble\nread 0 1\n",
+            0,
+            b"created\nwrote 0 1\nflushed\nwrote 0 1\nhalted\nassembled level 5 disks 3 chunk 8 size 40 layout left-symmetric visible 80 left 6\nread 0 1: seed 7 x1\n",
+        ),
+        (
+            "create 6ba7b810-9dad-11d1-80b4-00c04fd430c8 level=6 disks=5 chunk=8 size=48 offset=16 layout=right-asymmetric\nwrite 143 1 2\nstop\nassemble 6ba7b810-9dad-11d1-80b4-00c04fd430c8\nread 142 2\n",
+            0,
+            b"created\nwrote 143 1\nstopped\nassembled level 6 disks 5 chunk 8 size 48 layout right-asymmetric visible 144 left 0\nread 142 2: zero x1 seed 2 x1\n",
+        ),
+        // the fourth slot holds the array already
+        (
+            "create 6ba7b810-9dad-11d1-80b4-00c04fd430c8 level=5 disks=4 chunk=8 size=40 offset=16\nstop\ncreate 6ba7b810-9dad-11d1-80b4-00c04fd430c8 level=5 disks=3 chunk=8 size=40 offset=16\n",
+            1,
+            b"created\nstopped\nrefused 31 UuidInUse 3\n",
+        ),
+        (
+            "create 6ba7b810-9dad-11d1-80b4-00c04fd430c8 level=5 disks=3 chunk=8 size=40 offset=16\ncreate 6ba7b810-9dad-11d1-80b4-00c04fd430c8 level=5 disks=3 chunk=8 size=40 offset=16\nassemble\n",
+            1,
+            b"created\nrefused 29 Running\nrefused 29 Running\n",
+        ),
+        (
+            "create 6ba7b810-9dad-11d1-80b4-00c04fd430c8 level=5 disks=8 chunk=8 size=40\ncreate 6ba7b810-9dad-11d1-80b4-00c04fd430c8 level=5 disks=3 chunk=16 size=40\n",
+            1,
+            b"refused 30 NoSuchSlot 7\nrefused 14 SizeNotMultiple 40 16\n",
+        ),
+        (
+            "create 6ba7b810-9dad-11d1-80b4-00c04fd430c8 level=5 disks=3 chunk=8 size=56 offset=16\n",
+            1,
+            b"refused 7 SlotTooSmall 64 72\n",
+        ),
+        (
+            "assemble\nread 0 1\nstop\n",
+            1,
+            b"refused 20 NoSuperblock\nrefused 28 NotRunning\nrefused 28 NotRunning\n",
+        ),
+    ];
+    for (lines, status, output) in rows {
+        let given = Given {
+            create: false,
+            lines,
+            calls: &[],
+            pulls: &[],
+            pushes: &[],
+        };
+        let (report, taken) = ran(&rt, rt.alloc(), &["memory"], &given)?;
+        assert_eq!(rt; report.status, status);
+        assert!(rt; taken.as_slice() == output);
+    }
+    Ok(())
+}
+
 // Words, whether there is a script, the pulls and pushes that fail, the status, the first bad line and the replies.
 #[test]
 fn runs_end_with_their_status(rt: HostRuntime) -> Result<(), Fail> {
@@ -127,7 +192,16 @@ fn runs_end_with_their_status(rt: HostRuntime) -> Result<(), Fail> {
         (&["run"], true, "", &[], &[], 2, 0, b""),
         (&[], true, "", &[], &[], 2, 0, b""),
         (&["memory"], false, "", &[], &[], 0, 0, b""),
-        (&["memory"], false, "read 0 1\n", &[], &[], 3, 1, b""),
+        (
+            &["memory"],
+            false,
+            "read 0 1\n",
+            &[],
+            &[],
+            1,
+            0,
+            b"refused 28 NotRunning\n",
+        ),
         (&["memory"], true, "\nread 0 129\n", &[], &[], 3, 3, b""),
         (&["memory"], true, "read 0 1\n", &[0], &[], 4, 0, b""),
         (

@@ -1,24 +1,46 @@
-use Rattle.std.proofs.Common.{rules, sym, subst, ◌≡◌, List, [], ◌∷◌}
-use Rattle.md_base.specs.declared.answers.Who.{Who}
+use Rattle.std.proofs.Common.{rules, ◌≡◌, ◌-◌, [], ◌∷◌, ◌++◌, length, sym, subst, arith}
 use Rattle.flat_history.specs.declared.events.Epoch.{Epoch}
-use Rattle.flat_history.specs.declared.events.Event.TheVariants.{Halted}
-use Rattle.plain_array.specs.Kept.{IsEntered}
-use Rattle.runner.specs.States.{RunsOwn}
+use Rattle.array.specs.Whole.{list_size}
+use Rattle.array.specs.Placed.{places_of}
+use Rattle.runner.specs.Ended.{IsRunKept, AreFormer}
+use Rattle.runner.specs.States.{bank_in, RunsOwn}
+use Rattle.runner.proofs.Legal.{former_halted}
 use Rattle.runner.specs.Runs.{IsEnded}
 use Rattle.runner.specs.declared.states.State.{State}
 use Rattle.runner.specs.declared.states.State.TheVariants.{Running}
-use Rattle.runner.proofs.Ends.{ended_running}
+use Rattle.runner.proofs.AskLaws.{asked_halt, halt_grew}
+use Rattle.runner.proofs.Losses.{losses-of}
+use Rattle.runner.proofs.Ends.{ended_idle, ended_running}
 use Rattle.runner.proofs.runs.halt.Goals as goal
 
-pub returns-in-Running : goal.returns-in-Running
-returns-in-Running g c =
+pub returns-in-Idle-clause-ended : goal.returns-in-Idle-clause-ended
+returns-in-Idle-clause-ended g c =
+    subst (λ (s : State g.row.B.Denot). IsEnded (g.B.Bank.faults_of c.in-Idle.bank) s c.in-Idle.bank c.in-Idle.epochs.items) (sym c.in-Idle.is)
+    (ended_idle (g.B.Bank.faults_of c.in-Idle.bank) c.in-Idle.bank c.in-Idle.epochs (subst (λ (s : State g.row.B.Denot). RunsOwn s) c.in-Idle.is c.requires.own))
+
+pub returns-in-Running-clause-ended : goal.returns-in-Running-clause-ended
+returns-in-Running-clause-ended g c =
     let array = c.in-Running.array in
     let epoch : Epoch = c.halt-bank.result.1 in
     let did = c.halt-bank.ensures in
-    let items : c.push.new.self.items ≡ epoch ∷ [] = search rules in
-    subst (λ (es : List Epoch). IsEnded g.B.Bank.tells (g.B.Bank.tape c.halt-bank.result.0) (g.B.Bank.faults_of c.halt-bank.result.0) c.args.state c.halt-bank.result.0 es) (sym items)
-    (subst (λ (s : State g.row.B.Denot). IsEnded g.B.Bank.tells (g.B.Bank.tape c.halt-bank.result.0) (g.B.Bank.faults_of c.halt-bank.result.0) s c.halt-bank.result.0 (epoch ∷ [])) (sym c.in-Running.is)
-    (subst (λ (b : g.row.B.Denot). IsEnded g.B.Bank.tells (g.B.Bank.tape b) (g.B.Bank.faults_of b) (Running array) b (epoch ∷ [])) (sym did.bank)
-    (ended_running array epoch
-    (subst (λ (who : Who). IsEntered g.B.Bank.tells (g.B.Bank.tape array.bank) who array.entries epoch.entries.items (Halted ∷ [])) c.script_call-who.ensures did.entered)
-    (g.B.Bank.faults_of array.bank) did.first (subst (λ (s : State g.row.B.Denot). RunsOwn s) c.in-Running.is c.requires.own) did.losses did.uuid did.given did.legal did.last)))
+    let own = subst (λ (s : State g.row.B.Denot). RunsOwn s) c.in-Running.is c.requires.own in
+    let room = own.room in
+    let items : c.push_reserved.new.self.items ≡ c.in-Running.epochs.items ++ epoch ∷ [] = search rules in
+    let grew = halt_grew c.script_call-who.result did.entered in
+    let asked = asked_halt (list_size (places_of array.members)) (length epoch.entries.items - 1) c.script_call-who.result c.script_call-who.ensures did.entered (omega (arith, grew)) in
+    subst (λ (s : State g.row.B.Denot). IsEnded (g.B.Bank.faults_of c.halt-bank.result.0) s c.halt-bank.result.0 c.push_reserved.new.self.items) (sym c.in-Running.is)
+    (subst (λ (b : g.row.B.Denot). IsEnded (g.B.Bank.faults_of b) (Running array c.in-Running.epochs) b c.push_reserved.new.self.items) (sym did.bank)
+    (ended_running array epoch c.in-Running.epochs c.push_reserved.new.self items own (losses-of did.losses) did.uuid did.given did.first asked.0 (asked.1)))
+
+pub returns-in-Running-clause-former : goal.returns-in-Running-clause-former
+returns-in-Running-clause-former g c =
+    let array = c.in-Running.array in
+    let epoch : Epoch = c.halt-bank.result.1 in
+    let did = c.halt-bank.ensures in
+    let own = subst (λ (s : State g.row.B.Denot). RunsOwn s) c.in-Running.is c.requires.own in
+    let room = own.room in
+    let items : c.push_reserved.new.self.items ≡ c.in-Running.epochs.items ++ epoch ∷ [] = search rules in
+    let former = subst (λ (s : State g.row.B.Denot). IsRunKept g.B.Bank.tells (g.B.Bank.given (bank_in s)) (g.B.Bank.tape (bank_in s)) c.args.backup s) c.in-Running.is c.requires.former in
+    subst (λ (s : State g.row.B.Denot). g.B.Bank.tells → AreFormer (g.B.Bank.given (bank_in s)) (g.B.Bank.tape c.halt-bank.result.0) c.args.backup (length (g.B.Bank.tape c.halt-bank.result.0)) c.push_reserved.new.self.items) (sym c.in-Running.is)
+    (former_halted g.B.Bank.tells (λ (b : g.row.B.Denot). g.B.Bank.given b) (λ (b : g.row.B.Denot). g.B.Bank.tape b) c.args.backup array c.halt-bank.result.0 epoch c.in-Running.epochs.items c.push_reserved.new.self.items items did.bank did.uuid did.given did.first
+    (halt_grew c.script_call-who.result did.entered) did.legal did.last did.right former)

@@ -1,51 +1,63 @@
 use Rattle.std.proofs.Common.{sym, subst}
-use Rattle.bank.specs.Given.{NeverFalls}
-use Rattle.runner.specs.Replies.{setting_of}
+use Rattle.bank.specs.Given.{Given, NeverFalls}
+use Rattle.runner.specs.Ended.{AreLegal, AreRight}
+use Rattle.array.specs.Moving.{Grows}
+use Rattle.runner.specs.Making.{setting_of}
 use Rattle.runner.specs.Sessions.{IsPerformed}
-use Rattle.runner.proofs.Ends.{performed_nothing, end_status, end_performed, end_losses, end_taken, end_shown}
+use Rattle.runner.proofs.Ends.{end_status, end_performed, end_losses, end_taken, end_shown}
 use Rattle.runner.proofs.runs.run_lines.Goals as goal
-
-pub returns-in_default-clause-performed : goal.returns-in_default-clause-performed
-returns-in_default-clause-performed g c =
-    performed_nothing (setting_of (g.B.Bank.given c.args.bank) c.args.backup (g.B.Bank.faults_of c.args.bank) (g.B.Bank.faults_of c.nothing_done.result.bank)) c.args.lines.now c.nothing_done.result.status
-    c.nothing_done.result.epochs.items c.nothing_done.result.lines.items c.nothing_done.ensures.status c.nothing_done.ensures.epochs c.nothing_done.ensures.lines
 
 pub returns-clause-status : goal.returns-clause-status
 returns-clause-status g c =
     let did = c.perform-state.ensures in
-    let ended = c.halt-bank.ensures in
-    let performed = subst (λ (b : g.row.B.Denot). IsPerformed (setting_of (g.B.Bank.given c.args.bank) c.args.backup (g.B.Bank.faults_of c.args.bank) (g.B.Bank.faults_of b)) c.args.lines.now c.perform-state.result) (sym ended.same_bank) did.performed in
+    let ended = c.end_run-bank.ensures.ended in
+    let performed = subst (λ (b : g.row.B.Denot). IsPerformed (setting_of g.B.Bank.tells (g.B.Bank.given c.args.bank) (g.B.Bank.tape c.args.bank) (g.B.Bank.tape b) c.args.backup (g.B.Bank.faults_of c.args.bank) (g.B.Bank.faults_of b)) c.args.lines.now c.perform-state.result) (sym ended.same_bank) did.performed in
     let falls = subst (λ (b : g.row.B.Denot). NeverFalls (g.B.Bank.faults_of c.args.bank) (g.B.Bank.faults_of b)) (sym ended.same_bank) did.never_falls in
-    end_status c.halt-bank.new.epochs.items c.status_of.result falls performed ended c.status_of.ensures
+    end_status (g.B.Bank.tape c.args.bank) c.end_run-bank.result.1.items c.status_of.result falls performed ended c.status_of.ensures
 
 pub returns-clause-performed : goal.returns-clause-performed
 returns-clause-performed g c =
     let did = c.perform-state.ensures in
-    let ended = c.halt-bank.ensures in
-    let performed = subst (λ (b : g.row.B.Denot). IsPerformed (setting_of (g.B.Bank.given c.args.bank) c.args.backup (g.B.Bank.faults_of c.args.bank) (g.B.Bank.faults_of b)) c.args.lines.now c.perform-state.result) (sym ended.same_bank) did.performed in
+    let ended = c.end_run-bank.ensures.ended in
+    let performed = subst (λ (b : g.row.B.Denot). IsPerformed (setting_of g.B.Bank.tells (g.B.Bank.given c.args.bank) (g.B.Bank.tape c.args.bank) (g.B.Bank.tape b) c.args.backup (g.B.Bank.faults_of c.args.bank) (g.B.Bank.faults_of b)) c.args.lines.now c.perform-state.result) (sym ended.same_bank) did.performed in
     let falls = subst (λ (b : g.row.B.Denot). NeverFalls (g.B.Bank.faults_of c.args.bank) (g.B.Bank.faults_of b)) (sym ended.same_bank) did.never_falls in
-    end_performed c.halt-bank.new.epochs.items c.status_of.result falls performed ended c.status_of.ensures did.all
+    end_performed (g.B.Bank.tape c.args.bank) c.end_run-bank.result.1.items c.status_of.result falls performed ended c.status_of.ensures did.all
 
 pub returns-clause-taken : goal.returns-clause-taken
 returns-clause-taken g c =
     let did = c.perform-state.ensures in
-    let ended = c.halt-bank.ensures in
-    let performed = subst (λ (b : g.row.B.Denot). IsPerformed (setting_of (g.B.Bank.given c.args.bank) c.args.backup (g.B.Bank.faults_of c.args.bank) (g.B.Bank.faults_of b)) c.args.lines.now c.perform-state.result) (sym ended.same_bank) did.performed in
+    let ended = c.end_run-bank.ensures.ended in
+    let performed = subst (λ (b : g.row.B.Denot). IsPerformed (setting_of g.B.Bank.tells (g.B.Bank.given c.args.bank) (g.B.Bank.tape c.args.bank) (g.B.Bank.tape b) c.args.backup (g.B.Bank.faults_of c.args.bank) (g.B.Bank.faults_of b)) c.args.lines.now c.perform-state.result) (sym ended.same_bank) did.performed in
     let falls = subst (λ (b : g.row.B.Denot). NeverFalls (g.B.Bank.faults_of c.args.bank) (g.B.Bank.faults_of b)) (sym ended.same_bank) did.never_falls in
-    end_taken c.halt-bank.new.epochs.items c.status_of.result falls performed ended c.status_of.ensures did.shown
+    end_taken (g.B.Bank.tape c.args.bank) c.end_run-bank.result.1.items c.status_of.result falls performed ended c.status_of.ensures did.shown
 
 pub returns-clause-shown : goal.returns-clause-shown
 returns-clause-shown g c =
     let did = c.perform-state.ensures in
-    let ended = c.halt-bank.ensures in
-    let performed = subst (λ (b : g.row.B.Denot). IsPerformed (setting_of (g.B.Bank.given c.args.bank) c.args.backup (g.B.Bank.faults_of c.args.bank) (g.B.Bank.faults_of b)) c.args.lines.now c.perform-state.result) (sym ended.same_bank) did.performed in
+    let ended = c.end_run-bank.ensures.ended in
+    let performed = subst (λ (b : g.row.B.Denot). IsPerformed (setting_of g.B.Bank.tells (g.B.Bank.given c.args.bank) (g.B.Bank.tape c.args.bank) (g.B.Bank.tape b) c.args.backup (g.B.Bank.faults_of c.args.bank) (g.B.Bank.faults_of b)) c.args.lines.now c.perform-state.result) (sym ended.same_bank) did.performed in
     let falls = subst (λ (b : g.row.B.Denot). NeverFalls (g.B.Bank.faults_of c.args.bank) (g.B.Bank.faults_of b)) (sym ended.same_bank) did.never_falls in
-    end_shown c.halt-bank.new.epochs.items c.status_of.result falls performed ended c.status_of.ensures did.shown
+    end_shown (g.B.Bank.tape c.args.bank) c.end_run-bank.result.1.items c.status_of.result falls performed ended c.status_of.ensures did.shown
 
 pub returns-clause-losses : goal.returns-clause-losses
 returns-clause-losses g c =
     let did = c.perform-state.ensures in
-    let ended = c.halt-bank.ensures in
-    let performed = subst (λ (b : g.row.B.Denot). IsPerformed (setting_of (g.B.Bank.given c.args.bank) c.args.backup (g.B.Bank.faults_of c.args.bank) (g.B.Bank.faults_of b)) c.args.lines.now c.perform-state.result) (sym ended.same_bank) did.performed in
+    let ended = c.end_run-bank.ensures.ended in
+    let performed = subst (λ (b : g.row.B.Denot). IsPerformed (setting_of g.B.Bank.tells (g.B.Bank.given c.args.bank) (g.B.Bank.tape c.args.bank) (g.B.Bank.tape b) c.args.backup (g.B.Bank.faults_of c.args.bank) (g.B.Bank.faults_of b)) c.args.lines.now c.perform-state.result) (sym ended.same_bank) did.performed in
     let falls = subst (λ (b : g.row.B.Denot). NeverFalls (g.B.Bank.faults_of c.args.bank) (g.B.Bank.faults_of b)) (sym ended.same_bank) did.never_falls in
-    end_losses c.halt-bank.new.epochs.items c.status_of.result falls performed ended c.status_of.ensures
+    end_losses (g.B.Bank.tape c.args.bank) c.end_run-bank.result.1.items c.status_of.result falls performed ended c.status_of.ensures
+
+pub returns-clause-legal : goal.returns-clause-legal
+returns-clause-legal g c =
+    subst (λ (known : Given). g.B.Bank.tells → AreLegal known (g.B.Bank.tape c.end_run-bank.result.0) c.args.backup c.end_run-bank.result.1.items) c.perform-state.ensures.given c.end_run-bank.ensures.legal
+
+pub returns-clause-ended : goal.returns-clause-ended
+returns-clause-ended g c = c.end_run-bank.ensures.marks
+
+pub returns-clause-right : goal.returns-clause-right
+returns-clause-right g c =
+    subst (λ (known : Given). g.B.Bank.tells → AreRight known (g.B.Bank.tape c.end_run-bank.result.0) c.args.backup c.end_run-bank.result.1.items) c.perform-state.ensures.given c.end_run-bank.ensures.right
+
+pub returns-clause-grows : goal.returns-clause-grows
+returns-clause-grows g c =
+    subst (λ (b : g.row.B.Denot). Grows g.B.Bank.tells (g.B.Bank.tape c.args.bank) (g.B.Bank.tape b)) (sym c.end_run-bank.ensures.ended.same_bank) c.perform-state.ensures.grows

@@ -1,11 +1,13 @@
-use Rattle.std.proofs.Common.{rules, ◌≡◌, ◌+◌, ℕ, [], None, refl, ◌∙◌, ap, subst, arith}
+use Rattle.std.proofs.Common.{rules, ◌≡◌, ◌+◌, ℕ, [], None, refl, sym, ◌∙◌, ap, subst, arith}
 use Rattle.std.proofs.Math.ListN.{get_or}
 use Rattle.bank.specs.Given.{Given}
 use Rattle.script.specs.declared.lines.Numbered.{Numbered}
 use Rattle.script.specs.declared.lines.Line.TheVariants.{Create}
-use Rattle.runner.specs.Replies.{setting_of}
+use Rattle.runner.specs.Ended.{IsRunKept}
+use Rattle.runner.specs.Making.{setting_of}
 use Rattle.runner.specs.States.{bank_in}
 use Rattle.runner.specs.Sessions.{IsStep}
+use Rattle.runner.proofs.Causes.{grows-then}
 use Rattle.runner.proofs.Steps.{step, one_reply}
 use Rattle.runner.proofs.sessions.perform.Goals as goal
 
@@ -18,8 +20,8 @@ returns-then-is_some-clause-performed g c =
     let line : Numbered = get_or c.args.lines.now c.loop-i.i nothing in
     let was = c.loop-i.invariant in
     let did = c.perform_line-session.ensures in
-    let each = subst (λ (given : Given). IsStep g.K.Sink.tells (setting_of given c.args.backup (g.B.Bank.faults_of (bank_in c.loop-i.session.state)) (g.B.Bank.faults_of (bank_in c.perform_line-session.result.state))) c.loop-i.session c.perform_line-session.result line (g.K.Sink.taken c.loop-i.out) (g.K.Sink.taken c.perform_line-session.new.out) c.perform_line-session.result.stopped) was.given did.step in
-    (step c.perform_line-session.result nothing line was.never_falls did.never_falls was.going was.performed (omega (arith, was.count, c.loop-i-test.true)) (ap (λ (k : ℕ). get_or c.args.lines.now k nothing) was.count)
+    let each = subst (λ (given : Given). IsStep g.K.Sink.tells (setting_of g.B.Bank.tells given (g.B.Bank.tape (bank_in c.loop-i.session.state)) (g.B.Bank.tape (bank_in c.perform_line-session.result.state)) c.args.backup (g.B.Bank.faults_of (bank_in c.loop-i.session.state)) (g.B.Bank.faults_of (bank_in c.perform_line-session.result.state))) c.loop-i.session c.perform_line-session.result line (g.K.Sink.taken c.loop-i.out) (g.K.Sink.taken c.perform_line-session.new.out) c.perform_line-session.result.stopped) was.given did.step in
+    (step c.perform_line-session.result nothing line was.never_falls did.never_falls was.grows did.grows was.going was.performed (omega (arith, was.count, c.loop-i-test.true)) (ap (λ (k : ℕ). get_or c.args.lines.now k nothing) was.count)
     (g.K.Sink.taken c.perform_line-session.new.out) (g.K.Sink.faults_of c.perform_line-session.new.out) was.shown c.perform_line-session.result.stopped refl each did.cause did.sink_never_falls).0
 
 pub returns-then-is_some-clause-shown : goal.returns-then-is_some-clause-shown
@@ -27,8 +29,8 @@ returns-then-is_some-clause-shown g c =
     let line : Numbered = get_or c.args.lines.now c.loop-i.i nothing in
     let was = c.loop-i.invariant in
     let did = c.perform_line-session.ensures in
-    let each = subst (λ (given : Given). IsStep g.K.Sink.tells (setting_of given c.args.backup (g.B.Bank.faults_of (bank_in c.loop-i.session.state)) (g.B.Bank.faults_of (bank_in c.perform_line-session.result.state))) c.loop-i.session c.perform_line-session.result line (g.K.Sink.taken c.loop-i.out) (g.K.Sink.taken c.perform_line-session.new.out) c.perform_line-session.result.stopped) was.given did.step in
-    (step c.perform_line-session.result nothing line was.never_falls did.never_falls was.going was.performed (omega (arith, was.count, c.loop-i-test.true)) (ap (λ (k : ℕ). get_or c.args.lines.now k nothing) was.count)
+    let each = subst (λ (given : Given). IsStep g.K.Sink.tells (setting_of g.B.Bank.tells given (g.B.Bank.tape (bank_in c.loop-i.session.state)) (g.B.Bank.tape (bank_in c.perform_line-session.result.state)) c.args.backup (g.B.Bank.faults_of (bank_in c.loop-i.session.state)) (g.B.Bank.faults_of (bank_in c.perform_line-session.result.state))) c.loop-i.session c.perform_line-session.result line (g.K.Sink.taken c.loop-i.out) (g.K.Sink.taken c.perform_line-session.new.out) c.perform_line-session.result.stopped) was.given did.step in
+    (step c.perform_line-session.result nothing line was.never_falls did.never_falls was.grows did.grows was.going was.performed (omega (arith, was.count, c.loop-i-test.true)) (ap (λ (k : ℕ). get_or c.args.lines.now k nothing) was.count)
     (g.K.Sink.taken c.perform_line-session.new.out) (g.K.Sink.faults_of c.perform_line-session.new.out) was.shown c.perform_line-session.result.stopped refl each did.cause did.sink_never_falls).1
 
 pub loop-i-preserved : goal.loop-i-preserved
@@ -36,16 +38,29 @@ loop-i-preserved g c =
     let line : Numbered = get_or c.args.lines.now c.loop-i.i nothing in
     let was = c.loop-i.invariant in
     let did = c.perform_line-session.ensures in
-    let each = subst (λ (given : Given). IsStep g.K.Sink.tells (setting_of given c.args.backup (g.B.Bank.faults_of (bank_in c.loop-i.session.state)) (g.B.Bank.faults_of (bank_in c.perform_line-session.result.state))) c.loop-i.session c.perform_line-session.result line (g.K.Sink.taken c.loop-i.out) (g.K.Sink.taken c.perform_line-session.new.out) c.perform_line-session.result.stopped) was.given did.step in
-    let now = step c.perform_line-session.result nothing line was.never_falls did.never_falls was.going was.performed (omega (arith, was.count, c.loop-i-test.true)) (ap (λ (k : ℕ). get_or c.args.lines.now k nothing) was.count)
+    let each = subst (λ (given : Given). IsStep g.K.Sink.tells (setting_of g.B.Bank.tells given (g.B.Bank.tape (bank_in c.loop-i.session.state)) (g.B.Bank.tape (bank_in c.perform_line-session.result.state)) c.args.backup (g.B.Bank.faults_of (bank_in c.loop-i.session.state)) (g.B.Bank.faults_of (bank_in c.perform_line-session.result.state))) c.loop-i.session c.perform_line-session.result line (g.K.Sink.taken c.loop-i.out) (g.K.Sink.taken c.perform_line-session.new.out) c.perform_line-session.result.stopped) was.given did.step in
+    let now = step c.perform_line-session.result nothing line was.never_falls did.never_falls was.grows did.grows was.going was.performed (omega (arith, was.count, c.loop-i-test.true)) (ap (λ (k : ℕ). get_or c.args.lines.now k nothing) was.count)
     (g.K.Sink.taken c.perform_line-session.new.out) (g.K.Sink.faults_of c.perform_line-session.new.out) was.shown c.perform_line-session.result.stopped refl each did.cause did.sink_never_falls in
     let going : c.perform_line-session.result.stopped ≡ None = search rules in
     record {
       going = going;
-      count = one_reply g.K.Sink.tells (setting_of (g.B.Bank.given c.args.bank) c.args.backup (g.B.Bank.faults_of (bank_in c.loop-i.session.state)) (g.B.Bank.faults_of (bank_in c.perform_line-session.result.state))) c.loop-i.session c.perform_line-session.result line
+      count = one_reply g.K.Sink.tells (setting_of g.B.Bank.tells (g.B.Bank.given c.args.bank) (g.B.Bank.tape (bank_in c.loop-i.session.state)) (g.B.Bank.tape (bank_in c.perform_line-session.result.state)) c.args.backup (g.B.Bank.faults_of (bank_in c.loop-i.session.state)) (g.B.Bank.faults_of (bank_in c.perform_line-session.result.state))) c.loop-i.session c.perform_line-session.result line
           (g.K.Sink.taken c.loop-i.out) (g.K.Sink.taken c.perform_line-session.new.out) c.perform_line-session.result.stopped going each ∙ ap (λ (n : ℕ). n + 1) was.count;
+      former = subst (λ (given : Given). IsRunKept g.B.Bank.tells given (g.B.Bank.tape (bank_in c.perform_line-session.result.state)) c.args.backup c.perform_line-session.result.state) was.given did.former;
       performed = now.0;
       shown = now.1;
       never_falls = λ s. omega (arith, was.never_falls s, did.never_falls s);
+      grows = grows-then was.grows did.grows;
       given = did.given ∙ was.given;
     }
+
+pub returns-then-is_some-clause-former : goal.returns-then-is_some-clause-former
+returns-then-is_some-clause-former g c =
+    subst (λ (given : Given). IsRunKept g.B.Bank.tells given (g.B.Bank.tape (bank_in c.perform_line-session.result.state)) c.args.backup c.perform_line-session.result.state) c.loop-i.invariant.given c.perform_line-session.ensures.former
+
+pub perform_line-session-requires-clause-former : goal.perform_line-session-requires-clause-former
+perform_line-session-requires-clause-former g c =
+    subst (λ (given : Given). IsRunKept g.B.Bank.tells given (g.B.Bank.tape (bank_in c.loop-i.session.state)) c.args.backup c.loop-i.session.state) (sym c.loop-i.invariant.given) c.loop-i.invariant.former
+
+pub returns-then-is_some-clause-grows : goal.returns-then-is_some-clause-grows
+returns-then-is_some-clause-grows g c = grows-then c.loop-i.invariant.grows c.perform_line-session.ensures.grows

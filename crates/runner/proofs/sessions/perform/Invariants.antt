@@ -1,7 +1,9 @@
 -- The lines so far were performed, and each reply was shown.
 use Rattle.std.proofs.Common.{◌≡◌, length, None}
 use Rattle.bank.specs.Given.{NeverFalls}
-use Rattle.runner.specs.Replies.{setting_of}
+use Rattle.array.specs.Moving.{Grows}
+use Rattle.runner.specs.Ended.{IsRunKept}
+use Rattle.runner.specs.Making.{setting_of}
 use Rattle.runner.specs.States.{bank_in}
 use Rattle.runner.specs.Sessions.{IsPerformed, IsShownTo}
 use Rattle.runner.proofs.sessions.perform.Given as goal
@@ -10,8 +12,10 @@ abbrev pub invariant-loop-i : goal.invariant-loop-i
 invariant-loop-i g l = record {
   going : l.session.stopped ≡ None;
   count : length l.session.replies.items ≡ l.i;
-  performed : IsPerformed (setting_of (g.B.Bank.given l.fn.bank) l.backup (g.B.Bank.faults_of l.fn.bank) (g.B.Bank.faults_of (bank_in l.session.state))) l.lines l.session;
+  performed : IsPerformed (setting_of g.B.Bank.tells (g.B.Bank.given l.fn.bank) (g.B.Bank.tape l.fn.bank) (g.B.Bank.tape (bank_in l.session.state)) l.backup (g.B.Bank.faults_of l.fn.bank) (g.B.Bank.faults_of (bank_in l.session.state))) l.lines l.session;
   shown : IsShownTo g.K.Sink.tells l.session (g.K.Sink.taken l.fn.out) (g.K.Sink.taken l.out) (g.K.Sink.faults_of l.fn.out) (g.K.Sink.faults_of l.out);
+  former : IsRunKept g.B.Bank.tells (g.B.Bank.given l.fn.bank) (g.B.Bank.tape (bank_in l.session.state)) l.backup l.session.state;
   never_falls : NeverFalls (g.B.Bank.faults_of l.fn.bank) (g.B.Bank.faults_of (bank_in l.session.state));
+  grows : Grows g.B.Bank.tells (g.B.Bank.tape l.fn.bank) (g.B.Bank.tape (bank_in l.session.state));
   given : g.B.Bank.given (bank_in l.session.state) ≡ g.B.Bank.given l.fn.bank;
 }

@@ -1,17 +1,32 @@
-use Rattle.std.proofs.Common.{take, ◌+◌, ◌≡◌, ℕ, [], ◌++◌, ◌∷◌, length, List, Bool, Result, refl, ◌∙◌, ap, subst}
+use Rattle.std.proofs.Common.{take, ◌+◌, ◌≡◌, ℕ, [], ◌++◌, ◌∷◌, length, List, Bool, Result, inl, refl, ◌∙◌, ap, subst}
 use Rattle.std.specs.Prelude.{if◌then◌else◌}
 use Rattle.md_base.specs.declared.answers.NoMemory.{NoMemory}
 use Rattle.runner.specs.declared.report.LineReply.{LineReply}
 use Rattle.runner.specs.declared.sessions.Made.{Made}
 use Rattle.runner.specs.Shown.{reply_text}
-use Rattle.runner.specs.Replies.{setting_of}
+use Rattle.runner.specs.Making.{setting_of}
 use Rattle.runner.specs.States.{histories_in, bank_in}
 use Rattle.runner.specs.Sessions.{counted, IsRepliedOrNot}
+use Rattle.runner.proofs.Causes.{grows-none}
+use Rattle.runner.proofs.Losses.{losses-kept}
+use Rattle.runner.proofs.Turns.{grown_kept}
 use Rattle.runner.proofs.sessions.perform_line.Goals as goal
+
+pub returns-then-is_err-clause-step : goal.returns-then-is_err-clause-step
+returns-then-is_err-clause-step g c =
+    let state = c.args.session.state in
+    let faults = g.B.Bank.faults_of (bank_in state) in
+    record {
+      none = record { own = c.requires.own; losses = losses-kept faults faults (histories_in state); grown = grown_kept (histories_in state); course = inl refl };
+      same = c.reserve.ensures.items;
+      refused = refl;
+      taken = refl;
+      shown = refl;
+    }
 
 pub returns-in-Ok-push-clause-step : goal.returns-in-Ok-push-clause-step
 returns-in-Ok-push-clause-step g c =
-    let setting = setting_of (g.B.Bank.given (bank_in c.args.session.state)) c.args.backup (g.B.Bank.faults_of (bank_in c.args.session.state)) (g.B.Bank.faults_of (bank_in c.reply_to-state.result.0)) in
+    let setting = setting_of g.B.Bank.tells (g.B.Bank.given (bank_in c.args.session.state)) (g.B.Bank.tape (bank_in c.args.session.state)) (g.B.Bank.tape (bank_in c.reply_to-state.result.0)) c.args.backup (g.B.Bank.faults_of (bank_in c.args.session.state)) (g.B.Bank.faults_of (bank_in c.reply_to-state.result.0)) in
     let made : Made = c.in-Ok.made in
     let replied = subst (λ (r : Result Made NoMemory). IsRepliedOrNot setting c.args.session.state c.reply_to-state.result.0 c.args.numbered c.reply_to-state.new.text.items r) c.in-Ok.is c.reply_to-state.ensures.replied in
     let items : c.push.new.self.items ≡ c.args.session.replies.items ++ made.reply ∷ [] =
@@ -25,7 +40,7 @@ returns-in-Ok-push-clause-step g c =
 
 pub returns-in-Err-clause-step : goal.returns-in-Err-clause-step
 returns-in-Err-clause-step g c =
-    let setting = setting_of (g.B.Bank.given (bank_in c.args.session.state)) c.args.backup (g.B.Bank.faults_of (bank_in c.args.session.state)) (g.B.Bank.faults_of (bank_in c.reply_to-state.result.0)) in
+    let setting = setting_of g.B.Bank.tells (g.B.Bank.given (bank_in c.args.session.state)) (g.B.Bank.tape (bank_in c.args.session.state)) (g.B.Bank.tape (bank_in c.reply_to-state.result.0)) c.args.backup (g.B.Bank.faults_of (bank_in c.args.session.state)) (g.B.Bank.faults_of (bank_in c.reply_to-state.result.0)) in
     let made : Made = c.in-Ok.made in
     let replied = subst (λ (r : Result Made NoMemory). IsRepliedOrNot setting c.args.session.state c.reply_to-state.result.0 c.args.numbered c.reply_to-state.new.text.items r) c.in-Ok.is c.reply_to-state.ensures.replied in
     let items : c.push.new.self.items ≡ c.args.session.replies.items ++ made.reply ∷ [] =
@@ -36,3 +51,6 @@ returns-in-Err-clause-step g c =
       taken = λ told. let part = c.in-Err.ensures.pushed.front told in (part.0, part.1 ∙ ap (λ (t : List ℕ). g.K.Sink.taken c.args.out.now ++ take part.0 t) piece);
       shown = refl;
     }
+
+pub returns-then-is_err-clause-grows : goal.returns-then-is_err-clause-grows
+returns-then-is_err-clause-grows g c = grows-none (g.B.Bank.tape (bank_in c.args.session.state))

@@ -1,4 +1,0 @@
-pub mod Rows
-pub mod Parts
-pub mod Kept
-pub mod Creating

@@ -1,0 +1,126 @@
+-- What stands in the superblocks of an array that was made or found.
+use Rattle.std.proofs.Common.{◌≡◌, ℕ, ◌+◌, ◌/◌, ◌*◌, min, not, Bool, true, false, Option, Some, None, List, [], length, map, refl, sym, ◌∙◌, ap, arith}
+use Rattle.std.specs.Prelude.{if◌then◌else◌, IsFalse, IsTrue}
+use Rattle.std.specs.Option.{option_map_or}
+use Rattle.md_base.specs.Shapes.{data_disks}
+use Rattle.md_base.specs.Search.{tabulate}
+use Rattle.md_base.specs.declared.places.Shape.{Shape}
+use Rattle.md_base.specs.declared.status.Role.{Role}
+use Rattle.md_base.specs.declared.status.Status.{Status}
+use Rattle.md_base.proofs.Tabulated.{length-tabulate}
+use Rattle.sb1.specs.declared.sb.Sb.{Sb}
+use Rattle.bank.specs.declared.bank.Operation.{Operation}
+use Rattle.bank.specs.Given.{Given, sizes}
+use Rattle.bank.specs.Tape.{contents}
+use Rattle.superblocks.specs.Reading.{Reading, shape_of, final_shape, target_of, list_length, is_clean, is_reshaping, is_whole, role_state}
+use Rattle.superblocks.specs.Election.{reading_in}
+use Rattle.flat_history.specs.World.{World, reading_at, opening_list}
+use Rattle.flat_history.specs.Stands.{stands, standing_sector}
+use Rattle.flat_history.specs.Fits.{whole_slot}
+use Rattle.array.specs.Parts.{Parts}
+use Rattle.array.specs.Whole.{list_size}
+use Rattle.array.specs.Placed.{places_of}
+use Rattle.array.specs.declared.spec.CreateSpec.{CreateSpec}
+use Rattle.assemble.specs.Opening.{scope_of, IsOpened}
+use Rattle.assemble.specs.Running.{opened_of, IsBegun, IsCreated, IsAssembled}
+use Rattle.array.specs.Status.{IsStatusFor}
+use Rattle.runner.specs.Histories.{History}
+use Rattle.runner.specs.Making.{Setting, history_world, IsStored, IsStoredNew, IsStoredAs}
+
+-- the world of an array that begins where the tape ends
+abbrev pub found_world : {B : Type 0} → Given → List Operation → Option ℕ → Parts B → World
+found_world given tape backup found =
+    record { start = given.start; tape = tape; scope = scope_of given backup found.given found.members.newest.set_uuid; first = length tape }
+
+-- without a reshape the list is as long as the shape says
+still-length : (sb : Sb) → IsFalse (is_reshaping sb) → list_length sb ≡ data_disks (shape_of sb) * sb.size
+still-length sb still =
+    ap (λ (s : Shape). min (data_disks (shape_of sb)) (data_disks s) * sb.size) same ∙ ap (λ (n : ℕ). n * sb.size) (least (data_disks (shape_of sb)))
+  where
+    same : final_shape sb ≡ shape_of sb
+    same = cc
+
+    least : (n : ℕ) → min n n ≡ n
+    least n = omega arith
+
+-- an array that begins where the tape ends, by what was opened
+module _ {B tells : Type 0} (given : Given) (tape : List Operation) (backup : Option ℕ) (asked : Option (List ℕ)) (array : Parts B)
+    (begun : IsBegun tells tape backup array) (opened : IsOpened tells given (contents given.start tape (length tape)) backup asked (opened_of array)) (t : tells) where
+  abbrev world : World
+  world = found_world given tape backup array
+
+  abbrev r : Reading
+  r = reading_in given.slots array.members
+
+  says : reading_at world (length tape) ≡ Some r
+  unfolding reading_at
+  says = opened.says t
+
+  pub opened_size : length (opening_list world) ≡ list_size (places_of array.members)
+  unfolding opening_list stands
+  opened_size =
+      ap (λ (o : Option Reading). length (option_map_or (λ x. tabulate (list_length x.newest) (standing_sector world.scope (contents given.start tape (length tape)) x)) o [])) (opened.says t)
+      ∙ length-tabulate (list_length array.members.newest) (standing_sector world.scope (contents given.start tape (length tape)) r) ∙ still-length array.members.newest opened.still
+
+  pub opened_stored : IsStored world r
+  opened_stored = record { says = says; accepted = opened.accepted t; still = opened.still; whole = λ role lt. turned (is_whole (role_state r role)) (begun.whole role lt) }
+    where
+      turned : (b : Bool) → not b ≡ false → IsTrue b
+      turned true is = refl
+      turned false is = absurd (cc)
+
+-- what stands in the superblocks of an array that was made
+pub stored_made : {B tells : Type 0} (given : Given) (tape : List Operation) (backup : Option ℕ) (spec : CreateSpec) (made : Parts B) → IsCreated tells given tape backup spec made → tells → IsStoredNew (found_world given tape backup made) spec
+stored_made given tape backup spec made is t = record {
+  found = reading_in given.slots made.members;
+  stored = opened_stored given tape backup (Some spec.uuid) made is.begun is.opened t;
+  shape = is.new.shape;
+  size = is.new.size;
+  events = is.new.events;
+  clean = is.new.clean;
+  roles = is.new.members.roles;
+  spares = is.new.members.spares;
+}
+
+-- and of one that was found
+module _ {B tells : Type 0} {before after : ℕ → ℕ} (given : Given) (tape : List Operation) (backup : Option ℕ) (asked : Option (List ℕ)) (status : Status) (found : Parts B)
+    (is : IsAssembled tells given tape backup asked before after found) (told : IsStatusFor found status) (t : tells) where
+  no_target : target_of found.members.newest ≡ None
+  no_target = let still = is.opened.still in cc
+
+  left : status.left ≡ (if is_clean found.members.newest then 0 else found.members.newest.size / (shape_of found.members.newest).chunk + 1)
+  left = told.left ∙ ap (λ (b : Bool). if b then found.members.newest.size / (shape_of found.members.newest).chunk + 1 else 0) is.begun.unsynced ∙ turned (is_clean found.members.newest)
+    where
+      turned : (b : Bool) → (if not b then found.members.newest.size / (shape_of found.members.newest).chunk + 1 else 0) ≡ (if b then 0 else found.members.newest.size / (shape_of found.members.newest).chunk + 1)
+      turned true = refl
+      turned false = refl
+
+  pub stored_found : IsStoredAs (found_world given tape backup found) status
+  stored_found =
+      let size = opened_size given tape backup asked found is.begun is.opened t in
+      record {
+        found = reading_in given.slots found.members;
+        stored = opened_stored given tape backup asked found is.begun is.opened t;
+        told = record {
+          shape = told.shape;
+          target = told.target ∙ sym no_target;
+          position = λ active. absurd (let still = is.opened.still in cc);
+          size = told.size;
+          events = told.events;
+          roles = ap (λ (l : List Role). map whole_slot l) told.roles;
+          spares = told.spares;
+        };
+        position = told.position;
+        sized = told.length ∙ sym size;
+        visible = told.visible ∙ sym size;
+        clean = told.clean;
+        left = left;
+      }
+
+-- the world in which it began is that of its history
+pub found_history : {B : Type 0} (setting : Setting) (found : Parts B) (history : History) → found.members.newest.set_uuid ≡ history.uuid → found.given ≡ history.given → length setting.tape ≡ history.first
+    → found_world setting.given setting.tape setting.backup found ≡ history_world setting history
+found_history setting found history uuid given first =
+    ap (λ (u : List ℕ). record { start = setting.given.start; tape = setting.tape; scope = record { uuid = u; given = found.given; backup = setting.backup; sizes = sizes setting.given }; first = length setting.tape }) uuid
+    ∙ ap (λ (n : ℕ). record { start = setting.given.start; tape = setting.tape; scope = record { uuid = history.uuid; given = n; backup = setting.backup; sizes = sizes setting.given }; first = length setting.tape }) given
+    ∙ ap (λ (n : ℕ). record { start = setting.given.start; tape = setting.tape; scope = record { uuid = history.uuid; given = history.given; backup = setting.backup; sizes = sizes setting.given }; first = n }) first

@@ -1,0 +1,215 @@
+-- The histories of the arrays that ran stay legal as the tape grows.
+use Rattle.std.proofs.Common.{refl, ◌≡◌, ℕ, suc, ◌+◌, ◌≤◌, List, [], ◌∷◌, ◌++◌, length, Option, sym, ◌∙◌, ap, subst, arith, append-nil, length-append}
+use Rattle.std.proofs.lemmas.List.Elements.{All-push, All-weaker}
+use Rattle.md_base.specs.Sectors.{Sector}
+use Rattle.bank.specs.Given.{Given, sizes}
+use Rattle.bank.specs.declared.bank.Operation.{Operation}
+use Rattle.flat_history.specs.declared.events.Entry.{Entry}
+use Rattle.flat_history.specs.declared.events.Epoch.{Epoch}
+use Rattle.flat_history.specs.Epochs.{world_of}
+use Rattle.flat_history.specs.Plain.{Opening, IsPlainLegal}
+use Rattle.array.specs.Kept.{opening_of, world_for}
+use Rattle.array.specs.Moving.{Grows}
+use Rattle.array.specs.Parts.{Parts}
+use Rattle.array.proofs.PlainLaws.{plain-later}
+use Rattle.array.proofs.RightLaws.{opening-grown}
+use Rattle.std.specs.Prelude.{⊤, slice_get, Result, Ok, Err, IfOk, IfErr}
+use Rattle.md_base.specs.declared.answers.NoMemory.{NoMemory}
+use Rattle.std.proofs.lemmas.List.{map-append}
+use Rattle.std.proofs.lemmas.List.Elements.{All-nil, All-cons, All-head, All-tail}
+use Rattle.flat_history.specs.CrashSafe.{IsCrashSafe}
+use Rattle.flat_history.specs.World.{World}
+use Rattle.flat_history.specs.Epochs.{IsEpochRight}
+use Rattle.flat_history.specs.Growing.{EndBy}
+use Rattle.array.specs.Kept.{IsEndOf}
+use Rattle.runner.specs.Histories.{History, history_of, histories_of}
+use Rattle.std.specs.Option.{option_map_or}
+use Rattle.runner.specs.Runs.{mark_behind, AreEndedAt}
+use Rattle.runner.proofs.Worlds.{plain-ends, room-before, alike-before, safe-longer}
+use Rattle.flat_history.proofs.PlainLegal.{plain-legal}
+use Rattle.runner.specs.Ended.{IsLegalEpoch, AreLegal, IfSound, AreRight, AreSafe, next_mark, AreRising, AreFormer, IsGoing}
+
+legal_longer : (given : Given) (tape more : List Operation) (backup : Option ℕ) (epoch : Epoch) → IsLegalEpoch given tape backup epoch → IsLegalEpoch given (tape ++ more) backup epoch
+legal_longer given tape more backup epoch was =
+    let longer : length tape ≤ length (tape ++ more) = omega (arith, length-append tape more) in
+    record {
+      begun = omega (arith, was.begun, longer);
+      legal = subst (λ (l : List Sector). IsPlainLegal (record { list = l; first = epoch.first }) (length (tape ++ more)) epoch.entries.items) (sym (opening-grown (world_of given tape backup epoch) more was.begun))
+          (plain-later (opening_of (world_of given tape backup epoch)) (length tape) (length (tape ++ more)) [] epoch.entries.items longer was.legal);
+    }
+
+-- the entries of a legal epoch end within the tape
+legal_ends : (given : Given) (tape : List Operation) (backup : Option ℕ) (epoch : Epoch) → IsLegalEpoch given tape backup epoch → EndBy (length tape) epoch.entries.items
+legal_ends given tape backup epoch legal = plain-ends (opening_of (world_of given tape backup epoch)) (length tape) [] epoch.entries.items legal.legal
+
+-- what holds of a sound epoch goes on to hold
+sound_longer : (given : Given) (tape more : List Operation) (backup : Option ℕ) (epoch : Epoch) → IsLegalEpoch given tape backup epoch
+    → IfSound given tape backup epoch (IsCrashSafe (world_of given tape backup epoch) (length tape) epoch.entries.items)
+    → IfSound given (tape ++ more) backup epoch (IsCrashSafe (world_of given (tape ++ more) backup epoch) (length (tape ++ more)) epoch.entries.items)
+sound_longer given tape more backup epoch legal was none room alike =
+    let world = world_of given tape backup epoch in
+    safe-longer world more epoch.entries.items legal.begun (legal_ends given tape backup epoch legal) (was none (room-before world more legal.begun room) (alike-before world more legal.begun alike))
+
+safes_longer : (given : Given) (tape more : List Operation) (backup : Option ℕ) (epochs : List Epoch) → AreLegal given tape backup epochs → AreSafe given tape backup epochs → AreSafe given (tape ++ more) backup epochs
+safes_longer given tape more backup [] legal safe = All-nil (λ e. IfSound given (tape ++ more) backup e (IsCrashSafe (world_of given (tape ++ more) backup e) (length (tape ++ more)) e.entries.items))
+safes_longer given tape more backup (e ∷ epochs) legal safe =
+    All-cons (λ e. IfSound given (tape ++ more) backup e (IsCrashSafe (world_of given (tape ++ more) backup e) (length (tape ++ more)) e.entries.items)) e epochs
+    (sound_longer given tape more backup e (All-head (λ e. IsLegalEpoch given tape backup e) e epochs legal)
+    (All-head (λ e. IfSound given tape backup e (IsCrashSafe (world_of given tape backup e) (length tape) e.entries.items)) e epochs safe))
+    (safes_longer given tape more backup epochs (All-tail (λ e. IsLegalEpoch given tape backup e) e epochs legal)
+    (All-tail (λ e. IfSound given tape backup e (IsCrashSafe (world_of given tape backup e) (length tape) e.entries.items)) e epochs safe))
+
+-- ---- the marks at which the histories begin
+
+pub rising_later : (a b : ℕ) (hs : List History) → a ≤ b → AreRising a hs → AreRising b hs
+rising_later a b [] le was = tt
+rising_later a b (h ∷ []) le (one, rest) = (omega (arith, le, one), tt)
+rising_later a b (h ∷ k ∷ hs) le (one, rest) = (one, rising_later a b (k ∷ hs) le rest)
+
+pub rising_more : (mark : ℕ) (hs : List History) (h : History) → AreRising h.first hs → h.first ≤ mark → AreRising mark (hs ++ h ∷ [])
+rising_more mark [] h was le = (le, tt)
+rising_more mark (x ∷ []) h (one, rest) le = (one, (le, tt))
+rising_more mark (x ∷ y ∷ hs) h (one, rest) le = (one, rising_more mark (y ∷ hs) h rest le)
+
+-- ---- what is kept, as the tape grows
+
+longer_than : (before more : List Operation) → length before ≤ length (before ++ more)
+longer_than before more = let long = length-append before more in omega (arith, long)
+
+pub grows_longer : {tells : Type 0} {before after : List Operation} → Grows tells before after → tells → length before ≤ length after
+grows_longer {before = before} grows told = let more = grows.more told in let long = longer_than before (more.0) in let is = ap (λ (l : List Operation). length l) (more.1) in omega (arith, long, is)
+
+-- the arrays that ran before
+pub former_grown : {tells : Type 0} {before after : List Operation} (given : Given) (backup : Option ℕ) (a b : ℕ) (epochs : List Epoch) → Grows tells before after → tells → a ≤ b → AreFormer given before backup a epochs → AreFormer given after backup b epochs
+former_grown {before = before} {after = after} given backup a b epochs grows told le was =
+    let more = grows.more told in
+    subst (λ (tape : List Operation). AreFormer given tape backup b epochs) (sym (more.1)) (record {
+      legal = All-weaker (λ e. IsLegalEpoch given before backup e) (λ e. IsLegalEpoch given (before ++ more.0) backup e) (λ e legal. legal_longer given before (more.0) backup e legal) epochs was.legal;
+      safe = safes_longer given before (more.0) backup epochs was.legal was.safe;
+      rising = rising_later a b (histories_of epochs) le was.rising;
+    })
+
+pub former_same : (given : Given) (tape : List Operation) (backup : Option ℕ) (mark : ℕ) (olds news : List Epoch) → news ≡ olds → AreFormer given tape backup mark olds → AreFormer given tape backup mark news
+former_same given tape backup mark olds news same was = subst (λ (l : List Epoch). AreFormer given tape backup mark l) (sym same) was
+
+-- no array ran, and none does
+pub idle_grown : {tells : Type 0} {before after : List Operation} (given : Given) (backup : Option ℕ) (olds news : List Epoch) → news ≡ olds → Grows tells before after
+    → (tells → AreFormer given before backup (length before) olds) → tells → AreFormer given after backup (length after) news
+idle_grown {before = before} {after = after} given backup olds news same grows was told =
+    former_same given after backup (length after) olds news same (former_grown given backup (length before) (length after) olds grows told (grows_longer grows told) (was told))
+
+-- the array that runs went on
+pub going_grown : {B tells : Type 0} {before after : List Operation} (given : Given) (backup : Option ℕ) (old new : Parts B) (epochs : List Epoch) → Grows tells before after → new.first ≡ old.first → new.backup ≡ old.backup
+    → IsEndOf tells new.first new.entries after → IsGoing tells given before backup old epochs → IsGoing tells given after backup new epochs
+going_grown given backup old new epochs grows first same ended was = record {
+  backup_is = same ∙ was.backup_is;
+  former = λ t. former_grown given backup old.first new.first epochs grows t (omega (arith, first)) (was.former t);
+  begun = λ t. omega (arith, first, was.begun t, grows_longer grows t);
+  ended = ended;
+}
+
+-- a request was made of it, or memory was short
+pub going_asked : {B tells : Type 0} (given : Given) (tape : B → List Operation) (backup : Option ℕ) (old new : Parts B) (epochs : List Epoch) (r : Result ℕ NoMemory) → Grows tells (tape old.bank) (tape new.bank) → new.first ≡ old.first → new.backup ≡ old.backup
+    → IfOk r (λ place. IsEndOf tells new.first new.entries (tape new.bank)) → IfErr r (λ none. new ≡ old) → IsGoing tells given (tape old.bank) backup old epochs → IsGoing tells given (tape new.bank) backup new epochs
+going_asked given tape backup old new epochs (Ok place) grows first same ended unchanged was = going_grown given backup old new epochs grows first same ended was
+going_asked {B = B} {tells = tells} given tape backup old new epochs (Err fault) grows first same ended unchanged was = subst (λ (a : Parts B). IsGoing tells given (tape a.bank) backup a epochs) (sym unchanged) was
+
+-- an array was opened where the tape ends
+pub going_begun : {B tells : Type 0} {before after : List Operation} (given : Given) (backup : Option ℕ) (olds news : List Epoch) (array : Parts B) → news ≡ olds → Grows tells before after
+    → array.backup ≡ backup → (tells → array.first ≡ length after) → IsEndOf tells array.first array.entries after
+    → (tells → AreFormer given before backup (length before) olds) → IsGoing tells given after backup array news
+going_begun {before = before} {after = after} given backup olds news array same grows backup_is first ended was = record {
+  backup_is = backup_is;
+  former = λ t. former_same given after backup array.first olds news same (former_grown given backup (length before) array.first olds grows t (omega (arith, first t, grows_longer grows t)) (was t));
+  begun = λ t. omega (arith, first t);
+  ended = ended;
+}
+
+begun_by : (opening : Opening) (ops : ℕ) (entries : List Entry) → 1 ≤ length entries → IsPlainLegal opening ops entries → opening.first ≤ ops
+begun_by opening ops [] some plain = absurd (omega (arith, some))
+begun_by opening ops (e ∷ entries) some plain = omega (arith, plain.0.timed.rises, plain.0.timed.within)
+
+-- a legal history of one entry at least
+pub legal_epoch : (given : Given) (tape : List Operation) (backup : Option ℕ) (epoch : Epoch) → 1 ≤ length epoch.entries.items → IsPlainLegal (opening_of (world_of given tape backup epoch)) (length tape) epoch.entries.items
+    → IsLegalEpoch given tape backup epoch
+legal_epoch given tape backup epoch some legal = record { begun = begun_by (opening_of (world_of given tape backup epoch)) (length tape) epoch.entries.items some legal; legal = legal }
+
+-- the world of an array is that of the epoch that it leaves
+pub world_left : {B : Type 0} (given : Given) (tape : List Operation) (backup : Option ℕ) (array : Parts B) (epoch : Epoch) → epoch.uuid ≡ array.uuid → epoch.given ≡ array.given → epoch.first ≡ array.first → array.backup ≡ backup
+    → world_for given tape array ≡ world_of given tape backup epoch
+world_left given tape backup array epoch uuid slots first same =
+    ap (λ (u : List ℕ). record { start = given.start; tape = tape; scope = record { uuid = u; given = array.given; backup = array.backup; sizes = sizes given }; first = array.first }) (sym uuid)
+    ∙ ap (λ (n : ℕ). record { start = given.start; tape = tape; scope = record { uuid = epoch.uuid; given = n; backup = array.backup; sizes = sizes given }; first = array.first }) (sym slots)
+    ∙ ap (λ (n : ℕ). record { start = given.start; tape = tape; scope = record { uuid = epoch.uuid; given = epoch.given; backup = array.backup; sizes = sizes given }; first = n }) (sym first)
+    ∙ ap (λ (b : Option ℕ). record { start = given.start; tape = tape; scope = record { uuid = epoch.uuid; given = epoch.given; backup = b; sizes = sizes given }; first = epoch.first }) same
+
+-- the array that ran has ended
+pub former_more : {B tells : Type 0} {before after : List Operation} (given : Given) (backup : Option ℕ) (array : Parts B) (epochs ended : List Epoch) (epoch : Epoch) → ended ≡ epochs ++ epoch ∷ [] → Grows tells before after → epoch.first ≡ array.first
+    → IsGoing tells given before backup array epochs → (tells → IsLegalEpoch given after backup epoch) → (tells → epoch.last ≡ length after) → (tells → IfSound given after backup epoch (IsEpochRight given after backup epoch))
+    → tells → AreFormer given after backup (length after) ended
+former_more {after = after} given backup array epochs ended epoch items grows first was legal last right told =
+    let former = former_grown given backup array.first epoch.first epochs grows told (omega (arith, first)) (was.former told) in
+    subst (λ (l : List Epoch). AreFormer given after backup (length after) l) (sym items) (record {
+      legal = All-push (λ e. IsLegalEpoch given after backup e) epochs epoch former.legal (legal told);
+      safe = All-push (λ e. IfSound given after backup e (IsCrashSafe (world_of given after backup e) (length after) e.entries.items)) epochs epoch former.safe
+          (λ none room alike. subst (λ (n : ℕ). IsCrashSafe (world_of given after backup epoch) n epoch.entries.items) (last told) (right told none room alike).safe);
+      rising = subst (λ (l : List History). AreRising (length after) l) (sym (map-append history_of epochs (epoch ∷ [])))
+          (rising_more (length after) (histories_of epochs) (history_of epoch) former.rising (legal told).begun);
+    })
+
+-- the array that ran was halted
+pub former_halted : {B : Type 0} (tells : Type 0) (given : B → Given) (tape : B → List Operation) (backup : Option ℕ) (array : Parts B) (bank : B) (epoch : Epoch) (epochs ended : List Epoch) → ended ≡ epochs ++ epoch ∷ [] → bank ≡ array.bank
+    → epoch.uuid ≡ array.uuid → epoch.given ≡ array.given → epoch.first ≡ array.first → 1 ≤ length epoch.entries.items
+    → (tells → IsPlainLegal (opening_of (world_for (given array.bank) (tape array.bank) array)) (length (tape array.bank)) epoch.entries.items) → (tells → epoch.last ≡ length (tape array.bank))
+    → (tells → IfSound (given bank) (tape bank) array.backup epoch (IsEpochRight (given bank) (tape bank) array.backup epoch)) → IsGoing tells (given array.bank) (tape array.bank) backup array epochs
+    → tells → AreFormer (given array.bank) (tape bank) backup (length (tape bank)) ended
+former_halted {B = B} tells given tape backup array bank epoch epochs ended items same uuid slots first some legal last right was =
+    let known = given array.bank in
+    let now = tape array.bank in
+    subst (λ (b : B). tells → AreFormer known (tape b) backup (length (tape b)) ended) (sym same)
+    (former_more known backup array epochs ended epoch items (record { more = λ t. ([], sym (append-nil now)) }) first was
+    (λ t. legal_epoch known now backup epoch some (subst (λ (w : World). IsPlainLegal (opening_of w) (length now) epoch.entries.items) (world_left known now backup array epoch uuid slots first was.backup_is) (legal t)))
+    last
+    (λ t. subst (λ (o : Option ℕ). IfSound known now o epoch (IsEpochRight known now o epoch)) was.backup_is
+    (subst (λ (b : B). IfSound (given b) (tape b) array.backup epoch (IsEpochRight (given b) (tape b) array.backup epoch)) same (right t))))
+
+-- ---- the epochs of a whole run
+
+-- each ends where the next one begins
+abbrev pub AreEndedTo : ℕ → List Epoch → Type 0
+AreEndedTo ops [] = ⊤
+AreEndedTo ops (e ∷ epochs) = (e.last ≡ next_mark ops (histories_of epochs)) × AreEndedTo ops epochs
+
+pub ended_to : (ops : ℕ) (epochs : List Epoch) → AreEndedAt ops epochs → AreEndedTo ops epochs
+ended_to ops [] ended = tt
+ended_to ops (e ∷ []) ended = (ended 0 e (omega arith), tt)
+ended_to ops (e ∷ f ∷ epochs) ended = (ended 0 e (omega arith), ended_to ops (f ∷ epochs) (λ k d lt. ended (suc k) d (omega (arith, lt)) ∙ behind (history_of e) (histories_of (f ∷ epochs)) k))
+  where
+    behind : (h : History) (hs : List History) (k : ℕ) → mark_behind ops (h ∷ hs) (suc k) ≡ mark_behind ops hs k
+    behind h hs k = ap (λ (n : ℕ). option_map_or (λ (history : History). history.first) (slice_get (h ∷ hs) n) ops) {x = suc k + 1} {y = suc (k + 1)} (omega arith)
+
+-- where nothing was lost, such a history is right
+pub all_right : (given : Given) (tape : List Operation) (backup : Option ℕ) (epochs : List Epoch) → AreFormer given tape backup (length tape) epochs → AreEndedTo (length tape) epochs → AreRight given tape backup epochs
+all_right given tape backup [] was ended = All-nil (λ e. IfSound given tape backup e (IsEpochRight given tape backup e))
+all_right given tape backup (e ∷ epochs) was (last, ended) =
+    let legal = All-head (λ e. IsLegalEpoch given tape backup e) e epochs was.legal in
+    let world = world_of given tape backup e in
+    All-cons (λ e. IfSound given tape backup e (IsEpochRight given tape backup e)) e epochs
+    (λ none room alike. let right = plain-legal world (opening_of world) e.entries.items refl refl none legal.legal in
+    let within = next_within epochs was.rising.1 in
+    record {
+      begins = omega (arith, last, was.rising.0);
+      ends = omega (arith, last, within);
+      legal = right.0;
+      safe = λ mark low high only. All-head (λ e. IfSound given tape backup e (IsCrashSafe (world_of given tape backup e) (length tape) e.entries.items)) e epochs was.safe none room alike mark low (omega (arith, high, last, within)) only;
+      reshaped = right.1;
+    })
+    (all_right given tape backup epochs (record {
+      legal = All-tail (λ e. IsLegalEpoch given tape backup e) e epochs was.legal;
+      safe = All-tail (λ e. IfSound given tape backup e (IsCrashSafe (world_of given tape backup e) (length tape) e.entries.items)) e epochs was.safe;
+      rising = was.rising.1;
+    }) ended)
+  where
+    next_within : (epochs : List Epoch) → AreRising (length tape) (histories_of epochs) → next_mark (length tape) (histories_of epochs) ≤ length tape
+    next_within [] rising = omega arith
+    next_within (f ∷ epochs) (one, rest) = let later = next_within epochs rest in omega (arith, one, later)

@@ -1,0 +1,97 @@
+-- The last marks of a run's epochs.
+use Rattle.std.proofs.Common.{◌≡◌, ℕ, zero, suc, ◌+◌, ◌<◌, inl, inr, List, [], ◌∷◌, length, refl, sym, ◌∙◌, ap, subst, arith, Option, get_or-set_same, get_or-set_other}
+use Rattle.std.proofs.lemmas.Bool.{cases_eq}
+use Rattle.std.proofs.lemmas.List.Elements.{All-nil, All-cons, All-head, All-tail}
+use Rattle.std.specs.Prelude.{slice_index_or, slice_set}
+use Rattle.flat_history.specs.declared.events.Epoch.{Epoch}
+use Rattle.runner.specs.Histories.{History, history_of, histories_of}
+use Rattle.bank.specs.Given.{Given, sizes}
+use Rattle.bank.specs.declared.bank.Operation.{Operation}
+use Rattle.flat_history.specs.Plain.{IsPlainLegal}
+use Rattle.array.specs.Kept.{opening_of}
+use Rattle.runner.specs.declared.states.State.{State}
+use Rattle.flat_history.specs.World.{World}
+use Rattle.flat_history.specs.CrashSafe.{IsCrashSafe}
+use Rattle.flat_history.specs.Epochs.{world_of, HasRoomForEvents, OpensAlike}
+use Rattle.array.specs.Kept.{HasNoLoss}
+use Rattle.runner.specs.Ended.{IsLegalEpoch, AreLegal, IfSound, AreSafe, AreRising, AreFormer}
+use Rattle.runner.specs.Runs.{AreHalted, IsEnded, mark_behind, AreEndedBelow}
+use Rattle.runner.specs.States.{histories_in, course_in, AreOfScript, AreGrown, AreLossesFrom}
+
+-- an epoch of the same history in the place of one
+pub kept_set : (epochs : List Epoch) (i : ℕ) (e d : Epoch) → history_of e ≡ history_of (slice_index_or epochs i d) → histories_of (slice_set epochs i e) ≡ histories_of epochs
+kept_set [] i e d same = refl
+kept_set (x ∷ epochs) zero e d same = ap (λ (h : History). h ∷ histories_of epochs) same
+kept_set (x ∷ epochs) (suc i) e d same = ap (λ (l : List History). history_of x ∷ l) (kept_set epochs i e d same)
+
+pub ended_more : (ops : ℕ) (epochs : List Epoch) (i : ℕ) (e d : Epoch) → i < length epochs → history_of e ≡ history_of (slice_index_or epochs i d) → e.last ≡ mark_behind ops (histories_of epochs) i → AreEndedBelow i ops epochs
+    → AreEndedBelow (i + 1) ops (slice_set epochs i e)
+ended_more ops epochs i e d within same marked was k d' lt =
+    let kept : mark_behind ops (histories_of epochs) k ≡ mark_behind ops (histories_of (slice_set epochs i e)) k = ap (λ (l : List History). mark_behind ops l k) (sym (kept_set epochs i e d same)) in
+    elim (cases_eq k i) [
+      | inl here ↦ ap (λ (n : ℕ). (slice_index_or (slice_set epochs i e) n d').last) here ∙ ap (λ (x : Epoch). x.last) (get_or-set_same epochs i e d' within) ∙ marked ∙ ap (λ (n : ℕ). mark_behind ops (histories_of epochs) n) (sym here) ∙ kept
+      | inr other ↦ ap (λ (x : Epoch). x.last) (get_or-set_other epochs i k e d' other) ∙ was k d' (omega (arith, lt, other)) ∙ kept
+    ]
+
+-- ---- what holds of epochs holds of others with the same histories
+
+pub ended_kept : {B : Type 0} {faults : ℕ → ℕ} {state : State B} {bank : B} (olds news : List Epoch) → histories_of news ≡ histories_of olds → IsEnded faults state bank olds → IsEnded faults state bank news
+ended_kept {faults = faults} {state = state} olds news same was = record {
+  same_bank = was.same_bank;
+  grown = subst (λ (l : List History). AreGrown (histories_in state) l) (sym same) was.grown;
+  halted = subst (λ (l : List History). AreHalted (course_in state) l) (sym same) was.halted;
+  script = subst (λ (l : List History). AreOfScript l) (sym same) was.script;
+  losses = subst (λ (l : List History). AreLossesFrom faults faults (histories_in state) l) (sym same) was.losses;
+}
+
+legal_same : (given : Given) (tape : List Operation) (backup : Option ℕ) (old new : Epoch) → history_of new ≡ history_of old → IsLegalEpoch given tape backup old → IsLegalEpoch given tape backup new
+legal_same given tape backup old new same was = record {
+  begun = omega (arith, was.begun, ap (λ (h : History). h.first) same);
+  legal = subst (λ (h : History). IsPlainLegal (opening_of (record { start = given.start; tape = tape; scope = record { uuid = h.uuid; given = h.given; backup = backup; sizes = sizes given }; first = h.first })) (length tape) h.entries) (sym same) was.legal;
+}
+
+legal_kept : (given : Given) (tape : List Operation) (backup : Option ℕ) (olds news : List Epoch) → histories_of news ≡ histories_of olds → AreLegal given tape backup olds → AreLegal given tape backup news
+legal_kept given tape backup olds [] same was = All-nil (λ e. IsLegalEpoch given tape backup e)
+legal_kept given tape backup [] (new ∷ news) same was = absurd (omega (arith, ap (λ (l : List History). length l) same))
+legal_kept given tape backup (old ∷ olds) (new ∷ news) same was =
+    All-cons (λ e. IsLegalEpoch given tape backup e) new news
+    (legal_same given tape backup old new (head_same same) (All-head (λ e. IsLegalEpoch given tape backup e) old olds was))
+    (legal_kept given tape backup olds news (tail_same same) (All-tail (λ e. IsLegalEpoch given tape backup e) old olds was))
+  where
+    head_same : {a b : History} {l k : List History} → a ∷ l ≡ b ∷ k → a ≡ b
+    head_same is = cc
+
+    tail_same : {a b : History} {l k : List History} → a ∷ l ≡ b ∷ k → l ≡ k
+    tail_same is = cc
+
+-- a history's world, over a tape
+abbrev over : Given → List Operation → Option ℕ → History → World
+over given tape backup h = record { start = given.start; tape = tape; scope = record { uuid = h.uuid; given = h.given; backup = backup; sizes = sizes given }; first = h.first }
+
+abbrev sound_of : Given → List Operation → Option ℕ → History → Type 0
+sound_of given tape backup h = HasNoLoss h.entries → HasRoomForEvents (over given tape backup h) → OpensAlike (over given tape backup h) → IsCrashSafe (over given tape backup h) (length tape) h.entries
+
+safe_same : (given : Given) (tape : List Operation) (backup : Option ℕ) (old new : Epoch) → history_of new ≡ history_of old
+    → IfSound given tape backup old (IsCrashSafe (world_of given tape backup old) (length tape) old.entries.items) → IfSound given tape backup new (IsCrashSafe (world_of given tape backup new) (length tape) new.entries.items)
+safe_same given tape backup old new same was = subst (λ (h : History). sound_of given tape backup h) (sym same) was
+
+safes_kept : (given : Given) (tape : List Operation) (backup : Option ℕ) (olds news : List Epoch) → histories_of news ≡ histories_of olds → AreSafe given tape backup olds → AreSafe given tape backup news
+safes_kept given tape backup olds [] same was = All-nil (λ e. IfSound given tape backup e (IsCrashSafe (world_of given tape backup e) (length tape) e.entries.items))
+safes_kept given tape backup [] (new ∷ news) same was = absurd (omega (arith, ap (λ (l : List History). length l) same))
+safes_kept given tape backup (old ∷ olds) (new ∷ news) same was =
+    All-cons (λ e. IfSound given tape backup e (IsCrashSafe (world_of given tape backup e) (length tape) e.entries.items)) new news
+    (safe_same given tape backup old new (head_same same) (All-head (λ e. IfSound given tape backup e (IsCrashSafe (world_of given tape backup e) (length tape) e.entries.items)) old olds was))
+    (safes_kept given tape backup olds news (tail_same same) (All-tail (λ e. IfSound given tape backup e (IsCrashSafe (world_of given tape backup e) (length tape) e.entries.items)) old olds was))
+  where
+    head_same : {a b : History} {l k : List History} → a ∷ l ≡ b ∷ k → a ≡ b
+    head_same is = cc
+
+    tail_same : {a b : History} {l k : List History} → a ∷ l ≡ b ∷ k → l ≡ k
+    tail_same is = cc
+
+pub former_kept : (given : Given) (tape : List Operation) (backup : Option ℕ) (mark : ℕ) (olds news : List Epoch) → histories_of news ≡ histories_of olds → AreFormer given tape backup mark olds → AreFormer given tape backup mark news
+former_kept given tape backup mark olds news same was = record {
+  legal = legal_kept given tape backup olds news same was.legal;
+  safe = safes_kept given tape backup olds news same was.safe;
+  rising = subst (λ (l : List History). AreRising mark l) (sym same) was.rising;
+}

@@ -1,0 +1,25 @@
+use Rattle.std.proofs.Common.{ℕ, length, subst}
+use Rattle.runner.specs.Runs.{AreEndedAt}
+use Rattle.runner.specs.States.{bank_in}
+use Rattle.runner.proofs.Legal.{all_right, ended_to}
+use Rattle.runner.proofs.Marks.{ended_kept, former_kept}
+use Rattle.runner.proofs.runs.end_run.Goals as goal
+
+pub returns-clause-ended : goal.returns-clause-ended
+returns-clause-ended g c = ended_kept c.halt-bank.result.1.items c.end_epochs.new.epochs.items c.end_epochs.ensures.same c.halt-bank.ensures.ended
+
+pub returns-clause-legal : goal.returns-clause-legal
+returns-clause-legal g c told =
+    let tape = g.B.Bank.tape c.halt-bank.result.0 in
+    (former_kept (g.B.Bank.given (bank_in c.args.state)) tape c.args.backup (length tape) c.halt-bank.result.1.items c.end_epochs.new.epochs.items c.end_epochs.ensures.same (c.halt-bank.ensures.former told)).legal
+
+pub returns-clause-right : goal.returns-clause-right
+returns-clause-right g c told =
+    let tape = g.B.Bank.tape c.halt-bank.result.0 in
+    let epochs = c.end_epochs.new.epochs.items in
+    all_right (g.B.Bank.given (bank_in c.args.state)) tape c.args.backup epochs
+    (former_kept (g.B.Bank.given (bank_in c.args.state)) tape c.args.backup (length tape) c.halt-bank.result.1.items epochs c.end_epochs.ensures.same (c.halt-bank.ensures.former told))
+    (ended_to (length tape) epochs (subst (λ (n : ℕ). AreEndedAt n epochs) (c.ops-ops.ensures told) c.end_epochs.ensures.ended))
+
+pub returns-clause-marks : goal.returns-clause-marks
+returns-clause-marks g c told = subst (λ (n : ℕ). AreEndedAt n c.end_epochs.new.epochs.items) (c.ops-ops.ensures told) c.end_epochs.ensures.ended

@@ -1,0 +1,123 @@
+use Rattle.std.proofs.Common.{rules, List, ℕ, [], ◌∷◌, arith, length, refl, sym, ap, subst, ◌∙◌}
+use Rattle.std.specs.Prelude.{IsTrue}
+use Rattle.bank.specs.Given.{NeverFalls}
+use Rattle.bank.specs.Tape.{contents}
+use Rattle.array.specs.Moving.{Grows}
+use Rattle.md_base.specs.declared.answers.Fault.{Fault}
+use Rattle.md_base.specs.declared.answers.Who.{Who}
+use Rattle.flat_history.specs.declared.events.Entry.{Entry}
+use Rattle.flat_history.specs.declared.events.Event.TheVariants.{Shown}
+use Rattle.flat_history.specs.Transfers.{last_end_from}
+use Rattle.array.specs.Kept.{IsEntered, IsEndOf}
+use Rattle.array.specs.Parts.{Parts}
+use Rattle.assemble.specs.Running.{HasAssembleCause}
+use Rattle.script.specs.declared.lines.Line.TheVariants.{Assemble as AsksAssemble}
+use Rattle.runner.specs.Ended.{IsGoing}
+use Rattle.runner.specs.Making.{setting_of}
+use Rattle.runner.specs.States.{IsTurn, IsNoTurn}
+use Rattle.runner.specs.declared.report.Answered.{Answered}
+use Rattle.runner.specs.declared.report.Answered.TheVariants.{Outside as AnsweredOutside}
+use Rattle.runner.specs.declared.report.Outside.TheVariants.{Assembled}
+use Rattle.runner.specs.declared.states.State.TheVariants.{Idle as IsIdle, Running as IsRunning}
+use Rattle.runner.proofs.Causes.{flushes-grow, grows-none, assemble-refused, backup-known}
+use Rattle.runner.proofs.Legal.{grows_longer, idle_grown, going_begun}
+use Rattle.runner.proofs.Turns.{turn_found, turn_idle, no_turn_idle, no_turn_found}
+use Rattle.runner.proofs.states.assemble_array.Goals as goal
+
+pub assemble-requires-clause-backup : goal.assemble-requires-clause-backup
+assemble-requires-clause-backup g c = backup-known (g.B.Bank.given c.args.bank).slots c.args.backup c.requires.bank.last
+
+pub returns-then-not-has_room-clause-answered : goal.returns-then-not-has_room-clause-answered
+returns-then-not-has_room-clause-answered g c =
+    no_turn_idle (setting_of g.B.Bank.tells (g.B.Bank.given c.args.bank) (g.B.Bank.tape c.args.bank) (g.B.Bank.tape c.args.bank) c.args.backup (g.B.Bank.faults_of c.args.bank) (g.B.Bank.faults_of c.args.bank)) c.args.bank c.args.epochs c.has_room.new.epochs c.has_room.ensures.same c.requires.own c.args.bank (AsksAssemble c.args.uuid)
+
+pub returns-in-Ok-status-clause-answered : goal.returns-in-Ok-status-clause-answered
+returns-in-Ok-status-clause-answered g c =
+    let yes : IsTrue c.has_room.result = search rules in
+    let found = c.in-Ok.array in
+    let did = c.in-Ok.ensures in
+    let array = c.status.new.self in
+    let told = c.in-Ok-status.ensures in
+    let setting = setting_of g.B.Bank.tells (g.B.Bank.given c.args.bank) (g.B.Bank.tape c.args.bank) (g.B.Bank.tape found.bank) c.args.backup (g.B.Bank.faults_of c.args.bank) (g.B.Bank.faults_of found.bank) in
+    subst (λ (b : g.row.B.Denot). IsTurn (setting_of g.B.Bank.tells (g.B.Bank.given c.args.bank) (g.B.Bank.tape c.args.bank) (g.B.Bank.tape b) c.args.backup (g.B.Bank.faults_of c.args.bank) (g.B.Bank.faults_of b)) (IsIdle c.args.bank c.args.epochs) (IsRunning array c.has_room.new.epochs) (AsksAssemble c.args.uuid) (AnsweredOutside (Assembled c.next_epoch-epoch.result c.in-Ok-status.status))) (sym told.bank)
+    (subst (λ (n : ℕ). IsTurn setting (IsIdle c.args.bank c.args.epochs) (IsRunning array c.has_room.new.epochs) (AsksAssemble c.args.uuid) (AnsweredOutside (Assembled n c.in-Ok-status.status))) (sym c.next_epoch-epoch.ensures)
+    (turn_found setting c.args.bank c.args.epochs c.has_room.new.epochs c.has_room.ensures.same c.requires.own array
+    (c.has_room.ensures.room yes) (c.has_room.ensures.few yes) (grows_longer (flushes-grow did.tape)) c.args.uuid c.in-Ok-status.status found did.assembled told.told
+    (subst (λ (w : Who). IsEntered g.B.Bank.tells (g.B.Bank.tape found.bank) w found.entries array.entries (Shown c.in-Ok-status.status ∷ [])) c.script_call-who.ensures told.entered) told.members told.same.uuid told.same.given told.same.first))
+
+pub returns-in-Err-status-clause-answered : goal.returns-in-Err-status-clause-answered
+returns-in-Err-status-clause-answered g c =
+    let yes : IsTrue c.has_room.result = search rules in
+    let found = c.in-Ok.array in
+    let did = c.in-Ok.ensures in
+    subst (λ (a : Parts g.row.B.Denot). IsNoTurn (setting_of g.B.Bank.tells (g.B.Bank.given c.args.bank) (g.B.Bank.tape c.args.bank) (g.B.Bank.tape a.bank) c.args.backup (g.B.Bank.faults_of c.args.bank) (g.B.Bank.faults_of a.bank)) (IsIdle c.args.bank c.args.epochs) (IsRunning a c.has_room.new.epochs) (AsksAssemble c.args.uuid)) (sym c.in-Err-status.ensures.unchanged)
+    (no_turn_found (setting_of g.B.Bank.tells (g.B.Bank.given c.args.bank) (g.B.Bank.tape c.args.bank) (g.B.Bank.tape found.bank) c.args.backup (g.B.Bank.faults_of c.args.bank) (g.B.Bank.faults_of found.bank)) c.args.bank c.args.epochs c.has_room.new.epochs c.has_room.ensures.same c.requires.own found
+    (c.has_room.ensures.room yes) (c.has_room.ensures.few yes) (grows_longer (flushes-grow did.tape)) c.args.uuid did.assembled.begun.entries)
+
+pub returns-in-Refused-clause-answered : goal.returns-in-Refused-clause-answered
+returns-in-Refused-clause-answered g c =
+    let left = c.in-Err.left.0 in
+    let did = c.in-Err.ensures in
+    let given = g.B.Bank.given c.args.bank in
+    let tape = g.B.Bank.tape left in
+    let setting = setting_of g.B.Bank.tells (g.B.Bank.given c.args.bank) (g.B.Bank.tape c.args.bank) (g.B.Bank.tape left) c.args.backup (g.B.Bank.faults_of c.args.bank) (g.B.Bank.faults_of left) in
+    subst (λ (what : Answered). IsTurn setting (IsIdle c.args.bank c.args.epochs) (IsIdle left c.has_room.new.epochs) (AsksAssemble c.args.uuid) what) (sym c.refused.ensures)
+    (turn_idle setting c.args.bank c.args.epochs c.has_room.new.epochs c.has_room.ensures.same c.requires.own left (AsksAssemble c.args.uuid) c.in-Refused.refusal (grows_longer (flushes-grow did.left_tape))
+    (subst (λ (f : Fault). HasAssembleCause g.B.Bank.tells given (contents given.start tape (length tape)) c.args.backup c.args.uuid (g.B.Bank.faults_of c.args.bank) (g.B.Bank.faults_of left) f) c.in-Refused.is
+    (assemble-refused given c.args.backup c.args.uuid (g.B.Bank.tape c.args.bank) tape c.in-Err.left.1 did.left_counts.never_falls did.left_tape did.refused)))
+
+pub returns-in-NoMemory-clause-answered : goal.returns-in-NoMemory-clause-answered
+returns-in-NoMemory-clause-answered g c =
+    no_turn_idle (setting_of g.B.Bank.tells (g.B.Bank.given c.args.bank) (g.B.Bank.tape c.args.bank) (g.B.Bank.tape c.in-Err.left.0) c.args.backup (g.B.Bank.faults_of c.args.bank) (g.B.Bank.faults_of c.in-Err.left.0)) c.args.bank c.args.epochs c.has_room.new.epochs c.has_room.ensures.same c.requires.own c.in-Err.left.0 (AsksAssemble c.args.uuid)
+
+pub returns-then-not-has_room-clause-former : goal.returns-then-not-has_room-clause-former
+returns-then-not-has_room-clause-former g c = idle_grown (g.B.Bank.given c.args.bank) c.args.backup c.args.epochs.items c.has_room.new.epochs.items c.has_room.ensures.same (grows-none (g.B.Bank.tape c.args.bank)) c.requires.former
+
+pub returns-in-Ok-status-clause-former : goal.returns-in-Ok-status-clause-former
+returns-in-Ok-status-clause-former g c =
+    let did = c.in-Ok.ensures in
+    let begun = did.assembled.begun in
+    let told = c.in-Ok-status.ensures in
+    let array = c.status.new.self in
+    subst (λ (b : g.row.B.Denot). IsGoing g.B.Bank.tells (g.B.Bank.given c.args.bank) (g.B.Bank.tape b) c.args.backup array c.has_room.new.epochs.items) (sym told.bank)
+    (going_begun (g.B.Bank.given c.args.bank) c.args.backup c.args.epochs.items c.has_room.new.epochs.items array c.has_room.ensures.same (flushes-grow did.tape) (told.same.backup ∙ begun.backup_is) (λ t. told.same.first ∙ begun.first t)
+    (subst (λ (b : g.row.B.Denot). IsEndOf g.B.Bank.tells array.first array.entries (g.B.Bank.tape b)) told.bank told.ended) c.requires.former)
+
+pub returns-in-Err-status-clause-former : goal.returns-in-Err-status-clause-former
+returns-in-Err-status-clause-former g c =
+    let did = c.in-Ok.ensures in
+    let begun = did.assembled.begun in
+    subst (λ (a : Parts g.row.B.Denot). IsGoing g.B.Bank.tells (g.B.Bank.given c.args.bank) (g.B.Bank.tape a.bank) c.args.backup a c.has_room.new.epochs.items) (sym c.in-Err-status.ensures.unchanged)
+    (going_begun (g.B.Bank.given c.args.bank) c.args.backup c.args.epochs.items c.has_room.new.epochs.items c.in-Ok.array c.has_room.ensures.same (flushes-grow did.tape) begun.backup_is begun.first
+    (λ t. ap (λ (l : List Entry). last_end_from c.in-Ok.array.first l) begun.entries ∙ begun.first t) c.requires.former)
+
+pub returns-in-Refused-clause-former : goal.returns-in-Refused-clause-former
+returns-in-Refused-clause-former g c = idle_grown (g.B.Bank.given c.args.bank) c.args.backup c.args.epochs.items c.has_room.new.epochs.items c.has_room.ensures.same (flushes-grow c.in-Err.ensures.left_tape) c.requires.former
+
+pub returns-in-NoMemory-clause-former : goal.returns-in-NoMemory-clause-former
+returns-in-NoMemory-clause-former g c = idle_grown (g.B.Bank.given c.args.bank) c.args.backup c.args.epochs.items c.has_room.new.epochs.items c.has_room.ensures.same (flushes-grow c.in-Err.ensures.left_tape) c.requires.former
+
+pub returns-in-Ok-status-clause-grows : goal.returns-in-Ok-status-clause-grows
+returns-in-Ok-status-clause-grows g c =
+    subst (λ (b : g.row.B.Denot). Grows g.B.Bank.tells (g.B.Bank.tape c.args.bank) (g.B.Bank.tape b)) (sym c.in-Ok-status.ensures.bank) (flushes-grow c.in-Ok.ensures.tape)
+
+pub returns-in-Err-status-clause-grows : goal.returns-in-Err-status-clause-grows
+returns-in-Err-status-clause-grows g c =
+    subst (λ (b : g.row.B.Denot). Grows g.B.Bank.tells (g.B.Bank.tape c.args.bank) (g.B.Bank.tape b)) (sym c.in-Err-status.ensures.bank) (flushes-grow c.in-Ok.ensures.tape)
+
+pub returns-in-Refused-clause-grows : goal.returns-in-Refused-clause-grows
+returns-in-Refused-clause-grows g c = flushes-grow c.in-Err.ensures.left_tape
+
+pub returns-in-NoMemory-clause-grows : goal.returns-in-NoMemory-clause-grows
+returns-in-NoMemory-clause-grows g c = flushes-grow c.in-Err.ensures.left_tape
+
+pub returns-then-not-has_room-clause-grows : goal.returns-then-not-has_room-clause-grows
+returns-then-not-has_room-clause-grows g c = grows-none (g.B.Bank.tape c.args.bank)
+
+pub returns-in-Ok-status-clause-never_falls : goal.returns-in-Ok-status-clause-never_falls
+returns-in-Ok-status-clause-never_falls g c =
+    subst (λ (b : g.row.B.Denot). NeverFalls (g.B.Bank.faults_of c.args.bank) (g.B.Bank.faults_of b)) (sym c.in-Ok-status.ensures.bank) c.in-Ok.ensures.counts.never_falls
+
+pub returns-in-Err-status-clause-never_falls : goal.returns-in-Err-status-clause-never_falls
+returns-in-Err-status-clause-never_falls g c =
+    subst (λ (b : g.row.B.Denot). NeverFalls (g.B.Bank.faults_of c.args.bank) (g.B.Bank.faults_of b)) (sym c.in-Err-status.ensures.bank) c.in-Ok.ensures.counts.never_falls

@@ -1,0 +1,78 @@
+use Rattle.std.proofs.Common.{rules, List, arith, length, sym, ap, subst, ◌∙◌}
+use Rattle.std.specs.Prelude.{IsTrue}
+use Rattle.bank.specs.Tape.{contents}
+use Rattle.md_base.specs.declared.answers.Fault.{Fault}
+use Rattle.flat_history.specs.declared.events.Entry.{Entry}
+use Rattle.flat_history.specs.Transfers.{last_end_from}
+use Rattle.assemble.specs.Made.{HasCreateCause}
+use Rattle.assemble.specs.Opening.{scope_of}
+use Rattle.script.specs.declared.lines.Line.TheVariants.{Create as AsksCreate}
+use Rattle.runner.specs.Making.{setting_of}
+use Rattle.runner.specs.Replies.{spec_of}
+use Rattle.runner.specs.States.{IsTurn}
+use Rattle.runner.specs.declared.report.Answered.{Answered}
+use Rattle.runner.specs.declared.states.State.TheVariants.{Idle as IsIdle}
+use Rattle.runner.proofs.Causes.{below-grows, below-present, grows-none, create-refused, used-same}
+use Rattle.runner.proofs.Legal.{grows_longer, idle_grown, going_begun}
+use Rattle.runner.proofs.Turns.{turn_created, turn_idle, no_turn_idle}
+use Rattle.runner.proofs.states.create_array.Goals as goal
+
+pub returns-then-not-has_room-clause-answered : goal.returns-then-not-has_room-clause-answered
+returns-then-not-has_room-clause-answered g c =
+    no_turn_idle (setting_of g.B.Bank.tells (g.B.Bank.given c.args.bank) (g.B.Bank.tape c.args.bank) (g.B.Bank.tape c.args.bank) c.args.backup (g.B.Bank.faults_of c.args.bank) (g.B.Bank.faults_of c.args.bank)) c.args.bank c.args.epochs c.has_room.new.epochs c.has_room.ensures.same c.requires.own c.args.bank (AsksCreate c.args.line)
+
+pub returns-in-Ok-clause-answered : goal.returns-in-Ok-clause-answered
+returns-in-Ok-clause-answered g c =
+    let yes : IsTrue c.has_room.result = search rules in
+    let did = c.in-Ok.ensures in
+    let given = g.B.Bank.given c.args.bank in
+    let before = g.B.Bank.tape c.args.bank in
+    let after = g.B.Bank.tape c.in-Ok.array.bank in
+    turn_created (setting_of g.B.Bank.tells (g.B.Bank.given c.args.bank) (g.B.Bank.tape c.args.bank) (g.B.Bank.tape c.in-Ok.array.bank) c.args.backup (g.B.Bank.faults_of c.args.bank) (g.B.Bank.faults_of c.in-Ok.array.bank)) c.args.bank c.args.epochs c.has_room.new.epochs c.has_room.ensures.same c.requires.own c.in-Ok.array
+    (c.has_room.ensures.room yes) (c.has_room.ensures.few yes) (grows_longer (below-grows did.tape)) c.args.line did.unrefused did.created
+    (λ t. used-same (scope_of given c.args.backup c.in-Ok.array.given c.args.line.uuid) (contents given.start before (length before)) (contents given.start after (length after)) c.args.line.shape.disks
+    (below-present given.start c.args.line.shape.disks before after (did.tape t)) ∙ did.free t)
+
+pub returns-in-Refused-clause-answered : goal.returns-in-Refused-clause-answered
+returns-in-Refused-clause-answered g c =
+    let left = c.in-Err.left.0 in
+    let did = c.in-Err.ensures in
+    let given = g.B.Bank.given c.args.bank in
+    let tape = g.B.Bank.tape left in
+    let setting = setting_of g.B.Bank.tells (g.B.Bank.given c.args.bank) (g.B.Bank.tape c.args.bank) (g.B.Bank.tape left) c.args.backup (g.B.Bank.faults_of c.args.bank) (g.B.Bank.faults_of left) in
+    subst (λ (what : Answered). IsTurn setting (IsIdle c.args.bank c.args.epochs) (IsIdle left c.has_room.new.epochs) (AsksCreate c.args.line) what) (sym c.refused.ensures)
+    (turn_idle setting c.args.bank c.args.epochs c.has_room.new.epochs c.has_room.ensures.same c.requires.own left (AsksCreate c.args.line) c.in-Refused.refusal (grows_longer (below-grows did.left_tape))
+    (subst (λ (f : Fault). HasCreateCause g.B.Bank.tells given (contents given.start tape (length tape)) c.args.backup (spec_of c.args.line) (g.B.Bank.faults_of c.args.bank) (g.B.Bank.faults_of left) f) c.in-Refused.is
+    (create-refused given c.args.backup (spec_of c.args.line) (g.B.Bank.tape c.args.bank) tape c.in-Err.left.1 did.left_counts.never_falls did.left_tape did.refused)))
+
+pub returns-in-NoMemory-clause-answered : goal.returns-in-NoMemory-clause-answered
+returns-in-NoMemory-clause-answered g c =
+    no_turn_idle (setting_of g.B.Bank.tells (g.B.Bank.given c.args.bank) (g.B.Bank.tape c.args.bank) (g.B.Bank.tape c.in-Err.left.0) c.args.backup (g.B.Bank.faults_of c.args.bank) (g.B.Bank.faults_of c.in-Err.left.0)) c.args.bank c.args.epochs c.has_room.new.epochs c.has_room.ensures.same c.requires.own c.in-Err.left.0 (AsksCreate c.args.line)
+
+pub returns-then-not-has_room-clause-former : goal.returns-then-not-has_room-clause-former
+returns-then-not-has_room-clause-former g c = idle_grown (g.B.Bank.given c.args.bank) c.args.backup c.args.epochs.items c.has_room.new.epochs.items c.has_room.ensures.same (grows-none (g.B.Bank.tape c.args.bank)) c.requires.former
+
+pub returns-in-Ok-clause-former : goal.returns-in-Ok-clause-former
+returns-in-Ok-clause-former g c =
+    let did = c.in-Ok.ensures in
+    let begun = did.created.begun in
+    going_begun (g.B.Bank.given c.args.bank) c.args.backup c.args.epochs.items c.has_room.new.epochs.items c.in-Ok.array c.has_room.ensures.same (below-grows did.tape) begun.backup_is begun.first
+    (λ t. ap (λ (l : List Entry). last_end_from c.in-Ok.array.first l) begun.entries ∙ begun.first t) c.requires.former
+
+pub returns-in-Refused-clause-former : goal.returns-in-Refused-clause-former
+returns-in-Refused-clause-former g c = idle_grown (g.B.Bank.given c.args.bank) c.args.backup c.args.epochs.items c.has_room.new.epochs.items c.has_room.ensures.same (below-grows c.in-Err.ensures.left_tape) c.requires.former
+
+pub returns-in-NoMemory-clause-former : goal.returns-in-NoMemory-clause-former
+returns-in-NoMemory-clause-former g c = idle_grown (g.B.Bank.given c.args.bank) c.args.backup c.args.epochs.items c.has_room.new.epochs.items c.has_room.ensures.same (below-grows c.in-Err.ensures.left_tape) c.requires.former
+
+pub returns-in-Ok-clause-grows : goal.returns-in-Ok-clause-grows
+returns-in-Ok-clause-grows g c = below-grows c.in-Ok.ensures.tape
+
+pub returns-in-Refused-clause-grows : goal.returns-in-Refused-clause-grows
+returns-in-Refused-clause-grows g c = below-grows c.in-Err.ensures.left_tape
+
+pub returns-in-NoMemory-clause-grows : goal.returns-in-NoMemory-clause-grows
+returns-in-NoMemory-clause-grows g c = below-grows c.in-Err.ensures.left_tape
+
+pub returns-then-not-has_room-clause-grows : goal.returns-then-not-has_room-clause-grows
+returns-then-not-has_room-clause-grows g c = grows-none (g.B.Bank.tape c.args.bank)

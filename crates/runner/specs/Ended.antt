@@ -1,0 +1,63 @@
+-- The epochs of the arrays that ran before, over the bank of their run.
+use Rattle.std.specs.Prelude.{◌≡◌, ℕ, ◌≤◌, List, [], ◌∷◌, length, Option, ⊤}
+use Rattle.std.specs.List.{All}
+use Rattle.bank.specs.Given.{Given}
+use Rattle.bank.specs.declared.bank.Operation.{Operation}
+use Rattle.flat_history.specs.declared.events.Epoch.{Epoch}
+use Rattle.flat_history.specs.Epochs.{world_of, IsEpochRight, HasRoomForEvents, OpensAlike}
+use Rattle.flat_history.specs.Plain.{IsPlainLegal}
+use Rattle.flat_history.specs.CrashSafe.{IsCrashSafe}
+use Rattle.array.specs.Kept.{opening_of, HasNoLoss, IsEndOf}
+use Rattle.array.specs.Parts.{Parts}
+use Rattle.runner.specs.declared.states.State.{State}
+use Rattle.runner.specs.declared.states.State.TheVariants.{Idle, Running}
+use Rattle.runner.specs.Histories.{History, histories_of}
+
+-- the epoch begins within the tape, and its history is legal
+pub record IsLegalEpoch (given : Given) (tape : List Operation) (backup : Option ℕ) (epoch : Epoch) : Type 0 where
+  pub begun : epoch.first ≤ length tape
+  pub legal : IsPlainLegal (opening_of (world_of given tape backup epoch)) (length tape) epoch.entries.items
+
+abbrev pub AreLegal : Given → List Operation → Option ℕ → List Epoch → Type 0
+AreLegal given tape backup epochs = All (λ epoch. IsLegalEpoch given tape backup epoch) epochs
+
+-- A fact of an epoch in which no role and no spare was lost, which had room for its events and opened with superblocks that are alike.
+abbrev pub IfSound : Given → List Operation → Option ℕ → Epoch → Type 0 → Type 0
+IfSound given tape backup epoch fact =
+    HasNoLoss epoch.entries.items → HasRoomForEvents (world_of given tape backup epoch) → OpensAlike (world_of given tape backup epoch) → fact
+
+-- such an epoch is right: it lies within the tape, is legal, safe at each of its marks, and no reshape of it ends wrong
+abbrev pub AreRight : Given → List Operation → Option ℕ → List Epoch → Type 0
+AreRight given tape backup epochs = All (λ epoch. IfSound given tape backup epoch (IsEpochRight given tape backup epoch)) epochs
+
+-- such an epoch is safe at each mark up to the tape's end, as far as nothing but flushes was done behind it
+abbrev pub AreSafe : Given → List Operation → Option ℕ → List Epoch → Type 0
+AreSafe given tape backup epochs =
+    All (λ epoch. IfSound given tape backup epoch (IsCrashSafe (world_of given tape backup epoch) (length tape) epoch.entries.items)) epochs
+
+-- the first mark of these histories, or the one behind them
+abbrev pub next_mark : ℕ → List History → ℕ
+next_mark behind [] = behind
+next_mark behind (history ∷ histories) = history.first
+
+-- each history begins at the mark of the one before it or later, and the last up to this mark
+abbrev pub AreRising : ℕ → List History → Type 0
+AreRising behind [] = ⊤
+AreRising behind (history ∷ histories) = (history.first ≤ next_mark behind histories) × AreRising behind histories
+
+-- what is kept of the arrays that ran before, up to a mark
+pub record AreFormer (given : Given) (tape : List Operation) (backup : Option ℕ) (mark : ℕ) (epochs : List Epoch) : Type 0 where
+  pub legal : AreLegal given tape backup epochs
+  pub safe : AreSafe given tape backup epochs
+  pub rising : AreRising mark (histories_of epochs)
+
+-- and of the one that runs: it has the backup of the run, began behind those, and the tape stands where its last entry ended
+pub record IsGoing {B : Type 0} (tells : Type 0) (given : Given) (tape : List Operation) (backup : Option ℕ) (array : Parts B) (epochs : List Epoch) : Type 0 where
+  pub backup_is : array.backup ≡ backup
+  pub former : tells → AreFormer given tape backup array.first epochs
+  pub begun : tells → array.first ≤ length tape
+  pub ended : IsEndOf tells array.first array.entries tape
+
+abbrev pub IsRunKept : {B : Type 0} → Type 0 → Given → List Operation → Option ℕ → State B → Type 0
+IsRunKept tells given tape backup (Idle bank epochs) = tells → AreFormer given tape backup (length tape) epochs.items
+IsRunKept tells given tape backup (Running array epochs) = IsGoing tells given tape backup array epochs.items

@@ -1,0 +1,94 @@
+-- What the bank of a run is, and what an array on it was made or found as.
+use Rattle.std.specs.Prelude.{◌≡◌, ℕ, ◌+◌, ◌/◌, ◌<◌, if◌then◌else◌, List, [], ◌∷◌, length, Option, Some, None, IsTrue, IsFalse}
+use Rattle.md_base.specs.declared.answers.Fault.TheVariants.{Refused as IsRefusedWith}
+use Rattle.md_base.specs.declared.answers.Refusal.{Refusal}
+use Rattle.md_base.specs.declared.status.Status.{Status}
+use Rattle.md_base.specs.declared.status.Role.TheVariants.{Whole}
+use Rattle.md_base.specs.Search.{tabulate}
+use Rattle.bank.specs.declared.bank.Operation.{Operation}
+use Rattle.bank.specs.Given.{Given, sizes}
+use Rattle.bank.specs.Tape.{Contents, contents}
+use Rattle.superblocks.specs.Reading.{Reading, shape_of, is_clean, is_reshaping, is_whole, role_state}
+use Rattle.flat_history.specs.declared.events.Entry.{Entry}
+use Rattle.flat_history.specs.declared.events.Event.TheVariants.{Shown}
+use Rattle.flat_history.specs.World.{World, reading_at, contents_at, opening_list}
+use Rattle.flat_history.specs.Stands.{verdict}
+use Rattle.flat_history.specs.Fits.{IsStatusOf}
+use Rattle.array.specs.declared.spec.CreateSpec.{CreateSpec}
+use Rattle.assemble.specs.Made.{HasCreateCause}
+use Rattle.assemble.specs.Running.{HasAssembleCause}
+use Rattle.runner.specs.Histories.{History}
+
+-- What the bank of a run is: whether it tells its contents, what never changes in it, its tape, its backup slot, how many operations
+-- it had when the run began, and the counts of its slots' faults before and now.
+pub record Setting : Type 1 where
+  pub tells : Type 0
+  pub given : Given
+  pub tape : List Operation
+  pub backup : Option ℕ
+  pub began : ℕ
+  pub before : ℕ → ℕ
+  pub now : ℕ → ℕ
+
+-- by the tapes and the counts before and now
+abbrev pub setting_of : Type 0 → Given → List Operation → List Operation → Option ℕ → (ℕ → ℕ) → (ℕ → ℕ) → Setting
+setting_of tells given old new backup before now =
+    record { tells = tells; given = given; tape = new; backup = backup; began = length old; before = before; now = now }
+
+-- what the slots held at a mark
+abbrev pub held_at : Setting → ℕ → Contents
+held_at setting mark = contents setting.given.start setting.tape mark
+
+-- a history's world, over the bank of its run
+abbrev pub history_world : Setting → History → World
+history_world setting history = record {
+  start = setting.given.start;
+  tape = setting.tape;
+  scope = record { uuid = history.uuid; given = history.given; backup = setting.backup; sizes = sizes setting.given };
+  first = history.first;
+}
+
+-- a create was refused at a mark: it has its cause in what the slots hold there and in the faults of the run
+abbrev pub IsUncreated : Setting → CreateSpec → ℕ → Refusal → Type 0
+IsUncreated setting spec mark refusal =
+    HasCreateCause setting.tells setting.given (held_at setting mark) setting.backup spec setting.before setting.now (IsRefusedWith refusal)
+
+-- the same of an assemble
+abbrev pub IsUnassembled : Setting → Option (List ℕ) → ℕ → Refusal → Type 0
+IsUnassembled setting asked mark refusal =
+    HasAssembleCause setting.tells setting.given (held_at setting mark) setting.backup asked setting.before setting.now (IsRefusedWith refusal)
+
+-- The superblocks at an opening say this of an array that is refused for nothing, without a reshape and with every role whole.
+pub record IsStored (world : World) (found : Reading) : Type 0 where
+  pub says : reading_at world world.first ≡ Some found
+  pub accepted : verdict world.scope (contents_at world world.first) ≡ None
+  pub still : IsFalse (is_reshaping found.newest)
+  pub whole : (role : ℕ) → role < (shape_of found.newest).disks → IsTrue (is_whole (role_state found role))
+
+-- that it is new and as it was asked for: clean, with a role on each of the first slots
+pub record IsStoredNew (world : World) (spec : CreateSpec) : Type 0 where
+  pub found : Reading
+  pub stored : IsStored world found
+  pub shape : shape_of found.newest ≡ spec.shape
+  pub size : found.newest.size ≡ spec.size
+  pub events : found.newest.events ≡ 1
+  pub clean : IsTrue (is_clean found.newest)
+  pub roles : found.roles ≡ tabulate spec.shape.disks (λ role. Whole role)
+  pub spares : found.spares ≡ []
+
+-- what this status tells; where it was found dirty, each stripe and the end of its resync are left
+pub record IsStoredAs (world : World) (status : Status) : Type 0 where
+  pub found : Reading
+  pub stored : IsStored world found
+  pub told : IsStatusOf status found
+  pub position : status.position ≡ 0
+  pub sized : status.length ≡ length (opening_list world)
+  pub visible : status.visible ≡ length (opening_list world)
+  pub clean : status.clean ≡ is_clean found.newest
+  pub left : status.left ≡ (if is_clean found.newest then 0 else found.newest.size / (shape_of found.newest).chunk + 1)
+
+-- the history begins with this status, which the script's first call asked for
+pub record BeginsShown (entries : List Entry) (status : Status) : Type 0 where
+  pub end : ℕ
+  pub more : List Entry
+  pub is : entries ≡ record { caller = 0; number = 0; end = end; event = Shown status } ∷ more
