@@ -4,7 +4,7 @@ use Rattle.md_base.specs.declared.answers.Who.{Who}
 use Rattle.flat_history.specs.declared.events.Entry.{Entry}
 use Rattle.flat_history.specs.declared.events.Event.{Event}
 use Rattle.flat_history.specs.Plain.{entries_of}
-use Rattle.array.specs.Losing.{role_loss, role_losses, spare_loss, spare_losses}
+use Rattle.array.specs.Losing.{role_loss, role_losses, spare_loss, spare_losses, losses_of}
 
 pub entries-both : (who : Who) (end : ℕ) (xs ys : List Event) → entries_of who end (xs ++ ys) ≡ entries_of who end xs ++ entries_of who end ys
 entries-both who end [] ys = refl
@@ -40,3 +40,7 @@ spares-more spares n = refl
 
 pub spares-next : (spares n : ℕ) → spare_losses spares (n + 1) ≡ spare_losses spares n ++ spare_loss spares n
 spares-next spares n = let next : n + 1 ≡ suc n = omega arith in ap (spare_losses spares) next ∙ spares-more spares n
+
+pub no-losses : losses_of 0 0 ≡ []
+unfolding role_losses spare_losses
+no-losses = refl

@@ -16,10 +16,10 @@ use Rattle.flat_history.specs.declared.events.Event.{Event}
 use Rattle.flat_history.specs.declared.events.Event.TheVariants.{Torn, Refused}
 use Rattle.flat_history.specs.Plain.{entries_of}
 use Rattle.flat_history.specs.Transfers.{last_end_from}
-use Rattle.array.specs.Losing.{role_losses, spare_losses, losses_of, failure_events, AreGone}
+use Rattle.array.specs.Losing.{losses_of, failure_events, AreGone}
 use Rattle.array.specs.Kept.{IsLossOf, AreLossesOf, IsEndOf, IsBehind, IsRefusedFor, IsSettling, is_torn, has_torn}
 use Rattle.array.proofs.PlainLaws.{one}
-use Rattle.array.proofs.LosingLaws.{entries-both}
+use Rattle.array.proofs.LosingLaws.{entries-both, no-losses}
 use Rattle.array.proofs.CallLaws.{all-losses, last_end-behind}
 
 -- no entries tell of none
@@ -77,10 +77,6 @@ ended-failure tape first old who end roles spares true at body refusal is at_end
 ended-failure tape first old who end roles spares false at body refusal is at_end = ended-behind tape first old who end (losses_of roles spares) (Refused refusal) is at_end
 
 -- ---- what a call answered
-
-no-losses : losses_of 0 0 ≡ []
-unfolding role_losses spare_losses
-no-losses = refl
 
 pub behind-alone : {old mid new : List Entry} (who : Who) (end : ℕ) (event : Event) → mid ≡ old → new ≡ mid ++ entries_of who end (event ∷ []) → IsBehind who old new event
 behind-alone {old = old} {mid = mid} who end event mid_is is = record {

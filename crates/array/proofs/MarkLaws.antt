@@ -1,5 +1,5 @@
--- What an update that gives no slot anything else leaves of the roles.
-use Rattle.std.proofs.Common.{◌≡◌, ◌≢◌, ℕ, zero, suc, ◌+◌, ◌-◌, ◌<◌, ◌≤◌, Bool, true, false, not, cond, ◌&&◌, List, [], ◌∷◌, length, get_or, refl, sym, ap, ◌∙◌, arith, Option, Some, None, map, replicate}
+-- What an update that gives no slot anything else leaves of the roles, and how many spares an update leaves.
+use Rattle.std.proofs.Common.{◌≡◌, ◌≢◌, ℕ, zero, suc, ◌+◌, ◌-◌, ◌<◌, ◌≤◌, Bool, true, false, not, cond, ◌&&◌, List, [], ◌∷◌, length, length-append, get_or, if◌then◌else◌, refl, sym, ap, ◌∙◌, arith, Option, Some, None, map, replicate}
 use Rattle.std.specs.Option.{option_map_or}
 use Rattle.std.proofs.lemmas.Bool.Decides.{nat_tests}
 use Rattle.std.proofs.lemmas.List.{ext_get_or}
@@ -13,7 +13,9 @@ use Rattle.superblocks.specs.declared.change.Give.{Give}
 use Rattle.superblocks.specs.declared.change.Give.TheVariants.{Same}
 use Rattle.superblocks.specs.Reading.{holder}
 use Rattle.superblocks.specs.Update.{is_held_by, role_from, give_of, planned_role}
-use Rattle.superblocks.specs.Outcome.{is_same, is_planned_holder, held_state, planned_state}
+use Rattle.superblocks.specs.declared.change.Change.{Change}
+use Rattle.superblocks.specs.declared.members.Members.{Members}
+use Rattle.superblocks.specs.Outcome.{slots_below, is_same, is_planned_holder, held_state, planned_state, planned_spares}
 use Rattle.row_io.specs.Rows.{role_without}
 
 -- no slot holds two roles
@@ -168,3 +170,19 @@ module _ (roles : List Role) (lost : ℕ) (apart : Apart roles) (small : (role s
       (length-tabulate count (planned_state roles (replicate 32 Same) lost) ∙ is ∙ sym (length-map roles))
       (λ i lt. get_or-tabulate count (planned_state roles (replicate 32 Same) lost) i Missing (omega (arith, lt, length-tabulate count (planned_state roles (replicate 32 Same) lost)))
       ∙ state-kept i ∙ sym (get_or-map roles i))
+
+-- ---- the spares
+
+one-more : (b : Bool) (n : ℕ) → length (if b then n ∷ [] else []) ≤ 1
+one-more true n = omega arith
+one-more false n = omega arith
+
+few-below : (n : ℕ) (test : ℕ → Bool) → length (slots_below n test) ≤ n
+unfolding slots_below
+few-below zero test = omega arith
+few-below (suc n) test =
+    let last = if test n then n ∷ [] else [] in
+    omega (arith, few-below n test, one-more (test n) n, length-append (slots_below n test) last)
+
+pub few-planned : (members : Members) (change : Change) (lost : ℕ) → length (planned_spares members change lost) ≤ 32
+few-planned members change lost = few-below 32 _

@@ -1,5 +1,5 @@
 -- What device calls leave of an array's places.
-use Rattle.std.proofs.Common.{◌≡◌, ◌≢◌, ◌⊎◌, inl, inr, ℕ, ◌*◌, ◌<◌, ◌==◌, ◌&&◌, Bool, true, false, not, cond, nat_lt, max, List, [], ◌++◌, get_or, Option, Some, None, refl, sym, ◌∙◌, ap, ap₂, subst, arith, append_assoc, append-nil}
+use Rattle.std.proofs.Common.{◌≡◌, ◌≢◌, ◌⊎◌, inl, inr, ℕ, ◌*◌, ◌<◌, ◌≤◌, ◌==◌, ◌&&◌, Bool, true, false, not, cond, nat_lt, max, List, [], ◌++◌, length, get_or, Option, Some, None, refl, sym, ◌∙◌, ap, ap₂, subst, arith, append_assoc, append-nil}
 use Rattle.std.proofs.lemmas.Bool.Decides.{nat_tests}
 use Rattle.std.proofs.lemmas.Bool.{cases_lt, cases_eq}
 use Rattle.std.proofs.lemmas.List.{get_or_past}
@@ -16,7 +16,7 @@ use Rattle.superblocks.proofs.SlotSets.{none_there}
 use Rattle.row_io.specs.Rows.{reading_of, is_missing, missing_count, role_without, members_without}
 use Rattle.row_io.proofs.Losses.{state_after, state_kept}
 use Rattle.array.specs.Whole.{list_size}
-use Rattle.array.specs.Placed.{places_of, AreWhole, IsPlaced, AreLost, AreUnlost, AreLess}
+use Rattle.array.specs.Placed.{places_of, AreWhole, IsPlaced, AreLost, AreUnlost, AreStillHeld, AreLess}
 use Rattle.array.specs.Losing.{AreGone}
 use Rattle.array.specs.Moving.{Grows, IsMoved}
 use Rattle.array.specs.Kept.{missing_in}
@@ -79,10 +79,15 @@ module _ (given : Given) (lost : ℕ) (old new : Members) (less : AreLess lost o
       ap (λ (s : Role). not (is_whole s)) (sym (ap (λ (l : List Role). get_or l role Missing) ((less-whole whole).roles ∙ none-lost old.roles)))
       ∙ whole role (subst (λ (s : Shape). role < s.disks) (sym less.shape) below)
 
-  pub moved-less : IsPlaced given new → AreUnlost new → IsMoved given old new
-  moved-less placed unlost = record {
+  still-held : AreStillHeld old new
+  still-held role slot held = (state_kept lost slot (role_state (reading_of old) role) (ap holder (sym (state-is role)) ∙ held)).holder
+
+  pub moved-less : IsPlaced given new → AreUnlost new → (length old.spares ≤ 32 → length new.spares ≤ 32) → IsMoved given old new
+  moved-less placed unlost spares = record {
     placed = placed;
     unlost = unlost;
+    held = still-held;
+    spares = spares;
     shape = less.shape;
     size = less.size;
     whole = whole-before;
@@ -134,12 +139,23 @@ module _ (given : Given) (lost : ℕ) (old new : Members) (less : AreLess lost o
 -- nothing was done to the members
 pub moved-same : (given given' : Given) (old new : Members) → given' ≡ given → new ≡ old → IsPlaced given old → AreUnlost old → IsMoved given old new
 moved-same given given' old new same is placed unlost =
-    subst (λ (m : Members). IsMoved given old m) (sym is) (record { placed = placed; unlost = unlost; shape = refl; size = refl; whole = λ w. w; same = λ w. refl })
+    subst (λ (m : Members). IsMoved given old m) (sym is) (record {
+      placed = placed;
+      unlost = unlost;
+      held = λ role slot held. held;
+      spares = λ few. few;
+      shape = refl;
+      size = refl;
+      whole = λ w. w;
+      same = λ w. refl;
+    })
 
 pub moved-then : (given : Given) (a b c : Members) → IsMoved given a b → IsMoved given b c → IsMoved given a c
 moved-then given a b c one two = record {
   placed = two.placed;
   unlost = two.unlost;
+  held = λ role slot held. one.held role slot (two.held role slot held);
+  spares = λ few. two.spares (one.spares few);
   shape = two.shape ∙ one.shape;
   size = two.size ∙ one.size;
   whole = λ whole. one.whole (two.whole whole);
@@ -166,6 +182,7 @@ module _ (given : Given) (shape : Shape) (old new : Members) (lost : ℕ) (befor
 
   pub moved-lost : AreUnlost old → IsMoved given old new
   moved-lost unlost = moved-less given lost old new less-lost was did.placed (subst AreUnlost (sym did.members) (unlost-without old lost unlost))
+      (subst (λ (m : Members). length old.spares ≤ 32 → length m.spares ≤ 32) (sym did.members) (λ few. few))
 
   pub gone-lost : (roles : ℕ) → AreWhole old → shape ≡ shape_of old.newest → ((role : ℕ) → has_slot roles role ≡ (nat_lt role shape.disks && is_missing (reading_of new) role)) → AreGone old new roles 0 before after
   gone-lost roles whole same are = gone-less given lost old new less-lost was roles 0 before after whole

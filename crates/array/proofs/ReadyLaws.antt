@@ -197,6 +197,7 @@ module _ {tells : Type 0} {given : Given} {tape tape' : List Operation} {scope :
       → IsKept tells given tape' scope first (entries ++ entries_of who end (inner ++ event ∷ [])) members' unsynced
   ready-after inner event silent left told call holds good safe = record {
     slots = was.slots;
+    spares = moved.spares was.spares;
     placed = moved.placed;
     unlost = moved.unlost;
     told = told;
@@ -536,6 +537,7 @@ ready_adopted {tells = tells} {given = given} {tape = tape} {scope = scope} {fir
     subst (λ (l : List Entry). IsReady tells given tape scope first l members unsynced room rows buffer) (sym none) (record {
       kept = record {
         slots = is.slots;
+        spares = is.spares;
         placed = is.placed;
         unlost = is.unlost;
         told = λ role lt missing. absurd (let e = is.whole role lt in cc);

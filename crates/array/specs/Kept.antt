@@ -81,6 +81,7 @@ pub record IsSafe (world : World) (members : Members) (entries : List Entry) : T
 pub record IsKept (tells : Type 0) (given : Given) (tape : List Operation) (scope : Scope) (first : ℕ) (entries : List Entry)
     (members : Members) (unsynced : Bool) : Type 0 where
   pub slots : given.slots ≤ 32
+  pub spares : length members.spares ≤ 32
   pub placed : IsPlaced given members
   pub unlost : AreUnlost members
   pub told : AreTold members entries
@@ -219,6 +220,7 @@ pub record IsSameArray {B : Type 0} (tells : Type 0) (old new : Parts B) (before
 -- places, and the rows are good where the opening finds them so.
 pub record IsAdoptable (tells : Type 0) (given : Given) (tape : List Operation) (scope : Scope) (members : Members) : Type 0 where
   pub slots : given.slots ≤ 32
+  pub spares : length members.spares ≤ 32
   pub placed : IsPlaced given members
   pub unlost : AreUnlost members
   pub whole : AreWhole members

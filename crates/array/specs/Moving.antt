@@ -1,5 +1,5 @@
 -- What device calls leave of an array.
-use Rattle.std.specs.Prelude.{◌≡◌, ℕ, ◌<◌, true, List, [], ◌∷◌, ◌++◌, Some}
+use Rattle.std.specs.Prelude.{◌≡◌, ℕ, ◌<◌, ◌≤◌, true, List, [], ◌∷◌, ◌++◌, length, Some}
 use Rattle.md_base.specs.Shapes.{has_slot}
 use Rattle.bank.specs.declared.bank.Operation.{Operation}
 use Rattle.bank.specs.Given.{Given, IsFaulted}
@@ -8,7 +8,7 @@ use Rattle.superblocks.specs.declared.members.Members.{Members}
 use Rattle.superblocks.specs.Reading.{shape_of, role_state, holder}
 use Rattle.row_io.specs.Rows.{reading_of, present}
 use Rattle.array.specs.Whole.{Places, in_row}
-use Rattle.array.specs.Placed.{places_of, AreWhole, IsPlaced, AreUnlost, AreLess}
+use Rattle.array.specs.Placed.{places_of, AreWhole, IsPlaced, AreUnlost, AreStillHeld, AreLess}
 
 -- the rows are as they were
 abbrev pub AreRowsKept : Places → Contents → Contents → Type 0
@@ -26,6 +26,8 @@ pub record Grows (tells : Type 0) (before after : List Operation) : Type 0 where
 pub record IsMoved (given : Given) (old new : Members) : Type 0 where
   pub placed : IsPlaced given new
   pub unlost : AreUnlost new
+  pub held : AreStillHeld old new
+  pub spares : length old.spares ≤ 32 → length new.spares ≤ 32
   pub shape : shape_of new.newest ≡ shape_of old.newest
   pub size : new.newest.size ≡ old.newest.size
   pub whole : AreWhole new → AreWhole old

@@ -53,6 +53,10 @@ pub record AreLost (given : Given) (shape : Shape) (old new : Members) (lost : �
 abbrev pub AreUnlost : Members → Type 0
 AreUnlost members = (role slot : ℕ) → holder (role_state (reading_of members) role) ≡ Some slot → has_slot members.lost slot ≡ false
 
+-- each role that has a slot had it before: roles are only lost
+abbrev pub AreStillHeld : Members → Members → Type 0
+AreStillHeld old new = (role slot : ℕ) → holder (role_state (reading_of new) role) ≡ Some slot → holder (role_state (reading_of old) role) ≡ Some slot
+
 -- the members say the same of the array, and some roles may have lost their slots
 pub record AreLess (lost : ℕ) (old new : Members) : Type 0 where
   pub still : is_reshaping new.newest ≡ is_reshaping old.newest

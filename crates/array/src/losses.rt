@@ -72,6 +72,9 @@ pub fn enter_losses(epoch: &mut Epoch, who: Who, end: u64, roles: u32, spares: u
     ensures room { epoch.old.entries.room ≤ epoch.new.entries.room + 48 }
     ensures same { IsSameEpoch epoch.old epoch.new }
 {
+    if roles == 0 && spares == 0 {
+        return;
+    }
     enter_roles(epoch, who, end, roles);
     enter_spares(epoch, who, end, spares);
 }

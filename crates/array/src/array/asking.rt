@@ -33,17 +33,15 @@ fn copy_roles(alloc: Global, roles: &RoleList) -> Result<RoleList, NoMemory>
     Ok(copy)
 }
 
-// The same slots, in a list of their own, where they fit into one.
+// The same slots, in a list of their own.
 fn copy_slots(alloc: Global, slots: &SlotList) -> Result<SlotList, NoMemory>
+    requires { length slots.now ≤ 32 }
     ensures { IfOk result (λ copy. copy ≡ slots.now) }
 {
     let mut copy = match SlotList::new(alloc) {
         Ok(copy) => copy,
         Err(_) => return Err(NoMemory {}),
     };
-    if slots.len() > 32 {
-        return Err(NoMemory {});
-    }
     for place in 0..slots.len() {
         copy.push(slots.get(place));
     }

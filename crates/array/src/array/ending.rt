@@ -11,7 +11,7 @@ ghost use Rattle.flat_history.specs.Flat.{next_number, now};
 ghost use Rattle.flat_history.specs.Plain.{IsPlainLegal};
 ghost use Rattle.flat_history.specs.declared.events.Event.TheVariants.{Halted, Stopped};
 ghost use Rattle.array.specs.Rows.{HoldsList, AreGoodRows};
-ghost use Rattle.array.specs.Placed.{places_of, AreWhole};
+ghost use Rattle.array.specs.Placed.{places_of, AreWhole, AreStillHeld};
 ghost use Rattle.array.specs.Kept.{world_for, opening_of, OpensGood, HasNoLoss, IsEntered, IsBehind, IsUnsettled, IsFaultFor, IsEndOf, IsSameArray, AreLossesOf};
 
 use crate::array::Array;
@@ -78,6 +78,7 @@ impl<B: Bank> Array<B> {
         ensures refused { IfErr result (λ e. IsUnsettled who self.entries e.0.entries e.1) }
         ensures caused { IfErr result (λ e. IsFaultFor (list_size (places_of self.members)) 0 self.members e.0.members e.1) }
         ensures left_grows { IfErr result (λ e. Grows B.tells (B.tape self.bank) (B.tape e.0.bank)) }
+        ensures left_held { IfErr result (λ e. AreStillHeld self.members e.0.members) }
         ensures left_losses { IfErr result (λ e. AreLossesOf self.members (B.faults_of self.bank) (B.faults_of e.0.bank) self.entries e.0.entries) }
         ensures left_ended { IfErr result (λ e. IsEndOf B.tells e.0.first e.0.entries (B.tape e.0.bank)) }
         ensures left_never_falls { IfErr result (λ e. NeverFalls (B.faults_of self.bank) (B.faults_of e.0.bank)) }

@@ -10,7 +10,7 @@ ghost use Rattle.flat_history.specs.Flat.{next_number, now};
 ghost use Rattle.flat_history.specs.declared.events.Event.TheVariants.{Read};
 ghost use Rattle.flat_history.specs.declared.events.Request.TheVariants.{Read as AsksRead};
 ghost use Rattle.array.specs.Whole.{list_size};
-ghost use Rattle.array.specs.Placed.{places_of};
+ghost use Rattle.array.specs.Placed.{places_of, AreStillHeld};
 ghost use Rattle.array.specs.Kept.{world_for, IsAnswered, IsCausedBy, IsSameArray, AreLossesOf, IsEndOf, OnNoMemory};
 
 use crate::array::{Array, list_length, refusal_of};
@@ -46,6 +46,7 @@ impl<B: Bank> Array<B> {
         ensures unchanged { OnNoMemory result (self.new ≡ self.old) }
         ensures tape { B.tells → B.tape self.new.bank ≡ B.tape self.old.bank }
         ensures caused { IsCausedBy (list_size (places_of self.old.members)) (at + length into.old / 512) self.old.members self.new.members result }
+        ensures held { AreStillHeld self.old.members self.new.members }
         ensures losses { AreLossesOf self.old.members (B.faults_of self.old.bank) (B.faults_of self.new.bank) self.old.entries self.new.entries }
         ensures ended { IsEndOf B.tells self.new.first self.new.entries (B.tape self.new.bank) }
         ensures never_falls { NeverFalls (B.faults_of self.old.bank) (B.faults_of self.new.bank) }

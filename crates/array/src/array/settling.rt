@@ -6,7 +6,7 @@ ghost use Rattle.flat_history.specs.Flat.{next_number};
 ghost use Rattle.flat_history.specs.declared.events.Event.TheVariants.{Flushed};
 ghost use Rattle.flat_history.specs.declared.events.Request.TheVariants.{Flush as AsksFlush};
 ghost use Rattle.array.specs.Whole.{list_size};
-ghost use Rattle.array.specs.Placed.{places_of};
+ghost use Rattle.array.specs.Placed.{places_of, AreStillHeld};
 ghost use Rattle.superblocks.specs.Reading.{is_clean};
 ghost use Rattle.array.specs.Moving.{AreRowsFlushed, Grows};
 ghost use Rattle.array.specs.Kept.{world_for, IsSettled, IsSettling, IsAnswered, IsCausedBy, IsSameArray, AreLossesOf, IsEndOf, OnNoMemory};
@@ -30,6 +30,7 @@ impl<B: Bank> Array<B> {
         ensures grows { Grows B.tells (B.tape self.old.bank) (B.tape self.new.bank) }
         ensures clean { OnOk result (self.old.unsynced ≡ false → is_clean self.new.members.newest ≡ true) }
         ensures caused { IsCausedBy (list_size (places_of self.old.members)) 0 self.old.members self.new.members result }
+        ensures held { AreStillHeld self.old.members self.new.members }
         ensures losses { AreLossesOf self.old.members (B.faults_of self.old.bank) (B.faults_of self.new.bank) self.old.entries self.new.entries }
         ensures ended { IsEndOf B.tells self.new.first self.new.entries (B.tape self.new.bank) }
         ensures last { OnOk result (B.tells → self.new.last ≡ length (B.tape self.new.bank)) }
@@ -81,6 +82,7 @@ impl<B: Bank> Array<B> {
         ensures grows { Grows B.tells (B.tape self.old.bank) (B.tape self.new.bank) }
         ensures clean { OnOk result (self.old.unsynced ≡ false → is_clean self.new.members.newest ≡ true) }
         ensures caused { IsCausedBy (list_size (places_of self.old.members)) 0 self.old.members self.new.members result }
+        ensures held { AreStillHeld self.old.members self.new.members }
         ensures losses { AreLossesOf self.old.members (B.faults_of self.old.bank) (B.faults_of self.new.bank) self.old.entries self.new.entries }
         ensures ended { IsEndOf B.tells self.new.first self.new.entries (B.tape self.new.bank) }
         ensures never_falls { NeverFalls (B.faults_of self.old.bank) (B.faults_of self.new.bank) }

@@ -9,7 +9,7 @@ ghost use Rattle.flat_history.specs.Flat.{next_number};
 ghost use Rattle.flat_history.specs.declared.events.Event.TheVariants.{Wrote};
 ghost use Rattle.flat_history.specs.declared.events.Request.TheVariants.{Write as AsksWrite};
 ghost use Rattle.array.specs.Whole.{list_size};
-ghost use Rattle.array.specs.Placed.{places_of};
+ghost use Rattle.array.specs.Placed.{places_of, AreStillHeld};
 ghost use Rattle.array.specs.Marking.{AreOthersPresent};
 ghost use Rattle.array.specs.Moving.{Grows};
 ghost use Rattle.array.specs.Kept.{world_for, IsAnswered, IsCausedBy, IsSameArray, AreLossesOf, IsEndOf, OnNoMemory, has_torn};
@@ -36,6 +36,7 @@ impl<B: Bank> Array<B> {
         ensures untouched { OnErr result (IsFalse (has_torn self.old.entries self.new.entries) → B.tells
             → AreOthersPresent (present (B.given self.old.bank) (B.tape self.old.bank)) (present (B.given self.old.bank) (B.tape self.new.bank))) }
         ensures caused { IsCausedBy (list_size (places_of self.old.members)) (at + length from.now / 512) self.old.members self.new.members result }
+        ensures held { AreStillHeld self.old.members self.new.members }
         ensures losses { AreLossesOf self.old.members (B.faults_of self.old.bank) (B.faults_of self.new.bank) self.old.entries self.new.entries }
         ensures ended { IsEndOf B.tells self.new.first self.new.entries (B.tape self.new.bank) }
         ensures never_falls { NeverFalls (B.faults_of self.old.bank) (B.faults_of self.new.bank) }

@@ -1,4 +1,4 @@
-use Rattle.std.proofs.Common.{◌≡◌, ℕ, ◌<◌, Bool, true, false, not, ◌&&◌, inl, inr, refl, subst, sym, ◌∙◌, arith}
+use Rattle.std.proofs.Common.{◌≡◌, ℕ, ◌<◌, ◌≤◌, Bool, true, false, not, ◌&&◌, List, length, inl, inr, refl, subst, sym, ◌∙◌, arith}
 use Rattle.std.proofs.lemmas.Bool.{cases_lt}
 use Rattle.md_base.specs.Shapes.{has_slot}
 use Rattle.bank.specs.Given.{Given}
@@ -6,6 +6,7 @@ use Rattle.superblocks.specs.Outcome.{live_set, is_in_update}
 use Rattle.superblocks.proofs.SlotSets.{none_above}
 use Rattle.array.specs.Placed.{IsPlaced}
 use Rattle.array.specs.Marking.{marking}
+use Rattle.array.proofs.MarkLaws.{few-planned}
 use Rattle.array.proofs.MovedLaws.{moved-less}
 use Rattle.array.proofs.MarkedLaws.{grows-marks, others-present, failed-marked, flushed-marked}
 use Rattle.array.proofs.SafetyLaws.{marked-stretch}
@@ -20,6 +21,7 @@ returns-clause-moved g c =
     let did = c.mark-lost.ensures in
     moved-less (g.B.Bank.given c.args.bank.now) c.mark-lost.new.members.lost c.args.members.now c.mark-lost.new.members did.less c.requires.placed
     (subst (λ (b : Given). IsPlaced b c.mark-lost.new.members) did.given did.placed) did.unlost
+    (λ few. subst (λ (slots : List ℕ). length slots ≤ 32) (sym did.marked.spares) (few-planned c.args.members.now (marking c.args.members.now c.args.clean) c.mark-lost.new.members.lost))
 
 pub returns-clause-grows : goal.returns-clause-grows
 returns-clause-grows g c = grows-marks c.mark-lost.ensures.marked.update.marks

@@ -93,6 +93,13 @@ returns-then-lost-ne0-clause-answered g c =
     (c.enter_behind.ensures.items ∙ ap (λ (l : List Entry). l ++ entries_of c.args.who end (losses_of roles 0 ++ Refused c.too_many-refusal.result ∷ [])) c.make_room.ensures.items
     ∙ ap (λ (r : Refusal). a.epoch.entries.items ++ entries_of c.args.who end (losses_of roles 0 ++ Refused r ∷ [])) c.too_many-refusal.ensures) number))
 
+pub returns-then-lost-ne0-clause-held : goal.returns-then-lost-ne0-clause-held
+returns-then-lost-ne0-clause-held g c =
+    let was = c.self.invariant in
+    let a = c.self.inside in
+    rw (← c.self.view_is) (moved-lost (g.B.Bank.given a.bank) c.shape_in-shape.result a.members c.read_body-lost.new.members c.read_body-lost.result (g.B.Bank.faults_of a.bank) (g.B.Bank.faults_of c.read_body-lost.new.bank)
+    was.kept.placed c.read_body-lost.ensures.lost was.kept.unlost).held
+
 pub returns-then-lost-ne0-clause-losses : goal.returns-then-lost-ne0-clause-losses
 returns-then-lost-ne0-clause-losses g c =
     let was = c.self.invariant in

@@ -62,6 +62,9 @@ invariant_of-self-then-not-lost g c =
     (c.enter_behind.ensures.items ∙ ap (λ (r : Refusal). c.make_room.new.self.items ++ entries_of c.args.who end (losses_of roles spares ++ Refused r ∷ [])) c.too_many-refusal.ensures)
     (omega (arith, c.enter_behind.ensures.room, c.in-Ok.ensures.ok)) was.rows_fit was.buffer_fits
 
+pub returns-then-not-lost-clause-held : goal.returns-then-not-lost-clause-held
+returns-then-not-lost-clause-held g c = rw (← c.self.view_is) c.settle-lost.ensures.moved.held
+
 pub returns-then-not-lost-clause-losses : goal.returns-then-not-lost-clause-losses
 returns-then-not-lost-clause-losses g c =
     let was = c.self.invariant in
@@ -118,6 +121,9 @@ invariant_of-self-2 g c =
     did.rows (did.flushed (back c.settle-lost.result.begun c.if-not-lost.false)) (λ t values at room whole none. did.right t (scope_in given a.epoch.uuid a.epoch.given a.backup) values at room whole none))
     did.given (scope-same given a.backup did.given c.enter_behind-2.ensures.uuid c.enter_behind-2.ensures.given) c.enter_behind-2.ensures.first c.make_room.ensures.items c.enter_behind-2.ensures.items
     (omega (arith, c.enter_behind-2.ensures.room, c.in-Ok.ensures.ok)) was.rows_fit was.buffer_fits
+
+pub returns-clause-held : goal.returns-clause-held
+returns-clause-held g c = rw (← c.self.view_is) c.settle-lost.ensures.moved.held
 
 pub returns-clause-losses : goal.returns-clause-losses
 returns-clause-losses g c =

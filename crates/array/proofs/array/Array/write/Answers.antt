@@ -123,6 +123,12 @@ returns-then-roles-ne0-clause-untouched g c =
     let body = sectors_of c.args.from.now in
     rw (← c.self.view_is) (λ none told. did.untouched (torn-told c.args.who end roles spares torn c.args.at c.in-Ok.body c.too_many-refusal.result c.make_room.ensures.items c.enter_failure.ensures.items none) told)
 
+pub returns-then-roles-ne0-clause-held : goal.returns-then-roles-ne0-clause-held
+returns-then-roles-ne0-clause-held g c = rw (← c.self.view_is) c.put-lost.ensures.moved.held
+
+pub returns-then-roles-ne0-clause-never_falls : goal.returns-then-roles-ne0-clause-never_falls
+returns-then-roles-ne0-clause-never_falls g c = rw (← c.self.view_is) c.put-lost.ensures.counts
+
 pub returns-then-roles-ne0-clause-losses : goal.returns-then-roles-ne0-clause-losses
 returns-then-roles-ne0-clause-losses g c =
     let was = c.self.invariant in
@@ -210,6 +216,12 @@ returns-clause-answered g c =
     (c.enter_behind.ensures.items ∙ ap (λ (l : List Entry). l ++ entries_of c.args.who end (losses_of roles spares ++ Wrote c.args.at c.in-Ok.body ∷ [])) c.make_room.ensures.items
     ∙ ap (λ (b : List Sector). a.epoch.entries.items ++ entries_of c.args.who end (losses_of roles spares ++ Wrote c.args.at b ∷ [])) c.in-Ok.ensures)
     number (refl, refl) (torn-losses (AsksWrite c.args.at body) c.args.who end (losses_of roles spares) (losses-are roles spares)))
+
+pub returns-clause-held : goal.returns-clause-held
+returns-clause-held g c = rw (← c.self.view_is) c.put-lost.ensures.moved.held
+
+pub returns-clause-never_falls : goal.returns-clause-never_falls
+returns-clause-never_falls g c = rw (← c.self.view_is) c.put-lost.ensures.counts
 
 pub returns-clause-losses : goal.returns-clause-losses
 returns-clause-losses g c =
