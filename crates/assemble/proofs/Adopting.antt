@@ -41,6 +41,7 @@ use Rattle.array.specs.Kept.{world_in, OpensGood, IsAdoptable}
 use Rattle.assemble.specs.declared.opening.Opened.{Opened}
 use Rattle.assemble.specs.Opening.{scope_of, IsOpened, AreFlushed}
 use Rattle.assemble.proofs.MadeLaws.{same-tabulated}
+use Rattle.assemble.proofs.PlacedFound.{few-spares}
 use Rattle.assemble.proofs.OpenedHeld.{opened-held}
 
 both : (a b : Bool) → (a && b) ≡ true → (a ≡ true) × (b ≡ true)
@@ -229,6 +230,7 @@ module _ {tells : Type 0} (bank : Given) (tape : List Operation) (backup : Optio
   pub adoptable : IsAdoptable tells bank tape (scope_of bank backup opened.given opened.members.newest.set_uuid) opened.members
   adoptable = record {
     slots = few;
+    spares = few-spares bank opened.members few is.elected;
     placed = placed;
     unlost = unlost;
     whole = whole;

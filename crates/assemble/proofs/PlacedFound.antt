@@ -30,6 +30,32 @@ use Rattle.array.specs.Placed.{IsPlaced, AreWhole, AreUnlost}
 use Rattle.assemble.specs.Opening.{AreOfGiven, AreCounted}
 use Rattle.assemble.proofs.Judged.{elected-valid, reading-made}
 
+-- ---- how many spares
+
+fewer-spares : (N : Sb) (sectors : ℕ → ℕ) (slot : ℕ) (X : List (Option Sb)) → length (spares_from N sectors slot X) ≤ length X
+fewer-spares N sectors slot [] = omega arith
+fewer-spares N sectors slot (None ∷ X) = let rest = fewer-spares N sectors (slot + 1) X in omega (arith, rest)
+fewer-spares N sectors slot (Some sb ∷ X) = by (is_spare N (sectors slot) sb) (fewer-spares N sectors (slot + 1) X)
+  where
+    by : (b : Bool) → length (spares_from N sectors (slot + 1) X) ≤ length X → length (cond b (slot ∷ spares_from N sectors (slot + 1) X) (spares_from N sectors (slot + 1) X)) ≤ suc (length X)
+    by true rest = omega (arith, rest)
+    by false rest = omega (arith, rest)
+
+-- the members are what these superblocks say
+said-by : (sec : ℕ → ℕ) (X : List (Option Sb)) (lost : ℕ) (m : Members) → IsElected sec X lost m → reading_by sec X m.newest ≡ reading_in (length X) m
+said-by sec X lost m elected =
+    one (reading_by sec X m.newest) (reading_in (length X) m) (sym (ap (option_map (reading_by sec X)) (reading-made sec X (reading_in (length X) m) elected.says).0) ∙ elected.says)
+  where
+    one : (a b : Reading) → Some a ≡ Some b → a ≡ b
+    one a b e = cc
+
+-- a bank has at most 32 slots, and each is a spare at most once
+pub few-spares : (bank : Given) (m : Members) → bank.slots ≤ 32 → IsElected (sizes bank).sectors (take bank.slots m.own) m.lost m → length m.spares ≤ 32
+few-spares bank m few elected =
+    let X : List (Option Sb) = take bank.slots m.own in
+    let are : m.spares ≡ spares_from m.newest (sizes bank).sectors 0 X = sym (ap (λ (q : Reading). q.spares) (said-by (sizes bank).sectors X m.lost m elected)) in
+    omega (arith, few, ap length are, fewer-spares m.newest (sizes bank).sectors 0 X, length-take bank.slots m.own)
+
 -- ---- whose superblock it is
 
 -- the slot s, from slot i on in this list, holds the role
@@ -162,10 +188,7 @@ module _ (bank : Given) (few : bank.slots ≤ 32) (m : Members) (elected : IsEle
   newest-is = (reading-made sec X (reading_in (length X) m) elected.says).0
 
   made : reading_by (sizes bank).sectors (take bank.slots m.own) m.newest ≡ reading_in (length (take bank.slots m.own)) m
-  made = one (reading_by sec X m.newest) (reading_in (length X) m) (sym (ap (option_map (reading_by sec X)) newest-is) ∙ elected.says)
-    where
-      one : (a b : Reading) → Some a ≡ Some b → a ≡ b
-      one a b e = cc
+  made = said-by sec X m.lost m elected
 
   roles-are : m.roles ≡ tabulate (role_count m.newest) (λ role. holder_from m.newest role 0 (take bank.slots m.own))
   roles-are = sym (ap (λ (q : Reading). q.roles) made)

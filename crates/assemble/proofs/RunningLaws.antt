@@ -40,7 +40,7 @@ use Rattle.assemble.specs.Opening.{scope_of, array_of, AreGiven, AreFlushed, IsO
 use Rattle.assemble.specs.Making.{created_sb}
 use Rattle.assemble.specs.Filling.{IsMade, AreZeros}
 use Rattle.assemble.specs.Made.{IsNew}
-use Rattle.assemble.specs.Running.{opened_of, IsBegun, OpensWithZeros, IsCreated, IsAssembled, IsMissingSome, HasAssembleCause}
+use Rattle.assemble.specs.Running.{opened_of, IsBegun, OpensWithZeros, IsCreated, IsAssembled, IsMissingSome, untolerated, HasAssembleCause}
 use Rattle.assemble.proofs.MadeLaws.{entry-is}
 use Rattle.assemble.proofs.SafeLaws.{opened-told}
 use Rattle.assemble.proofs.NewZeros.{new-arrays-are-zeros}
@@ -207,15 +207,22 @@ module _ {B tells : Type 0} (device : B) (bank : Given) (tape : List Operation) 
 
 -- ---- what is refused
 
-pub caused : (tells : Type 0) (bank : Given) (c c' : Contents) (backup : Option ℕ) (asked : Option (List ℕ)) (before after : ℕ → ℕ) (fault : Fault)
-    → (tells → c' ≡ c) → HasCause tells bank c' backup asked before after fault → HasAssembleCause tells bank c backup asked before after fault
-caused tells bank c c' backup asked before after (Refused refusal) same cause = inl (record {
-  given = cause.given;
-  slots = cause.slots;
-  why = λ told. subst (λ (k : Contents). (verdict (scope_of bank backup cause.given (array_of bank backup cause.given asked k)) k ≡ Some refusal)
-      ⊎ IsReshapeRefused (scope_of bank backup cause.given (array_of bank backup cause.given asked k)) k refusal) (same told) (cause.why told);
-})
-caused tells bank c c' backup asked before after NoMemory same cause = tt
+pub caused : (tells : Type 0) (bank : Given) (c c' : Contents) (backup : Option ℕ) (asked : Option (List ℕ)) (before after : ℕ → ℕ) (fault told : Fault)
+    → (tells → c' ≡ c) → HasCause tells bank c' backup asked before after fault → ((refusal : Refusal) → fault ≡ Refused refusal → told ≡ Refused (untolerated refusal))
+    → (fault ≡ NoMemory → told ≡ NoMemory) → HasAssembleCause tells bank c backup asked before after told
+caused tells bank c c' backup asked before after (Refused refusal) told same cause refused short =
+    subst (λ (f : Fault). HasAssembleCause tells bank c backup asked before after f) (sym (refused refusal refl)) (inl (record {
+      told = refusal;
+      cause = record {
+        given = cause.given;
+        slots = cause.slots;
+        why = λ t. subst (λ (k : Contents). (verdict (scope_of bank backup cause.given (array_of bank backup cause.given asked k)) k ≡ Some refusal)
+            ⊎ IsReshapeRefused (scope_of bank backup cause.given (array_of bank backup cause.given asked k)) k refusal) (same t) (cause.why t);
+      };
+      is = refl;
+    }))
+caused tells bank c c' backup asked before after NoMemory told same cause refused short =
+    subst (λ (f : Fault). HasAssembleCause tells bank c backup asked before after f) (sym (short refl)) tt
 
 pub missing : (tells : Type 0) (bank : Given) (c c' : Contents) (backup : Option ℕ) (asked : Option (List ℕ)) (before after : ℕ → ℕ) (opened : Opened) (refusal : Refusal)
     → (tells → c' ≡ c) → IsOpened tells bank c' backup asked opened → AreGiven bank opened.given before after

@@ -73,8 +73,20 @@ pub record IsRefusedMissing (tells : Type 0) (bank : Given) (c : Contents) (back
   pub slots : AreGiven bank given before after
   pub why : tells → IsMissingSome (scope_of bank backup given (array_of bank backup given asked c)) c refusal
 
+-- an array that can do without no member tolerates none, so a refusal for missing ones tells 0
+abbrev pub untolerated : Refusal → Refusal
+untolerated (MembersMissing count tolerance) = MembersMissing count 0
+untolerated refusal = refusal
+
+-- an opening is refused so, but for what it tolerates
+pub record IsRefusedOpening (tells : Type 0) (bank : Given) (c : Contents) (backup : Option ℕ) (asked : Option (List ℕ)) (before after : ℕ → ℕ)
+    (refusal : Refusal) : Type 0 where
+  pub told : Refusal
+  pub cause : HasCause tells bank c backup asked before after (Refused told)
+  pub is : refusal ≡ untolerated told
+
 -- Why no array was found: the cause of an opening's refusal, or missing roles; want of memory may come at any time.
 abbrev pub HasAssembleCause : Type 0 → Given → Contents → Option ℕ → Option (List ℕ) → (ℕ → ℕ) → (ℕ → ℕ) → Fault → Type 0
 HasAssembleCause tells bank c backup asked before after (Refused refusal) =
-    HasCause tells bank c backup asked before after (Refused refusal) ⊎ IsRefusedMissing tells bank c backup asked before after refusal
+    IsRefusedOpening tells bank c backup asked before after refusal ⊎ IsRefusedMissing tells bank c backup asked before after refusal
 HasAssembleCause tells bank c backup asked before after NoMemory = Unit {0}

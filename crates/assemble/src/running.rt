@@ -15,7 +15,7 @@ ghost use Rattle.assemble.specs.Opening.{scope_of};
 ghost use Rattle.assemble.specs.Creating.{IsLastSlot, create_refusal};
 ghost use Rattle.assemble.specs.Filling.{OnlyBelow};
 ghost use Rattle.assemble.specs.Made.{used_slot, HasCreateCause};
-ghost use Rattle.assemble.specs.Running.{IsCreated, IsAssembled, HasAssembleCause};
+ghost use Rattle.assemble.specs.Running.{untolerated, IsCreated, IsAssembled, HasAssembleCause};
 
 use crate::making::make;
 use crate::opening::{Opened, open};
@@ -99,8 +99,22 @@ fn missing_refusal(members: &Members) -> Option<Refusal>
     }
 }
 
+// The refusal of an opening, for an array that can do without no member.
+fn untolerated(fault: Fault) -> Fault
+    ensures refused { (told : AnyRefusal) → fault ≡ IsRefused told → result ≡ IsRefused (untolerated told) }
+    ensures short { fault ≡ WantsMemory → result ≡ WantsMemory }
+{
+    match fault {
+        Fault::Refused(Refusal::MembersMissing(count, _)) => {
+            Fault::Refused(Refusal::MembersMissing(count, 0))
+        }
+        other => other,
+    }
+}
+
 /// Opens an array as `open` does, and runs it. Where nothing else is refused but roles are missing, `MembersMissing` says
-/// how many, and 0, since the array can do without none. A refusal hands the bank back, as `open` leaves it.
+/// how many, and 0 as often as it comes, since the array can do without none. A refusal hands the bank back, as `open`
+/// leaves it.
 pub fn assemble<B: Bank>(
     alloc: Global,
     mut bank: B,
@@ -125,7 +139,7 @@ pub fn assemble<B: Bank>(
     ensures left_counts { IfErr result (λ e. OnlyItsSlotsFail (B.given bank) (B.faults_of bank) (B.faults_of e.0)) }
 {
     let opened = match open(alloc, &mut bank, backup, uuid) {
-        Err(fault) => return Err((bank, fault)),
+        Err(fault) => return Err((bank, untolerated(fault))),
         Ok(opened) => opened,
     };
     match missing_refusal(&opened.members) {

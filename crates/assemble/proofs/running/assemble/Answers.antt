@@ -37,7 +37,8 @@ pub returns-in-Err-clause-refused : goal.returns-in-Err-clause-refused
 returns-in-Err-clause-refused g c =
     let bank : Given = g.B.Bank.given c.args.bank in
     caused g.B.Bank.tells bank (present bank (g.B.Bank.tape c.args.bank)) (present bank (g.B.Bank.tape c.open.new.bank)) c.args.backup c.args.uuid
-    (g.B.Bank.faults_of c.args.bank) (g.B.Bank.faults_of c.open.new.bank) c.in-Err.fault c.open.ensures.contents c.in-Err.ensures.refused
+    (g.B.Bank.faults_of c.args.bank) (g.B.Bank.faults_of c.open.new.bank) c.in-Err.fault c.untolerated.result c.open.ensures.contents c.in-Err.ensures.refused
+    c.untolerated.ensures.refused c.untolerated.ensures.short
 
 pub returns-in-Some-clause-refused : goal.returns-in-Some-clause-refused
 returns-in-Some-clause-refused g c =
