@@ -1,5 +1,6 @@
 -- Why nothing was made or found stays a cause, over a longer time and where the slots hold the same.
-use Rattle.std.proofs.Common.{◌≡◌, ℕ, ◌+◌, ◌<◌, ◌≤◌, ◌==◌, ◌&&◌, ◌⊎◌, inl, inr, Bool, true, false, Option, Some, None, List, [], ◌∷◌, ◌++◌, length, refl, sym, ◌∙◌, ap, subst, arith, append-nil, append_assoc, take_all}
+use Rattle.std.proofs.Common.{◌≡◌, ℕ, ◌+◌, ◌-◌, ◌^◌, ◌<◌, ◌≤◌, ◌==◌, ◌&&◌, ◌⊎◌, inl, inr, Bool, true, false, Option, Some, None, List, [], ◌∷◌, ◌++◌, length, refl, sym, ◌∙◌, ap, subst, arith, append-nil, append_assoc, take_all}
+use Rattle.std.proofs.lemmas.Bool.{cases_eq}
 use Rattle.std.proofs.lemmas.Bool.Decides.{nat_tests}
 use Rattle.std.specs.Prelude.{is_some, nat_le, if◌then◌else◌, MatchOption, IfSome, ⊤}
 use Rattle.md_base.specs.Sectors.{Sector}
@@ -9,7 +10,7 @@ use Rattle.md_base.specs.declared.answers.Fault.TheVariants.{Refused as IsRefuse
 use Rattle.md_base.specs.declared.answers.Refusal.{Refusal}
 use Rattle.md_base.specs.declared.answers.Refusal.TheVariants.{UuidInUse, SlotFault}
 use Rattle.sb1.specs.Superblock.{superblock_in}
-use Rattle.bank.specs.Given.{Given, NeverFalls}
+use Rattle.bank.specs.Given.{Given, IsFaulted, NeverFalls}
 use Rattle.bank.specs.declared.bank.Operation.{Operation}
 use Rattle.bank.specs.declared.bank.Operation.TheVariants.{Write, Flush}
 use Rattle.bank.specs.Tape.{Contents, contents, value_after}
@@ -24,7 +25,14 @@ use Rattle.array.specs.declared.spec.CreateSpec.{CreateSpec}
 use Rattle.assemble.specs.Opening.{scope_of, array_of, AreGiven, IsReshapeRefused}
 use Rattle.assemble.specs.Made.{is_used, used_slot, IsUse, IsLateRefusal, HasCreateCause}
 use Rattle.assemble.specs.Running.{IsMissingSome, HasAssembleCause}
-use Rattle.runner.proofs.Losses.{faulted-wider}
+
+-- has failed since every earlier moment, and at every later one
+pub faulted-wider : {first before now last : ℕ → ℕ} (slot : ℕ) → NeverFalls first before → NeverFalls before now → NeverFalls now last → IsFaulted slot before now → IsFaulted slot first last
+faulted-wider slot early between late (inl rose) = inl (omega (arith, rose, early slot, late slot))
+faulted-wider {first = first} slot early between late (inr full) = elim (cases_eq (first slot) (2 ^ 64 - 1)) [
+  | inl same ↦ inr same
+  | inr other ↦ inl (omega (arith, other, full, early slot, between slot, late slot))
+]
 
 pub given-wider : {first before now last : ℕ → ℕ} {bank : Given} {given : ℕ} → NeverFalls first before → NeverFalls before now → NeverFalls now last → AreGiven bank given before now → AreGiven bank given first last
 given-wider early between late was = record {
@@ -74,10 +82,14 @@ module _ {told later : Type 0} {first before now last : ℕ → ℕ} (fewer : la
   module _ (asked : Option (List ℕ)) (same : later → d ≡ c) where
     pub assemble-later : (fault : Fault) → HasAssembleCause told bank c backup asked before now fault → HasAssembleCause later bank d backup asked first last fault
     assemble-later (IsRefusedWith refusal) (inl was) = inl (record {
-      given = was.given;
-      slots = given-wider early between late was.slots;
-      why = λ t. subst (λ (x : Contents). (verdict (scope_of bank backup was.given (array_of bank backup was.given asked x)) x ≡ Some refusal) ⊎ IsReshapeRefused (scope_of bank backup was.given (array_of bank backup was.given asked x)) x refusal)
-          (sym (same t)) (was.why (fewer t));
+      told = was.told;
+      cause = record {
+        given = was.cause.given;
+        slots = given-wider early between late was.cause.slots;
+        why = λ t. subst (λ (x : Contents). (verdict (scope_of bank backup was.cause.given (array_of bank backup was.cause.given asked x)) x ≡ Some was.told) ⊎ IsReshapeRefused (scope_of bank backup was.cause.given (array_of bank backup was.cause.given asked x)) x was.told)
+            (sym (same t)) (was.cause.why (fewer t));
+      };
+      is = was.is;
     })
     assemble-later (IsRefusedWith refusal) (inr was) = inr (record {
       given = was.given;

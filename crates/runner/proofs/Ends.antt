@@ -11,6 +11,8 @@ use Rattle.flat_history.specs.declared.events.Epoch.{Epoch}
 use Rattle.flat_history.specs.declared.events.Event.TheVariants.{Halted}
 use Rattle.flat_history.specs.Flat.{next_number, last_of}
 use Rattle.flat_history.specs.Plain.{entries_of}
+use Rattle.md_base.specs.declared.answers.Who.{Who}
+use Rattle.array.specs.Kept.{IsEntered}
 use Rattle.array.specs.Parts.{Parts}
 use Rattle.array.specs.Whole.{list_size}
 use Rattle.array.specs.Placed.{places_of}
@@ -29,10 +31,10 @@ use Rattle.runner.specs.Replies.{Course, at_rest, course_after, course_of}
 use Rattle.runner.specs.Runs.{status_for, stop_of, IsHalted, AreLinesPerformed, AreLossesFailed, IsEnded}
 use Rattle.runner.specs.Sessions.{counted, IsCourse, IsCourseBehind, taken_whole, IsTaken, IsPerformed, IsShownTo}
 use Rattle.runner.specs.Shown.{report_text, has_refusal}
-use Rattle.runner.specs.States.{histories_in, course_in, RunsOwn, IsLossSince, AreLossesSince, AreLossesFrom, IsFoundUntold}
+use Rattle.runner.specs.States.{running_history, histories_in, course_in, RunsOwn, IsLossSince, AreLossesFrom, IsFoundUntold}
 use Rattle.runner.proofs.AskLaws.{one, with_reply}
 use Rattle.runner.proofs.Growth.{IsWider, replies_stay, replies_front, shown_stays, courses_stay, course_stays, named_stay}
-use Rattle.runner.proofs.Losses.{losses-then, losses-whole, losses-kept}
+use Rattle.runner.proofs.Losses.{losses-halted, losses-whole, losses-kept, losses-last, losses_add}
 use Rattle.runner.proofs.Turns.{now_are, turn_ended, grown_kept, get_last}
 
 last-snoc : (xs : List Entry) (e : Entry) → last_of (xs ++ e ∷ []) ≡ Some e
@@ -40,14 +42,14 @@ last-snoc [] e = refl
 last-snoc (x ∷ xs) e = ap (λ (o : Option Entry). Some (unwrap_or o x)) (last-snoc xs e)
 
 -- the array that ran was halted
-pub ended_running : {B : Type 0} {place : ℕ} {faults : ℕ → ℕ} (array : Parts B) (epoch : Epoch) (epochs ended : Vec Epoch) → ended.items ≡ epochs.items ++ epoch ∷ [] → RunsOwn (Running array epochs)
-    → AreLossesSince faults faults array.entries epoch.entries.items → epoch.uuid ≡ array.uuid → epoch.given ≡ array.given → epoch.first ≡ array.first
+pub ended_running : {B tells : Type 0} {tape : List Operation} {place : ℕ} (setting : Setting) (who : Who) (array : Parts B) (epoch : Epoch) (epochs ended : Vec Epoch) → ended.items ≡ epochs.items ++ epoch ∷ [] → RunsOwn (Running array epochs)
+    → IsEntered tells tape who array.entries epoch.entries.items (Halted ∷ []) → epoch.uuid ≡ array.uuid → epoch.given ≡ array.given → epoch.first ≡ array.first
     → (asked : IsAskedAt (list_size (places_of array.members)) Halt array.entries epoch.entries.items place) → asked.event ≡ Halted
-    → IsEnded faults (Running array epochs) array.bank ended.items
-ended_running {place = place} {faults = faults} array epoch epochs ended items own lost uuid given first asked halts =
-    let setting : Setting = record { tells = ⊥; given = record { slots = 0; sectors = λ s. 0; start = λ s k. [] }; tape = []; backup = None; began = 0; before = faults; now = faults } in
-    let turn = turn_ended setting array epoch array.bank epochs ended items own lost uuid given first Halt place asked (λ t. absurd t) (ap is_end halts) in
-    let are = now_are setting array epoch array.bank epochs ended items own lost uuid given first in
+    → IsEnded setting (Running array epochs) array.bank ended.items
+ended_running {place = place} setting who array epoch epochs ended items own entered uuid given first asked halts =
+    let still : Setting = record { tells = ⊥; given = record { slots = 0; sectors = λ s. 0; start = λ s k. [] }; tape = []; backup = None; began = 0; before = λ s. 0; now = λ s. 0 } in
+    let turn = turn_ended still array epoch array.bank epochs ended items own (losses-halted still who (history_of epoch) entered) uuid given first Halt place asked (λ t. absurd t) (ap is_end halts) in
+    let are = now_are still array epoch array.bank epochs ended items own (losses-halted still who (history_of epoch) entered) uuid given first in
     let many : length (histories_of ended.items) ≡ length (histories_of epochs.items) + 1 =
     ap (λ (l : List History). length l) are ∙ length-append (histories_of epochs.items) (history_of epoch ∷ []) in
     record {
@@ -63,17 +65,18 @@ ended_running {place = place} {faults = faults} array epoch epochs ended items o
             (refl, refl, halts));
       };
       script = turn.own;
-      losses = turn.losses;
+      losses = subst (λ (l : List History). AreLossesFrom setting (histories_of epochs.items ++ running_history array ∷ []) l) (sym are)
+          (losses-last setting (histories_of epochs.items) (running_history array) (history_of epoch) (losses-halted setting who (history_of epoch) entered));
     }
 
 -- nothing ran
-pub ended_idle : {B : Type 0} (faults : ℕ → ℕ) (bank : B) (epochs : Vec Epoch) → RunsOwn (Idle bank epochs) → IsEnded faults (Idle bank epochs) bank epochs.items
-ended_idle faults bank epochs own = record {
+pub ended_idle : {B : Type 0} (setting : Setting) (bank : B) (epochs : Vec Epoch) → RunsOwn (Idle bank epochs) → IsEnded setting (Idle bank epochs) bank epochs.items
+ended_idle setting bank epochs own = record {
   same_bank = refl;
   grown = grown_kept (histories_of epochs.items);
   halted = record { count = length-map epochs.items history_of; halted = λ runs. absurd (cc) };
   script = own;
-  losses = losses-kept faults faults (histories_of epochs.items);
+  losses = losses-kept setting (histories_of epochs.items);
 }
 
 stop_of_status : (o : Option Stop) (refused : Bool) → stop_of (status_for o refused) ≡ o
@@ -82,18 +85,13 @@ stop_of_status None true = refl
 stop_of_status (Some WriteFault) refused = refl
 stop_of_status (Some WantsMemory) refused = refl
 
-losses_of : (before now : ℕ → ℕ) (histories : List History) (epochs : List Epoch) → NeverFalls before now → AreLossesFrom before now [] histories → AreLossesFrom now now histories (histories_of epochs)
-    → AreLossesFailed before now epochs
-losses_of before now [] [] le was ended = All-nil (λ epoch. All (λ e. IsLossSince before now e.event) epoch.entries.items)
-losses_of before now [] (epoch ∷ epochs) le was (one, more) =
-    All-cons (λ epoch. All (λ e. IsLossSince before now e.event) epoch.entries.items) epoch epochs (losses-whole le (λ s. omega arith) one) (losses_of before now [] epochs le tt more)
-losses_of before now (h ∷ histories) [] le was ended = absurd ended
-losses_of before now (h ∷ histories) (epoch ∷ epochs) le (was, others) (one, more) =
-    All-cons (λ epoch. All (λ e. IsLossSince before now e.event) epoch.entries.items) epoch epochs
-    (losses-whole (λ s. omega arith) le (losses-then le (λ s. omega arith) was one)) (losses_of before now histories epochs le others more)
+whole_losses : (setting : Setting) (epochs : List Epoch) → AreLossesFrom setting [] (histories_of epochs) → AreLossesFailed setting epochs
+whole_losses setting [] lost = All-nil (λ epoch. All (λ e. IsLossSince setting (history_of epoch) e.event) epoch.entries.items)
+whole_losses setting (epoch ∷ epochs) (one, more) =
+    All-cons (λ epoch. All (λ e. IsLossSince setting (history_of epoch) e.event) epoch.entries.items) epoch epochs (losses-whole setting (history_of epoch) one) (whole_losses setting epochs more)
 
 module _ {B bank_tells : Type 0} {given : Given} {backup : Option ℕ} {tape : List Operation} {start now : ℕ → ℕ} {lines : List Numbered} {session : Session B} {bank : B} (first_tape : List Operation) (epochs : List Epoch) (status : ℕ)
-    (falls : NeverFalls start now) (performed : IsPerformed (setting_of bank_tells given first_tape tape backup start now) lines session) (ended : IsEnded now session.state bank epochs) (told : status ≡ status_for session.stopped session.refused) where
+    (falls : NeverFalls start now) (performed : IsPerformed (setting_of bank_tells given first_tape tape backup start now) lines session) (ended : IsEnded (setting_of bank_tells given tape tape backup now now) session.state bank epochs) (told : status ≡ status_for session.stopped session.refused) where
   is_stop : stop_of status ≡ session.stopped
   is_stop = ap stop_of told ∙ stop_of_status session.stopped session.refused
 
@@ -159,8 +157,13 @@ module _ {B bank_tells : Type 0} {given : Given} {backup : Option ℕ} {tape : L
     ends = performed.ends;
   }
 
-  pub end_losses : AreLossesFailed start now epochs
-  end_losses = losses_of start now (histories_in session.state) epochs falls performed.losses ended.losses
+  end_setting : IsWider (setting_of bank_tells given tape tape backup now now) (setting_of bank_tells given first_tape tape backup start now)
+  end_setting = record { told = λ t. t; given = refl; backup = refl; grows = record { more = λ t. ([], sym (append-nil tape)) }; early = falls; between = λ s. omega arith; late = λ s. omega arith }
+
+  pub end_losses : AreLossesFailed (setting_of bank_tells given first_tape tape backup start now) epochs
+  end_losses = whole_losses (setting_of bank_tells given first_tape tape backup start now) epochs
+      (losses_add (setting_of bank_tells given first_tape tape backup start now) (setting_of bank_tells given tape tape backup now now) (setting_of bank_tells given first_tape tape backup start now) same_setting end_setting (histories_in session.state) (histories_of epochs) ended.grown
+      performed.losses ended.losses)
 
   module _ {K : Type 0} {old new : List ℕ} {old_faults new_faults : ℕ} (shown : IsShownTo K session old new old_faults new_faults) where
     pub end_taken : K → IsTaken (stop_of status) old new (report_text (histories_of epochs) session.replies.items)

@@ -1,5 +1,5 @@
 -- What stands in the superblocks of an array that was made or found.
-use Rattle.std.proofs.Common.{◌≡◌, ℕ, ◌+◌, ◌/◌, ◌*◌, min, not, Bool, true, false, Option, Some, None, List, [], length, map, refl, sym, ◌∙◌, ap, arith}
+use Rattle.std.proofs.Common.{◌≡◌, ℕ, ◌+◌, ◌/◌, ◌*◌, min, not, Bool, true, false, Option, Some, None, List, [], length, map, refl, sym, ◌∙◌, ap, subst, arith}
 use Rattle.std.specs.Prelude.{if◌then◌else◌, IsFalse, IsTrue}
 use Rattle.std.specs.Option.{option_map_or}
 use Rattle.md_base.specs.Shapes.{data_disks}
@@ -25,7 +25,8 @@ use Rattle.assemble.specs.Opening.{scope_of, IsOpened}
 use Rattle.assemble.specs.Running.{opened_of, IsBegun, IsCreated, IsAssembled}
 use Rattle.array.specs.Status.{IsStatusFor}
 use Rattle.runner.specs.Histories.{History}
-use Rattle.runner.specs.Making.{Setting, history_world, IsStored, IsStoredNew, IsStoredAs}
+use Rattle.runner.specs.Making.{Setting, world_at, history_world, HeldAtFirst, AreHeldAtFirst, IsStored, IsStoredNew, IsStoredAs}
+use Rattle.runner.specs.States.{running_history}
 
 -- the world of an array that begins where the tape ends
 abbrev pub found_world : {B : Type 0} → Given → List Operation → Option ℕ → Parts B → World
@@ -68,6 +69,14 @@ module _ {B tells : Type 0} (given : Given) (tape : List Operation) (backup : Op
       turned : (b : Bool) → not b ≡ false → IsTrue b
       turned true is = refl
       turned false is = absurd (cc)
+
+  -- each slot that holds a role now held it then
+  pub opened_held : array.uuid ≡ array.members.newest.set_uuid → AreHeldAtFirst (world_at given tape backup (running_history array)) array.members
+  opened_held uuid role slot is =
+      subst (λ (w : World). HeldAtFirst w role slot)
+      (ap (λ (u : List ℕ). record { start = given.start; tape = tape; scope = record { uuid = u; given = array.given; backup = backup; sizes = sizes given }; first = length tape }) (sym uuid)
+      ∙ ap (λ (n : ℕ). record { start = given.start; tape = tape; scope = record { uuid = array.uuid; given = array.given; backup = backup; sizes = sizes given }; first = n }) (sym (begun.first t)))
+      (record { begun = omega arith; found = r; says = says; held = is })
 
 -- what stands in the superblocks of an array that was made
 pub stored_made : {B tells : Type 0} (given : Given) (tape : List Operation) (backup : Option ℕ) (spec : CreateSpec) (made : Parts B) → IsCreated tells given tape backup spec made → tells → IsStoredNew (found_world given tape backup made) spec

@@ -130,7 +130,7 @@ held_stays was now wider mark t le =
     ∙ (λ i s k. contents-earlier was.given.start was.tape (more.0) mark s k le i)
 
 -- the world of a history, over the longer tape
-world_stays : (was now : Setting) (wider : IsWider was now) (history : History) (t : now.tells) → history_world now history ≡ grown (history_world was history) (wider.grows.more t).0
+pub world_stays : (was now : Setting) (wider : IsWider was now) (history : History) (t : now.tells) → history_world now history ≡ grown (history_world was history) (wider.grows.more t).0
 world_stays was now wider history t =
     ap (λ (g : Given). record { start = g.start; tape = now.tape; scope = record { uuid = history.uuid; given = history.given; backup = now.backup; sizes = sizes g }; first = history.first }) wider.given
     ∙ ap (λ (b : Option ℕ). record { start = was.given.start; tape = now.tape; scope = record { uuid = history.uuid; given = history.given; backup = b; sizes = sizes was.given }; first = history.first }) wider.backup

@@ -22,7 +22,11 @@ use Rattle.flat_history.specs.World.{World}
 use Rattle.flat_history.specs.Epochs.{IsEpochRight}
 use Rattle.flat_history.specs.Growing.{EndBy}
 use Rattle.array.specs.Kept.{IsEndOf}
+use Rattle.array.specs.Placed.{AreStillHeld}
 use Rattle.runner.specs.Histories.{History, history_of, histories_of}
+use Rattle.runner.specs.Making.{world_at, AreHeldAtFirst}
+use Rattle.runner.specs.States.{running_history}
+use Rattle.runner.proofs.Losses.{held-later}
 use Rattle.std.specs.Option.{option_map_or}
 use Rattle.runner.specs.Runs.{mark_behind, AreEndedAt}
 use Rattle.runner.proofs.Worlds.{plain-ends, room-before, alike-before, safe-longer}
@@ -61,15 +65,24 @@ safes_longer given tape more backup (e ∷ epochs) legal safe =
 
 -- ---- the marks at which the histories begin
 
+ends_later : (a b : ℕ) (entries : List Entry) → a ≤ b → EndBy a entries → EndBy b entries
+ends_later a b [] le was = tt
+ends_later a b (e ∷ entries) le (one, rest) = (omega (arith, le, one), ends_later a b entries le rest)
+
 pub rising_later : (a b : ℕ) (hs : List History) → a ≤ b → AreRising a hs → AreRising b hs
 rising_later a b [] le was = tt
-rising_later a b (h ∷ []) le (one, rest) = (omega (arith, le, one), tt)
+rising_later a b (h ∷ []) le ((one, ends), rest) = ((omega (arith, le, one), ends_later a b h.entries le ends), tt)
 rising_later a b (h ∷ k ∷ hs) le (one, rest) = (one, rising_later a b (k ∷ hs) le rest)
 
-pub rising_more : (mark : ℕ) (hs : List History) (h : History) → AreRising h.first hs → h.first ≤ mark → AreRising mark (hs ++ h ∷ [])
-rising_more mark [] h was le = (le, tt)
-rising_more mark (x ∷ []) h (one, rest) le = (one, (le, tt))
-rising_more mark (x ∷ y ∷ hs) h (one, rest) le = (one, rising_more mark (y ∷ hs) h rest le)
+pub rising_more : (mark : ℕ) (hs : List History) (h : History) → AreRising h.first hs → h.first ≤ mark → EndBy mark h.entries → AreRising mark (hs ++ h ∷ [])
+rising_more mark [] h was le ends = ((le, ends), tt)
+rising_more mark (x ∷ []) h (one, rest) le ends = (one, ((le, ends), tt))
+rising_more mark (x ∷ y ∷ hs) h (one, rest) le ends = (one, rising_more mark (y ∷ hs) h rest le ends)
+
+-- the first of them begins within the tape
+pub next_within : (tape : List Operation) (epochs : List Epoch) → AreRising (length tape) (histories_of epochs) → next_mark (length tape) (histories_of epochs) ≤ length tape
+next_within tape [] rising = omega arith
+next_within tape (f ∷ epochs) (one, rest) = let later = next_within tape epochs rest in omega (arith, one.0, later)
 
 -- ---- what is kept, as the tape grows
 
@@ -100,28 +113,30 @@ idle_grown {before = before} {after = after} given backup olds news same grows w
 
 -- the array that runs went on
 pub going_grown : {B tells : Type 0} {before after : List Operation} (given : Given) (backup : Option ℕ) (old new : Parts B) (epochs : List Epoch) → Grows tells before after → new.first ≡ old.first → new.backup ≡ old.backup
-    → IsEndOf tells new.first new.entries after → IsGoing tells given before backup old epochs → IsGoing tells given after backup new epochs
-going_grown given backup old new epochs grows first same ended was = record {
+    → new.uuid ≡ old.uuid → new.given ≡ old.given → AreStillHeld old.members new.members → IsEndOf tells new.first new.entries after → IsGoing tells given before backup old epochs → IsGoing tells given after backup new epochs
+going_grown given backup old new epochs grows first same uuid slots still ended was = record {
   backup_is = same ∙ was.backup_is;
   former = λ t. former_grown given backup old.first new.first epochs grows t (omega (arith, first)) (was.former t);
   begun = λ t. omega (arith, first, was.begun t, grows_longer grows t);
+  held = λ t role slot is. held-later given backup (running_history old) (running_history new) old.members grows (record { uuid = uuid; given = slots; first = first }) was.held t role slot (still role slot is);
   ended = ended;
 }
 
 -- a request was made of it, or memory was short
-pub going_asked : {B tells : Type 0} (given : Given) (tape : B → List Operation) (backup : Option ℕ) (old new : Parts B) (epochs : List Epoch) (r : Result ℕ NoMemory) → Grows tells (tape old.bank) (tape new.bank) → new.first ≡ old.first → new.backup ≡ old.backup
+pub going_asked : {B tells : Type 0} (given : Given) (tape : B → List Operation) (backup : Option ℕ) (old new : Parts B) (epochs : List Epoch) (r : Result ℕ NoMemory) → Grows tells (tape old.bank) (tape new.bank) → new.first ≡ old.first → new.backup ≡ old.backup → new.uuid ≡ old.uuid → new.given ≡ old.given → AreStillHeld old.members new.members
     → IfOk r (λ place. IsEndOf tells new.first new.entries (tape new.bank)) → IfErr r (λ none. new ≡ old) → IsGoing tells given (tape old.bank) backup old epochs → IsGoing tells given (tape new.bank) backup new epochs
-going_asked given tape backup old new epochs (Ok place) grows first same ended unchanged was = going_grown given backup old new epochs grows first same ended was
-going_asked {B = B} {tells = tells} given tape backup old new epochs (Err fault) grows first same ended unchanged was = subst (λ (a : Parts B). IsGoing tells given (tape a.bank) backup a epochs) (sym unchanged) was
+going_asked given tape backup old new epochs (Ok place) grows first same uuid slots still ended unchanged was = going_grown given backup old new epochs grows first same uuid slots still ended was
+going_asked {B = B} {tells = tells} given tape backup old new epochs (Err fault) grows first same uuid slots still ended unchanged was = subst (λ (a : Parts B). IsGoing tells given (tape a.bank) backup a epochs) (sym unchanged) was
 
 -- an array was opened where the tape ends
 pub going_begun : {B tells : Type 0} {before after : List Operation} (given : Given) (backup : Option ℕ) (olds news : List Epoch) (array : Parts B) → news ≡ olds → Grows tells before after
-    → array.backup ≡ backup → (tells → array.first ≡ length after) → IsEndOf tells array.first array.entries after
+    → array.backup ≡ backup → (tells → array.first ≡ length after) → (tells → AreHeldAtFirst (world_at given after backup (running_history array)) array.members) → IsEndOf tells array.first array.entries after
     → (tells → AreFormer given before backup (length before) olds) → IsGoing tells given after backup array news
-going_begun {before = before} {after = after} given backup olds news array same grows backup_is first ended was = record {
+going_begun {before = before} {after = after} given backup olds news array same grows backup_is first held ended was = record {
   backup_is = backup_is;
   former = λ t. former_same given after backup array.first olds news same (former_grown given backup (length before) array.first olds grows t (omega (arith, first t, grows_longer grows t)) (was t));
   begun = λ t. omega (arith, first t);
+  held = held;
   ended = ended;
 }
 
@@ -154,7 +169,7 @@ former_more {after = after} given backup array epochs ended epoch items grows fi
       safe = All-push (λ e. IfSound given after backup e (IsCrashSafe (world_of given after backup e) (length after) e.entries.items)) epochs epoch former.safe
           (λ none room alike. subst (λ (n : ℕ). IsCrashSafe (world_of given after backup epoch) n epoch.entries.items) (last told) (right told none room alike).safe);
       rising = subst (λ (l : List History). AreRising (length after) l) (sym (map-append history_of epochs (epoch ∷ [])))
-          (rising_more (length after) (histories_of epochs) (history_of epoch) former.rising (legal told).begun);
+          (rising_more (length after) (histories_of epochs) (history_of epoch) former.rising (legal told).begun (legal_ends given after backup epoch (legal told)));
     })
 
 -- the array that ran was halted
@@ -196,9 +211,9 @@ all_right given tape backup (e ∷ epochs) was (last, ended) =
     let world = world_of given tape backup e in
     All-cons (λ e. IfSound given tape backup e (IsEpochRight given tape backup e)) e epochs
     (λ none room alike. let right = plain-legal world (opening_of world) e.entries.items refl refl none legal.legal in
-    let within = next_within epochs was.rising.1 in
+    let within = next_within tape epochs was.rising.1 in
     record {
-      begins = omega (arith, last, was.rising.0);
+      begins = omega (arith, last, was.rising.0.0);
       ends = omega (arith, last, within);
       legal = right.0;
       safe = λ mark low high only. All-head (λ e. IfSound given tape backup e (IsCrashSafe (world_of given tape backup e) (length tape) e.entries.items)) e epochs was.safe none room alike mark low (omega (arith, high, last, within)) only;
@@ -209,7 +224,3 @@ all_right given tape backup (e ∷ epochs) was (last, ended) =
       safe = All-tail (λ e. IfSound given tape backup e (IsCrashSafe (world_of given tape backup e) (length tape) e.entries.items)) e epochs was.safe;
       rising = was.rising.1;
     }) ended)
-  where
-    next_within : (epochs : List Epoch) → AreRising (length tape) (histories_of epochs) → next_mark (length tape) (histories_of epochs) ≤ length tape
-    next_within [] rising = omega arith
-    next_within (f ∷ epochs) (one, rest) = let later = next_within epochs rest in omega (arith, one, later)

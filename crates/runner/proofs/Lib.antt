@@ -6,6 +6,7 @@ pub mod Growth
 pub mod Legal
 pub mod Losses
 pub mod Marks
+pub mod Reopening
 pub mod Steps
 pub mod Texts
 pub mod Turns

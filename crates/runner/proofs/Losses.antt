@@ -1,87 +1,131 @@
 -- What the histories of a run tell of losses.
-use Rattle.std.proofs.Common.{◌≡◌, ℕ, inl, inr, ◌^◌, ◌-◌, List, [], ◌∷◌, ◌++◌, sym, ◌∙◌, ap, subst, arith, append_assoc, append-nil}
-use Rattle.std.proofs.lemmas.Bool.{cases_eq}
-use Rattle.std.proofs.lemmas.List.Elements.{All-nil, All-append, All-weaker}
+use Rattle.std.proofs.Common.{◌≡◌, ℕ, Option, List, [], ◌∷◌, ◌++◌, refl, sym, ◌∙◌, ap, subst, append_assoc, append-nil}
+use Rattle.std.proofs.lemmas.List.Elements.{All-nil, All-cons, All-append, All-weaker}
 use Rattle.std.specs.List.{All}
-use Rattle.bank.specs.Given.{IsFaulted, NeverFalls}
+use Rattle.bank.specs.Given.{Given}
+use Rattle.bank.specs.declared.bank.Operation.{Operation}
+use Rattle.md_base.specs.declared.answers.Who.{Who}
 use Rattle.superblocks.specs.declared.members.Members.{Members}
 use Rattle.flat_history.specs.declared.events.Entry.{Entry}
 use Rattle.flat_history.specs.declared.events.Event.{Event}
-use Rattle.flat_history.specs.declared.events.Event.TheVariants.{Lost, SpareLost}
-use Rattle.array.specs.Kept.{IsLossOf, AreLossesOf}
+use Rattle.flat_history.specs.declared.events.Event.TheVariants.{Lost, SpareLost, Halted}
+use Rattle.flat_history.specs.Growing.{grown}
+use Rattle.flat_history.specs.World.{World}
+use Rattle.array.specs.Kept.{IsLossOf, AreLossesOf, IsEntered}
+use Rattle.array.specs.Moving.{Grows}
+use Rattle.array.proofs.PlainLaws.{one}
 use Rattle.runner.specs.Histories.{History}
-use Rattle.runner.specs.States.{IsLossSince, AreLossesSince, AreLossesFrom}
+use Rattle.runner.specs.Making.{Setting, world_at, history_world, HeldAtFirst, AreHeldAtFirst}
+use Rattle.runner.specs.States.{IsLossSince, AreLossesSince, AreLossesFrom, AreGrown}
+use Rattle.runner.proofs.Causes.{faulted-wider}
+use Rattle.runner.proofs.Growth.{IsWider, world_stays}
+use Rattle.runner.proofs.Worlds.{held-longer}
 
--- has failed since every earlier moment, and at every later one
-pub faulted-wider : {first before now last : ℕ → ℕ} (slot : ℕ) → NeverFalls first before → NeverFalls before now → NeverFalls now last → IsFaulted slot before now → IsFaulted slot first last
-faulted-wider slot early between late (inl rose) = inl (omega (arith, rose, early slot, late slot))
-faulted-wider {first = first} slot early between late (inr full) = elim (cases_eq (first slot) (2 ^ 64 - 1)) [
-  | inl same ↦ inr same
-  | inr other ↦ inl (omega (arith, other, full, early slot, between slot, late slot))
-]
+-- ---- what held a role at the opening
 
-loss-wider : {first before now last : ℕ → ℕ} → NeverFalls first before → NeverFalls before now → NeverFalls now last → (event : Event) → IsLossSince before now event → IsLossSince first last event
-loss-wider early between late (Lost role cause) (slot, loss) = (slot, faulted-wider slot early between late loss)
-loss-wider early between late (SpareLost slot) loss = faulted-wider slot early between late loss
-loss-wider early between late event loss = tt
+-- an epoch's history may grow
+pub record IsSameOpening (old new : History) : Type 0 where
+  pub uuid : new.uuid ≡ old.uuid
+  pub given : new.given ≡ old.given
+  pub first : new.first ≡ old.first
 
-failed-wider : {first before now last : ℕ → ℕ} (entries : List Entry) → NeverFalls first before → NeverFalls before now → NeverFalls now last → All (λ e. IsLossSince before now e.event) entries
-    → All (λ e. IsLossSince first last e.event) entries
-failed-wider {first = first} {before = before} {now = now} {last = last} entries early between late failed =
-    All-weaker (λ e. IsLossSince before now e.event) (λ e. IsLossSince first last e.event) (λ e loss. loss-wider early between late e.event loss) entries failed
+world_same : (given : Given) (tape : List Operation) (backup : Option ℕ) (old new : History) → IsSameOpening old new → world_at given tape backup new ≡ world_at given tape backup old
+world_same given tape backup old new same =
+    ap (λ (u : List ℕ). world_at given tape backup (record { uuid = u; given = new.given; first = new.first; entries = [] })) same.uuid
+    ∙ ap (λ (n : ℕ). world_at given tape backup (record { uuid = old.uuid; given = n; first = new.first; entries = [] })) same.given
+    ∙ ap (λ (n : ℕ). world_at given tape backup (record { uuid = old.uuid; given = old.given; first = n; entries = [] })) same.first
 
-stays : (faults : ℕ → ℕ) → NeverFalls faults faults
-stays faults s = omega arith
+-- it stays so as the tape grows
+pub held-later : {tells : Type 0} {before after : List Operation} (given : Given) (backup : Option ℕ) (old new : History) (members : Members) → Grows tells before after → IsSameOpening old new
+    → (tells → AreHeldAtFirst (world_at given before backup old) members) → tells → AreHeldAtFirst (world_at given after backup new) members
+held-later {before = before} {after = after} given backup old new members grows same was t role slot is =
+    let more = grows.more t in
+    subst (λ (w : World). HeldAtFirst w role slot) (sym (world_same given after backup old new same))
+    (subst (λ (l : List Operation). HeldAtFirst (world_at given l backup old) role slot) (sym (more.1)) (held-longer (world_at given before backup old) (more.0) (was t role slot is)))
+
+held-wider : (was now : Setting) → IsWider was now → (old new : History) → IsSameOpening old new → (role slot : ℕ) → (was.tells → HeldAtFirst (history_world was old) role slot) → now.tells → HeldAtFirst (history_world now new) role slot
+held-wider was now wider old new same role slot held t =
+    subst (λ (w : World). HeldAtFirst w role slot) (sym (world_same now.given now.tape now.backup old new same ∙ world_stays was now wider old t))
+    (held-longer (history_world was old) (wider.grows.more t).0 (held (wider.told t)))
+
+-- ---- a loss has its cause, over a longer time
+
+loss-wider : (was now : Setting) → IsWider was now → (old new : History) → IsSameOpening old new → (event : Event) → IsLossSince was old event → IsLossSince now new event
+loss-wider was now wider old new same (Lost role cause) (slot, failed, held) = (slot, faulted-wider slot wider.early wider.between wider.late failed, held-wider was now wider old new same role slot held)
+loss-wider was now wider old new same (SpareLost slot) loss = faulted-wider slot wider.early wider.between wider.late loss
+loss-wider was now wider old new same event loss = tt
+
+failed-wider : (was now : Setting) → IsWider was now → (old new : History) → IsSameOpening old new → (entries : List Entry) → All (λ e. IsLossSince was old e.event) entries → All (λ e. IsLossSince now new e.event) entries
+failed-wider was now wider old new same entries failed =
+    All-weaker (λ e. IsLossSince was old e.event) (λ e. IsLossSince now new e.event) (λ e loss. loss-wider was now wider old new same e.event loss) entries failed
 
 -- ---- one history
 
-loss-since : (members : Members) (before now : ℕ → ℕ) (event : Event) → IsLossOf members before now event → IsLossSince before now event
-loss-since members before now (Lost role cause) (slot, held, failed) = (slot, failed)
-loss-since members before now (SpareLost slot) failed = failed
-loss-since members before now event loss = tt
+loss-since : (setting : Setting) (history : History) (members : Members) → (setting.tells → AreHeldAtFirst (history_world setting history) members) → (event : Event) → IsLossOf members setting.before setting.now event → IsLossSince setting history event
+loss-since setting history members first (Lost role cause) (slot, held, failed) = (slot, failed, λ t. first t role slot held)
+loss-since setting history members first (SpareLost slot) failed = failed
+loss-since setting history members first event loss = tt
 
 -- the losses of a call of an array
-pub losses-of : {members : Members} {before now : ℕ → ℕ} {old new : List Entry} → AreLossesOf members before now old new → AreLossesSince before now old new
-losses-of {members = members} {before = before} {now = now} was = record {
+pub losses-of : {members : Members} {old : List Entry} (setting : Setting) (new : History) → (setting.tells → AreHeldAtFirst (history_world setting new) members) → AreLossesOf members setting.before setting.now old new.entries
+    → AreLossesSince setting old new
+losses-of {members = members} setting new first was = record {
   more = was.more;
   grown = was.grown;
-  failed = All-weaker (λ e. IsLossOf members before now e.event) (λ e. IsLossSince before now e.event) (λ e loss. loss-since members before now e.event loss) was.more was.failed;
+  failed = All-weaker (λ e. IsLossOf members setting.before setting.now e.event) (λ e. IsLossSince setting new e.event) (λ e loss. loss-since setting new members first e.event loss) was.more was.failed;
 }
 
-pub losses-none : (before now : ℕ → ℕ) (entries : List Entry) → AreLossesSince before now entries entries
-losses-none before now entries = record { more = []; grown = sym (append-nil entries); failed = All-nil (λ e. IsLossSince before now e.event) }
+pub losses-none : (setting : Setting) (history : History) → AreLossesSince setting history.entries history
+losses-none setting history = record { more = []; grown = sym (append-nil history.entries); failed = All-nil (λ e. IsLossSince setting history e.event) }
 
-pub losses-same : (before now : ℕ → ℕ) (old new : List Entry) → new ≡ old → AreLossesSince before now old new
-losses-same before now old new same = subst (λ (l : List Entry). AreLossesSince before now old l) (sym same) (losses-none before now old)
+pub losses-same : (setting : Setting) (old : List Entry) (new : History) → new.entries ≡ old → AreLossesSince setting old new
+losses-same setting old new same = record { more = []; grown = same ∙ sym (append-nil old); failed = All-nil (λ e. IsLossSince setting new e.event) }
+
+-- a halt loses nothing
+pub losses-halted : {tells : Type 0} {tape : List Operation} {old : List Entry} (setting : Setting) (who : Who) (new : History) → IsEntered tells tape who old new.entries (Halted ∷ []) → AreLossesSince setting old new
+losses-halted setting who new entered = record {
+  more = one who entered.end Halted ∷ [];
+  grown = entered.is;
+  failed = All-cons (λ e. IsLossSince setting new e.event) (one who entered.end Halted) [] tt (All-nil (λ e. IsLossSince setting new e.event));
+}
+
+pub losses-wider : (was now : Setting) → IsWider was now → (old : List Entry) (new : History) → AreLossesSince was old new → AreLossesSince now old new
+losses-wider was now wider old new lost = record { more = lost.more; grown = lost.grown; failed = failed-wider was now wider new new (record { uuid = refl; given = refl; first = refl }) lost.more lost.failed }
 
 -- one after the other
-pub losses-then : {first before now : ℕ → ℕ} {old mid new : List Entry} → NeverFalls first before → NeverFalls before now → AreLossesSince first before old mid → AreLossesSince before now mid new
-    → AreLossesSince first now old new
-losses-then {first = first} {before = before} {now = now} {old = old} early late was next = record {
-  more = was.more ++ next.more;
-  grown = next.grown ∙ ap (λ (l : List Entry). l ++ next.more) was.grown ∙ append_assoc old was.more next.more;
-  failed = All-append (λ e. IsLossSince first now e.event) was.more next.more
-      (failed-wider was.more (stays first) early late was.failed) (failed-wider next.more early late (stays now) next.failed);
+pub losses-then : (was next now : Setting) → IsWider was now → IsWider next now → (old : List Entry) (mid new : History) → IsSameOpening mid new → AreLossesSince was old mid → AreLossesSince next mid.entries new → AreLossesSince now old new
+losses-then was next now wider_was wider_next old mid new same lost more = record {
+  more = lost.more ++ more.more;
+  grown = more.grown ∙ ap (λ (l : List Entry). l ++ more.more) lost.grown ∙ append_assoc old lost.more more.more;
+  failed = All-append (λ e. IsLossSince now new e.event) lost.more more.more
+      (failed-wider was now wider_was mid new same lost.more lost.failed) (failed-wider next now wider_next new new (record { uuid = refl; given = refl; first = refl }) more.more more.failed);
 }
 
 -- the whole history of an array that began with none
-pub losses-whole : {before made now : ℕ → ℕ} {entries : List Entry} → NeverFalls before made → NeverFalls made now → AreLossesSince made now [] entries
-    → All (λ e. IsLossSince before now e.event) entries
-losses-whole {before = before} {now = now} early late was =
-    subst (λ (l : List Entry). All (λ e. IsLossSince before now e.event) l) (sym was.grown) (failed-wider was.more early late (stays now) was.failed)
+pub losses-whole : (setting : Setting) (history : History) → AreLossesSince setting [] history → All (λ e. IsLossSince setting history e.event) history.entries
+losses-whole setting history was = subst (λ (l : List Entry). All (λ e. IsLossSince setting history e.event) l) (sym was.grown) was.failed
 
 -- ---- several histories
 
-pub losses-kept : (before now : ℕ → ℕ) (histories : List History) → AreLossesFrom before now histories histories
-losses-kept before now [] = tt
-losses-kept before now (h ∷ histories) = (losses-none before now h.entries, losses-kept before now histories)
+pub losses-kept : (setting : Setting) (histories : List History) → AreLossesFrom setting histories histories
+losses-kept setting [] = tt
+losses-kept setting (h ∷ histories) = (losses-none setting h, losses-kept setting histories)
 
 -- the last history went on
-pub losses-last : (before now : ℕ → ℕ) (histories : List History) (old new : History) → AreLossesSince before now old.entries new.entries → AreLossesFrom before now (histories ++ old ∷ []) (histories ++ new ∷ [])
-losses-last before now [] old new was = (was, tt)
-losses-last before now (h ∷ histories) old new was = (losses-none before now h.entries, losses-last before now histories old new was)
+pub losses-last : (setting : Setting) (histories : List History) (old new : History) → AreLossesSince setting old.entries new → AreLossesFrom setting (histories ++ old ∷ []) (histories ++ new ∷ [])
+losses-last setting [] old new was = (was, tt)
+losses-last setting (h ∷ histories) old new was = (losses-none setting h, losses-last setting histories old new was)
 
 -- a history came
-pub losses-came : (before now : ℕ → ℕ) (histories : List History) (new : History) → AreLossesSince before now [] new.entries → AreLossesFrom before now histories (histories ++ new ∷ [])
-losses-came before now [] new lost = (lost, tt)
-losses-came before now (h ∷ histories) new lost = (losses-none before now h.entries, losses-came before now histories new lost)
+pub losses-came : (setting : Setting) (histories : List History) (new : History) → AreLossesSince setting [] new → AreLossesFrom setting histories (histories ++ new ∷ [])
+losses-came setting [] new lost = (lost, tt)
+losses-came setting (h ∷ histories) new lost = (losses-none setting h, losses-came setting histories new lost)
+
+pub losses_add : (was next now : Setting) → IsWider was now → IsWider next now → (olds news : List History) → AreGrown olds news → AreLossesFrom was [] olds → AreLossesFrom next olds news → AreLossesFrom now [] news
+losses_add was next now wider_was wider_next [] [] grown lost more = tt
+losses_add was next now wider_was wider_next [] (new ∷ news) grown lost (one, more) = (losses-wider next now wider_next [] new one, losses_add was next now wider_was wider_next [] news tt tt more)
+losses_add was next now wider_was wider_next (old ∷ olds) [] grown lost more = absurd more
+losses_add was next now wider_was wider_next (old ∷ olds) (new ∷ news) (grew, grown) (one, lost) (two, more) = (
+  losses-then was next now wider_was wider_next [] old new (record { uuid = grew.uuid; given = grew.given; first = grew.first }) one two,
+  losses_add was next now wider_was wider_next olds news grown lost more,
+)

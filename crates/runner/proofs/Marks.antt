@@ -14,6 +14,7 @@ use Rattle.flat_history.specs.World.{World}
 use Rattle.flat_history.specs.CrashSafe.{IsCrashSafe}
 use Rattle.flat_history.specs.Epochs.{world_of, HasRoomForEvents, OpensAlike}
 use Rattle.array.specs.Kept.{HasNoLoss}
+use Rattle.runner.specs.Making.{Setting}
 use Rattle.runner.specs.Ended.{IsLegalEpoch, AreLegal, IfSound, AreSafe, AreRising, AreFormer}
 use Rattle.runner.specs.Runs.{AreHalted, IsEnded, mark_behind, AreEndedBelow}
 use Rattle.runner.specs.States.{histories_in, course_in, AreOfScript, AreGrown, AreLossesFrom}
@@ -35,13 +36,13 @@ ended_more ops epochs i e d within same marked was k d' lt =
 
 -- ---- what holds of epochs holds of others with the same histories
 
-pub ended_kept : {B : Type 0} {faults : ℕ → ℕ} {state : State B} {bank : B} (olds news : List Epoch) → histories_of news ≡ histories_of olds → IsEnded faults state bank olds → IsEnded faults state bank news
-ended_kept {faults = faults} {state = state} olds news same was = record {
+pub ended_kept : {B : Type 0} {setting : Setting} {state : State B} {bank : B} (olds news : List Epoch) → histories_of news ≡ histories_of olds → IsEnded setting state bank olds → IsEnded setting state bank news
+ended_kept {setting = setting} {state = state} olds news same was = record {
   same_bank = was.same_bank;
   grown = subst (λ (l : List History). AreGrown (histories_in state) l) (sym same) was.grown;
   halted = subst (λ (l : List History). AreHalted (course_in state) l) (sym same) was.halted;
   script = subst (λ (l : List History). AreOfScript l) (sym same) was.script;
-  losses = subst (λ (l : List History). AreLossesFrom faults faults (histories_in state) l) (sym same) was.losses;
+  losses = subst (λ (l : List History). AreLossesFrom setting (histories_in state) l) (sym same) was.losses;
 }
 
 legal_same : (given : Given) (tape : List Operation) (backup : Option ℕ) (old new : Epoch) → history_of new ≡ history_of old → IsLegalEpoch given tape backup old → IsLegalEpoch given tape backup new

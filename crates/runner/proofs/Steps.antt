@@ -32,14 +32,7 @@ use Rattle.runner.specs.Shown.{reply_text, report_text, is_refusal, has_refusal}
 use Rattle.runner.specs.States.{histories_in, course_in, RunsOwn, IsByScript, AreOfScript, AreLossesFrom, AreGrown, EndsBetween, IsNextCourse, IsCourseOrNext}
 use Rattle.runner.specs.Sessions.{counted, IsEndNow, IsUnreplied, IsReplyMore, IsStep, IsCourse, taken_whole, IsTaken, IsStopCause, IsCourseBehind, IsPerformed, IsShownTo}
 use Rattle.runner.proofs.Growth.{IsWider, answer_wider, replies_stay, replies_more, course_more, courses_stay, shown_stays}
-use Rattle.runner.proofs.Losses.{losses-none, losses-then}
-
-losses_add : {first before now : ℕ → ℕ} (olds news : List History) → NeverFalls first before → NeverFalls before now → AreLossesFrom first before [] olds → AreLossesFrom before now olds news → AreLossesFrom first now [] news
-losses_add [] [] early late was next = tt
-losses_add {first = first} {before = before} {now = now} [] (new ∷ news) early late was (one, more) =
-    (losses-then early late (losses-none first before []) one, losses_add [] news early late was more)
-losses_add (old ∷ olds) [] early late was next = absurd next
-losses_add (old ∷ olds) (new ∷ news) early late (was, others) (one, more) = (losses-then early late was one, losses_add olds news early late others more)
+use Rattle.runner.proofs.Losses.{losses_add}
 
 -- ---- where the replies were made
 
@@ -166,7 +159,7 @@ module _ {B bank_tells : Type 0} {given : Given} {backup : Option ℕ} {first_ta
       replies = replies_new;
       course = subst (λ (x : Option Stop). IsCourse x (histories_in new.state) (drop (length new.replies.items) lines) (course_of (histories_in new.state) (at_rest 0) (take (length new.replies.items) lines) new.replies.items) (course_in new.state)) (sym stop)
           (course (course_of (histories_in new.state) (at_rest 0) (take (length new.replies.items) lines) new.replies.items) (course_in new.state) course_new);
-      losses = losses_add (histories_in old.state) (histories_in new.state) early late performed.losses is.replied.turn.losses;
+      losses = losses_add (setting_of bank_tells given first_tape mid_tape backup start mid) (setting_of bank_tells given mid_tape tape backup mid now) (setting_of bank_tells given first_tape tape backup start now) wider_was wider_step (histories_in old.state) (histories_in new.state) is.replied.turn.grown performed.losses is.replied.turn.losses;
       ends = ends_new;
       refused = refused_new;
     }
@@ -183,7 +176,7 @@ module _ {B bank_tells : Type 0} {given : Given} {backup : Option ℕ} {first_ta
     replies = subst (λ (rs : List LineReply). AreReplies (setting_of bank_tells given first_tape tape backup start now) (histories_in new.state) (at_rest 0) (take (length rs) lines) rs) (sym same) (replies_still none.grown);
     course = subst (λ (x : Option Stop). IsCourse x (histories_in new.state) (drop (length new.replies.items) lines) (course_of (histories_in new.state) (at_rest 0) (take (length new.replies.items) lines) new.replies.items) (course_in new.state)) (sym stop)
         (subst (λ (rs : List LineReply). IsCourse (Some WantsMemory) (histories_in new.state) (drop (length rs) lines) (course_of (histories_in new.state) (at_rest 0) (take (length rs) lines) rs) (course_in new.state)) (sym same) (by_course none.course));
-    losses = losses_add (histories_in old.state) (histories_in new.state) early late performed.losses none.losses;
+    losses = losses_add (setting_of bank_tells given first_tape mid_tape backup start mid) (setting_of bank_tells given mid_tape tape backup mid now) (setting_of bank_tells given first_tape tape backup start now) wider_was wider_step (histories_in old.state) (histories_in new.state) none.grown performed.losses none.losses;
     ends = λ t. subst (λ (rs : List LineReply). AreInOrder (length first_tape) (length tape) rs) (sym same) (order_later (length first_tape) (length mid_tape) (length tape) old.replies.items (grows_longer grew t) (performed.ends t));
     refused = refused ∙ performed.refused ∙ sym ((shown_still none.grown).1) ∙ ap (λ (rs : List LineReply). has_refusal (histories_in new.state) rs) (sym same);
   }
@@ -275,7 +268,7 @@ performed_none {B = B} {bank_tells = bank_tells} {given = given} {backup = backu
   replies = subst (λ (rs : List LineReply). AreReplies (setting_of bank_tells given tape tape backup start start) (histories_in session.state) (at_rest 0) (take (length rs) lines) rs) (sym none) tt;
   course = subst (λ (o : Option Stop). IsCourse o (histories_in session.state) (drop (length session.replies.items) lines) (course_of (histories_in session.state) (at_rest 0) (take (length session.replies.items) lines) session.replies.items) (course_in session.state)) (sym going)
       (ap (λ (s : State B). course_in s) idle ∙ ap (λ (l : List Epoch). at_rest (length l)) empty ∙ ap (λ (rs : List LineReply). course_of (histories_in session.state) (at_rest 0) (take (length rs) lines) rs) (sym none));
-  losses = subst (λ (s : State B). AreLossesFrom start start [] (histories_in s)) (sym idle) (subst (λ (l : List Epoch). AreLossesFrom start start [] (histories_of l)) (sym empty) tt);
+  losses = subst (λ (s : State B). AreLossesFrom (setting_of bank_tells given tape tape backup start start) [] (histories_in s)) (sym idle) (subst (λ (l : List Epoch). AreLossesFrom (setting_of bank_tells given tape tape backup start start) [] (histories_of l)) (sym empty) tt);
   ends = λ t. subst (λ (rs : List LineReply). AreInOrder (length tape) (length tape) rs) (sym none) (omega arith);
   refused = refused ∙ ap (λ (rs : List LineReply). has_refusal (histories_in session.state) rs) (sym none);
 }

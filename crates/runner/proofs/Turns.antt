@@ -207,7 +207,7 @@ by_legal setting opening old new asked began legal = by_inner asked.inner asked.
     by_inner [] is = by_first (one (script_who old) asked.end asked.event) [] refl is
     by_inner (x ∷ inner) is = by_first (one (script_who old) asked.end x) (entries_of (script_who old) asked.end (inner ++ asked.event ∷ [])) refl is
 
-module _ {B : Type 0} (setting : Setting) (old new : Parts B) (epochs : Vec Epoch) (own : RunsOwn (Running old epochs)) (lost : AreLossesSince setting.before setting.now old.entries new.entries) (uuid : new.uuid ≡ old.uuid) (given : new.given ≡ old.given)
+module _ {B : Type 0} (setting : Setting) (old new : Parts B) (epochs : Vec Epoch) (own : RunsOwn (Running old epochs)) (lost : AreLossesSince setting old.entries (running_history new)) (uuid : new.uuid ≡ old.uuid) (given : new.given ≡ old.given)
     (first : new.first ≡ old.first) (shape : shape_of new.members.newest ≡ shape_of old.members.newest) (rows : new.members.newest.size ≡ old.members.newest.size) where
   abbrev hs : List History
   hs = histories_of epochs.items
@@ -226,7 +226,7 @@ module _ {B : Type 0} (setting : Setting) (old new : Parts B) (epochs : Vec Epoc
       → IsTurn setting (Running old epochs) (Running new epochs) line (Inside k place)
   turn_asked line place asked ended goes = record {
     own = record { former = own.former; script = by_script_more hs (running_history old) (running_history new) asked own.script; room = own.room; few = own.few };
-    losses = losses-last setting.before setting.now hs (running_history old) (running_history new) lost;
+    losses = losses-last setting hs (running_history old) (running_history new) lost;
     grown = grown_last hs (running_history old) (running_history new) (grown_more hs (running_history old) (running_history new) asked uuid given first own.script);
     ends = λ t. subst (λ (n : ℕ). EndsBetween setting.began (length setting.tape) (hs ++ running_history new ∷ []) (Inside n place)) len
         (between_last hs (running_history old) (running_history new) asked setting.began (length setting.tape) (ended t).0 (ended t).1);
@@ -242,7 +242,7 @@ module _ {B : Type 0} (setting : Setting) (old new : Parts B) (epochs : Vec Epoc
   pub no_turn : (line : Line) → new.entries ≡ old.entries → IsNoTurn setting (Running old epochs) (Running new epochs) line
   no_turn line same = record {
     own = record { former = own.former; script = subst (λ (l : List Entry). AreByScript (next_number 0 l) l) (sym same) own.script; room = own.room; few = own.few };
-    losses = losses-last setting.before setting.now hs (running_history old) (running_history new) lost;
+    losses = losses-last setting hs (running_history old) (running_history new) lost;
     grown = grown_last hs (running_history old) (running_history new) (record { uuid = uuid; given = given; first = first; more = []; grown = same ∙ sym (append-nil old.entries); later = none_later old.entries });
     course = inl (ap (λ (l : List Entry). record { opened = k + 1; running = true; calls = next_number 0 l; size = list_size (places_of new.members) }) same
         ∙ ap (λ (n : ℕ). record { opened = k + 1; running = true; calls = next_number 0 old.entries; size = n }) same_size);
@@ -259,7 +259,7 @@ pub turn_refused : {B : Type 0} (setting : Setting) (array : Parts B) (epochs : 
     → IsTurn setting (Running array epochs) (Running array epochs) line (IsOutside (Refused IsRunning))
 turn_refused setting array epochs line own longer refused = record {
   own = own;
-  losses = losses-kept setting.before setting.now (histories_of epochs.items ++ running_history array ∷ []);
+  losses = losses-kept setting (histories_of epochs.items ++ running_history array ∷ []);
   grown = grown_kept (histories_of epochs.items ++ running_history array ∷ []);
   ends = longer;
   answer = refused;
@@ -269,7 +269,7 @@ turn_refused setting array epochs line own longer refused = record {
 -- ---- the array that ran has ended
 
 module _ {B : Type 0} (setting : Setting) (old : Parts B) (epoch : Epoch) (bank : B) (epochs ended : Vec Epoch) (items : ended.items ≡ epochs.items ++ epoch ∷ []) (own : RunsOwn (Running old epochs))
-    (lost : AreLossesSince setting.before setting.now old.entries epoch.entries.items) (uuid : epoch.uuid ≡ old.uuid) (given : epoch.given ≡ old.given) (first : epoch.first ≡ old.first) where
+    (lost : AreLossesSince setting old.entries (history_of epoch)) (uuid : epoch.uuid ≡ old.uuid) (given : epoch.given ≡ old.given) (first : epoch.first ≡ old.first) where
   abbrev before : List History
   before = histories_of epochs.items
 
@@ -290,7 +290,7 @@ module _ {B : Type 0} (setting : Setting) (old : Parts B) (epoch : Epoch) (bank 
   turn_ended line place asked within ends = record {
     own = subst (λ (l : List History). AreOfScript l) (sym now_are)
         (All-append IsByScript before (history_of epoch ∷ []) own.former (All-cons IsByScript (history_of epoch) [] (by_script_more before (running_history old) (history_of epoch) asked own.script) (All-nil IsByScript)));
-    losses = subst (λ (l : List History). AreLossesFrom setting.before setting.now (before ++ running_history old ∷ []) l) (sym now_are) (losses-last setting.before setting.now before (running_history old) (history_of epoch) lost);
+    losses = subst (λ (l : List History). AreLossesFrom setting (before ++ running_history old ∷ []) l) (sym now_are) (losses-last setting before (running_history old) (history_of epoch) lost);
     grown = subst (λ (l : List History). AreGrown (before ++ running_history old ∷ []) l) (sym now_are)
         (grown_last before (running_history old) (history_of epoch) (grown_more before (running_history old) (history_of epoch) asked uuid given first own.script));
     ends = λ t. subst (λ (l : List History). EndsBetween setting.began (length setting.tape) l (Inside count place)) (sym now_are)
@@ -312,7 +312,7 @@ module _ {B : Type 0} (setting : Setting) (bank : B) (olds epochs : Vec Epoch) (
   pub turn_idle : (left : B) (line : Line) (refusal : Refusal) → (setting.tells → setting.began ≤ length setting.tape) → IsRefusedOutside setting false (length setting.tape) line refusal → IsTurn setting (Idle bank olds) (Idle left epochs) line (IsOutside (Refused refusal))
   turn_idle left line refusal longer is = record {
     own = subst (λ (l : List Epoch). AreOfScript (histories_of l)) (sym same) own;
-    losses = subst (λ (l : List Epoch). AreLossesFrom setting.before setting.now (histories_of l) (histories_of epochs.items)) same (losses-kept setting.before setting.now (histories_of epochs.items));
+    losses = subst (λ (l : List Epoch). AreLossesFrom setting (histories_of l) (histories_of epochs.items)) same (losses-kept setting (histories_of epochs.items));
     grown = subst (λ (l : List Epoch). AreGrown (histories_of l) (histories_of epochs.items)) same (grown_kept (histories_of epochs.items));
     ends = longer;
     answer = is;
@@ -323,7 +323,7 @@ module _ {B : Type 0} (setting : Setting) (bank : B) (olds epochs : Vec Epoch) (
   pub no_turn_idle : (left : B) (line : Line) → IsNoTurn setting (Idle bank olds) (Idle left epochs) line
   no_turn_idle left line = record {
     own = subst (λ (l : List Epoch). AreOfScript (histories_of l)) (sym same) own;
-    losses = subst (λ (l : List Epoch). AreLossesFrom setting.before setting.now (histories_of l) (histories_of epochs.items)) same (losses-kept setting.before setting.now (histories_of epochs.items));
+    losses = subst (λ (l : List Epoch). AreLossesFrom setting (histories_of l) (histories_of epochs.items)) same (losses-kept setting (histories_of epochs.items));
     grown = subst (λ (l : List Epoch). AreGrown (histories_of l) (histories_of epochs.items)) same (grown_kept (histories_of epochs.items));
     course = inl (ap (λ (l : List Epoch). at_rest (length l)) same);
   }
@@ -338,9 +338,9 @@ module _ {B : Type 0} (setting : Setting) (bank : B) (olds epochs : Vec Epoch) (
       few = few;
     }
 
-    opened_losses : AreLossesSince setting.before setting.now [] array.entries → AreLossesFrom setting.before setting.now (histories_of olds.items) (histories_of epochs.items ++ running_history array ∷ [])
-    opened_losses lost = subst (λ (l : List Epoch). AreLossesFrom setting.before setting.now (histories_of l) (histories_of epochs.items ++ running_history array ∷ [])) same
-        (losses-came setting.before setting.now (histories_of epochs.items) (running_history array) lost)
+    opened_losses : AreLossesSince setting [] (running_history array) → AreLossesFrom setting (histories_of olds.items) (histories_of epochs.items ++ running_history array ∷ [])
+    opened_losses lost = subst (λ (l : List Epoch). AreLossesFrom setting (histories_of l) (histories_of epochs.items ++ running_history array ∷ [])) same
+        (losses-came setting (histories_of epochs.items) (running_history array) lost)
 
     opened_grown : AreGrown (histories_of olds.items) (histories_of epochs.items ++ running_history array ∷ [])
     opened_grown = subst (λ (l : List Epoch). AreGrown (histories_of l) (histories_of epochs.items ++ running_history array ∷ [])) same (grown_came (histories_of epochs.items) (running_history array))
@@ -362,7 +362,7 @@ module _ {B : Type 0} (setting : Setting) (bank : B) (olds epochs : Vec Epoch) (
         → IsTurn setting (Idle bank olds) (Running array epochs) (Create line) (IsOutside Created)
     turn_created line unrefused made free = record {
       own = opened_own (no_entries made.begun.entries);
-      losses = opened_losses (losses-same setting.before setting.now [] array.entries made.begun.entries);
+      losses = opened_losses (losses-same setting [] (running_history array) made.begun.entries);
       grown = opened_grown;
       ends = longer;
       answer = (
@@ -394,7 +394,7 @@ module _ {B : Type 0} (setting : Setting) (bank : B) (olds epochs : Vec Epoch) (
         → IsTurn setting (Idle bank olds) (Running array epochs) (Assemble asked) (IsOutside (Assembled (length epochs.items) status))
     turn_found asked status found is told entered members uuid given first = record {
       own = opened_own (subst (λ (l : List Entry). AreByScript (next_number 0 l) l) (sym entries) (All-cons (λ e. (e.caller ≡ 0) × (e.number < 1)) first_entry [] (refl, omega arith) (All-nil (λ e. (e.caller ≡ 0) × (e.number < 1)))));
-      losses = opened_losses (record { more = first_entry ∷ []; grown = entries; failed = All-cons (λ e. IsLossSince setting.before setting.now e.event) first_entry [] tt (All-nil (λ e. IsLossSince setting.before setting.now e.event)) });
+      losses = opened_losses (record { more = first_entry ∷ []; grown = entries; failed = All-cons (λ e. IsLossSince setting (running_history array) e.event) first_entry [] tt (All-nil (λ e. IsLossSince setting (running_history array) e.event)) });
       grown = opened_grown;
       ends = longer;
       answer = (
@@ -425,7 +425,7 @@ module _ {B : Type 0} (setting : Setting) (bank : B) (olds epochs : Vec Epoch) (
     pub no_turn_found : (asked : Option (List ℕ)) → array.entries ≡ [] → IsNoTurn setting (Idle bank olds) (Running array epochs) (Assemble asked)
     no_turn_found asked none = record {
       own = opened_own (no_entries none);
-      losses = opened_losses (losses-same setting.before setting.now [] array.entries none);
+      losses = opened_losses (losses-same setting [] (running_history array) none);
       grown = opened_grown;
       course = inr (inr (refl, (list_size (places_of array.members), opened_course 0 (list_size (places_of array.members)) (ap (λ (l : List Entry). next_number 0 l) none) refl)));
     }

@@ -29,7 +29,7 @@ use Rattle.flat_history.specs.Growing.{grown, EndBy}
 use Rattle.flat_history.proofs.GrowingLaws.{marks-stay-safe}
 use Rattle.flat_history.proofs.StretchLaws.{bounds-serve}
 use Rattle.array.specs.declared.spec.CreateSpec.{CreateSpec}
-use Rattle.runner.specs.Making.{IsStored, IsStoredNew, IsStoredAs}
+use Rattle.runner.specs.Making.{IsStored, IsStoredNew, IsStoredAs, HeldAtFirst}
 
 -- ---- the opening
 
@@ -83,6 +83,15 @@ module _ (world : World) (more : List Operation) (begun : world.first ≤ length
     clean = was.clean;
     left = was.left;
   }
+
+-- what held a role at the opening did so, however the tape goes on
+pub held-longer : (world : World) (more : List Operation) {role slot : ℕ} → HeldAtFirst world role slot → HeldAtFirst (grown world more) role slot
+held-longer world more was = record {
+  begun = let long = length-append world.tape more in omega (arith, was.begun, long);
+  found = was.found;
+  says = reading-same world more was.begun ∙ was.says;
+  held = was.held;
+}
 
 -- ---- where the entries end
 

@@ -7,11 +7,14 @@ use Rattle.flat_history.specs.declared.events.Epoch.{Epoch}
 use Rattle.flat_history.specs.Epochs.{world_of, IsEpochRight, HasRoomForEvents, OpensAlike}
 use Rattle.flat_history.specs.Plain.{IsPlainLegal}
 use Rattle.flat_history.specs.CrashSafe.{IsCrashSafe}
+use Rattle.flat_history.specs.Growing.{EndBy}
 use Rattle.array.specs.Kept.{opening_of, HasNoLoss, IsEndOf}
 use Rattle.array.specs.Parts.{Parts}
 use Rattle.runner.specs.declared.states.State.{State}
 use Rattle.runner.specs.declared.states.State.TheVariants.{Idle, Running}
 use Rattle.runner.specs.Histories.{History, histories_of}
+use Rattle.runner.specs.Making.{world_at, AreHeldAtFirst}
+use Rattle.runner.specs.States.{running_history}
 
 -- the epoch begins within the tape, and its history is legal
 pub record IsLegalEpoch (given : Given) (tape : List Operation) (backup : Option ℕ) (epoch : Epoch) : Type 0 where
@@ -40,10 +43,11 @@ abbrev pub next_mark : ℕ → List History → ℕ
 next_mark behind [] = behind
 next_mark behind (history ∷ histories) = history.first
 
--- each history begins at the mark of the one before it or later, and the last up to this mark
+-- each history begins, and each of its entries ends, by the first mark of the next one, and those of the last by this mark
 abbrev pub AreRising : ℕ → List History → Type 0
 AreRising behind [] = ⊤
-AreRising behind (history ∷ histories) = (history.first ≤ next_mark behind histories) × AreRising behind histories
+AreRising behind (history ∷ histories) =
+    ((history.first ≤ next_mark behind histories) × EndBy (next_mark behind histories) history.entries) × AreRising behind histories
 
 -- what is kept of the arrays that ran before, up to a mark
 pub record AreFormer (given : Given) (tape : List Operation) (backup : Option ℕ) (mark : ℕ) (epochs : List Epoch) : Type 0 where
@@ -51,11 +55,13 @@ pub record AreFormer (given : Given) (tape : List Operation) (backup : Option �
   pub safe : AreSafe given tape backup epochs
   pub rising : AreRising mark (histories_of epochs)
 
--- and of the one that runs: it has the backup of the run, began behind those, and the tape stands where its last entry ended
+-- and of the one that runs: it has the backup of the run, began behind those, its roles are where they were then, unless they were
+-- lost, and the tape stands where its last entry ended
 pub record IsGoing {B : Type 0} (tells : Type 0) (given : Given) (tape : List Operation) (backup : Option ℕ) (array : Parts B) (epochs : List Epoch) : Type 0 where
   pub backup_is : array.backup ≡ backup
   pub former : tells → AreFormer given tape backup array.first epochs
   pub begun : tells → array.first ≤ length tape
+  pub held : tells → AreHeldAtFirst (world_at given tape backup (running_history array)) array.members
   pub ended : IsEndOf tells array.first array.entries tape
 
 abbrev pub IsRunKept : {B : Type 0} → Type 0 → Given → List Operation → Option ℕ → State B → Type 0

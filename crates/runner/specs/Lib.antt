@@ -1,6 +1,7 @@
 pub mod Asked
 pub mod Ended
 pub mod Histories
+pub mod Kept
 pub mod Making
 pub mod Pace
 pub mod Replies

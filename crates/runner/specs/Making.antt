@@ -1,5 +1,5 @@
 -- What the bank of a run is, and what an array on it was made or found as.
-use Rattle.std.specs.Prelude.{◌≡◌, ℕ, ◌+◌, ◌/◌, ◌<◌, if◌then◌else◌, List, [], ◌∷◌, length, Option, Some, None, IsTrue, IsFalse}
+use Rattle.std.specs.Prelude.{◌≡◌, ℕ, ◌+◌, ◌/◌, ◌<◌, ◌≤◌, if◌then◌else◌, List, [], ◌∷◌, length, Option, Some, None, IsTrue, IsFalse}
 use Rattle.md_base.specs.declared.answers.Fault.TheVariants.{Refused as IsRefusedWith}
 use Rattle.md_base.specs.declared.answers.Refusal.{Refusal}
 use Rattle.md_base.specs.declared.status.Status.{Status}
@@ -8,7 +8,9 @@ use Rattle.md_base.specs.Search.{tabulate}
 use Rattle.bank.specs.declared.bank.Operation.{Operation}
 use Rattle.bank.specs.Given.{Given, sizes}
 use Rattle.bank.specs.Tape.{Contents, contents}
-use Rattle.superblocks.specs.Reading.{Reading, shape_of, is_clean, is_reshaping, is_whole, role_state}
+use Rattle.superblocks.specs.declared.members.Members.{Members}
+use Rattle.superblocks.specs.Reading.{Reading, shape_of, is_clean, is_reshaping, is_whole, role_state, holder}
+use Rattle.row_io.specs.Rows.{reading_of}
 use Rattle.flat_history.specs.declared.events.Entry.{Entry}
 use Rattle.flat_history.specs.declared.events.Event.TheVariants.{Shown}
 use Rattle.flat_history.specs.World.{World, reading_at, contents_at, opening_list}
@@ -39,14 +41,29 @@ setting_of tells given old new backup before now =
 abbrev pub held_at : Setting → ℕ → Contents
 held_at setting mark = contents setting.given.start setting.tape mark
 
--- a history's world, over the bank of its run
-abbrev pub history_world : Setting → History → World
-history_world setting history = record {
-  start = setting.given.start;
-  tape = setting.tape;
-  scope = record { uuid = history.uuid; given = history.given; backup = setting.backup; sizes = sizes setting.given };
+-- a history's world, over a tape
+abbrev pub world_at : Given → List Operation → Option ℕ → History → World
+world_at given tape backup history = record {
+  start = given.start;
+  tape = tape;
+  scope = record { uuid = history.uuid; given = history.given; backup = backup; sizes = sizes given };
   first = history.first;
 }
+
+-- over the bank of its run
+abbrev pub history_world : Setting → History → World
+history_world setting history = world_at setting.given setting.tape setting.backup history
+
+-- The slot held the role at the opening, by the superblocks there.
+pub record HeldAtFirst (world : World) (role slot : ℕ) : Type 0 where
+  pub begun : world.first ≤ length world.tape
+  pub found : Reading
+  pub says : reading_at world world.first ≡ Some found
+  pub held : holder (role_state found role) ≡ Some slot
+
+-- each slot that holds a role by these members held it at the opening
+abbrev pub AreHeldAtFirst : World → Members → Type 0
+AreHeldAtFirst world members = (role slot : ℕ) → holder (role_state (reading_of members) role) ≡ Some slot → HeldAtFirst world role slot
 
 -- a create was refused at a mark: it has its cause in what the slots hold there and in the faults of the run
 abbrev pub IsUncreated : Setting → CreateSpec → ℕ → Refusal → Type 0

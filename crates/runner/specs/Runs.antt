@@ -13,7 +13,7 @@ use Rattle.runner.specs.declared.report.LineReply.{LineReply}
 use Rattle.runner.specs.declared.sessions.Stop.{Stop}
 use Rattle.runner.specs.declared.sessions.Stop.TheVariants.{WriteFault, NoMemory as WantsMemory}
 use Rattle.runner.specs.declared.states.State.{State}
-use Rattle.runner.specs.Histories.{History, histories_of}
+use Rattle.runner.specs.Histories.{History, history_of, histories_of}
 use Rattle.runner.specs.Making.{Setting}
 use Rattle.runner.specs.Replies.{Course, at_rest, course_of, AreReplies, AreInOrder}
 use Rattle.runner.specs.Sessions.{IsCourse}
@@ -67,8 +67,8 @@ pub record IsScriptBad (tells : Type 0) (old new : List ℕ) (line : ℕ) : Type
   pub bad : script_of text ≡ Err line
 
 -- each loss that is told has its cause
-abbrev pub AreLossesFailed : (ℕ → ℕ) → (ℕ → ℕ) → List Epoch → Type 0
-AreLossesFailed before now epochs = All (λ epoch. All (λ e. IsLossSince before now e.event) epoch.entries.items) epochs
+abbrev pub AreLossesFailed : Setting → List Epoch → Type 0
+AreLossesFailed setting epochs = All (λ epoch. All (λ e. IsLossSince setting (history_of epoch) e.event) epoch.entries.items) epochs
 
 -- the first mark of the epoch behind this one, or the end of the tape behind the last
 abbrev pub mark_behind : ℕ → List History → ℕ → ℕ
@@ -83,12 +83,12 @@ abbrev pub AreEndedAt : ℕ → List Epoch → Type 0
 AreEndedAt ops epochs = AreEndedBelow (length epochs) ops epochs
 
 -- a run ends: the array is halted, if one runs
-pub record IsEnded {B : Type 0} (faults : ℕ → ℕ) (state : State B) (bank : B) (epochs : List Epoch) : Type 0 where
+pub record IsEnded {B : Type 0} (setting : Setting) (state : State B) (bank : B) (epochs : List Epoch) : Type 0 where
   pub same_bank : bank ≡ bank_in state
   pub grown : AreGrown (histories_in state) (histories_of epochs)
   pub halted : AreHalted (course_in state) (histories_of epochs)
   pub script : AreOfScript (histories_of epochs)
-  pub losses : AreLossesFrom faults faults (histories_in state) (histories_of epochs)
+  pub losses : AreLossesFrom setting (histories_in state) (histories_of epochs)
 
 -- the statuses of a run that read its script and performed every line that it could
 abbrev pub IsAfterLines : ℕ → Type 0

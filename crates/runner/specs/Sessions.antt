@@ -40,7 +40,7 @@ pub record IsReplied {B : Type 0} (setting : Setting) (old new : State B) (numbe
 -- no reply was made, for want of memory: the line was not performed, or it was the last one
 pub record IsUnreplied {B : Type 0} (setting : Setting) (old new : State B) (line : Line) : Type 0 where
   pub own : RunsOwn new
-  pub losses : AreLossesFrom setting.before setting.now (histories_in old) (histories_in new)
+  pub losses : AreLossesFrom setting (histories_in old) (histories_in new)
   pub grown : AreGrown (histories_in old) (histories_in new)
   pub course : IsCourseOrNext (histories_in new) (course_in old) line (course_in new)
 
@@ -117,7 +117,7 @@ pub record IsPerformed {B : Type 0} (setting : Setting) (lines : List Numbered) 
   pub replies : AreReplies setting (histories_in session.state) (at_rest 0) (take (length session.replies.items) lines) session.replies.items
   pub course : IsCourse session.stopped (histories_in session.state) (drop (length session.replies.items) lines)
       (course_of (histories_in session.state) (at_rest 0) (take (length session.replies.items) lines) session.replies.items) (course_in session.state)
-  pub losses : AreLossesFrom setting.before setting.now [] (histories_in session.state)
+  pub losses : AreLossesFrom setting [] (histories_in session.state)
   pub ends : setting.tells → AreInOrder setting.began (length setting.tape) session.replies.items
   pub refused : session.refused ≡ has_refusal (histories_in session.state) session.replies.items
 

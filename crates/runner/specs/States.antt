@@ -17,7 +17,7 @@ use Rattle.runner.specs.declared.report.Answered.TheVariants.{Inside, Outside}
 use Rattle.runner.specs.declared.states.State.{State}
 use Rattle.runner.specs.declared.states.State.TheVariants.{Idle, Running}
 use Rattle.runner.specs.Histories.{History, histories_of, entry_at}
-use Rattle.runner.specs.Making.{Setting}
+use Rattle.runner.specs.Making.{Setting, history_world, HeldAtFirst}
 use Rattle.runner.specs.Replies.{Course, at_rest, begun, course_after, IsAnswer}
 
 -- the history of an array that runs
@@ -83,23 +83,24 @@ AreGrown [] news = ⊤
 AreGrown (old ∷ olds) [] = ⊥
 AreGrown (old ∷ olds) (new ∷ news) = IsGrown old new × AreGrown olds news
 
--- an entry that tells a loss does so only where a slot has failed since
-abbrev pub IsLossSince : (ℕ → ℕ) → (ℕ → ℕ) → Event → Type 0
-IsLossSince before now (Lost role cause) = (slot : ℕ) × IsFaulted slot before now
-IsLossSince before now (SpareLost slot) = IsFaulted slot before now
-IsLossSince before now event = ⊤
+-- an event that tells a loss does so only where a slot has failed since: the one that held the role at the opening, or the spare
+abbrev pub IsLossSince : Setting → History → Event → Type 0
+IsLossSince setting history (Lost role cause) =
+    (slot : ℕ) × IsFaulted slot setting.before setting.now × (setting.tells → HeldAtFirst (history_world setting history) role slot)
+IsLossSince setting history (SpareLost slot) = IsFaulted slot setting.before setting.now
+IsLossSince setting history event = ⊤
 
 -- more entries stand behind the old ones, and each loss that they tell has its cause
-pub record AreLossesSince (before now : ℕ → ℕ) (old new : List Entry) : Type 0 where
+pub record AreLossesSince (setting : Setting) (old : List Entry) (new : History) : Type 0 where
   pub more : List Entry
-  pub grown : new ≡ old ++ more
-  pub failed : All (λ e. IsLossSince before now e.event) more
+  pub grown : new.entries ≡ old ++ more
+  pub failed : All (λ e. IsLossSince setting new e.event) more
 
-abbrev pub AreLossesFrom : (ℕ → ℕ) → (ℕ → ℕ) → List History → List History → Type 0
-AreLossesFrom before now [] [] = ⊤
-AreLossesFrom before now [] (new ∷ news) = AreLossesSince before now [] new.entries × AreLossesFrom before now [] news
-AreLossesFrom before now (old ∷ olds) [] = ⊥
-AreLossesFrom before now (old ∷ olds) (new ∷ news) = AreLossesSince before now old.entries new.entries × AreLossesFrom before now olds news
+abbrev pub AreLossesFrom : Setting → List History → List History → Type 0
+AreLossesFrom setting [] [] = ⊤
+AreLossesFrom setting [] (new ∷ news) = AreLossesSince setting [] new × AreLossesFrom setting [] news
+AreLossesFrom setting (old ∷ olds) [] = ⊥
+AreLossesFrom setting (old ∷ olds) (new ∷ news) = AreLossesSince setting old.entries new × AreLossesFrom setting olds news
 
 -- the entry that an answer names is there
 abbrev pub IsNamed : List History → Answered → Type 0
@@ -128,7 +129,7 @@ EndsBetween low high histories (Outside outside) = low ≤ high
 -- one line was answered
 pub record IsTurn {B : Type 0} (setting : Setting) (old new : State B) (line : Line) (what : Answered) : Type 0 where
   pub own : RunsOwn new
-  pub losses : AreLossesFrom setting.before setting.now (histories_in old) (histories_in new)
+  pub losses : AreLossesFrom setting (histories_in old) (histories_in new)
   pub grown : AreGrown (histories_in old) (histories_in new)
   pub ends : setting.tells → EndsBetween setting.began (length setting.tape) (histories_in new) what
   pub answer : IsAnswer setting (histories_in new) (course_in old) line (length setting.tape) what
@@ -137,7 +138,7 @@ pub record IsTurn {B : Type 0} (setting : Setting) (old new : State B) (line : L
 -- memory was short: nothing was entered, but the array that the line asks for may run
 pub record IsNoTurn {B : Type 0} (setting : Setting) (old new : State B) (line : Line) : Type 0 where
   pub own : RunsOwn new
-  pub losses : AreLossesFrom setting.before setting.now (histories_in old) (histories_in new)
+  pub losses : AreLossesFrom setting (histories_in old) (histories_in new)
   pub grown : AreGrown (histories_in old) (histories_in new)
   pub course : IsCourseOrNext (histories_in new) (course_in old) line (course_in new)
 

@@ -5,7 +5,7 @@ ghost use Rattle.md_base.specs.declared.answers.Fault.TheVariants.{NoMemory as W
 ghost use Rattle.bank.specs.Given.{NeverFalls};
 ghost use Rattle.md_base.specs.Sectors.{IsWhole};
 ghost use Rattle.array.specs.Whole.{list_size};
-ghost use Rattle.array.specs.Placed.{places_of};
+ghost use Rattle.array.specs.Placed.{places_of, AreStillHeld};
 ghost use Rattle.array.specs.Kept.{IsSameArray, AreLossesOf, IsEndOf, world_for};
 ghost use Rattle.array.specs.Moving.{Grows};
 ghost use Rattle.runner.specs.Asked.{IsAsked, script_who};
@@ -58,6 +58,7 @@ pub fn ask_read<B: Bank>(
     ensures ended { IfOk result (λ place. IsEndOf B.tells array.new.first array.new.entries (B.tape array.new.bank)) }
     ensures unchanged { IfErr result (λ none. array.new ≡ array.old) }
     ensures grows { Grows B.tells (B.tape array.old.bank) (B.tape array.new.bank) }
+    ensures held { AreStillHeld array.old.members array.new.members }
     ensures losses { AreLossesOf array.old.members (B.faults_of array.old.bank) (B.faults_of array.new.bank) array.old.entries array.new.entries }
     ensures never_falls { NeverFalls (B.faults_of array.old.bank) (B.faults_of array.new.bank) }
     ensures given { B.given array.new.bank ≡ B.given array.old.bank }
@@ -89,6 +90,7 @@ pub fn ask_write<B: Bank>(
     ensures ended { IfOk result (λ place. IsEndOf B.tells array.new.first array.new.entries (B.tape array.new.bank)) }
     ensures unchanged { IfErr result (λ none. array.new ≡ array.old) }
     ensures grows { Grows B.tells (B.tape array.old.bank) (B.tape array.new.bank) }
+    ensures held { AreStillHeld array.old.members array.new.members }
     ensures losses { AreLossesOf array.old.members (B.faults_of array.old.bank) (B.faults_of array.new.bank) array.old.entries array.new.entries }
     ensures never_falls { NeverFalls (B.faults_of array.old.bank) (B.faults_of array.new.bank) }
     ensures given { B.given array.new.bank ≡ B.given array.old.bank }
@@ -112,6 +114,7 @@ pub fn ask_flush<B: Bank>(array: &mut Array<B>) -> Result<u64, NoMemory>
     ensures ended { IfOk result (λ place. IsEndOf B.tells array.new.first array.new.entries (B.tape array.new.bank)) }
     ensures unchanged { IfErr result (λ none. array.new ≡ array.old) }
     ensures grows { Grows B.tells (B.tape array.old.bank) (B.tape array.new.bank) }
+    ensures held { AreStillHeld array.old.members array.new.members }
     ensures losses { AreLossesOf array.old.members (B.faults_of array.old.bank) (B.faults_of array.new.bank) array.old.entries array.new.entries }
     ensures never_falls { NeverFalls (B.faults_of array.old.bank) (B.faults_of array.new.bank) }
     ensures given { B.given array.new.bank ≡ B.given array.old.bank }

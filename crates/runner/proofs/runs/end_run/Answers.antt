@@ -3,6 +3,7 @@ use Rattle.runner.specs.Runs.{AreEndedAt}
 use Rattle.runner.specs.States.{bank_in}
 use Rattle.runner.proofs.Legal.{all_right, ended_to}
 use Rattle.runner.proofs.Marks.{ended_kept, former_kept}
+use Rattle.runner.proofs.Reopening.{all_kept}
 use Rattle.runner.proofs.runs.end_run.Goals as goal
 
 pub returns-clause-ended : goal.returns-clause-ended
@@ -20,6 +21,13 @@ returns-clause-right g c told =
     all_right (g.B.Bank.given (bank_in c.args.state)) tape c.args.backup epochs
     (former_kept (g.B.Bank.given (bank_in c.args.state)) tape c.args.backup (length tape) c.halt-bank.result.1.items epochs c.end_epochs.ensures.same (c.halt-bank.ensures.former told))
     (ended_to (length tape) epochs (subst (λ (n : ℕ). AreEndedAt n epochs) (c.ops-ops.ensures told) c.end_epochs.ensures.ended))
+
+pub returns-clause-kept : goal.returns-clause-kept
+returns-clause-kept g c told =
+    let tape = g.B.Bank.tape c.halt-bank.result.0 in
+    let epochs = c.end_epochs.new.epochs.items in
+    all_kept (g.B.Bank.given (bank_in c.args.state)) tape c.args.backup epochs
+    (former_kept (g.B.Bank.given (bank_in c.args.state)) tape c.args.backup (length tape) c.halt-bank.result.1.items epochs c.end_epochs.ensures.same (c.halt-bank.ensures.former told))
 
 pub returns-clause-marks : goal.returns-clause-marks
 returns-clause-marks g c told = subst (λ (n : ℕ). AreEndedAt n c.end_epochs.new.epochs.items) (c.ops-ops.ensures told) c.end_epochs.ensures.ended

@@ -5,18 +5,19 @@ use Rattle.array.specs.Placed.{places_of}
 use Rattle.runner.specs.Ended.{IsRunKept, AreFormer}
 use Rattle.runner.specs.States.{bank_in, RunsOwn}
 use Rattle.runner.proofs.Legal.{former_halted}
+use Rattle.runner.specs.Making.{setting_of}
 use Rattle.runner.specs.Runs.{IsEnded}
 use Rattle.runner.specs.declared.states.State.{State}
 use Rattle.runner.specs.declared.states.State.TheVariants.{Running}
 use Rattle.runner.proofs.AskLaws.{asked_halt, halt_grew}
-use Rattle.runner.proofs.Losses.{losses-of}
 use Rattle.runner.proofs.Ends.{ended_idle, ended_running}
 use Rattle.runner.proofs.runs.halt.Goals as goal
 
 pub returns-in-Idle-clause-ended : goal.returns-in-Idle-clause-ended
 returns-in-Idle-clause-ended g c =
-    subst (λ (s : State g.row.B.Denot). IsEnded (g.B.Bank.faults_of c.in-Idle.bank) s c.in-Idle.bank c.in-Idle.epochs.items) (sym c.in-Idle.is)
-    (ended_idle (g.B.Bank.faults_of c.in-Idle.bank) c.in-Idle.bank c.in-Idle.epochs (subst (λ (s : State g.row.B.Denot). RunsOwn s) c.in-Idle.is c.requires.own))
+    let bank = c.in-Idle.bank in
+    subst (λ (s : State g.row.B.Denot). IsEnded (setting_of g.B.Bank.tells (g.B.Bank.given (bank_in s)) (g.B.Bank.tape bank) (g.B.Bank.tape bank) c.args.backup (g.B.Bank.faults_of bank) (g.B.Bank.faults_of bank)) s bank c.in-Idle.epochs.items) (sym c.in-Idle.is)
+    (ended_idle (setting_of g.B.Bank.tells (g.B.Bank.given bank) (g.B.Bank.tape bank) (g.B.Bank.tape bank) c.args.backup (g.B.Bank.faults_of bank) (g.B.Bank.faults_of bank)) bank c.in-Idle.epochs (subst (λ (s : State g.row.B.Denot). RunsOwn s) c.in-Idle.is c.requires.own))
 
 pub returns-in-Running-clause-ended : goal.returns-in-Running-clause-ended
 returns-in-Running-clause-ended g c =
@@ -28,9 +29,11 @@ returns-in-Running-clause-ended g c =
     let items : c.push_reserved.new.self.items ≡ c.in-Running.epochs.items ++ epoch ∷ [] = search rules in
     let grew = halt_grew c.script_call-who.result did.entered in
     let asked = asked_halt (list_size (places_of array.members)) (length epoch.entries.items - 1) c.script_call-who.result c.script_call-who.ensures did.entered (omega (arith, grew)) in
-    subst (λ (s : State g.row.B.Denot). IsEnded (g.B.Bank.faults_of c.halt-bank.result.0) s c.halt-bank.result.0 c.push_reserved.new.self.items) (sym c.in-Running.is)
-    (subst (λ (b : g.row.B.Denot). IsEnded (g.B.Bank.faults_of b) (Running array c.in-Running.epochs) b c.push_reserved.new.self.items) (sym did.bank)
-    (ended_running array epoch c.in-Running.epochs c.push_reserved.new.self items own (losses-of did.losses) did.uuid did.given did.first asked.0 (asked.1)))
+    let bank = c.halt-bank.result.0 in
+    let setting = setting_of g.B.Bank.tells (g.B.Bank.given array.bank) (g.B.Bank.tape bank) (g.B.Bank.tape bank) c.args.backup (g.B.Bank.faults_of bank) (g.B.Bank.faults_of bank) in
+    subst (λ (s : State g.row.B.Denot). IsEnded (setting_of g.B.Bank.tells (g.B.Bank.given (bank_in s)) (g.B.Bank.tape bank) (g.B.Bank.tape bank) c.args.backup (g.B.Bank.faults_of bank) (g.B.Bank.faults_of bank)) s bank c.push_reserved.new.self.items) (sym c.in-Running.is)
+    (subst (λ (b : g.row.B.Denot). IsEnded setting (Running array c.in-Running.epochs) b c.push_reserved.new.self.items) (sym did.bank)
+    (ended_running setting c.script_call-who.result array epoch c.in-Running.epochs c.push_reserved.new.self items own did.entered did.uuid did.given did.first asked.0 (asked.1)))
 
 pub returns-in-Running-clause-former : goal.returns-in-Running-clause-former
 returns-in-Running-clause-former g c =

@@ -2,7 +2,9 @@ use Rattle.std.proofs.Common.{sym, subst}
 use Rattle.bank.specs.Given.{Given, NeverFalls}
 use Rattle.runner.specs.Ended.{AreLegal, AreRight}
 use Rattle.array.specs.Moving.{Grows}
+use Rattle.runner.specs.Kept.{AreKept}
 use Rattle.runner.specs.Making.{setting_of}
+use Rattle.runner.specs.Runs.{IsEnded}
 use Rattle.runner.specs.Sessions.{IsPerformed}
 use Rattle.runner.proofs.Ends.{end_status, end_performed, end_losses, end_taken, end_shown}
 use Rattle.runner.proofs.runs.run_lines.Goals as goal
@@ -10,7 +12,7 @@ use Rattle.runner.proofs.runs.run_lines.Goals as goal
 pub returns-clause-status : goal.returns-clause-status
 returns-clause-status g c =
     let did = c.perform-state.ensures in
-    let ended = c.end_run-bank.ensures.ended in
+    let ended = subst (λ (known : Given). IsEnded (setting_of g.B.Bank.tells known (g.B.Bank.tape c.end_run-bank.result.0) (g.B.Bank.tape c.end_run-bank.result.0) c.args.backup (g.B.Bank.faults_of c.end_run-bank.result.0) (g.B.Bank.faults_of c.end_run-bank.result.0)) c.perform-state.result.state c.end_run-bank.result.0 c.end_run-bank.result.1.items) c.perform-state.ensures.given c.end_run-bank.ensures.ended in
     let performed = subst (λ (b : g.row.B.Denot). IsPerformed (setting_of g.B.Bank.tells (g.B.Bank.given c.args.bank) (g.B.Bank.tape c.args.bank) (g.B.Bank.tape b) c.args.backup (g.B.Bank.faults_of c.args.bank) (g.B.Bank.faults_of b)) c.args.lines.now c.perform-state.result) (sym ended.same_bank) did.performed in
     let falls = subst (λ (b : g.row.B.Denot). NeverFalls (g.B.Bank.faults_of c.args.bank) (g.B.Bank.faults_of b)) (sym ended.same_bank) did.never_falls in
     end_status (g.B.Bank.tape c.args.bank) c.end_run-bank.result.1.items c.status_of.result falls performed ended c.status_of.ensures
@@ -18,7 +20,7 @@ returns-clause-status g c =
 pub returns-clause-performed : goal.returns-clause-performed
 returns-clause-performed g c =
     let did = c.perform-state.ensures in
-    let ended = c.end_run-bank.ensures.ended in
+    let ended = subst (λ (known : Given). IsEnded (setting_of g.B.Bank.tells known (g.B.Bank.tape c.end_run-bank.result.0) (g.B.Bank.tape c.end_run-bank.result.0) c.args.backup (g.B.Bank.faults_of c.end_run-bank.result.0) (g.B.Bank.faults_of c.end_run-bank.result.0)) c.perform-state.result.state c.end_run-bank.result.0 c.end_run-bank.result.1.items) c.perform-state.ensures.given c.end_run-bank.ensures.ended in
     let performed = subst (λ (b : g.row.B.Denot). IsPerformed (setting_of g.B.Bank.tells (g.B.Bank.given c.args.bank) (g.B.Bank.tape c.args.bank) (g.B.Bank.tape b) c.args.backup (g.B.Bank.faults_of c.args.bank) (g.B.Bank.faults_of b)) c.args.lines.now c.perform-state.result) (sym ended.same_bank) did.performed in
     let falls = subst (λ (b : g.row.B.Denot). NeverFalls (g.B.Bank.faults_of c.args.bank) (g.B.Bank.faults_of b)) (sym ended.same_bank) did.never_falls in
     end_performed (g.B.Bank.tape c.args.bank) c.end_run-bank.result.1.items c.status_of.result falls performed ended c.status_of.ensures did.all
@@ -26,7 +28,7 @@ returns-clause-performed g c =
 pub returns-clause-taken : goal.returns-clause-taken
 returns-clause-taken g c =
     let did = c.perform-state.ensures in
-    let ended = c.end_run-bank.ensures.ended in
+    let ended = subst (λ (known : Given). IsEnded (setting_of g.B.Bank.tells known (g.B.Bank.tape c.end_run-bank.result.0) (g.B.Bank.tape c.end_run-bank.result.0) c.args.backup (g.B.Bank.faults_of c.end_run-bank.result.0) (g.B.Bank.faults_of c.end_run-bank.result.0)) c.perform-state.result.state c.end_run-bank.result.0 c.end_run-bank.result.1.items) c.perform-state.ensures.given c.end_run-bank.ensures.ended in
     let performed = subst (λ (b : g.row.B.Denot). IsPerformed (setting_of g.B.Bank.tells (g.B.Bank.given c.args.bank) (g.B.Bank.tape c.args.bank) (g.B.Bank.tape b) c.args.backup (g.B.Bank.faults_of c.args.bank) (g.B.Bank.faults_of b)) c.args.lines.now c.perform-state.result) (sym ended.same_bank) did.performed in
     let falls = subst (λ (b : g.row.B.Denot). NeverFalls (g.B.Bank.faults_of c.args.bank) (g.B.Bank.faults_of b)) (sym ended.same_bank) did.never_falls in
     end_taken (g.B.Bank.tape c.args.bank) c.end_run-bank.result.1.items c.status_of.result falls performed ended c.status_of.ensures did.shown
@@ -34,7 +36,7 @@ returns-clause-taken g c =
 pub returns-clause-shown : goal.returns-clause-shown
 returns-clause-shown g c =
     let did = c.perform-state.ensures in
-    let ended = c.end_run-bank.ensures.ended in
+    let ended = subst (λ (known : Given). IsEnded (setting_of g.B.Bank.tells known (g.B.Bank.tape c.end_run-bank.result.0) (g.B.Bank.tape c.end_run-bank.result.0) c.args.backup (g.B.Bank.faults_of c.end_run-bank.result.0) (g.B.Bank.faults_of c.end_run-bank.result.0)) c.perform-state.result.state c.end_run-bank.result.0 c.end_run-bank.result.1.items) c.perform-state.ensures.given c.end_run-bank.ensures.ended in
     let performed = subst (λ (b : g.row.B.Denot). IsPerformed (setting_of g.B.Bank.tells (g.B.Bank.given c.args.bank) (g.B.Bank.tape c.args.bank) (g.B.Bank.tape b) c.args.backup (g.B.Bank.faults_of c.args.bank) (g.B.Bank.faults_of b)) c.args.lines.now c.perform-state.result) (sym ended.same_bank) did.performed in
     let falls = subst (λ (b : g.row.B.Denot). NeverFalls (g.B.Bank.faults_of c.args.bank) (g.B.Bank.faults_of b)) (sym ended.same_bank) did.never_falls in
     end_shown (g.B.Bank.tape c.args.bank) c.end_run-bank.result.1.items c.status_of.result falls performed ended c.status_of.ensures did.shown
@@ -42,7 +44,7 @@ returns-clause-shown g c =
 pub returns-clause-losses : goal.returns-clause-losses
 returns-clause-losses g c =
     let did = c.perform-state.ensures in
-    let ended = c.end_run-bank.ensures.ended in
+    let ended = subst (λ (known : Given). IsEnded (setting_of g.B.Bank.tells known (g.B.Bank.tape c.end_run-bank.result.0) (g.B.Bank.tape c.end_run-bank.result.0) c.args.backup (g.B.Bank.faults_of c.end_run-bank.result.0) (g.B.Bank.faults_of c.end_run-bank.result.0)) c.perform-state.result.state c.end_run-bank.result.0 c.end_run-bank.result.1.items) c.perform-state.ensures.given c.end_run-bank.ensures.ended in
     let performed = subst (λ (b : g.row.B.Denot). IsPerformed (setting_of g.B.Bank.tells (g.B.Bank.given c.args.bank) (g.B.Bank.tape c.args.bank) (g.B.Bank.tape b) c.args.backup (g.B.Bank.faults_of c.args.bank) (g.B.Bank.faults_of b)) c.args.lines.now c.perform-state.result) (sym ended.same_bank) did.performed in
     let falls = subst (λ (b : g.row.B.Denot). NeverFalls (g.B.Bank.faults_of c.args.bank) (g.B.Bank.faults_of b)) (sym ended.same_bank) did.never_falls in
     end_losses (g.B.Bank.tape c.args.bank) c.end_run-bank.result.1.items c.status_of.result falls performed ended c.status_of.ensures
@@ -57,6 +59,10 @@ returns-clause-ended g c = c.end_run-bank.ensures.marks
 pub returns-clause-right : goal.returns-clause-right
 returns-clause-right g c =
     subst (λ (known : Given). g.B.Bank.tells → AreRight known (g.B.Bank.tape c.end_run-bank.result.0) c.args.backup c.end_run-bank.result.1.items) c.perform-state.ensures.given c.end_run-bank.ensures.right
+
+pub returns-clause-kept : goal.returns-clause-kept
+returns-clause-kept g c =
+    subst (λ (known : Given). g.B.Bank.tells → AreKept known (g.B.Bank.tape c.end_run-bank.result.0) c.args.backup c.end_run-bank.result.1.items) c.perform-state.ensures.given c.end_run-bank.ensures.kept
 
 pub returns-clause-grows : goal.returns-clause-grows
 returns-clause-grows g c =

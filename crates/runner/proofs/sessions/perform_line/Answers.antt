@@ -17,7 +17,7 @@ returns-then-is_err-clause-step g c =
     let state = c.args.session.state in
     let faults = g.B.Bank.faults_of (bank_in state) in
     record {
-      none = record { own = c.requires.own; losses = losses-kept faults faults (histories_in state); grown = grown_kept (histories_in state); course = inl refl };
+      none = record { own = c.requires.own; losses = losses-kept (setting_of g.B.Bank.tells (g.B.Bank.given (bank_in state)) (g.B.Bank.tape (bank_in state)) (g.B.Bank.tape (bank_in state)) c.args.backup faults faults) (histories_in state); grown = grown_kept (histories_in state); course = inl refl };
       same = c.reserve.ensures.items;
       refused = refl;
       taken = refl;

@@ -5,14 +5,14 @@ use Rattle.script.specs.declared.lines.Line.TheVariants.{Read, Write, Flush}
 use Rattle.md_base.specs.declared.answers.Refusal.TheVariants.{Running as RefusedRunning}
 use Rattle.runner.specs.Making.{setting_of}
 use Rattle.runner.specs.Replies.{IsRefusedOutside}
-use Rattle.runner.specs.States.{bank_in, IsTurnOrNone, IsTurn}
+use Rattle.runner.specs.States.{running_history, bank_in, IsTurnOrNone, IsTurn}
 use Rattle.runner.specs.declared.report.Answered.{Answered}
 use Rattle.runner.specs.declared.states.State.{State}
 use Rattle.runner.specs.declared.states.State.TheVariants.{Running as IsRunning}
 use Rattle.runner.specs.Ended.{IsRunKept}
 use Rattle.std.proofs.Common.{arith}
 use Rattle.runner.proofs.Legal.{grows_longer, going_asked}
-use Rattle.runner.proofs.Losses.{losses-of}
+use Rattle.runner.proofs.Losses.{losses-of, held-later}
 use Rattle.runner.proofs.Turns.{turn_of_ask, turn_refused, going_read, going_write, going_flush}
 use Rattle.runner.proofs.states.answer_running.Goals as goal
 
@@ -26,7 +26,7 @@ returns-in-Read-clause-answered g c =
     subst (λ (l : Line). IsTurnOrNone (setting_of g.B.Bank.tells (g.B.Bank.given array.bank) (g.B.Bank.tape array.bank) (g.B.Bank.tape (bank_in on.result.0)) c.args.backup (g.B.Bank.faults_of array.bank) (g.B.Bank.faults_of (bank_in on.result.0))) (IsRunning array c.args.epochs) on.result.0 l on.result.1) (sym c.in-Read.is)
     (subst (λ (s : State g.row.B.Denot). IsTurnOrNone (setting_of g.B.Bank.tells (g.B.Bank.given array.bank) (g.B.Bank.tape array.bank) (g.B.Bank.tape (bank_in s)) c.args.backup (g.B.Bank.faults_of array.bank) (g.B.Bank.faults_of (bank_in s))) (IsRunning array c.args.epochs) s (Read c.in-Read.at c.in-Read.count) on.result.1) (sym on.ensures.state)
     (subst (λ (r : Result Answered NoMemory). IsTurnOrNone (setting_of g.B.Bank.tells (g.B.Bank.given array.bank) (g.B.Bank.tape array.bank) (g.B.Bank.tape new.bank) c.args.backup (g.B.Bank.faults_of array.bank) (g.B.Bank.faults_of new.bank)) (IsRunning array c.args.epochs) (IsRunning new c.args.epochs) (Read c.in-Read.at c.in-Read.count) r) (sym on.ensures.answer)
-    (turn_of_ask (setting_of g.B.Bank.tells (g.B.Bank.given array.bank) (g.B.Bank.tape array.bank) (g.B.Bank.tape new.bank) c.args.backup (g.B.Bank.faults_of array.bank) (g.B.Bank.faults_of new.bank)) array new c.args.epochs c.requires.own (losses-of did.losses) same.uuid same.given same.first same.shape same.size
+    (turn_of_ask (setting_of g.B.Bank.tells (g.B.Bank.given array.bank) (g.B.Bank.tape array.bank) (g.B.Bank.tape new.bank) c.args.backup (g.B.Bank.faults_of array.bank) (g.B.Bank.faults_of new.bank)) array new c.args.epochs c.requires.own (losses-of (setting_of g.B.Bank.tells (g.B.Bank.given array.bank) (g.B.Bank.tape array.bank) (g.B.Bank.tape new.bank) c.args.backup (g.B.Bank.faults_of array.bank) (g.B.Bank.faults_of new.bank)) (running_history new) (held-later (g.B.Bank.given array.bank) c.args.backup (running_history array) (running_history new) array.members did.grows (record { uuid = same.uuid; given = same.given; first = same.first }) c.requires.former.held) did.losses) same.uuid same.given same.first same.shape same.size
     (Read c.in-Read.at c.in-Read.count) c.ask_read-place.result (λ p asked. going_read c.in-Read.at c.in-Read.count asked) (grows_longer did.grows) did.ended did.asked)))
 
 pub returns-in-Write-clause-answered : goal.returns-in-Write-clause-answered
@@ -39,7 +39,7 @@ returns-in-Write-clause-answered g c =
     subst (λ (l : Line). IsTurnOrNone (setting_of g.B.Bank.tells (g.B.Bank.given array.bank) (g.B.Bank.tape array.bank) (g.B.Bank.tape (bank_in on.result.0)) c.args.backup (g.B.Bank.faults_of array.bank) (g.B.Bank.faults_of (bank_in on.result.0))) (IsRunning array c.args.epochs) on.result.0 l on.result.1) (sym c.in-Write.is)
     (subst (λ (s : State g.row.B.Denot). IsTurnOrNone (setting_of g.B.Bank.tells (g.B.Bank.given array.bank) (g.B.Bank.tape array.bank) (g.B.Bank.tape (bank_in s)) c.args.backup (g.B.Bank.faults_of array.bank) (g.B.Bank.faults_of (bank_in s))) (IsRunning array c.args.epochs) s (Write c.in-Write.at c.in-Write.count c.in-Write.seed) on.result.1) (sym on.ensures.state)
     (subst (λ (r : Result Answered NoMemory). IsTurnOrNone (setting_of g.B.Bank.tells (g.B.Bank.given array.bank) (g.B.Bank.tape array.bank) (g.B.Bank.tape new.bank) c.args.backup (g.B.Bank.faults_of array.bank) (g.B.Bank.faults_of new.bank)) (IsRunning array c.args.epochs) (IsRunning new c.args.epochs) (Write c.in-Write.at c.in-Write.count c.in-Write.seed) r) (sym on.ensures.answer)
-    (turn_of_ask (setting_of g.B.Bank.tells (g.B.Bank.given array.bank) (g.B.Bank.tape array.bank) (g.B.Bank.tape new.bank) c.args.backup (g.B.Bank.faults_of array.bank) (g.B.Bank.faults_of new.bank)) array new c.args.epochs c.requires.own (losses-of did.losses) same.uuid same.given same.first same.shape same.size
+    (turn_of_ask (setting_of g.B.Bank.tells (g.B.Bank.given array.bank) (g.B.Bank.tape array.bank) (g.B.Bank.tape new.bank) c.args.backup (g.B.Bank.faults_of array.bank) (g.B.Bank.faults_of new.bank)) array new c.args.epochs c.requires.own (losses-of (setting_of g.B.Bank.tells (g.B.Bank.given array.bank) (g.B.Bank.tape array.bank) (g.B.Bank.tape new.bank) c.args.backup (g.B.Bank.faults_of array.bank) (g.B.Bank.faults_of new.bank)) (running_history new) (held-later (g.B.Bank.given array.bank) c.args.backup (running_history array) (running_history new) array.members did.grows (record { uuid = same.uuid; given = same.given; first = same.first }) c.requires.former.held) did.losses) same.uuid same.given same.first same.shape same.size
     (Write c.in-Write.at c.in-Write.count c.in-Write.seed) c.ask_write-place.result (λ p asked. going_write c.in-Write.at c.in-Write.count c.in-Write.seed asked) (grows_longer did.grows) did.ended did.asked)))
 
 pub returns-in-Flush-clause-answered : goal.returns-in-Flush-clause-answered
@@ -52,7 +52,7 @@ returns-in-Flush-clause-answered g c =
     subst (λ (l : Line). IsTurnOrNone (setting_of g.B.Bank.tells (g.B.Bank.given array.bank) (g.B.Bank.tape array.bank) (g.B.Bank.tape (bank_in on.result.0)) c.args.backup (g.B.Bank.faults_of array.bank) (g.B.Bank.faults_of (bank_in on.result.0))) (IsRunning array c.args.epochs) on.result.0 l on.result.1) (sym c.in-Flush.is)
     (subst (λ (s : State g.row.B.Denot). IsTurnOrNone (setting_of g.B.Bank.tells (g.B.Bank.given array.bank) (g.B.Bank.tape array.bank) (g.B.Bank.tape (bank_in s)) c.args.backup (g.B.Bank.faults_of array.bank) (g.B.Bank.faults_of (bank_in s))) (IsRunning array c.args.epochs) s Flush on.result.1) (sym on.ensures.state)
     (subst (λ (r : Result Answered NoMemory). IsTurnOrNone (setting_of g.B.Bank.tells (g.B.Bank.given array.bank) (g.B.Bank.tape array.bank) (g.B.Bank.tape new.bank) c.args.backup (g.B.Bank.faults_of array.bank) (g.B.Bank.faults_of new.bank)) (IsRunning array c.args.epochs) (IsRunning new c.args.epochs) Flush r) (sym on.ensures.answer)
-    (turn_of_ask (setting_of g.B.Bank.tells (g.B.Bank.given array.bank) (g.B.Bank.tape array.bank) (g.B.Bank.tape new.bank) c.args.backup (g.B.Bank.faults_of array.bank) (g.B.Bank.faults_of new.bank)) array new c.args.epochs c.requires.own (losses-of did.losses) same.uuid same.given same.first same.shape same.size
+    (turn_of_ask (setting_of g.B.Bank.tells (g.B.Bank.given array.bank) (g.B.Bank.tape array.bank) (g.B.Bank.tape new.bank) c.args.backup (g.B.Bank.faults_of array.bank) (g.B.Bank.faults_of new.bank)) array new c.args.epochs c.requires.own (losses-of (setting_of g.B.Bank.tells (g.B.Bank.given array.bank) (g.B.Bank.tape array.bank) (g.B.Bank.tape new.bank) c.args.backup (g.B.Bank.faults_of array.bank) (g.B.Bank.faults_of new.bank)) (running_history new) (held-later (g.B.Bank.given array.bank) c.args.backup (running_history array) (running_history new) array.members did.grows (record { uuid = same.uuid; given = same.given; first = same.first }) c.requires.former.held) did.losses) same.uuid same.given same.first same.shape same.size
     Flush c.ask_flush-place.result (λ p asked. going_flush asked) (grows_longer did.grows) did.ended did.asked)))
 
 pub returns-in-Create-clause-answered : goal.returns-in-Create-clause-answered
@@ -75,7 +75,7 @@ returns-in-Read-clause-former g c =
     let new = c.ask_read-place.new.array in
     let did = c.ask_read-place.ensures in
     subst (λ (s : State g.row.B.Denot). IsRunKept g.B.Bank.tells (g.B.Bank.given array.bank) (g.B.Bank.tape (bank_in s)) c.args.backup s) (sym c.goes_on.ensures.state)
-    (going_asked (g.B.Bank.given array.bank) (λ (b : g.row.B.Denot). g.B.Bank.tape b) c.args.backup array new c.args.epochs.items c.ask_read-place.result did.grows did.same.first did.same.backup did.ended did.unchanged c.requires.former)
+    (going_asked (g.B.Bank.given array.bank) (λ (b : g.row.B.Denot). g.B.Bank.tape b) c.args.backup array new c.args.epochs.items c.ask_read-place.result did.grows did.same.first did.same.backup did.same.uuid did.same.given did.held did.ended did.unchanged c.requires.former)
 
 pub returns-in-Write-clause-former : goal.returns-in-Write-clause-former
 returns-in-Write-clause-former g c =
@@ -83,7 +83,7 @@ returns-in-Write-clause-former g c =
     let new = c.ask_write-place.new.array in
     let did = c.ask_write-place.ensures in
     subst (λ (s : State g.row.B.Denot). IsRunKept g.B.Bank.tells (g.B.Bank.given array.bank) (g.B.Bank.tape (bank_in s)) c.args.backup s) (sym c.goes_on-in-Write.ensures.state)
-    (going_asked (g.B.Bank.given array.bank) (λ (b : g.row.B.Denot). g.B.Bank.tape b) c.args.backup array new c.args.epochs.items c.ask_write-place.result did.grows did.same.first did.same.backup did.ended did.unchanged c.requires.former)
+    (going_asked (g.B.Bank.given array.bank) (λ (b : g.row.B.Denot). g.B.Bank.tape b) c.args.backup array new c.args.epochs.items c.ask_write-place.result did.grows did.same.first did.same.backup did.same.uuid did.same.given did.held did.ended did.unchanged c.requires.former)
 
 pub returns-in-Flush-clause-former : goal.returns-in-Flush-clause-former
 returns-in-Flush-clause-former g c =
@@ -91,4 +91,4 @@ returns-in-Flush-clause-former g c =
     let new = c.ask_flush-place.new.array in
     let did = c.ask_flush-place.ensures in
     subst (λ (s : State g.row.B.Denot). IsRunKept g.B.Bank.tells (g.B.Bank.given array.bank) (g.B.Bank.tape (bank_in s)) c.args.backup s) (sym c.goes_on-in-Flush.ensures.state)
-    (going_asked (g.B.Bank.given array.bank) (λ (b : g.row.B.Denot). g.B.Bank.tape b) c.args.backup array new c.args.epochs.items c.ask_flush-place.result did.grows did.same.first did.same.backup did.ended did.unchanged c.requires.former)
+    (going_asked (g.B.Bank.given array.bank) (λ (b : g.row.B.Denot). g.B.Bank.tape b) c.args.backup array new c.args.epochs.items c.ask_flush-place.result did.grows did.same.first did.same.backup did.same.uuid did.same.given did.held did.ended did.unchanged c.requires.former)

@@ -1,4 +1,4 @@
-use Rattle.std.proofs.Common.{rules, List, ℕ, [], ◌∷◌, arith, length, refl, sym, ap, subst, ◌∙◌}
+use Rattle.std.proofs.Common.{rules, List, ℕ, [], ◌∷◌, length, sym, ap, subst, ◌∙◌}
 use Rattle.std.specs.Prelude.{IsTrue}
 use Rattle.bank.specs.Given.{NeverFalls}
 use Rattle.bank.specs.Tape.{contents}
@@ -14,13 +14,17 @@ use Rattle.assemble.specs.Running.{HasAssembleCause}
 use Rattle.script.specs.declared.lines.Line.TheVariants.{Assemble as AsksAssemble}
 use Rattle.runner.specs.Ended.{IsGoing}
 use Rattle.runner.specs.Making.{setting_of}
-use Rattle.runner.specs.States.{IsTurn, IsNoTurn}
+use Rattle.runner.specs.States.{running_history, IsTurn, IsNoTurn}
 use Rattle.runner.specs.declared.report.Answered.{Answered}
 use Rattle.runner.specs.declared.report.Answered.TheVariants.{Outside as AnsweredOutside}
 use Rattle.runner.specs.declared.report.Outside.TheVariants.{Assembled}
 use Rattle.runner.specs.declared.states.State.TheVariants.{Idle as IsIdle, Running as IsRunning}
 use Rattle.runner.proofs.Causes.{flushes-grow, grows-none, assemble-refused, backup-known}
 use Rattle.runner.proofs.Legal.{grows_longer, idle_grown, going_begun}
+use Rattle.superblocks.specs.declared.members.Members.{Members}
+use Rattle.runner.specs.Making.{world_at, AreHeldAtFirst}
+use Rattle.runner.proofs.Found.{opened_held}
+use Rattle.runner.proofs.Losses.{held-later}
 use Rattle.runner.proofs.Turns.{turn_found, turn_idle, no_turn_idle, no_turn_found}
 use Rattle.runner.proofs.states.assemble_array.Goals as goal
 
@@ -81,6 +85,9 @@ returns-in-Ok-status-clause-former g c =
     let array = c.status.new.self in
     subst (λ (b : g.row.B.Denot). IsGoing g.B.Bank.tells (g.B.Bank.given c.args.bank) (g.B.Bank.tape b) c.args.backup array c.has_room.new.epochs.items) (sym told.bank)
     (going_begun (g.B.Bank.given c.args.bank) c.args.backup c.args.epochs.items c.has_room.new.epochs.items array c.has_room.ensures.same (flushes-grow did.tape) (told.same.backup ∙ begun.backup_is) (λ t. told.same.first ∙ begun.first t)
+    (subst (λ (m : Members). g.B.Bank.tells → AreHeldAtFirst (world_at (g.B.Bank.given c.args.bank) (g.B.Bank.tape c.in-Ok.array.bank) c.args.backup (running_history array)) m) (sym told.members)
+    (held-later (g.B.Bank.given c.args.bank) c.args.backup (running_history c.in-Ok.array) (running_history array) c.in-Ok.array.members (grows-none (g.B.Bank.tape c.in-Ok.array.bank)) (record { uuid = told.same.uuid; given = told.same.given; first = told.same.first })
+    (λ t. opened_held (g.B.Bank.given c.args.bank) (g.B.Bank.tape c.in-Ok.array.bank) c.args.backup c.args.uuid c.in-Ok.array begun did.assembled.opened t begun.uuid)))
     (subst (λ (b : g.row.B.Denot). IsEndOf g.B.Bank.tells array.first array.entries (g.B.Bank.tape b)) told.bank told.ended) c.requires.former)
 
 pub returns-in-Err-status-clause-former : goal.returns-in-Err-status-clause-former
@@ -89,6 +96,7 @@ returns-in-Err-status-clause-former g c =
     let begun = did.assembled.begun in
     subst (λ (a : Parts g.row.B.Denot). IsGoing g.B.Bank.tells (g.B.Bank.given c.args.bank) (g.B.Bank.tape a.bank) c.args.backup a c.has_room.new.epochs.items) (sym c.in-Err-status.ensures.unchanged)
     (going_begun (g.B.Bank.given c.args.bank) c.args.backup c.args.epochs.items c.has_room.new.epochs.items c.in-Ok.array c.has_room.ensures.same (flushes-grow did.tape) begun.backup_is begun.first
+    (λ t. opened_held (g.B.Bank.given c.args.bank) (g.B.Bank.tape c.in-Ok.array.bank) c.args.backup c.args.uuid c.in-Ok.array begun did.assembled.opened t begun.uuid)
     (λ t. ap (λ (l : List Entry). last_end_from c.in-Ok.array.first l) begun.entries ∙ begun.first t) c.requires.former)
 
 pub returns-in-Refused-clause-former : goal.returns-in-Refused-clause-former

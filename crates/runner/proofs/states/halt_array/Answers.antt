@@ -1,17 +1,17 @@
 use Rattle.std.proofs.Common.{rules, ◌≡◌, ◌-◌, [], ◌∷◌, ◌++◌, length, sym, ap, subst, arith}
 use Rattle.flat_history.specs.declared.events.Epoch.{Epoch}
 use Rattle.flat_history.specs.declared.events.Event.{Event}
-use Rattle.runner.specs.Histories.{is_end}
+use Rattle.runner.specs.Histories.{history_of, is_end}
 use Rattle.array.specs.Whole.{list_size}
 use Rattle.array.specs.Placed.{places_of}
 use Rattle.script.specs.declared.lines.Line.TheVariants.{Halt as AsksHalt}
 use Rattle.runner.specs.Making.{setting_of}
-use Rattle.runner.specs.States.{AreLossesSince, IsTurn}
+use Rattle.runner.specs.States.{IsTurn}
 use Rattle.runner.specs.declared.report.Answered.{Answered}
 use Rattle.runner.specs.declared.states.State.TheVariants.{Idle as IsIdle, Running as IsRunning}
 use Rattle.runner.proofs.AskLaws.{asked_halt, halt_grew}
 use Rattle.runner.proofs.Legal.{former_halted}
-use Rattle.runner.proofs.Losses.{losses-of}
+use Rattle.runner.proofs.Losses.{losses-halted}
 use Rattle.runner.proofs.Turns.{turn_ended}
 use Rattle.runner.proofs.states.halt_array.Goals as goal
 
@@ -26,7 +26,7 @@ returns-clause-answered g c =
     let setting = setting_of g.B.Bank.tells (g.B.Bank.given array.bank) (g.B.Bank.tape array.bank) (g.B.Bank.tape bank) c.args.backup (g.B.Bank.faults_of array.bank) (g.B.Bank.faults_of bank) in
     let grew = halt_grew c.script_call-who.result did.entered in
     let asked = asked_halt (list_size (places_of array.members)) (c.len.result - 1) c.script_call-who.result c.script_call-who.ensures did.entered (omega (arith, grew, c.len.ensures)) in
-    let lost = subst (λ (b : g.row.B.Denot). AreLossesSince (g.B.Bank.faults_of array.bank) (g.B.Bank.faults_of b) array.entries epoch.entries.items) (sym did.bank) (losses-of did.losses) in
+    let lost = losses-halted setting c.script_call-who.result (history_of epoch) did.entered in
     subst (λ (what : Answered). IsTurn setting (IsRunning array c.args.epochs) (IsIdle bank c.push_reserved.new.self) AsksHalt what) (sym c.inside-what.ensures)
     (turn_ended setting array epoch bank c.args.epochs c.push_reserved.new.self items c.requires.own lost did.uuid did.given did.first AsksHalt (c.len.result - 1) asked.0
     (λ t. let at = asked.2 t in let same = ap (λ (b : g.row.B.Denot). length (g.B.Bank.tape b)) did.bank in (omega (arith, at), omega (arith, at, same))) (ap (λ (e : Event). is_end e) (asked.1)))

@@ -2,13 +2,13 @@ use Rattle.std.proofs.Common.{rules, ◌≡◌, ◌-◌, [], ◌∷◌, ◌++◌
 use Rattle.md_base.specs.declared.answers.Fault.{Fault}
 use Rattle.flat_history.specs.declared.events.Epoch.{Epoch}
 use Rattle.flat_history.specs.declared.events.Event.{Event}
-use Rattle.runner.specs.Histories.{is_end}
+use Rattle.runner.specs.Histories.{history_of, is_end}
 use Rattle.array.specs.Whole.{list_size}
 use Rattle.array.specs.Placed.{places_of}
 use Rattle.array.specs.Kept.{IsUnsettled, IsFaultFor}
 use Rattle.script.specs.declared.lines.Line.TheVariants.{Stop as AsksStop}
 use Rattle.runner.specs.Making.{setting_of}
-use Rattle.runner.specs.States.{IsTurn}
+use Rattle.runner.specs.States.{running_history, IsTurn}
 use Rattle.runner.specs.declared.report.Answered.{Answered}
 use Rattle.runner.specs.declared.states.State.TheVariants.{Idle as IsIdle, Running as IsRunning}
 use Rattle.runner.proofs.AskLaws.{asked_stop, asked_unstopped, behind_grew}
@@ -20,7 +20,7 @@ use Rattle.flat_history.specs.Transfers.{last_end_from}
 use Rattle.flat_history.specs.Epochs.{IsEpochRight}
 use Rattle.runner.specs.Ended.{IfSound}
 use Rattle.runner.proofs.Legal.{grows_longer, going_grown, former_more, legal_epoch}
-use Rattle.runner.proofs.Losses.{losses-of}
+use Rattle.runner.proofs.Losses.{losses-of, held-later}
 use Rattle.runner.proofs.Turns.{turn_ended, turn_asked, no_turn, at_the_end, by_legal}
 use Rattle.runner.proofs.states.stop_array.Goals as goal
 
@@ -38,7 +38,7 @@ returns-in-Ok-clause-answered g c =
     let grew = behind_grew c.script_call-who.result did.stopped in
     let asked = asked_stop (list_size (places_of array.members)) (c.len.result - 1) c.script_call-who.result c.script_call-who.ensures did.stopped (omega (arith, grew, c.len.ensures)) in
     subst (λ (what : Answered). IsTurn setting (IsRunning array c.args.epochs) (IsIdle c.in-Ok.ended.0 c.push_reserved.new.self) AsksStop what) (sym c.inside-what.ensures)
-    (turn_ended setting array epoch c.in-Ok.ended.0 c.args.epochs c.push_reserved.new.self items c.requires.own (losses-of did.losses) did.uuid did.slots did.first AsksStop (c.len.result - 1) asked.0
+    (turn_ended setting array epoch c.in-Ok.ended.0 c.args.epochs c.push_reserved.new.self items c.requires.own (losses-of setting (history_of epoch) (held-later (g.B.Bank.given array.bank) c.args.backup (running_history array) (history_of epoch) array.members did.grows (record { uuid = did.uuid; given = did.slots; first = did.first }) c.requires.former.held) did.losses) did.uuid did.slots did.first AsksStop (c.len.result - 1) asked.0
     (λ t. by_legal setting (opening_of (world_of (g.B.Bank.given c.in-Ok.ended.0) (g.B.Bank.tape c.in-Ok.ended.0) array.backup epoch)) array.entries epoch.entries.items asked.0
     (ap (λ (n : ℕ). last_end_from n array.entries) did.first ∙ c.requires.former.ended t) (did.legal t)) (ap (λ (e : Event). is_end e) (asked.1)))
 
@@ -53,7 +53,7 @@ returns-in-NoMemory-clause-answered g c =
     let did = c.in-Err.ensures in
     let setting = setting_of g.B.Bank.tells (g.B.Bank.given array.bank) (g.B.Bank.tape array.bank) (g.B.Bank.tape left.bank) c.args.backup (g.B.Bank.faults_of array.bank) (g.B.Bank.faults_of left.bank) in
     let same = did.left_same in
-    no_turn setting array left c.args.epochs c.requires.own (losses-of did.left_losses) same.uuid same.given same.first same.shape same.size AsksStop
+    no_turn setting array left c.args.epochs c.requires.own (losses-of setting (running_history left) (held-later (g.B.Bank.given array.bank) c.args.backup (running_history array) (running_history left) array.members did.left_grows (record { uuid = same.uuid; given = same.given; first = same.first }) c.requires.former.held) did.left_losses) same.uuid same.given same.first same.shape same.size AsksStop
     (subst (λ (f : Fault). IsUnsettled c.script_call-who.result array.entries left.entries f) c.in-NoMemory.is did.refused)
 
 pub returns-in-Refused-clause-answered : goal.returns-in-Refused-clause-answered
@@ -68,7 +68,7 @@ returns-in-Refused-clause-answered g c =
     (subst (λ (f : Fault). IsUnsettled c.script_call-who.result array.entries left.entries f) c.in-Refused.is did.refused)
     (subst (λ (f : Fault). IsFaultFor size 0 array.members left.members f) c.in-Refused.is did.caused) c.last_place.ensures in
     subst (λ (what : Answered). IsTurn setting (IsRunning array c.args.epochs) (IsRunning left c.args.epochs) AsksStop what) (sym c.inside-what-in-Refused.ensures)
-    (turn_asked setting array left c.args.epochs c.requires.own (losses-of did.left_losses) same.uuid same.given same.first same.shape same.size AsksStop c.last_place.result asked.0 (λ t. at_the_end setting array.entries left.entries asked.0 left.first t (grows_longer did.left_grows t) did.left_ended) (ap (λ (e : Event). is_end e) (asked.1)))
+    (turn_asked setting array left c.args.epochs c.requires.own (losses-of setting (running_history left) (held-later (g.B.Bank.given array.bank) c.args.backup (running_history array) (running_history left) array.members did.left_grows (record { uuid = same.uuid; given = same.given; first = same.first }) c.requires.former.held) did.left_losses) same.uuid same.given same.first same.shape same.size AsksStop c.last_place.result asked.0 (λ t. at_the_end setting array.entries left.entries asked.0 left.first t (grows_longer did.left_grows t) did.left_ended) (ap (λ (e : Event). is_end e) (asked.1)))
 
 pub returns-in-Ok-clause-former : goal.returns-in-Ok-clause-former
 returns-in-Ok-clause-former g c =
@@ -91,9 +91,9 @@ returns-in-Ok-clause-former g c =
 pub returns-in-NoMemory-clause-former : goal.returns-in-NoMemory-clause-former
 returns-in-NoMemory-clause-former g c =
     let did = c.in-Err.ensures in
-    going_grown (g.B.Bank.given c.args.array.bank) c.args.backup c.args.array c.in-Err.left.0 c.args.epochs.items did.left_grows did.left_same.first did.left_same.backup did.left_ended c.requires.former
+    going_grown (g.B.Bank.given c.args.array.bank) c.args.backup c.args.array c.in-Err.left.0 c.args.epochs.items did.left_grows did.left_same.first did.left_same.backup did.left_same.uuid did.left_same.given did.left_held did.left_ended c.requires.former
 
 pub returns-in-Refused-clause-former : goal.returns-in-Refused-clause-former
 returns-in-Refused-clause-former g c =
     let did = c.in-Err.ensures in
-    going_grown (g.B.Bank.given c.args.array.bank) c.args.backup c.args.array c.in-Err.left.0 c.args.epochs.items did.left_grows did.left_same.first did.left_same.backup did.left_ended c.requires.former
+    going_grown (g.B.Bank.given c.args.array.bank) c.args.backup c.args.array c.in-Err.left.0 c.args.epochs.items did.left_grows did.left_same.first did.left_same.backup did.left_same.uuid did.left_same.given did.left_held did.left_ended c.requires.former
