@@ -2,8 +2,8 @@
 # Times the program on scripts of 1, 1,000, 10,000 and 60,000 lines, and prints how the time grows with the lines.
 # The first line of each makes the array; the others write and read in turn, 1 to 4 sectors each, all over the list.
 # What bounds such a script: at most 262,144 sectors in all, and room for 262,144 operations in the bank. A written sector
-# costs at most two operations, its own and that of its row's parity, and making the array costs 123. So 60,000 lines, of which
-# half write 2.5 sectors on average, take 150,000 sectors and at most 150,123 operations.
+# costs at most two operations, its own and that of its row's parity; making the array costs 137, and its dirty mark 6. So 60,000
+# lines, of which half write 2.5 sectors on average, take 150,000 sectors and at most 150,143 operations.
 # An argument says how often each script is run, 5 times if there is none; the best run counts. PROGRAM names another program.
 set -euo pipefail
 here=$(cd "$(dirname "$0")" && pwd)
