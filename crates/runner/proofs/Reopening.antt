@@ -21,7 +21,7 @@ use Rattle.flat_history.specs.Reopened.{IsReopened}
 use Rattle.flat_history.proofs.ReopenedLaws.{settled-found}
 use Rattle.array.specs.Kept.{opening_of}
 use Rattle.runner.specs.Ended.{IsLegalEpoch, IfSound, AreFormer}
-use Rattle.runner.specs.Kept.{IsFoundAgain, IsKept, AreKept}
+use Rattle.runner.specs.Kept.{IsFoundAgain, IsListKept, AreListsKept}
 use Rattle.runner.proofs.Legal.{next_within}
 
 both : (a b : Bool) → (a && b) ≡ true → (a ≡ true) × (b ≡ true)
@@ -68,14 +68,14 @@ reopened given tape backup former next later made within again = record {
 
 one_kept : (given : Given) (tape : List Operation) (backup : Option ℕ) (former next : Epoch) → IsLegalEpoch given tape backup former
     → IfSound given tape backup former (IsCrashSafe (world_of given tape backup former) (length tape) former.entries.items)
-    → former.first ≤ next.first → EndBy next.first former.entries.items → next.first ≤ length tape → IsKept given tape backup former next
+    → former.first ≤ next.first → EndBy next.first former.entries.items → next.first ≤ length tape → IsListKept given tape backup former next
 one_kept given tape backup former next legal safe later made within none room alike again =
     let world = world_of given tape backup former in
     let keeps = entries_keep (opening_of world) (length tape) [] former.entries.items none legal.legal in
     settled-found world (world_of given tape backup next) former.entries.items (length tape) keeps.0 keeps.1 (safe none room alike) within
     (reopened given tape backup former next later made within again) again.settled
 
-pub all_kept : (given : Given) (tape : List Operation) (backup : Option ℕ) (epochs : List Epoch) → AreFormer given tape backup (length tape) epochs → AreKept given tape backup epochs
+pub all_kept : (given : Given) (tape : List Operation) (backup : Option ℕ) (epochs : List Epoch) → AreFormer given tape backup (length tape) epochs → AreListsKept given tape backup epochs
 all_kept given tape backup [] was = tt
 all_kept given tape backup (e ∷ []) was = tt
 all_kept given tape backup (e ∷ f ∷ epochs) was = (

@@ -10,7 +10,7 @@ use Rattle.flat_history.specs.Transfers.{last_end_from}
 use Rattle.flat_history.specs.World.{opening_list}
 use Rattle.runner.specs.Ended.{IfSound}
 
--- The former epoch ended with a stop, and the next one is of the same array, in the same slots, behind nothing but flushes.
+-- The former epoch ends with a flush or a stop, and the next one is of the same array, in the same slots, behind nothing but flushes.
 pub record IsFoundAgain (tape : List Operation) (former next : Epoch) : Type 0 where
   pub settled : EndsSettled former.entries.items
   pub uuid : next.uuid ≡ former.uuid
@@ -18,13 +18,13 @@ pub record IsFoundAgain (tape : List Operation) (former next : Epoch) : Type 0 w
   pub flushes : OnlyFlushesBetween tape (last_end_from former.first former.entries.items) next.first
 
 -- Where the former epoch is sound and is found again, the next one opens with the list that the former left, sector by sector.
-abbrev pub IsKept : Given → List Operation → Option ℕ → Epoch → Epoch → Type 0
-IsKept given tape backup former next =
+abbrev pub IsListKept : Given → List Operation → Option ℕ → Epoch → Epoch → Type 0
+IsListKept given tape backup former next =
     IfSound given tape backup former (IsFoundAgain tape former next
     → OpensWith (world_of given tape backup next) (opening_list (world_of given tape backup former)) former.entries.items)
 
 -- so it is of each epoch and the next one
-abbrev pub AreKept : Given → List Operation → Option ℕ → List Epoch → Type 0
-AreKept given tape backup [] = ⊤
-AreKept given tape backup (former ∷ []) = ⊤
-AreKept given tape backup (former ∷ next ∷ epochs) = IsKept given tape backup former next × AreKept given tape backup (next ∷ epochs)
+abbrev pub AreListsKept : Given → List Operation → Option ℕ → List Epoch → Type 0
+AreListsKept given tape backup [] = ⊤
+AreListsKept given tape backup (former ∷ []) = ⊤
+AreListsKept given tape backup (former ∷ next ∷ epochs) = IsListKept given tape backup former next × AreListsKept given tape backup (next ∷ epochs)

@@ -9,7 +9,7 @@ ghost use Rattle.script.specs.Script.{script_of, is_within_limits};
 ghost use Rattle.runner.specs.Pace.{AnswersSteps, asked_by};
 ghost use Rattle.runner.specs.Ended.{IsRunKept, AreLegal, AreRight, AreFormer};
 ghost use Rattle.runner.specs.Histories.{history_of, histories_of};
-ghost use Rattle.runner.specs.Kept.{AreKept};
+ghost use Rattle.runner.specs.Kept.{AreListsKept};
 ghost use Rattle.runner.specs.Making.{setting_of};
 ghost use Rattle.runner.specs.Runs.{mark_behind, status_for, stop_of, slots_for, IsAfterLines, IsBeforeLines, IsNothing, AreTold, AreLinesPerformed, IsScriptPerformed, IsScriptBad, AreLossesFailed, AreEndedAt, IsEnded};
 ghost use Rattle.runner.specs.Sessions.{counted, taken_whole, IsTaken};
@@ -117,7 +117,7 @@ fn end_run<B: Bank>(state: State<B>, backup: Option<u32>) -> (B, Vec<Epoch>)
     ensures ended { IsEnded (setting_of B.tells (B.given (bank_in state)) (B.tape result.0) (B.tape result.0) backup (B.faults_of result.0) (B.faults_of result.0)) state result.0 result.1.items }
     ensures legal { B.tells → AreLegal (B.given (bank_in state)) (B.tape result.0) backup result.1.items }
     ensures right { B.tells → AreRight (B.given (bank_in state)) (B.tape result.0) backup result.1.items }
-    ensures kept { B.tells → AreKept (B.given (bank_in state)) (B.tape result.0) backup result.1.items }
+    ensures kept { B.tells → AreListsKept (B.given (bank_in state)) (B.tape result.0) backup result.1.items }
     ensures marks { B.tells → AreEndedAt (length (B.tape result.0)) result.1.items }
 {
     let (bank, mut epochs) = halt(state, backup);
@@ -163,7 +163,7 @@ fn run_lines<B: Bank, K: Sink>(
     ensures sink_never_falls { K.faults_of out.old ≤ K.faults_of out.new }
     ensures legal { B.tells → AreLegal (B.given bank) (B.tape result.bank) backup result.epochs.items }
     ensures right { B.tells → AreRight (B.given bank) (B.tape result.bank) backup result.epochs.items }
-    ensures kept { B.tells → AreKept (B.given bank) (B.tape result.bank) backup result.epochs.items }
+    ensures kept { B.tells → AreListsKept (B.given bank) (B.tape result.bank) backup result.epochs.items }
     ensures ended { B.tells → AreEndedAt (length (B.tape result.bank)) result.epochs.items }
     ensures losses { AreLossesFailed (setting_of B.tells (B.given bank) (B.tape bank) (B.tape result.bank) backup (B.faults_of bank) (B.faults_of result.bank)) result.epochs.items }
     ensures never_falls { NeverFalls (B.faults_of bank) (B.faults_of result.bank) }
@@ -212,7 +212,7 @@ fn run_script<B: Bank, S: Source, K: Sink>(
     ensures shown { result.shown ≡ counted (length (report_text (histories_of result.epochs.items) (taken_whole (stop_of result.status) result.lines.items))) }
     ensures legal { B.tells → AreLegal (B.given bank) (B.tape result.bank) (Some 7) result.epochs.items }
     ensures right { B.tells → AreRight (B.given bank) (B.tape result.bank) (Some 7) result.epochs.items }
-    ensures kept { B.tells → AreKept (B.given bank) (B.tape result.bank) (Some 7) result.epochs.items }
+    ensures kept { B.tells → AreListsKept (B.given bank) (B.tape result.bank) (Some 7) result.epochs.items }
     ensures ended { B.tells → AreEndedAt (length (B.tape result.bank)) result.epochs.items }
     ensures losses { AreLossesFailed (setting_of B.tells (B.given bank) (B.tape bank) (B.tape result.bank) (Some 7) (B.faults_of bank) (B.faults_of result.bank)) result.epochs.items }
     ensures never_falls { NeverFalls (B.faults_of bank) (B.faults_of result.bank) }
@@ -270,7 +270,7 @@ pub fn run<
     ensures shown { result.shown ≡ counted (length (report_text (histories_of result.epochs.items) (taken_whole (stop_of result.status) result.lines.items))) }
     ensures legal { B.tells → AreLegal (B.given bank) (B.tape result.bank) (Some 7) result.epochs.items }
     ensures right { B.tells → AreRight (B.given bank) (B.tape result.bank) (Some 7) result.epochs.items }
-    ensures kept { B.tells → AreKept (B.given bank) (B.tape result.bank) (Some 7) result.epochs.items }
+    ensures kept { B.tells → AreListsKept (B.given bank) (B.tape result.bank) (Some 7) result.epochs.items }
     ensures ended { B.tells → AreEndedAt (length (B.tape result.bank)) result.epochs.items }
     ensures losses { AreLossesFailed (setting_of B.tells (B.given bank) (B.tape bank) (B.tape result.bank) (Some 7) (B.faults_of bank) (B.faults_of result.bank)) result.epochs.items }
     ensures never_falls { NeverFalls (B.faults_of bank) (B.faults_of result.bank) }
