@@ -1,0 +1,9 @@
+pub mod Parities
+pub mod FullLaws
+pub mod LossLaws
+pub mod ListLaws
+pub mod Elements
+pub mod PartBytes
+pub mod BufferLaws
+pub mod WriteLaws
+pub mod PutLaws

@@ -1,0 +1,9 @@
+use Rattle.std.proofs.Common.{arith}
+use Rattle.list_io.proofs.LossLaws.{none_lost}
+use Rattle.list_io.proofs.lists.fill_in.Goals as goal
+
+pub returns-then-are_too_many-clause-lost : goal.returns-then-are_too_many-clause-lost
+returns-then-are_too_many-clause-lost g c = none_lost c.args.shape.now c.args.members.now (g.B.Bank.faults_of c.args.bank.now) (g.B.Bank.faults_of c.args.bank.now) (λ s. omega arith)
+
+pub returns-then-not-synced-clause-lost : goal.returns-then-not-synced-clause-lost
+returns-then-not-synced-clause-lost g c = none_lost c.args.shape.now c.args.members.now (g.B.Bank.faults_of c.args.bank.now) (g.B.Bank.faults_of c.args.bank.now) (λ s. omega arith)

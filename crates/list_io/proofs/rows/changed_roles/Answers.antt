@@ -1,0 +1,35 @@
+use Rattle.std.proofs.Common.{ℕ, inl, inr, sym, ◌∙◌, ap, subst, arith}
+use Rattle.std.proofs.lemmas.Bool.{cases_eq}
+use Rattle.md_base.specs.Shapes.{has_slot}
+use Rattle.layout.specs.Layout.{row_roles}
+use Rattle.parity.proofs.Columns.{bool_cases}
+use Rattle.superblocks.proofs.SlotSets.{none_there}
+use Rattle.row_io.specs.Writes.{is_parity}
+use Rattle.list_io.specs.Writing.{HasOther, IsChanged}
+use Rattle.list_io.proofs.rows.changed_roles.Goals as goal
+
+pub loop-role-init : goal.loop-role-init
+loop-role-init c = record {
+  changed = λ role there. absurd (let e = none_there role in cc);
+  left = λ role lt not plain. absurd (omega (arith, lt));
+}
+
+pub loop-role-preserved : goal.loop-role-preserved
+loop-role-preserved c =
+    let was = c.loop-role.invariant in
+    let did = c.with_changed-changed.ensures in
+    let shape = c.args.shape.now in
+    record {
+      changed = λ role there. elim (did.changed role there) [
+        | inl before ↦ was.changed role before
+        | inr here ↦ subst (λ (r : ℕ). IsChanged shape c.args.first c.args.count r c.args.row) (sym here.0) here.1
+      ];
+      left = λ role lt not plain. elim (cases_eq role c.loop-role.role) [
+        | inl same ↦ subst (λ (r : ℕ). HasOther shape c.args.first c.args.count r c.args.row) (sym same)
+            (did.left (ap (has_slot c.with_changed-changed.result) (sym same) ∙ not) (ap (is_parity (row_roles shape c.args.row)) (sym same) ∙ plain))
+        | inr other ↦ was.left role (omega (arith, lt, other)) (elim (bool_cases (has_slot c.loop-role.changed role)) [
+          | inl here ↦ absurd (let e = did.stay role here in cc)
+          | inr gone ↦ gone
+        ]) plain
+      ];
+    }

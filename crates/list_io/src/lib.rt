@@ -1,0 +1,19 @@
+//! Sectors of an array's flat list, read and written while some of its members are missing.
+#![tactic(auto)]
+
+mod buffers;
+mod held;
+pub mod laws;
+mod lists;
+mod outcome;
+mod puts;
+mod rows;
+mod sectors;
+
+pub use buffers::{ROW_BYTES, read_touched};
+pub use lists::read_list;
+pub use outcome::{Outcome, Unavailable};
+pub use puts::{Written, write_touched};
+
+#[cfg(test)]
+mod tests;
