@@ -1,11 +1,14 @@
 -- Lost slots that aren't named yet: their number falls, and at the end no live slot is left or all are named.
-use Rattle.std.proofs.Common.{◌≡◌, ◌≢◌, inl, inr, ℕ, zero, suc, ◌-◌, ◌^◌, ◌<◌, ◌≤◌, ◌==◌, true, false, not, ◌&&◌, min, bit_and, refl, sym, ◌∙◌, ap, subst, arith}
+use Rattle.std.proofs.Common.{◌≡◌, ◌≢◌, ◌⊎◌, inl, inr, ⊎_elim, Bool, ℕ, zero, suc, ◌-◌, ◌^◌, ◌<◌, ◌≤◌, ◌==◌, true, false, not, ◌&&◌, min, bit_and, refl, sym, ◌∙◌, ap, subst, arith}
 use Rattle.std.specs.Int.{bit_at, w32}
 use Rattle.std.proofs.lemmas.Bool.{cases_eq, cases_lt, eqb-true}
 use Rattle.std.proofs.lemmas.Nat.{and_le_l}
 use Rattle.std.proofs.lemmas.Nat.Bits.{bit_at_and, bit_at_not, bit_at-lt, bit_at-zero, bit_at_above, same_from_bits}
 use Rattle.md_base.specs.Shapes.{has_slot}
+use Rattle.superblocks.specs.Updating.{IsSomeLeft}
 use Rattle.superblocks.proofs.Passes.{slot_below}
+use Rattle.superblocks.proofs.SlotSets.{same_set, none_above, none_there}
+use Rattle.superblocks.proofs.UpdateReads.{some-or-all}
 
 -- the live slots that aren't in this set of lost ones
 abbrev pub left_of : ℕ → ℕ → ℕ
@@ -18,6 +21,31 @@ none_left live lost left small is none s is_live not_lost =
     let there : has_slot left s ≡ true = is s (slot_below live s small is_live) ∙ (λ j. is_live j && not (not_lost j)) in
     let zero_there : has_slot left s ≡ false = ap (λ (n : ℕ). has_slot n s) none ∙ ap (λ (n : ℕ). n == 1) (bit_at-zero s) in
     absurd (let both = sym there ∙ zero_there in cc)
+
+-- else there is one
+pub some_left : (live lost left : ℕ) → left < 2 ^ 32 → ((s : ℕ) → s < 32 → has_slot left s ≡ (has_slot live s && not (has_slot lost s))) → left ≢ 0 → IsSomeLeft live lost
+some_left live lost left small is some = ⊎_elim
+    (λ found.
+    let there = sym (is found.0 found.1) ∙ found.2 in
+    (found.0, left_live (has_slot live found.0) (has_slot lost found.0) there, left_kept (has_slot live found.0) (has_slot lost found.0) there))
+    (λ none. absurd (some (same_set left 0 (λ s. elim (cases_lt s 32) [
+      | inl below ↦ none s below ∙ sym (none_there s)
+      | inr past ↦ none_above left s small past ∙ sym (none_there s)
+    ]))))
+    (some-or-all 32 (λ s. has_slot left s ≡ false) (λ s. has_slot left s ≡ true) (λ s below. either (has_slot left s)))
+  where
+    either : (b : Bool) → (b ≡ false) ⊎ (b ≡ true)
+    either true = inr refl
+    either false = inl refl
+
+    left_live : (a b : Bool) → (a && not b) ≡ true → a ≡ true
+    left_live true b e = refl
+    left_live false b e = e
+
+    left_kept : (a b : Bool) → (a && not b) ≡ true → b ≡ false
+    left_kept true true e = absurd (cc)
+    left_kept true false e = refl
+    left_kept false b e = absurd (cc)
 
 -- bits by their values
 bit_le : (n l : ℕ) → n < 2 → l < 2 → ((n == 1) ≡ true → (l == 1) ≡ true) → n ≤ l

@@ -1,5 +1,6 @@
 -- Rounds that name lost slots, one after the other.
-use Rattle.std.proofs.Common.{◌≡◌, inl, inr, ⊎_elim, ℕ, suc, ◌<◌, true, false, List, Option, [], append-nil, refl, sym, ◌∙◌, subst, arith}
+use Rattle.std.proofs.Common.{◌≡◌, inl, inr, ⊎_elim, ℕ, suc, ◌<◌, ◌≤◌, true, false, List, Option, [], append-nil, refl, sym, ◌∙◌, subst, le_refl, arith}
+use Rattle.std.proofs.Math.Nat.{le_trans}
 use Rattle.md_base.specs.Sectors.{Sector}
 use Rattle.md_base.specs.Shapes.{has_slot}
 use Rattle.sb1.specs.declared.sb.Sb.{Sb}
@@ -13,7 +14,7 @@ use Rattle.superblocks.specs.Update.{give_of, own_in, is_recovery}
 use Rattle.superblocks.specs.Writing.{IsPlanned, plan_of}
 use Rattle.superblocks.specs.Updating.{IsTouched, IsUpdate, ArePlanned, IsInOrder}
 use Rattle.superblocks.specs.Stages.{AreFirstKept}
-use Rattle.superblocks.specs.Rounds.{Round, naming, IsRewriting, IsRewritten, IsNaming, AreNamings, IsInNaming, IsNamed, IsFirstRewriting}
+use Rattle.superblocks.specs.Rounds.{Round, naming, IsRewriting, IsRewritten, IsNaming, AreNamings, IsInNamingUpTo, IsNamed, IsFirstRewriting}
 use Rattle.superblocks.proofs.ReadLists.{by_bool}
 use Rattle.superblocks.proofs.Exact.{ninth_of, alone}
 
@@ -56,31 +57,54 @@ module _ (members : Members) (change : Change) (before live : ℕ) where
   namings-more n a b c over next = (b, over, next)
 
   -- before the first one
-  pub naming-none : (tells : Type 0) (start : ℕ → ℕ → Sector) (old : List Operation) (a : Round) → a.disk ≡ disk start old → EachMark tells start old old (IsInNaming members change before live a)
+  pub naming-none : (tells : Type 0) (start : ℕ → ℕ → Sector) (old : List Operation) (a : Round) → a.disk ≡ disk start old
+      → EachMark tells start old old (IsInNamingUpTo members change before live a.lost a.newest.events a)
   naming-none tells start old a is =
-      subst (λ (l : List Operation). EachMark tells start old l (IsInNaming members change before live a)) (append-nil old)
-      (each_mark-along tells start old [] (IsInNaming members change before live a) (record {
-        rounds = 0;
-        start = a;
-        over = namings-none a;
-        stage = subst (λ (e : Disk). IsRewriting (naming members change before a.lost a.newest) change.gives members.own live a.lost a.disk e) is
-            (at_rest (naming members change before a.lost a.newest) change.gives members.own live a.lost a.disk);
+      subst (λ (l : List Operation). EachMark tells start old l (IsInNamingUpTo members change before live a.lost a.newest.events a)) (append-nil old)
+      (each_mark-along tells start old [] (IsInNamingUpTo members change before live a.lost a.newest.events a) (record {
+        at = record {
+          rounds = 0;
+          start = a;
+          over = namings-none a;
+          stage = subst (λ (e : Disk). IsRewriting (naming members change before a.lost a.newest) change.gives members.own live a.lost a.disk e) is
+              (at_rest (naming members change before a.lost a.newest) change.gives members.own live a.lost a.disk);
+        };
+        within = λ s is. is;
+        earlier = omega arith;
+        this = inr (λ s v held. subst (λ (e : Disk). IsIn (e s 8) v) (sym is) held);
       }))
+
+  -- where it ends later
+  pub naming-later : {a : Round} {e : Disk} (last last' events events' : ℕ) → ((s : ℕ) → has_slot last s ≡ true → has_slot last' s ≡ true) → events ≤ events'
+      → IsInNamingUpTo members change before live last events a e → IsInNamingUpTo members change before live last' events' a e
+  naming-later last last' events events' more later up = record {
+    at = up.at;
+    within = λ s is. more s (up.within s is);
+    earlier = omega (arith, up.earlier, later);
+    this = ⊎_elim (λ this. inl (le_trans this later)) (λ none. inr none) up.this;
+  }
 
   -- one more
   pub naming-then : {tells : Type 0} (start : ℕ → ℕ → Sector) (old mid new : List Operation) (a b c : Round) → b.disk ≡ disk start mid
-      → (tells → IsNamed members change before live a b) → EachMark tells start old mid (IsInNaming members change before live a)
-      → c.newest ≡ naming members change before b.lost b.newest → IsUpdate tells live b.lost c.lost (plan_of c.newest change.gives members.own) start mid new
-      → EachMark tells start old new (IsInNaming members change before live a)
-  naming-then start old mid new a b c is over marks newest u = each_mark-then marks
-      (each_mark-map (IsInNaming members change before live a) (λ told e at.
+      → (tells → IsNamed members change before live a b) → EachMark tells start old mid (IsInNamingUpTo members change before live b.lost b.newest.events a)
+      → c.newest ≡ naming members change before b.lost b.newest → ((s : ℕ) → has_slot b.lost s ≡ true → has_slot c.lost s ≡ true) → b.newest.events ≤ c.newest.events
+      → IsUpdate tells live b.lost c.lost (plan_of c.newest change.gives members.own) start mid new
+      → EachMark tells start old new (IsInNamingUpTo members change before live c.lost c.newest.events a)
+  naming-then start old mid new a b c is over marks newest more later u = each_mark-then
+      (each_mark-map (IsInNamingUpTo members change before live c.lost c.newest.events a) (λ told e up. naming-later b.lost c.lost b.newest.events c.newest.events more later up) marks)
+      (each_mark-map (IsInNamingUpTo members change before live c.lost c.newest.events a) (λ told e at.
       let o = over told in
       record {
-        rounds = o.0;
-        start = b;
-        over = o.1;
-        stage = subst (λ (n : Sb). IsRewriting n change.gives members.own live b.lost b.disk e) newest
-            (subst (λ (d : Disk). IsRewriting c.newest change.gives members.own live b.lost d e) (sym is) (rewriting c.newest change.gives members.own at.touched));
+        at = record {
+          rounds = o.0;
+          start = b;
+          over = o.1;
+          stage = subst (λ (n : Sb). IsRewriting n change.gives members.own live b.lost b.disk e) newest
+              (subst (λ (d : Disk). IsRewriting c.newest change.gives members.own live b.lost d e) (sym is) (rewriting c.newest change.gives members.own at.touched));
+        };
+        within = more;
+        earlier = later;
+        this = inl (subst (λ (n : Sb). n.events ≤ c.newest.events) newest (le_refl _));
       }) u.marks)
 
   pub named-then : {tells : Type 0} (start : ℕ → ℕ → Sector) (mid new : List Operation) (a b c : Round) → b.disk ≡ disk start mid → c.disk ≡ disk start new

@@ -1,5 +1,5 @@
 -- The turns of a pass so far, and one more.
-use Rattle.std.proofs.Common.{◌≡◌, ◌≢◌, inl, inr, ℕ, ◌+◌, ◌^◌, ◌<◌, ◌≤◌, Bool, true, false, not, ◌&&◌, ◌==◌, List, [], Option, append-nil, refl, sym, ◌∙◌, ap, subst, arith}
+use Rattle.std.proofs.Common.{◌≡◌, ◌≢◌, inl, inr, ℕ, ◌+◌, ◌^◌, ◌<◌, ◌≤◌, Bool, true, false, not, ◌&&◌, ◌==◌, List, [], length, Option, append-nil, length-append, refl, sym, ◌∙◌, ap, subst, arith}
 use Rattle.std.proofs.lemmas.Bool.{cases_eq, cases_lt}
 use Rattle.std.proofs.lemmas.Nat.Bits.{bit_at_above}
 use Rattle.md_base.specs.Sectors.{Sector}
@@ -37,6 +37,7 @@ pub record Passed (tells : Type 0) (Plan : ℕ → Sector → Type 0) (due : ℕ
   pub later : (s : ℕ) → slot ≤ s → has_slot lost s ≡ has_slot lost0 s
   pub losses : AreLost due lost0 lost faults0 faults
   pub counts : NeverFalls faults0 faults
+  pub grew : tells → (s : ℕ) → s < slot → due s ≡ true → has_slot lost s ≡ false → length before + 2 ≤ length now
 
 each_mark-none : {tells : Type 0} {P : Disk → Type 0} (start : ℕ → ℕ → Sector) (before : List Operation) → P (disk start before) → EachMark tells start before before P
 each_mark-none {tells = tells} {P = P} start before held =
@@ -52,6 +53,7 @@ passed-first {tells = tells} Plan due start before lost faults =
       later = λ s le. refl;
       losses = record { stay = λ s is. is; due = λ s is not_so. absurd (let both = sym is ∙ not_so in cc); failed = λ s is not_so. absurd (let both = sym is ∙ not_so in cc) };
       counts = λ s. omega arith;
+      grew = λ told s lt. absurd (omega (arith, lt));
     }
 
 -- one turn more
@@ -95,6 +97,15 @@ module _ {tells : Type 0} {Plan : ℕ → Sector → Type 0} {due : ℕ → Bool
       ];
     };
     counts = λ s. omega (arith, p.counts s, counts s);
+    grew = λ told s lt is kept.
+        let t = turned told in
+        let long = ap length t.1 ∙ length-append now t.0 in
+        elim (cases_eq s slot) [
+          | inl eq ↦
+              let turn = subst (λ (b : Bool). IsTurn (Plan slot) slot b false t.0) (ap due (sym eq) ∙ is) (subst (λ (b : Bool). IsTurn (Plan slot) slot (due slot) b t.0) (ap (has_slot lost') (sym eq) ∙ kept) t.2) in
+              omega (arith, long, ap length turn.2, p.marks.longer told)
+          | inr apart ↦ let so_far = p.grew told s (omega (arith, lt, apart)) is (sym (others s apart) ∙ kept) in omega (arith, long, so_far)
+        ];
   }
     where
       Below' : ℕ → Disk → Type 0
@@ -147,3 +158,8 @@ pub due_live : (a b c : Bool) → (a && b && c) ≡ true → a ≡ true
 due_live true b c is = refl
 due_live false true c is = is
 due_live false false c is = is
+
+-- a live slot that isn't lost is due, where it is of the part
+pub due-here : (part : Part) (newest : Sb) (gives : List Give) (own : List (Option Sb)) (live lost s : ℕ) → has_slot live s ≡ true → has_slot lost s ≡ false
+    → is_part part newest (give_of gives s) (own_in own s) ≡ true → is_due part newest gives own live lost s ≡ true
+due-here part newest gives own live lost s is none part_is = (λ i. is i && not (none i) && part_is i)

@@ -18,7 +18,8 @@ use Rattle.superblocks.specs.Verdict.{judged_fields}
 use Rattle.superblocks.specs.Update.{planned, give_of, own_in, is_recovery}
 use Rattle.superblocks.specs.Writing.{IsFirstSector, IsPlanned}
 use Rattle.superblocks.specs.Updating.{planned_newest, IsLater, AreNamed}
-use Rattle.superblocks.specs.Held.{AreDrawn, MayRead, IsStamped, AreHeld, AreLevel}
+use Rattle.superblocks.specs.Reads.{IsReadAs}
+use Rattle.superblocks.specs.Held.{AreDrawn, MayRead, IsStamped, AreHeld, AreLevel, said_by}
 use Rattle.superblocks.specs.Stages.{AreLeft, IsTaking, AreTaken, IsFitPlan, AreKept}
 use Rattle.superblocks.specs.Plans.{KeepsRecovery, IsFitChange}
 use Rattle.superblocks.specs.Rounds.{Round, naming, IsRewriting, IsRewritten, IsReadAsPlanned, IsReady}
@@ -29,7 +30,7 @@ use Rattle.superblocks.specs.Outcome.{set_of}
 use Rattle.superblocks.proofs.SlotSets.{set_of-below, set_of-past}
 use Rattle.superblocks.proofs.PlannedSb.{planned-of}
 use Rattle.superblocks.proofs.PlannedAgain.{planned-again}
-use Rattle.superblocks.proofs.PlanFits.{IsNext, next-fits}
+use Rattle.superblocks.proofs.PlanFits.{IsNext, length-any, next-fits}
 use Rattle.superblocks.proofs.StageReads.{taking-reads, taken-held, taken-level, taken_read}
 
 abbrev Disk : Type 0
@@ -129,7 +130,7 @@ module _ (scope : Scope) (members : Members) (change : Change) (before live know
     left : ℕ
     left = left_set scope.sizes.slots live b.lost
 
-    are : AreLeft live b.lost (left_set scope.sizes.slots live b.lost)
+    pub are : AreLeft live b.lost (left_set scope.sizes.slots live b.lost)
     are = left-are scope.sizes.slots live b.lost there
 
     left_live : (s : ℕ) → has_slot (left_set scope.sizes.slots live b.lost) s ≡ true → has_slot live s ≡ true
@@ -238,14 +239,28 @@ module _ (scope : Scope) (members : Members) (change : Change) (before live know
       ninth = stage.ninth;
     }
 
-    later_next : IsLater (planned_newest change.shared members.newest) (naming members change before b.lost b.newest)
+    pub later_next : IsLater (planned_newest change.shared members.newest) (naming members change before b.lost b.newest)
     later_next = record {
       events = omega (arith, at.later.events, is_next.later);
       same = ap (λ (z : Sb). record z { events = (naming members change before b.lost b.newest).events; dev_roles = (naming members change before b.lost b.newest).dev_roles }) at.later.same;
     }
 
-    more_next : (s : ℕ) → has_slot members.lost s ≡ true → has_slot b.lost s ≡ true
+    pub more_next : (s : ℕ) → has_slot members.lost s ≡ true → has_slot b.lost s ≡ true
     more_next s is = at.grown s (at.named_gone s (at.more s is))
+
+    pub table_next : length (naming members change before b.lost b.newest).dev_roles ≡ 384
+    table_next = length-any members change before b.lost b.newest.dev_roles ∙ at.held.table
+
+    pub kept_next : AreKept (naming members change before b.lost b.newest) change.gives members.own (left_set scope.sizes.slots live b.lost) (planned_list (naming members change before b.lost b.newest) change.gives members.own)
+    kept_next = kept-of (naming members change before b.lost b.newest) change.gives members.own (planned_list (naming members change before b.lost b.newest) change.gives members.own) (left_set scope.sizes.slots live b.lost) (λ s sb is own_is. own_next s sb own_is)
+
+    -- an image reads as the superblocks before the round say, or as it plans them
+    pub naming-said : (e : Disk) (c : Contents) → IsRewriting (naming members change before b.lost b.newest) change.gives members.own live b.lost b.disk e → AreDrawn e c
+        → IsReadAs scope b.lost (said_by scope at.known at.own b.newest) c
+        ⊎ IsReadAs scope b.lost (said_by scope (left_set scope.sizes.slots live b.lost) (planned_list (naming members change before b.lost b.newest) change.gives members.own) (naming members change before b.lost b.newest)) c
+    naming-said e c stage drawn =
+        taking-reads scope at.known b.lost b.newest at.own b.disk at.held (left_set scope.sizes.slots live b.lost) sub level (naming members change before b.lost b.newest) (replicate 32 Same) fit
+        (planned_list (naming members change before b.lost b.newest) change.gives members.own) kept e c (stage_again e stage) drawn
 
     pub naming-reads : (e : Disk) (c : Contents) → IsRewriting (naming members change before b.lost b.newest) change.gives members.own live b.lost b.disk e → AreDrawn e c
         → IsReadAsPlannedBut scope members change before live Unnamed c
@@ -281,11 +296,10 @@ module _ (scope : Scope) (members : Members) (change : Change) (before live know
           grown = λ s is. is;
           later = later_next;
           plan = (b.newest.dev_roles, refl);
-          kept = kept-of (naming members change before b.lost b.newest) change.gives members.own (planned_list (naming members change before b.lost b.newest) change.gives members.own) (left_set scope.sizes.slots live b.lost) (λ s sb is own_is. own_next s sb own_is);
+          kept = kept_next;
           reads = r;
         })
-        (taking-reads scope at.known b.lost b.newest at.own b.disk at.held (left_set scope.sizes.slots live b.lost) sub level (naming members change before b.lost b.newest) (replicate 32 Same) fit
-        (planned_list (naming members change before b.lost b.newest) change.gives members.own) kept e c (stage_again e stage) drawn)
+        (naming-said e c stage drawn)
 
     module _ (l' : ℕ) (d' : Disk) (written : IsRewritten (naming members change before b.lost b.newest) change.gives members.own live b.lost l' b.disk d')
         (some : (s : ℕ) × (has_slot live s ≡ true) × (has_slot l' s ≡ false)) where

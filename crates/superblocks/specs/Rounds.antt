@@ -1,5 +1,5 @@
 -- An update in rounds: the first writes what is planned, and each further one names the slots that were lost since.
-use Rattle.std.specs.Prelude.{◌≡◌, ◌⊎◌, ℕ, zero, suc, ◌+◌, ◌-◌, ◌^◌, ◌<◌, min, find, [], true, false, List, Option, None, replicate}
+use Rattle.std.specs.Prelude.{◌≡◌, ◌⊎◌, ℕ, zero, suc, ◌+◌, ◌-◌, ◌^◌, ◌<◌, ◌≤◌, min, find, [], true, false, List, Option, None, replicate}
 use Rattle.md_base.specs.Sectors.{Sector}
 use Rattle.md_base.specs.Shapes.{has_slot}
 use Rattle.sb1.specs.declared.sb.Sb.{Sb}
@@ -63,6 +63,14 @@ pub record IsInNaming (members : Members) (change : Change) (before live : ℕ) 
   pub over : AreNamings members change before live rounds a start
   pub stage : IsRewriting (naming members change before start.lost start.newest) change.gives members.own live start.lost start.disk e
 
+-- So it is where the last round is to end with these slots lost and this event count. The one that goes on began with no others lost, and at
+-- no later event count. Its own is no later either, or it has written nothing.
+pub record IsInNamingUpTo (members : Members) (change : Change) (before live last events : ℕ) (a : Round) (e : ℕ → ℕ → List Sector) : Type 0 where
+  pub at : IsInNaming members change before live a e
+  pub within : (s : ℕ) → has_slot at.start.lost s ≡ true → has_slot last s ≡ true
+  pub earlier : at.start.newest.events ≤ events
+  pub this : ((naming members change before at.start.lost at.start.newest).events ≤ events) ⊎ ((s : ℕ) (v : Sector) → IsIn (e s 8) v → IsIn (at.start.disk s 8) v)
+
 -- all are over
 abbrev pub IsNamed : Members → Change → ℕ → ℕ → Round → Round → Type 0
 IsNamed members change before live a b = (n : ℕ) × AreNamings members change before live n a b
@@ -122,12 +130,13 @@ pub record IsPastFirst (members : Members) (change : Change) (before live : ℕ)
   pub caught : IsCaughtUpTo members.newest members.own live members.lost d mid
   pub written : IsFirstRewritten members change before live mid first
 
--- a mark of an update in which no slot that gets a recovery offset is lost
-abbrev pub IsInRounds : Members → Change → ℕ → ℕ → (ℕ → ℕ → List Sector) → (ℕ → ℕ → List Sector) → Type 0
-IsInRounds members change before live d e =
+-- A mark of an update in which no slot that gets a recovery offset is lost, and which ends with these slots lost and this event count: slots
+-- are brought to the newest event count, or the first round goes on, or one that names lost slots. It began with no others lost.
+abbrev pub IsInRounds : Members → Change → ℕ → ℕ → ℕ → ℕ → (ℕ → ℕ → List Sector) → (ℕ → ℕ → List Sector) → Type 0
+IsInRounds members change before live last events d e =
     IsCatchingUpTo members.newest members.own live members.lost d e
-    ⊎ IsInFirst members change before live d e
-    ⊎ ((first : Round) × IsPastFirst members change before live d first × IsInNaming (members_at members first) change before live first e)
+    ⊎ (((at : IsInFirst members change before live d e) × ((s : ℕ) → has_slot at.mid.lost s ≡ true → has_slot last s ≡ true))
+    ⊎ ((first : Round) × IsPastFirst members change before live d first × IsInNamingUpTo (members_at members first) change before live last events first e))
 
 -- the end of such an update
 pub record ArePast (members : Members) (change : Change) (before live : ℕ) (d : ℕ → ℕ → List Sector) (last : Round) : Type 0 where

@@ -1,5 +1,5 @@
 -- What a stop may leave at each mark of an update of several passes.
-use Rattle.std.specs.Prelude.{◌≡◌, ◌≢◌, ◌⊎◌, ℕ, ◌+◌, ◌-◌, ◌^◌, ◌≤◌, min, true, false, List, [], ◌∷◌, length, replicate, Option}
+use Rattle.std.specs.Prelude.{◌≡◌, ◌≢◌, ◌⊎◌, ℕ, ◌+◌, ◌-◌, ◌^◌, ◌<◌, ◌≤◌, min, true, false, List, [], ◌∷◌, length, replicate, Option}
 use Rattle.md_base.specs.Sectors.{Sector}
 use Rattle.md_base.specs.Shapes.{has_slot}
 use Rattle.sb1.specs.declared.sb.Sb.{Sb}
@@ -86,6 +86,11 @@ IsInOrder newest gives own live lost d e = AreOthersKept gives d e ⊎ AreRecove
 -- a live slot is left
 abbrev pub IsSomeLeft : ℕ → ℕ → Type 0
 IsSomeLeft live lost = (s : ℕ) × (has_slot live s ≡ true) × (has_slot lost s ≡ false)
+
+-- where anything was written, or a live slot is left, the event count rose by no more than there were operations
+abbrev pub RisesByOperations : Type 0 → ℕ → ℕ → ℕ → ℕ → List Operation → List Operation → Type 0
+RisesByOperations tells live lost events events' before after =
+    tells → IsSomeLeft live lost ⊎ (length before < length after) → events' + length before ≤ events + length after
 
 -- what an update writes in a slot: the newest's shared fields, in catching up, or what the change plans
 abbrev pub IsWrittenBy : Sb → Change → List (Option Sb) → ℕ → Sector → Type 0

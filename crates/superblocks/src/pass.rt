@@ -1,6 +1,6 @@
 //! One pass over the slots, which writes the superblocks of some.
 
-ghost use Rattle.std.specs.Prelude.{◌≡◌, ◌≢◌, ◌<◌, ◌++◌, [], ◌∷◌, List, ℕ, true, false, length, take, slice_index_or, Some};
+ghost use Rattle.std.specs.Prelude.{◌≡◌, ◌≢◌, ◌<◌, ◌≤◌, ◌+◌, ◌++◌, [], ◌∷◌, List, ℕ, true, false, length, take, slice_index_or, Some};
 ghost use Rattle.bank.specs.declared.bank.Operation.{Operation};
 ghost use Rattle.bank.specs.declared.bank.Operation.TheVariants.{Write, Flush};
 ghost use Rattle.bank.specs.Given.{IsPlace, HasCause, IsFaulted, NeverFalls};
@@ -172,6 +172,8 @@ pub fn write_slots<B: Bank>(
     ensures written { B.tells → let start = (B.given bank.old).start in
         AreWritten (plan_of members.old.newest gives.now members.old.own) (is_due part members.old.newest gives.now members.old.own live members.old.lost)
         (has_slot members.new.lost) (disk start (B.tape bank.old)) (disk start (B.tape bank.new)) }
+    ensures grows { B.tells → (s : ℕ) → is_due part members.old.newest gives.now members.old.own live members.old.lost s ≡ true → has_slot members.new.lost s ≡ false →
+        length (B.tape bank.old) + 2 ≤ length (B.tape bank.new) }
     ensures members { members.new ≡ record members.old { lost = members.new.lost } }
     ensures lost { AreLost (is_due part members.old.newest gives.now members.old.own live members.old.lost) members.old.lost members.new.lost
         (B.faults_of bank.old) (B.faults_of bank.new) }

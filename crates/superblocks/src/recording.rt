@@ -6,7 +6,7 @@ ghost use Rattle.bank.specs.Tape.{EachMark, disk};
 ghost use Rattle.md_base.specs.Shapes.{has_slot};
 ghost use Rattle.superblocks.specs.Reading.{role_count};
 ghost use Rattle.superblocks.specs.Update.{IsRoleGive, give_of, is_live, is_added};
-ghost use Rattle.superblocks.specs.Updating.{IsUpdate, AreLosses, IsLater, ArePlanned, AreNamed, planned_newest, IsSomeLeft, IsWrittenBy};
+ghost use Rattle.superblocks.specs.Updating.{IsUpdate, AreLosses, IsLater, ArePlanned, AreNamed, planned_newest, IsSomeLeft, IsWrittenBy, RisesByOperations};
 ghost use Rattle.superblocks.specs.Order.{IsRecoveryFirst};
 ghost use Rattle.superblocks.specs.Plans.{next_newest};
 ghost use Rattle.superblocks.specs.Stages.{AreLeft, AreFirstKept, IsInUpdate, IsStaged};
@@ -61,7 +61,7 @@ pub fn update<B: Bank>(members: &mut Members, bank: &mut B, change: &Change) -> 
         IsStaged old.newest members.new.newest change.now.gives old.own left (disk start (B.tape bank.old)) (disk start (B.tape bank.new)) }
     ensures rounds { let old = with_added members.old change.now.added in let start = (B.given bank.old).start in
         AreFirstKept change.now.gives old.lost members.new.lost → EachMark B.tells start (B.tape bank.old) (B.tape bank.new)
-        (IsInRounds old change.now old.lost (live_set members.old change.now) (disk start (B.tape bank.old))) }
+        (IsInRounds old change.now old.lost (live_set members.old change.now) members.new.lost members.new.newest.events (disk start (B.tape bank.old))) }
     ensures past { let old = with_added members.old change.now.added in let start = (B.given bank.old).start in
         AreFirstKept change.now.gives old.lost members.new.lost → B.tells →
         ArePast old change.now old.lost (live_set members.old change.now) (disk start (B.tape bank.old))
@@ -71,6 +71,7 @@ pub fn update<B: Bank>(members: &mut Members, bank: &mut B, change: &Change) -> 
     ensures turned { B.tells → let old = with_added members.old change.now.added in let start = (B.given bank.old).start in
         ArePastTurns old change.now old.lost (live_set members.old change.now) (disk start (B.tape bank.old))
         (round_at members.new.newest members.new.lost start (B.tape bank.new)) }
+    ensures rise { RisesByOperations B.tells (live_set members.old change.now) members.new.lost members.old.newest.events members.new.newest.events (B.tape bank.old) (B.tape bank.new) }
     ensures own { let old = with_added members.old change.now.added in
         AreStored members.new.newest change.now.gives (is_left (live_set members.old change.now) members.new.lost) old.own members.new.own }
     ensures held { B.tells →

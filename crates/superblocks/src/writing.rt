@@ -1,14 +1,14 @@
 //! The one way in which the stored superblocks change.
 
-ghost use Rattle.std.specs.Prelude.{◌≡◌, ◌≢◌, [], ◌∷◌, List, ◌<◌, ◌≤◌, ◌+◌, ◌-◌, ◌^◌, ℕ, Some, true, false, min, length, replicate};
+ghost use Rattle.std.specs.Prelude.{◌≡◌, ◌≢◌, ◌⊎◌, [], ◌∷◌, List, ◌<◌, ◌≤◌, ◌+◌, ◌-◌, ◌^◌, ℕ, Some, true, false, min, length, replicate};
 ghost use Rattle.bank.specs.Given.{NeverFalls};
 ghost use Rattle.bank.specs.Tape.{disk};
 ghost use Rattle.superblocks.specs.Update.{IsRoleGive, give_of, with_roles, with_shared, is_behind, is_recovery, own_in};
 ghost use Rattle.superblocks.specs.Writing.{AreMembers, IsPlanned, plan_of};
-ghost use Rattle.superblocks.specs.Updating.{IsUpdate, AreLosses, IsLater, IsRecorded, ArePlanned, AreNamed, IsInOrder, AreOthersKept, AreRecoveriesKept, AreRecoveriesWritten, planned_newest, IsSomeLeft, IsWrittenBy};
+ghost use Rattle.superblocks.specs.Updating.{IsUpdate, AreLosses, IsLater, IsRecorded, ArePlanned, AreNamed, IsInOrder, AreOthersKept, AreRecoveriesKept, AreRecoveriesWritten, planned_newest, IsSomeLeft, IsWrittenBy, RisesByOperations};
 ghost use Rattle.superblocks.specs.Order.{IsRecoveryFirst};
 ghost use Rattle.superblocks.specs.Stages.{AreLeft, AreFirstKept, IsLevelled, IsInUpdate, IsStaged};
-ghost use Rattle.superblocks.specs.Rounds.{round_at, AreStill, IsInNaming, IsInRounds, ArePast};
+ghost use Rattle.superblocks.specs.Rounds.{round_at, AreStill, IsInNamingUpTo, IsInRounds, ArePast};
 ghost use Rattle.superblocks.specs.Losing.{AreTakenInTurn, IsPastTurns, IsInTurns, IsNamedSince, ArePastTurns};
 ghost use Rattle.bank.specs.Tape.{EachMark};
 ghost use Rattle.md_base.specs.Shapes.{has_slot};
@@ -83,6 +83,8 @@ fn write_recoveries<B: Bank>(bank: &mut B, members: &mut Members, gives: &[Give;
     ensures exact { IsUpdate B.tells live members.old.lost members.new.lost (plan_of members.old.newest gives.now members.old.own)
         (B.given bank.old).start (B.tape bank.old) (B.tape bank.new) }
     ensures who { (s : ℕ) → has_slot members.new.lost s ≡ true → has_slot members.old.lost s ≡ false → is_recovery (give_of gives.now s) ≡ true }
+    ensures grows { B.tells → (s : ℕ) → has_slot live s ≡ true → has_slot members.new.lost s ≡ false → is_recovery (give_of gives.now s) ≡ true →
+        length (B.tape bank.old) + 2 ≤ length (B.tape bank.new) }
 {
     write_slots(bank, members, gives, live, Part::Recoveries);
 }
@@ -119,6 +121,8 @@ fn write_others<B: Bank>(bank: &mut B, members: &mut Members, gives: &[Give; 32]
     ensures given { B.given bank.new ≡ B.given bank.old }
     ensures exact { IsUpdate B.tells live members.old.lost members.new.lost (plan_of members.old.newest gives.now members.old.own)
         (B.given bank.old).start (B.tape bank.old) (B.tape bank.new) }
+    ensures grows { B.tells → (s : ℕ) → has_slot live s ≡ true → has_slot members.new.lost s ≡ false → is_recovery (give_of gives.now s) ≡ false →
+        length (B.tape bank.old) + 2 ≤ length (B.tape bank.new) }
 {
     write_slots(bank, members, gives, live, Part::Others);
 }
@@ -158,6 +162,7 @@ fn write_planned<B: Bank>(
         (AreTakenInTurn members.old change.now before live (disk start (B.tape bank.old))) }
     ensures over { B.tells → let start = (B.given bank.old).start in IsPastTurns members.old change.now before live (disk start (B.tape bank.old))
         (round_at members.new.newest members.new.lost start (B.tape bank.new)) }
+    ensures grows { B.tells → IsSomeLeft live members.new.lost → length (B.tape bank.old) + 2 ≤ length (B.tape bank.new) }
 {
     let lost = members.lost;
     write_recoveries(bank, members, &change.gives, live);
@@ -191,6 +196,7 @@ fn write_again<B: Bank>(
       events = min (members.old.newest.events + 1) (2 ^ 64 - 1);
       dev_roles = with_roles members.old change.now before members.old.lost members.old.newest.dev_roles;
     } }
+    ensures grows { B.tells → IsSomeLeft live members.new.lost → length (B.tape bank.old) + 2 ≤ length (B.tape bank.new) }
 {
     members.newest.events = members.newest.events.saturating_add(1);
     enter_roles(members, change, before);
@@ -229,7 +235,9 @@ fn name_lost<B: Bank>(
     ensures rounds { let start = (B.given bank.old).start in B.tells → IsNamedSince members.old change.now before live lost
         (round_at members.old.newest members.old.lost start (B.tape bank.old)) (round_at members.new.newest members.new.lost start (B.tape bank.new)) }
     ensures naming { let start = (B.given bank.old).start in EachMark B.tells start (B.tape bank.old) (B.tape bank.new)
-        (IsInNaming members.old change.now before live (round_at members.old.newest members.old.lost start (B.tape bank.old))) }
+        (IsInNamingUpTo members.old change.now before live members.new.lost members.new.newest.events (round_at members.old.newest members.old.lost start (B.tape bank.old))) }
+    ensures rise { B.tells → (members.new.newest.events + length (B.tape bank.old) ≤ members.old.newest.events + length (B.tape bank.new) + 1)
+        × ((members.new.newest.events ≡ members.old.newest.events) ⊎ IsSomeLeft live members.old.lost) }
 {
     let mut named = lost;
     while members.lost != named && without(live, members.lost) != 0 {
@@ -273,13 +281,15 @@ pub fn write_update<B: Bank>(
     ensures whole { (left : ℕ) → AreLeft live members.old.lost left → members.new.lost ≡ members.old.lost → B.tells → let start = (B.given bank.old).start in
         IsStaged members.old.newest members.new.newest change.now.gives members.old.own left (disk start (B.tape bank.old)) (disk start (B.tape bank.new)) }
     ensures rounds { AreFirstKept change.now.gives members.old.lost members.new.lost → let start = (B.given bank.old).start in
-        EachMark B.tells start (B.tape bank.old) (B.tape bank.new) (IsInRounds members.old change.now before live (disk start (B.tape bank.old))) }
+        EachMark B.tells start (B.tape bank.old) (B.tape bank.new)
+        (IsInRounds members.old change.now before live members.new.lost members.new.newest.events (disk start (B.tape bank.old))) }
     ensures past { AreFirstKept change.now.gives members.old.lost members.new.lost → B.tells → let start = (B.given bank.old).start in
         ArePast members.old change.now before live (disk start (B.tape bank.old)) (round_at members.new.newest members.new.lost start (B.tape bank.new)) }
     ensures turns { let start = (B.given bank.old).start in EachMark B.tells start (B.tape bank.old) (B.tape bank.new)
         (IsInTurns members.old change.now before live (disk start (B.tape bank.old))) }
     ensures turned { B.tells → let start = (B.given bank.old).start in
         ArePastTurns members.old change.now before live (disk start (B.tape bank.old)) (round_at members.new.newest members.new.lost start (B.tape bank.new)) }
+    ensures rise { RisesByOperations B.tells live members.new.lost members.old.newest.events members.new.newest.events (B.tape bank.old) (B.tape bank.new) }
 {
     catch_up(bank, members, live);
     let lost = members.lost;

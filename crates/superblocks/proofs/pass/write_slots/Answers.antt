@@ -26,3 +26,7 @@ pub returns-clause-written : goal.returns-clause-written
 returns-clause-written g c =
     passed-all c.loop-slot.invariant.passed
     (λ s is. let below = slot_below c.args.live s (omega arith) (due_live _ _ _ is) in omega (arith, below))
+
+pub returns-clause-grows : goal.returns-clause-grows
+returns-clause-grows g c = λ told s is kept.
+    c.loop-slot.invariant.passed.grew told s (let below = slot_below c.args.live s (omega arith) (due_live _ _ _ is) in omega (arith, below)) is kept

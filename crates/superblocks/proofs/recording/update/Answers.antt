@@ -10,14 +10,14 @@ use Rattle.superblocks.specs.declared.members.Members.{Members}
 use Rattle.superblocks.specs.Reading.{role_count}
 use Rattle.superblocks.specs.Update.{own_in, is_live}
 use Rattle.superblocks.specs.Writing.{IsMember, AreMembers}
-use Rattle.superblocks.specs.Updating.{ArePlanned, AreNamed, IsSomeLeft}
+use Rattle.superblocks.specs.Updating.{ArePlanned, AreNamed, IsSomeLeft, RisesByOperations}
 use Rattle.superblocks.specs.Plans.{next_newest}
 use Rattle.superblocks.specs.Stages.{AreLeft, AreFirstKept, IsInUpdate, IsStaged}
 use Rattle.superblocks.specs.Rounds.{round_at, IsInRounds, ArePast}
 use Rattle.superblocks.specs.Losing.{IsInTurns, ArePastTurns}
 use Rattle.superblocks.specs.Outcome.{with_added, live_set, AreStored, is_left, planned_state, planned_roles, planned_spares}
 use Rattle.superblocks.proofs.Passes.{slot_below}
-use Rattle.superblocks.proofs.Taken.{taken_roles, taken_spares, taken_members, without_others, left_live, stored_as}
+use Rattle.superblocks.proofs.Taken.{taken_roles, taken_spares, taken_newest, taken_members, without_others, left_live, stored_as}
 use Rattle.superblocks.proofs.LiveAfter.{live_after}
 use Rattle.superblocks.proofs.HeldSlots.{held}
 use Rattle.superblocks.proofs.RoleCounts.{same_count}
@@ -215,9 +215,15 @@ returns-clause-rounds g c = λ kept.
     let start = (g.B.Bank.given c.args.bank.now).start in
     let tape0 = g.B.Bank.tape c.args.bank.now in
     let tape1 = g.B.Bank.tape c.write_update.new.bank in
-    subst (λ (n : Members). EachMark g.B.Bank.tells start tape0 tape1 (IsInRounds n change n.lost (live_set m change) (disk start tape0))) c.take_added.ensures.members
-    (subst (λ (live : ℕ). EachMark g.B.Bank.tells start tape0 tape1 (IsInRounds c.take_added.new.members change c.take_added.new.members.lost live (disk start tape0))) c.live_slots-live.ensures
-    (c.write_update.ensures.rounds (first_kept g c kept)))
+    let d = disk start tape0 in
+    let w = c.write_update.new.members in
+    let taken = c.take_added.new.members in
+    let old : Members = with_added m change.added in
+    subst (λ (n : Sb). EachMark g.B.Bank.tells start tape0 tape1 (IsInRounds old change old.lost (live_set m change) c.keep_spares.new.members.lost n.events d)) (sym (same_newest g c))
+    (subst (λ (l : ℕ). EachMark g.B.Bank.tells start tape0 tape1 (IsInRounds old change old.lost (live_set m change) l w.newest.events d)) (sym (same_lost g c))
+    (subst (λ (n : Members). EachMark g.B.Bank.tells start tape0 tape1 (IsInRounds n change n.lost (live_set m change) w.lost w.newest.events d)) c.take_added.ensures.members
+    (subst (λ (live : ℕ). EachMark g.B.Bank.tells start tape0 tape1 (IsInRounds taken change taken.lost live w.lost w.newest.events d)) c.live_slots-live.ensures
+    (c.write_update.ensures.rounds (first_kept g c kept)))))
 
 pub returns-clause-past : goal.returns-clause-past
 returns-clause-past g c = λ kept told.
@@ -261,3 +267,16 @@ returns-clause-turned g c = λ told.
     (subst (λ (n : Members). ArePastTurns n change n.lost (live_set m change) d (round_at newest c.write_update.new.members.lost start tape1)) c.take_added.ensures.members
     (subst (λ (live : ℕ). ArePastTurns taken change taken.lost live d (round_at newest c.write_update.new.members.lost start tape1)) c.live_slots-live.ensures
     (c.write_update.ensures.turned told))))
+
+pub returns-clause-rise : goal.returns-clause-rise
+returns-clause-rise g c =
+    let m = c.args.members.now in
+    let change = c.args.change.now in
+    let tape0 = g.B.Bank.tape c.args.bank.now in
+    let tape1 = g.B.Bank.tape c.write_update.new.bank in
+    let w = c.write_update.new.members in
+    subst (λ (n : Sb). RisesByOperations g.B.Bank.tells (live_set m change) c.keep_spares.new.members.lost m.newest.events n.events tape0 tape1) (sym (same_newest g c))
+    (subst (λ (l : ℕ). RisesByOperations g.B.Bank.tells (live_set m change) l m.newest.events w.newest.events tape0 tape1) (sym (same_lost g c))
+    (subst (λ (n : Sb). RisesByOperations g.B.Bank.tells (live_set m change) w.lost n.events w.newest.events tape0 tape1) (ap (λ (n : Members). n.newest) c.take_added.ensures.members ∙ taken_newest m change.added)
+    (subst (λ (live : ℕ). RisesByOperations g.B.Bank.tells live w.lost c.take_added.new.members.newest.events w.newest.events tape0 tape1) c.live_slots-live.ensures
+    c.write_update.ensures.rise)))

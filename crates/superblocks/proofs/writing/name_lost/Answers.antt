@@ -1,12 +1,12 @@
-use Rattle.std.proofs.Common.{rules, length, ◌<◌, ◌≤◌, ◌≡◌, ◌≢◌, ℕ, List, Option, refl, sym, ◌∙◌, ap, subst, arith}
+use Rattle.std.proofs.Common.{rules, length, ◌<◌, ◌≤◌, ◌+◌, ◌≡◌, ◌≢◌, inl, inr, ℕ, List, Option, refl, sym, ◌∙◌, ap, subst, arith}
 use Rattle.sb1.specs.declared.sb.Sb.{Sb}
 use Rattle.bank.specs.Given.{Given}
 use Rattle.bank.specs.Tape.{disk}
 use Rattle.superblocks.specs.declared.members.Members.{Members}
 use Rattle.superblocks.specs.Writing.{AreMembers}
-use Rattle.superblocks.specs.Updating.{IsUpdate, IsRecorded, ArePlanned, AreNamed}
-use Rattle.superblocks.proofs.Updates.{update-none, update-then, update-later, later-then, losses-then}
-use Rattle.superblocks.proofs.Naming.{none_left, left_less}
+use Rattle.superblocks.specs.Updating.{IsUpdate, IsRecorded, ArePlanned, AreNamed, IsSomeLeft}
+use Rattle.superblocks.proofs.Updates.{stays_left, update-none, update-then, update-later, later-then, losses-then}
+use Rattle.superblocks.proofs.Naming.{none_left, some_left, left_less}
 use Rattle.superblocks.proofs.writing.name_lost.Goals as goal
 use Rattle.superblocks.specs.Writing.{plan_of}
 use Rattle.superblocks.specs.Rounds.{round_at, naming}
@@ -35,6 +35,9 @@ loop-members-init g c = record {
   );
   naming = naming-none c.args.members.now c.args.change.now c.args.before c.args.live g.B.Bank.tells (g.B.Bank.given c.args.bank.now).start (g.B.Bank.tape c.args.bank.now)
       (round_at c.args.members.now.newest c.args.members.now.lost (g.B.Bank.given c.args.bank.now).start (g.B.Bank.tape c.args.bank.now)) refl;
+  rise = λ told. omega arith;
+  left_rise = λ told some. omega arith;
+  begun = inl refl;
 }
 
 pub write_again-requires-clause-members : goal.write_again-requires-clause-members
@@ -74,6 +77,13 @@ module _ (g : Over) (c : After-write_again g) where
   next : c.write_again.new.members.newest ≡ naming c.args.members.now c.args.change.now c.args.before c.loop-members.members.lost c.loop-members.members.newest
   next = c.write_again.ensures.next
       ∙ ap (λ (m : Members). naming m c.args.change.now c.args.before c.loop-members.members.lost c.loop-members.members.newest) c.loop-members.invariant.members
+
+  -- a live slot is left at its start
+  some_before : IsSomeLeft c.args.live c.loop-members.members.lost
+  some_before = some_left c.args.live c.loop-members.members.lost c.without.result (omega arith) c.without.ensures c.if-without-ne0.true
+
+  one_more : c.write_again.new.members.newest.events ≤ c.loop-members.members.newest.events + 1
+  one_more = omega (arith, ap (λ (n : Sb). n.events) next)
 
 pub loop-members-preserved : goal.loop-members-preserved
 loop-members-preserved g c =
@@ -121,7 +131,10 @@ loop-members-preserved g c =
       );
       naming = naming-then m0 c.args.change.now c.args.before c.args.live start tape0 tape1 tape2
           (round_at m0.newest m0.lost start tape0) (round_at m1.newest m1.lost start tape1) (round_at m2.newest m2.lost start tape2) refl (λ told. (v.rounds told).0) v.naming
-          (next g c) (exact g c);
+          (next g c) c.write_again.ensures.losses.stay c.write_again.ensures.newest.events (exact g c);
+      rise = λ told. let so_far = v.left_rise told (some_before g c) in let longer = c.write_again.ensures.update.marks.longer told in omega (arith, so_far, longer, one_more g c);
+      left_rise = λ told some. let so_far = v.left_rise told (some_before g c) in let grew = c.write_again.ensures.grows told some in omega (arith, so_far, grew, one_more g c);
+      begun = inr (let some = some_before g c in (some.0, some.1, stays_left m0.lost m1.lost some.0 (v.losses.stay some.0) some.2));
     }
 
 pub returns-else-without-ne0-clause-planned : goal.returns-else-without-ne0-clause-planned

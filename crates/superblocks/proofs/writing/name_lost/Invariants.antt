@@ -1,9 +1,9 @@
-use Rattle.std.proofs.Common.{◌≡◌, ◌<◌, ◌^◌, ℕ, true, false}
+use Rattle.std.proofs.Common.{◌≡◌, ◌⊎◌, ◌<◌, ◌≤◌, ◌+◌, ◌^◌, ℕ, true, false, length}
 use Rattle.bank.specs.Given.{NeverFalls}
 use Rattle.bank.specs.Tape.{disk, EachMark}
-use Rattle.superblocks.specs.Rounds.{round_at, IsNamed, IsInNaming}
+use Rattle.superblocks.specs.Rounds.{round_at, IsNamed, IsInNamingUpTo}
 use Rattle.md_base.specs.Shapes.{has_slot}
-use Rattle.superblocks.specs.Updating.{IsUpdate, AreLosses, IsLater, IsRecorded, ArePlanned, AreNamed}
+use Rattle.superblocks.specs.Updating.{IsUpdate, AreLosses, IsLater, IsRecorded, ArePlanned, AreNamed, IsSomeLeft}
 use Rattle.superblocks.proofs.Naming.{left_of}
 use Rattle.superblocks.proofs.writing.name_lost.Given as goal
 
@@ -28,7 +28,10 @@ invariant-loop-members g l = record {
       (round_at l.members.newest l.members.lost (g.B.Bank.given l.initial.bank).start (g.B.Bank.tape l.bank)))
       × (over.0 ≡ 0 → (l.members.lost ≡ l.initial.members.lost) × (l.named ≡ l.initial.named));
   naming : EachMark g.B.Bank.tells (g.B.Bank.given l.initial.bank).start (g.B.Bank.tape l.initial.bank) (g.B.Bank.tape l.bank)
-      (IsInNaming l.initial.members l.change l.before l.live (round_at l.initial.members.newest l.initial.members.lost (g.B.Bank.given l.initial.bank).start (g.B.Bank.tape l.initial.bank)));
+      (IsInNamingUpTo l.initial.members l.change l.before l.live l.members.lost l.members.newest.events (round_at l.initial.members.newest l.initial.members.lost (g.B.Bank.given l.initial.bank).start (g.B.Bank.tape l.initial.bank)));
+  rise : g.B.Bank.tells → l.members.newest.events + length (g.B.Bank.tape l.initial.bank) ≤ l.initial.members.newest.events + length (g.B.Bank.tape l.bank) + 1;
+  left_rise : g.B.Bank.tells → IsSomeLeft l.live l.members.lost → l.members.newest.events + length (g.B.Bank.tape l.initial.bank) ≤ l.initial.members.newest.events + length (g.B.Bank.tape l.bank);
+  begun : (l.members.newest.events ≡ l.initial.members.newest.events) ⊎ IsSomeLeft l.live l.initial.members.lost;
 }
 
 abbrev pub decreases-loop-members : goal.decreases-loop-members

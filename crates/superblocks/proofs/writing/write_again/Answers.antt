@@ -2,6 +2,7 @@ use Rattle.std.proofs.Common.{rules, refl, sym, ◌∙◌, ap, subst, ℕ, List,
 use Rattle.sb1.specs.declared.sb.Sb.{Sb}
 use Rattle.superblocks.specs.declared.members.Members.{Members}
 use Rattle.superblocks.specs.declared.pass.Part.TheVariants.{All}
+use Rattle.superblocks.proofs.Passes.{due-here}
 use Rattle.superblocks.proofs.Updates.{part-update, part-planned, stays_left}
 use Rattle.superblocks.proofs.writing.write_again.Goals as goal
 use Rattle.superblocks.specs.Update.{with_roles}
@@ -50,3 +51,8 @@ returns-clause-next g c =
       events = n;
       dev_roles = with_roles c.args.members.now c.args.change.now c.args.before c.args.members.now.lost c.args.members.now.newest.dev_roles;
     }) c.saturating_add-members.ensures
+
+pub returns-clause-grows : goal.returns-clause-grows
+returns-clause-grows g c = λ told some.
+    let m = c.enter_roles.new.members in
+    c.write_slots.ensures.grows told some.0 (due-here All m.newest c.args.change.now.gives m.own c.args.live m.lost some.0 some.1 (stays_left _ _ some.0 (c.write_slots.ensures.lost.stay some.0) some.2) refl) some.2

@@ -1,5 +1,6 @@
 use Rattle.std.proofs.Common.{rules, refl, ap, not}
 use Rattle.superblocks.specs.declared.pass.Part.TheVariants.{Others}
+use Rattle.superblocks.proofs.Passes.{due-here}
 use Rattle.superblocks.proofs.Updates.{part-update, part-planned, part-kept, stays_left}
 use Rattle.superblocks.proofs.writing.write_others.Goals as goal
 use Rattle.superblocks.proofs.Exact.{part-exact}
@@ -21,3 +22,7 @@ pub returns-clause-exact : goal.returns-clause-exact
 returns-clause-exact g c =
     part-exact _ _ _ Others c.args.members.now.newest c.args.gives.now c.args.members.now.own c.args.live c.args.members.now.lost c.write_slots.new.members.lost
     c.write_slots.ensures.each_mark c.write_slots.ensures.written
+
+pub returns-clause-grows : goal.returns-clause-grows
+returns-clause-grows g c = λ told s is left recovery.
+    c.write_slots.ensures.grows told s (due-here Others c.args.members.now.newest c.args.gives.now c.args.members.now.own c.args.live c.args.members.now.lost s is (stays_left _ _ s (c.write_slots.ensures.lost.stay s) left) (ap not recovery)) left

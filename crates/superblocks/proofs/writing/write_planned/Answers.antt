@@ -1,4 +1,4 @@
-use Rattle.std.proofs.Common.{◌≡◌, ◌≢◌, inl, inr, ℕ, List, Option, [], ◌∷◌, true, false, refl, sym, ◌∙◌, ap, subst, ⊎_elim}
+use Rattle.std.proofs.Common.{◌≡◌, ◌≢◌, inl, inr, ℕ, List, Option, [], ◌∷◌, true, false, refl, sym, ◌∙◌, ap, subst, ⊎_elim, arith}
 use Rattle.sb1.specs.declared.sb.Sb.{Sb}
 use Rattle.md_base.specs.Shapes.{has_slot}
 use Rattle.bank.specs.Given.{Given}
@@ -200,3 +200,14 @@ returns-clause-over g c = λ told.
           → (v : List ℕ) × IsPlanned m2.newest (give_of gives s) (own_in m2.own s) v × (disk b.start tape3 s 8 ≡ v ∷ [])) c.write_recoveries.ensures.given (c.write_others.ensures.written told));
       more = stay g c;
     }
+
+pub returns-clause-grows : goal.returns-clause-grows
+returns-clause-grows g c = λ told some.
+    let first = c.write_recoveries.ensures.update.marks.longer told in
+    let then = c.write_others.ensures.update.marks.longer told in
+    ⊎_elim
+    (λ recovery.
+    let grew = c.write_recoveries.ensures.grows told some.0 some.1 (stays_left c.write_recoveries.new.members.lost c.write_others.new.members.lost some.0 (stay g c some.0) some.2) recovery in
+    omega (arith, grew, then))
+    (λ other. let grew = c.write_others.ensures.grows told some.0 some.1 some.2 other in omega (arith, grew, first))
+    (by_bool (is_recovery (give_of c.args.change.now.gives some.0)))

@@ -1,5 +1,6 @@
 use Rattle.std.proofs.Common.{rules, refl}
 use Rattle.superblocks.specs.declared.pass.Part.TheVariants.{Recoveries}
+use Rattle.superblocks.proofs.Passes.{due-here}
 use Rattle.superblocks.proofs.Updates.{part-update, part-planned, part-kept, stays_left}
 use Rattle.superblocks.proofs.writing.write_recoveries.Goals as goal
 use Rattle.superblocks.proofs.Exact.{part-exact, due_of}
@@ -24,3 +25,7 @@ returns-clause-exact g c =
 
 pub returns-clause-who : goal.returns-clause-who
 returns-clause-who g c = λ s is none. due_of _ _ _ (c.write_slots.ensures.lost.due s is none)
+
+pub returns-clause-grows : goal.returns-clause-grows
+returns-clause-grows g c = λ told s is left recovery.
+    c.write_slots.ensures.grows told s (due-here Recoveries c.args.members.now.newest c.args.gives.now c.args.members.now.own c.args.live c.args.members.now.lost s is (stays_left _ _ s (c.write_slots.ensures.lost.stay s) left) recovery) left

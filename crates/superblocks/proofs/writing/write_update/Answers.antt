@@ -1,11 +1,11 @@
-use Rattle.std.proofs.Common.{◌≡◌, inl, inr, ℕ, ◌+◌, ◌-◌, ◌^◌, min, List, Option, replicate, true, refl, sym, ◌∙◌, ap, subst, le_refl, arith}
+use Rattle.std.proofs.Common.{◌≡◌, inl, inr, ℕ, ◌+◌, ◌-◌, ◌^◌, min, ⊎_elim, ◌≤◌, List, Option, replicate, true, false, refl, sym, ◌∙◌, ap, subst, le_refl, arith}
 use Rattle.sb1.specs.declared.sb.Sb.{Sb}
 use Rattle.md_base.specs.Shapes.{has_slot}
 use Rattle.bank.specs.Given.{Given}
 use Rattle.bank.specs.Tape.{EachMark, disk}
 use Rattle.superblocks.specs.declared.members.Members.{Members}
 use Rattle.superblocks.specs.Updating.{IsUpdate, IsRecorded, IsWrittenBy, IsLater, ArePlanned, AreNamed, AreLosses, IsInOrder, AreRecoveriesWritten, planned_newest}
-use Rattle.superblocks.proofs.Updates.{update-then, update-later, update-map, later-then, losses-then, between_same, each_mark-last}
+use Rattle.superblocks.proofs.Updates.{update-then, update-later, update-map, later-then, losses-then, between_same, stays_left, each_mark-last}
 use Rattle.superblocks.proofs.Orders.{all_in_order}
 use Rattle.superblocks.proofs.writing.write_update.Given.{Over}
 use Rattle.superblocks.proofs.writing.write_update.Goals.{After-name_lost}
@@ -18,7 +18,7 @@ use Rattle.bank.proofs.Marks.{each_mark-map, each_mark-both, each_mark-then}
 use Rattle.superblocks.specs.declared.change.Give.{Give}
 use Rattle.superblocks.specs.Stages.{AreLeft, AreFirstKept, IsCatchingUp, IsCaughtUp, IsTaking, IsStaged, IsInUpdate}
 use Rattle.superblocks.specs.declared.change.Give.TheVariants.{Same}
-use Rattle.superblocks.specs.Rounds.{Round, round_at, first_newest, members_at, IsCaughtUpTo, IsFirstRewriting, IsPastFirst, IsInNaming, IsNamed, IsInRounds}
+use Rattle.superblocks.specs.Rounds.{Round, round_at, first_newest, members_at, IsCaughtUpTo, IsFirstRewriting, IsPastFirst, IsInNaming, IsInNamingUpTo, IsNamed, IsInRounds}
 use Rattle.superblocks.specs.Losing.{AreTakenInTurn, IsPastTurns, planned_at, IsInTurns, IsNamedSince}
 use Rattle.superblocks.proofs.Namings.{rewriting, rewritten, first_rewriting}
 use Rattle.superblocks.proofs.Exact.{catching, taking, left_live, left_not_lost}
@@ -364,13 +364,15 @@ module _ (g : Over) (c : After-name_lost g) (first : AreFirstKept c.args.change.
       ∙ ap (λ (m : Members). record m { newest = m3.newest; lost = m3.lost }) c.catch_up.ensures.members
 
   naming3 : EachMark g.B.Bank.tells (g.B.Bank.given c.args.bank.now).start (g.B.Bank.tape c.write_planned.new.bank) (g.B.Bank.tape c.name_lost.new.bank)
-      (IsInNaming (members_at c.args.members.now over) c.args.change.now c.args.before c.args.live over)
+      (IsInNamingUpTo (members_at c.args.members.now over) c.args.change.now c.args.before c.args.live c.name_lost.new.members.lost c.name_lost.new.members.newest.events over)
   naming3 =
       let tape3 = g.B.Bank.tape c.write_planned.new.bank in
       let tape4 = g.B.Bank.tape c.name_lost.new.bank in
       let m3 = c.write_planned.new.members in
-      subst (λ (m : Members). EachMark g.B.Bank.tells (g.B.Bank.given c.args.bank.now).start tape3 tape4 (IsInNaming m c.args.change.now c.args.before c.args.live over)) members3
-      (subst (λ (b : Given). EachMark g.B.Bank.tells b.start tape3 tape4 (IsInNaming m3 c.args.change.now c.args.before c.args.live (round_at m3.newest m3.lost b.start tape3))) (given_then g c) c.name_lost.ensures.naming)
+      let m4 = c.name_lost.new.members in
+      subst (λ (m : Members). EachMark g.B.Bank.tells (g.B.Bank.given c.args.bank.now).start tape3 tape4 (IsInNamingUpTo m c.args.change.now c.args.before c.args.live m4.lost m4.newest.events over)) members3
+      (subst (λ (b : Given). EachMark g.B.Bank.tells b.start tape3 tape4 (IsInNamingUpTo m3 c.args.change.now c.args.before c.args.live m4.lost m4.newest.events (round_at m3.newest m3.lost b.start tape3)))
+      (given_then g c) c.name_lost.ensures.naming)
 
   named3 : g.B.Bank.tells → IsNamed (members_at c.args.members.now over) c.args.change.now c.args.before c.args.live over
       (round_at c.name_lost.new.members.newest c.name_lost.new.members.lost (g.B.Bank.given c.args.bank.now).start (g.B.Bank.tape c.name_lost.new.bank))
@@ -387,15 +389,19 @@ returns-clause-rounds g c = λ first.
     let m0 = c.args.members.now in
     let begin = (g.B.Bank.given c.args.bank.now).start in
     let tape0 = g.B.Bank.tape c.args.bank.now in
-    let Mark = IsInRounds m0 c.args.change.now c.args.before c.args.live (disk begin tape0) in
+    let m4 = c.name_lost.new.members in
+    let Mark = IsInRounds m0 c.args.change.now c.args.before c.args.live m4.lost m4.newest.events (disk begin tape0) in
     each_mark-then (each_mark-map Mark (λ told e at. inl (record { stage = rewriting m0.newest (replicate 32 Same) m0.own at.0.touched; still = at.1 }))
     (each_mark-both c.catch_up.ensures.exact.marks c.catch_up.ensures.still))
     (each_mark-then
-    (each_mark-map Mark (λ told e at. inr (inl (record {
-      mid = mid g c first;
-      caught = caught_to g c first told;
-      stage = subst (λ (n : Sb). IsFirstRewriting n c.args.change.now.gives m0.own c.args.live c.catch_up.new.members.lost (disk begin (g.B.Bank.tape c.catch_up.new.bank)) e) (newest3 g c first) at;
-    }))) (first_marks3 g c first))
+    (each_mark-map Mark (λ told e at. inr (inl (
+      record {
+        mid = mid g c first;
+        caught = caught_to g c first told;
+        stage = subst (λ (n : Sb). IsFirstRewriting n c.args.change.now.gives m0.own c.args.live c.catch_up.new.members.lost (disk begin (g.B.Bank.tape c.catch_up.new.bank)) e) (newest3 g c first) at;
+      },
+      stay_on g c,
+    ))) (first_marks3 g c first))
     (each_mark-map Mark (λ told e at. inr (inr (over g c first, past_first g c first told, at))) (naming3 g c first)))
 
 pub returns-clause-past : goal.returns-clause-past
@@ -456,7 +462,8 @@ module _ (g : Over) (c : After-name_lost g) where
       let tape4 = g.B.Bank.tape c.name_lost.new.bank in
       let m3 = c.write_planned.new.members in
       subst (λ (m : Members). EachMark g.B.Bank.tells (g.B.Bank.given c.args.bank.now).start tape3 tape4 (IsInNaming m c.args.change.now c.args.before c.args.live First)) members_then
-      (subst (λ (b : Given). EachMark g.B.Bank.tells b.start tape3 tape4 (IsInNaming m3 c.args.change.now c.args.before c.args.live (round_at m3.newest m3.lost b.start tape3))) (given_then g c) c.name_lost.ensures.naming)
+      (subst (λ (b : Given). EachMark g.B.Bank.tells b.start tape3 tape4 (IsInNaming m3 c.args.change.now c.args.before c.args.live (round_at m3.newest m3.lost b.start tape3))) (given_then g c)
+      (each_mark-map (IsInNaming m3 c.args.change.now c.args.before c.args.live (round_at m3.newest m3.lost (g.B.Bank.given c.write_planned.new.bank).start tape3)) (λ told e up. up.at) c.name_lost.ensures.naming))
 
   named_then : g.B.Bank.tells → IsNamedSince (members_at c.args.members.now First) c.args.change.now c.args.before c.args.live c.catch_up.new.members.lost First
       (round_at c.name_lost.new.members.newest c.name_lost.new.members.lost (g.B.Bank.given c.args.bank.now).start (g.B.Bank.tape c.name_lost.new.bank))
@@ -482,3 +489,32 @@ returns-clause-turns g c =
 
 pub returns-clause-turned : goal.returns-clause-turned
 returns-clause-turned g c = λ told. record { mid = Mid g c; caught = caught_mid g c told; first = First g c; past = past_turns g c told; named = (named_then g c told).0; again = λ some s is none. (named_then g c told).1 (λ same. absurd (let both = sym is ∙ ap (λ (l : ℕ). has_slot l s) same ∙ none in cc)) some }
+
+-- ---- the event count
+
+-- it rose by one, and then with each round that named slots
+module _ (g : Over) (c : After-name_lost g) where
+  planned_events : g.B.Bank.tells → c.write_planned.new.members.newest.events ≤ c.args.members.now.newest.events + 1
+  planned_events told =
+      let past = past_turns g c told in
+      let over = past.recoveries.newest in
+      let same : past.over.newest.events ≡ (Planned g c).newest.events = ⊎_elim (λ kept. ap (λ (n : Sb). n.events) kept.1) (λ named. ap (λ (n : Sb). n.events) named) over in
+      omega (arith, ap (λ (n : Sb). n.events) past.newest, same)
+
+  none_before : (s : ℕ) → has_slot c.name_lost.new.members.lost s ≡ false → has_slot c.write_planned.new.members.lost s ≡ false
+  none_before s none = stays_left c.write_planned.new.members.lost c.name_lost.new.members.lost s (c.name_lost.ensures.losses.stay s) none
+
+pub returns-clause-rise : goal.returns-clause-rise
+returns-clause-rise g c = λ told grew.
+    let first = c.catch_up.ensures.update.marks.longer told in
+    let then = c.write_planned.ensures.update.marks.longer told in
+    let last = c.name_lost.ensures.update.marks.longer told in
+    let rise = c.name_lost.ensures.rise told in
+    let events = planned_events g c told in
+    ⊎_elim
+    (λ same. ⊎_elim
+    (λ some. let two = c.write_planned.ensures.grows told (some.0, some.1, none_before g c some.0 some.2) in omega (arith, first, two, last, same, events))
+    (λ longer. omega (arith, longer, same, events))
+    grew)
+    (λ some. let two = c.write_planned.ensures.grows told some in omega (arith, first, two, rise.0, events))
+    rise.1
