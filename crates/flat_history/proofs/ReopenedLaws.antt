@@ -1,7 +1,6 @@
 -- What was flushed or stopped is found again.
-use Rattle.std.proofs.Common.{◌≡◌, ℕ, ◌<◌, ◌≤◌, ◌⊎◌, inl, inr, List, [], ◌∷◌, length, take, fold, refl, sym, ap, ◌∙◌, subst, arith, take_all, Some, None, IsTrue}
+use Rattle.std.proofs.Common.{◌≡◌, ℕ, ◌<◌, ◌≤◌, ◌⊎◌, inl, inr, List, [], ◌∷◌, length, take, fold, refl, sym, ap, ◌∙◌, subst, arith, take_all, Some, None}
 use Rattle.std.specs.Prelude.{slice_index_or}
-use Rattle.std.specs.List.{list_all}
 use Rattle.std.proofs.lemmas.List.Sums.{fold-append}
 use Rattle.std.proofs.lemmas.Bool.{le-leb}
 use Rattle.md_base.specs.Sectors.{Sector}
@@ -15,9 +14,7 @@ use Rattle.flat_history.specs.Stands.{stands, verdict}
 use Rattle.flat_history.specs.Flat.{values_of, values_after, first_values}
 use Rattle.flat_history.specs.CrashSafe.{made_by, last_resized, MayBeJudgedBy, StandsFor, IsJudged, IsRefusedRightly}
 use Rattle.flat_history.specs.Growing.{EndBy}
-use Rattle.flat_history.specs.Images.{keeps_roles}
-use Rattle.flat_history.specs.Reopened.{EndsSettled, OpensWith, SettledListsAreFound}
-use Rattle.flat_history.proofs.VerdictLaws.{all-assemble}
+use Rattle.flat_history.specs.Reopened.{OpensAccepted, IsReopened, EndsSettled, OpensWith, SettledListsAreFound}
 
 -- the contents at a mark are an image there
 contents-image : (world : World) (mark : ℕ) → mark ≤ length world.tape → IsImage world.start world.tape mark (contents_at world mark)
@@ -51,9 +48,9 @@ settled-values list entries x settled =
     )
 
 -- what is judged there is judged by all entries
-judged-all : (world : World) (entries : List Entry) (mark : ℕ) (c : Contents) → IsTrue (list_all (λ e. keeps_roles e.event) entries) → last_resized entries ≡ None
+judged-all : (world : World) (entries : List Entry) (mark : ℕ) (c : Contents) → last_resized entries ≡ None
     → EndBy mark entries → verdict world.scope c ≡ None → IsJudged world entries mark c → StandsFor world entries c
-judged-all world entries mark c keeps same ends accepted judged = by_kind judged.judgement
+judged-all world entries mark c same ends accepted judged = by_kind judged.judgement
   where
     made : made_by mark entries ≡ length entries
     made = all-made mark entries ends
@@ -96,10 +93,14 @@ opens-with world next entries start tape scope settled found = record {
     same : opening_list next ≡ stands world.scope (contents_at world next.first)
     same = rw scope (rw start (rw tape refl))
 
+-- what the next epoch opens with is refused for nothing in the former one's world too
+accepted-before : (world next : World) (entries : List Entry) → IsReopened world entries next → OpensAccepted next → verdict world.scope (contents_at world next.first) ≡ None
+accepted-before world next entries again accepted = sym (rw again.scope (rw again.start (rw again.tape refl))) ∙ accepted
+
 pub settled-found : SettledListsAreFound
-settled-found world next entries last keeps resized safe by_last again settled =
-    let image : IsImage world.start world.tape next.first (contents_at world next.first) = contents-image world next.first again.within in
+settled-found world next entries last resized safe by_last again accepted settled =
+    let c : Contents = contents_at world next.first in
+    let image : IsImage world.start world.tape next.first c = contents-image world next.first again.within in
     let at = safe next.first again.later by_last again.flushes in
     opens-with world next entries again.start again.tape again.scope settled
-    (judged-all world entries next.first (contents_at world next.first) keeps resized again.made
-    (all-assemble world entries next.first (contents_at world next.first) keeps at image) (at (contents_at world next.first) image))
+    (judged-all world entries next.first c resized again.made (accepted-before world next entries again accepted) (at c image))

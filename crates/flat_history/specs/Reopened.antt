@@ -1,16 +1,19 @@
 -- The list that an epoch leaves is the one that the next epoch opens with.
-use Rattle.std.specs.Prelude.{◌≡◌, ◌⊎◌, ℕ, ◌<◌, ◌≤◌, List, [], ◌∷◌, ◌++◌, length, slice_index_or, None, IsTrue}
-use Rattle.std.specs.List.{list_all}
+use Rattle.std.specs.Prelude.{◌≡◌, ◌⊎◌, ℕ, ◌<◌, ◌≤◌, List, [], ◌∷◌, ◌++◌, length, slice_index_or, None}
 use Rattle.md_base.specs.Sectors.{Sector}
 use Rattle.bank.specs.Tape.{OnlyFlushesBetween}
 use Rattle.flat_history.specs.declared.events.Event.TheVariants.{Flushed, Stopped}
 use Rattle.flat_history.specs.declared.events.Entry.{Entry}
-use Rattle.flat_history.specs.World.{World, opening_list}
+use Rattle.flat_history.specs.World.{World, contents_at, opening_list}
+use Rattle.flat_history.specs.Stands.{verdict}
 use Rattle.flat_history.specs.Flat.{length_of, now}
 use Rattle.flat_history.specs.Legal.{last_end}
 use Rattle.flat_history.specs.CrashSafe.{last_resized, IsCrashSafe}
 use Rattle.flat_history.specs.Growing.{EndBy}
-use Rattle.flat_history.specs.Images.{keeps_roles}
+
+-- what the opening found is refused for nothing
+abbrev pub OpensAccepted : World → Type 0
+OpensAccepted world = verdict world.scope (contents_at world world.first) ≡ None
 
 -- the last entry is a flush or a stop
 pub record EndsSettled (entries : List Entry) : Type 0 where
@@ -34,7 +37,8 @@ pub record OpensWith (next : World) (list : List Sector) (entries : List Entry) 
   pub count : length (opening_list next) ≡ length_of (length list) entries
   pub each : (x : ℕ) → x < length (opening_list next) → slice_index_or (opening_list next) x [] ≡ now list entries x
 
--- What was flushed or stopped is found again, sector by sector, where no role was lost and the length stayed.
+-- What was flushed or stopped is found again, sector by sector, by a next epoch that opens accepted, where the length stayed. Roles may
+-- have been lost.
 abbrev pub SettledListsAreFound : Type 0
-SettledListsAreFound = (world next : World) (entries : List Entry) (last : ℕ) → IsTrue (list_all (λ e. keeps_roles e.event) entries) → last_resized entries ≡ None
-    → IsCrashSafe world last entries → next.first ≤ last → IsReopened world entries next → EndsSettled entries → OpensWith next (opening_list world) entries
+SettledListsAreFound = (world next : World) (entries : List Entry) (last : ℕ) → last_resized entries ≡ None → IsCrashSafe world last entries
+    → next.first ≤ last → IsReopened world entries next → OpensAccepted next → EndsSettled entries → OpensWith next (opening_list world) entries
