@@ -139,7 +139,7 @@ pub losing-keeps : LosingKeeps
 losing-keeps members lost c shape list row = (data-kept members lost c shape list row, parity-kept members lost c shape list row)
 
 -- lists with the same sectors in a row have the same full row
-full-same : (shape : Shape) (list list' : ℕ → Sector) (row : ℕ) → is_valid_shape shape ≡ true → ((x : ℕ) → (place shape x).row ≡ row → list' x ≡ list x)
+pub full-same : (shape : Shape) (list list' : ℕ → Sector) (row : ℕ) → is_valid_shape shape ≡ true → ((x : ℕ) → (place shape x).row ≡ row → list' x ≡ list x)
     → (role : ℕ) → role < shape.disks → full_sector shape list row role ≡ full_sector shape list' row role
 full-same shape list list' row valid same = filled-same (row_roles shape row) shape.disks (λ r. list (listed_at shape row r)) (λ r. list' (listed_at shape row r)) (λ r lt here.
     let found = sector_there shape r row valid lt here in

@@ -48,8 +48,8 @@ fn touched_rows(shape: &Shape, first: u64, count: u64, rows: &mut Vec<u64>)
     }
 }
 
-// The first role that has data, and is missing.
-fn missing_data(members: &Members, shape: &Shape) -> Option<u32>
+/// The first role that has data, and is missing.
+pub fn missing_data(members: &Members, shape: &Shape) -> Option<u32>
     requires shape { IsTrue (is_valid_shape shape.now) }
     requires disks { shape.now.disks ≤ length members.now.roles }
     ensures { MatchOption result (IsDataWhole (reading_of members.now) shape.now)

@@ -10,9 +10,9 @@ mod puts;
 mod rows;
 mod sectors;
 
-pub use buffers::{ROW_BYTES, read_touched};
+pub use buffers::{ROW_BYTES, missing_data, read_touched};
 pub use lists::read_list;
-pub use outcome::{Outcome, Unavailable};
+pub use outcome::{Outcome, Unavailable, are_too_many, tolerance};
 pub use puts::{Written, write_touched};
 
 #[cfg(test)]

@@ -8,7 +8,7 @@ use Rattle.script.specs.Keys.{has_key, given}
 use Rattle.script.specs.Layouts.{layout_named}
 use Rattle.script.specs.Numbers.{is_space, words_of, number_below}
 use Rattle.script.specs.declared.lines.Line.{Line}
-use Rattle.script.specs.declared.lines.Line.TheVariants.{Create, Read, Write, Flush, Stop, Halt, Assemble}
+use Rattle.script.specs.declared.lines.Line.TheVariants.{Create, Read, Write, Flush, Fail, Stop, Halt, Assemble}
 use Rattle.script.specs.declared.grammar.Meaning.{Meaning}
 use Rattle.script.specs.declared.grammar.Meaning.TheVariants.{PassedOver, Asks, Bad}
 
@@ -77,6 +77,11 @@ write_of (x ∷ count ∷ seed ∷ []) =
     option_and_then (λ span. option_map (λ n. Write span.0 span.1 n) (number_below (2 ^ 32) seed)) (span_of x count)
 write_of _ = None
 
+-- `fail ROLE`
+abbrev pub fail_of : List (List ℕ) → Option Line
+fail_of (role ∷ []) = option_map (λ n. Fail n) (number_below (2 ^ 32) role)
+fail_of _ = None
+
 -- a line of one word
 abbrev pub alone : Line → List (List ℕ) → Option Line
 alone line [] = Some line
@@ -91,6 +96,7 @@ line_of (verb ∷ values) =
     else if bytes_eq verb (codes "read") then read_of values
     else if bytes_eq verb (codes "write") then write_of values
     else if bytes_eq verb (codes "flush") then alone Flush values
+    else if bytes_eq verb (codes "fail") then fail_of values
     else if bytes_eq verb (codes "stop") then alone Stop values
     else if bytes_eq verb (codes "halt") then alone Halt values
     else None

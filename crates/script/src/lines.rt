@@ -16,6 +16,7 @@ pub enum Line {
     Read { at: u64, count: u32 },
     Write { at: u64, count: u32, seed: u32 },
     Flush,
+    Fail { role: u32 },
     Stop,
     Halt,
     Assemble { uuid: Option<[u8; 16]> },

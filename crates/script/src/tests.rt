@@ -51,7 +51,7 @@ fn whole_texts(rt: HostRuntime) -> Result<(), Fail> {
         ("\nread\t0 1", Some(2)),
         ("\r\nread 0 1", Some(1)),
         ("\nread 0 1\x7f", Some(2)),
-        ("\n\n# one\nfail 0", Some(4)),
+        ("\n\n# one\nfail", Some(4)),
         ("\n\nread 0 1\n\nread 0 1 1\nfoo\n", Some(5)),
     ];
     for (text, bad) in texts {
@@ -63,7 +63,7 @@ fn whole_texts(rt: HostRuntime) -> Result<(), Fail> {
 // Lines that begin with a verb and a uuid, or not, and whether they are in the grammar.
 #[test]
 fn lines_of_the_array(rt: HostRuntime) -> Result<(), Fail> {
-    let lines: [(&str, bool); 24] = [
+    let lines: [(&str, bool); 30] = [
         ("flush", true),
         ("  stop  ", true),
         ("halt", true),
@@ -71,6 +71,12 @@ fn lines_of_the_array(rt: HostRuntime) -> Result<(), Fail> {
         ("stop 1", false),
         ("halt #", false),
         ("Flush", false),
+        ("fail 1", true),
+        ("fail 4294967295", true),
+        ("fail", false),
+        ("fail 4294967296", false),
+        ("fail 1 2", false),
+        ("fail 01", false),
         ("assemble", true),
         ("assemble 6BA7B8109DAD11D180B400C04FD430C8", true),
         ("assemble {6ba7b810-9dad-11d1-80b4-00c04fd430c8}", true),
@@ -236,7 +242,7 @@ fn layouts_by_name(rt: HostRuntime) -> Result<(), Fail> {
 #[test]
 fn asked_lines(rt: HostRuntime) -> Result<(), Fail> {
     let text = format!(in rt.alloc();
-        "assemble\n# one\ncreate {UUID} level=5 disks=3 chunk=8 size=40 offset=16\n\nwrite 5 1 7\nread 0 2\nflush\nhalt\nassemble {UUID}\nstop"
+        "assemble\n# one\ncreate {UUID} level=5 disks=3 chunk=8 size=40 offset=16\n\nwrite 5 1 7\nread 0 2\nflush\nhalt\nassemble {UUID}\nfail 3\nstop"
     )?;
     let lines = read_script(rt.alloc(), text.as_bytes())?;
     let wanted = [
@@ -259,7 +265,8 @@ fn asked_lines(rt: HostRuntime) -> Result<(), Fail> {
                 uuid: Some(UUID_BYTES),
             },
         ),
-        (10, Line::Stop),
+        (10, Line::Fail { role: 3 }),
+        (11, Line::Stop),
     ];
     assert_eq!(rt; lines.len(), wanted.len());
     for (k, (number, line)) in wanted.iter().enumerate() {
