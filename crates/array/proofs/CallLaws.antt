@@ -1,5 +1,5 @@
 -- The entries of losses stand before a call's answer, and change nothing of the list.
-use Rattle.std.proofs.Common.{◌≡◌, ℕ, zero, suc, ◌<◌, ◌||◌, ◌==◌, inl, inr, Bool, true, false, cond, Option, List, [], ◌∷◌, ◌++◌, refl, sym, ◌∙◌, ap, subst, arith, append_assoc, append-nil}
+use Rattle.std.proofs.Common.{◌≡◌, ℕ, zero, suc, ◌<◌, ◌||◌, ◌==◌, inl, inr, Bool, true, false, cond, Option, List, [], ◌∷◌, ◌++◌, refl, sym, ◌∙◌, ap, subst, arith}
 use Rattle.std.proofs.lemmas.Bool.Decides.{nat_tests}
 use Rattle.std.proofs.lemmas.Bool.{cases_lt}
 use Rattle.std.proofs.lemmas.List.{reverse-append}
@@ -16,14 +16,12 @@ use Rattle.flat_history.specs.declared.events.Event.TheVariants.{Lost, SpareLost
 use Rattle.flat_history.specs.declared.events.LostCause.TheVariants.{Fault}
 use Rattle.flat_history.specs.declared.events.Request.{Request}
 use Rattle.flat_history.specs.declared.events.Request.TheVariants.{Write as AsksWrite}
-use Rattle.flat_history.specs.Flat.{last_of, next_number, length_after, limit_after, values_after}
+use Rattle.flat_history.specs.Flat.{length_after, limit_after, values_after}
 use Rattle.flat_history.specs.Transfers.{last_end_from}
-use Rattle.flat_history.specs.Legal.{MayBeInner, IsInnerOrLast}
-use Rattle.flat_history.specs.Growing.{BeginAnother}
 use Rattle.flat_history.specs.Fits.{IsTornOf, AreTornOf}
-use Rattle.flat_history.specs.Plain.{Opening, loses_role, entries_of}
+use Rattle.flat_history.specs.Plain.{loses_role, entries_of}
 use Rattle.array.specs.Losing.{role_loss, role_losses, spare_loss, spare_losses, losses_of}
-use Rattle.array.proofs.PlainLaws.{one, IsCallOf, begins, last_end-call}
+use Rattle.array.proofs.PlainLaws.{one, last_end-call}
 use Rattle.array.proofs.LosingLaws.{entries-both}
 
 abbrev pub AreLossEvents : List Event → Type 0
@@ -82,33 +80,7 @@ values-losses who end (Lost role Fault ∷ xs) tail are x values = values-losses
 values-losses who end (SpareLost slot ∷ xs) tail are x values = values-losses who end xs tail are x values
 values-losses who end (event ∷ xs) tail are x values = absurd are
 
--- ---- their call
-
-pub inner-of : (event : Event) (rest : List Entry) → MayBeInner event → IsInnerOrLast event rest
-inner-of event [] may = tt
-inner-of event (e ∷ rest) may = may
-
-pub call-losses : (opening : Opening) (before : List Entry) (who : Who) (end : ℕ) (xs tail : List Event) → AreLossEvents xs
-    → IsCallOf opening (before ++ entries_of who end xs) who end tail → IsCallOf opening before who end (xs ++ tail)
-call-losses opening before who end [] tail are call = subst (λ (l : List Entry). IsCallOf opening l who end tail) (append-nil before) call
-call-losses opening before who end (Lost role Fault ∷ xs) tail are call = (
-  tt,
-  inner-of (Lost role Fault) (entries_of who end (xs ++ tail)) tt,
-  call-losses opening (before ++ one who end (Lost role Fault) ∷ []) who end xs tail are
-      (subst (λ (l : List Entry). IsCallOf opening l who end tail) (sym (append_assoc before (one who end (Lost role Fault) ∷ []) (entries_of who end xs))) call),
-)
-call-losses opening before who end (SpareLost slot ∷ xs) tail are call = (
-  tt,
-  inner-of (SpareLost slot) (entries_of who end (xs ++ tail)) tt,
-  call-losses opening (before ++ one who end (SpareLost slot) ∷ []) who end xs tail are
-      (subst (λ (l : List Entry). IsCallOf opening l who end tail) (sym (append_assoc before (one who end (SpareLost slot) ∷ []) (entries_of who end xs))) call),
-)
-call-losses opening before who end (event ∷ xs) tail are call = absurd are
-
-pub begins-behind : (entries : List Entry) (who : Who) (end : ℕ) (inner : List Event) (event : Event) → who.number ≡ next_number who.caller entries
-    → BeginAnother (last_of entries) (entries_of who end (inner ++ event ∷ []))
-begins-behind entries who end [] event number = begins entries 0 who end event [] number
-begins-behind entries who end (x ∷ inner) event number = begins entries 0 who end x (inner ++ event ∷ []) number
+-- ---- where a call ended
 
 pub last_end-behind : (first : ℕ) (entries : List Entry) (who : Who) (end : ℕ) (inner : List Event) (event : Event)
     → last_end_from first (entries ++ entries_of who end (inner ++ event ∷ [])) ≡ end

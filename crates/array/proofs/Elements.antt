@@ -1,10 +1,10 @@
 -- Elements of a list of numbers.
-use Rattle.std.proofs.Common.{◌≡◌, ℕ, ◌<◌, ◌⊎◌, inl, inr, Bool, true, false, List, [], ◌∷◌, ◌++◌, length, nat_eq, refl, sym, subst, arith, eqb-true}
+use Rattle.std.proofs.Common.{◌≡◌, ℕ, ◌<◌, ◌⊎◌, inl, inr, Bool, true, false, List, length, nat_eq, refl, sym, subst, arith, eqb-true}
 use Rattle.std.specs.Prelude.{Contains, slice_index_or}
 use Rattle.std.specs.List.{list_any}
 use Rattle.std.proofs.lemmas.Bool.Decides.{nat_tests}
 use Rattle.std.proofs.lemmas.List.Folds.{Any-from_list_any, list_any_at}
-use Rattle.std.proofs.lemmas.List.Elements.{Contains-append_right, Contains-append_cases, All-contains_itself}
+use Rattle.std.proofs.lemmas.List.Elements.{All-contains_itself}
 
 -- what a test finds is there
 pub contains-from_test : (xs : List ℕ) (x : ℕ) → list_any (λ y. nat_eq y x) xs ≡ true → Contains xs x
@@ -12,20 +12,6 @@ contains-from_test xs x found =
     let some = Any-from_list_any (λ y. nat_eq y x) xs found in
     let same : some.1 ≡ x = eqb-true some.1 x some.4 in
     (some.0, some.2, subst (λ (v : ℕ). slice_index_or xs some.0 v ≡ v) same some.3)
-
--- the last one is there
-pub contains-last : (xs : List ℕ) (x : ℕ) → Contains (xs ++ x ∷ []) x
-contains-last xs x = Contains-append_right xs (x ∷ []) x (0, omega arith, refl)
-
--- one more brings no other
-pub contains-more : (xs : List ℕ) (x r : ℕ) → Contains (xs ++ x ∷ []) r → Contains xs r ⊎ (r ≡ x)
-contains-more xs x r has = elim (Contains-append_cases xs (x ∷ []) r has) [ inl before ↦ inl before | inr here ↦ inr (only here) ]
-  where
-    only : Contains (x ∷ []) r → r ≡ x
-    only here = at here.0 here.1 here.2
-      where
-        at : (k : ℕ) → k < 1 → slice_index_or (x ∷ []) k r ≡ r → r ≡ x
-        at k lt is = let first : k ≡ 0 = omega (arith, lt) in sym (subst (λ (i : ℕ). slice_index_or (x ∷ []) i r ≡ r) first is)
 
 -- the element at a place is there
 pub contains-at : (xs : List ℕ) (k : ℕ) → k < length xs → Contains xs (slice_index_or xs k 0)

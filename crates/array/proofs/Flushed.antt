@@ -1,5 +1,5 @@
 -- What flushes leave as it was, and the slots flushed one after another.
-use Rattle.std.proofs.Common.{◌≡◌, ◌≢◌, inl, inr, ℕ, ◌+◌, ◌<◌, ◌≤◌, Bool, true, false, cond, List, [], ◌∷◌, ◌++◌, length, take, refl, sym, ap, ◌∙◌, subst, arith, take_all, le_refl, append_assoc, append-nil, eqb}
+use Rattle.std.proofs.Common.{◌≡◌, ◌≢◌, inl, inr, ℕ, ◌+◌, ◌<◌, ◌≤◌, Bool, true, false, cond, List, [], ◌∷◌, ◌++◌, length, take, refl, sym, ap, ◌∙◌, subst, arith, take_all, le_refl, append_assoc, eqb}
 use Rattle.std.proofs.lemmas.Bool.{cases_eq}
 use Rattle.md_base.specs.Shapes.{has_slot}
 use Rattle.md_base.specs.Sectors.{Sector}
@@ -32,9 +32,6 @@ flushes-both : (xs ys : List Operation) → AreFlushes xs → AreFlushes ys → 
 flushes-both [] ys only more = more
 flushes-both (Flush t ∷ xs) ys only more = flushes-both xs ys only more
 flushes-both (Write t j w ∷ xs) ys only more = absurd only
-
-pub added-none : (old new : List Operation) → new ≡ old → OnlyFlushesAdded old new
-added-none old new same = ([], tt, same ∙ sym (append-nil old))
 
 pub added-both : (old mid new : List Operation) → OnlyFlushesAdded old mid → OnlyFlushesAdded mid new → OnlyFlushesAdded old new
 added-both old mid new first second = (
@@ -77,16 +74,6 @@ flushed-here start old new s k is =
     ∙ ap (λ v. v ∷ []) (sym (present-is start old s k) ∙ sym (present-added start old new (Flush s ∷ [], tt, is) s k))
 
 -- ---- slot after slot
-
-pub tried-none : (tells : Type 0) (bank : Given) (tape : List Operation) (lost : ℕ) (faults : ℕ → ℕ)
-    → AreTried tells bank tape 0 lost lost faults faults
-tried-none tells bank tape lost faults = record {
-  flushed = λ told s k h. absurd (omega (arith, h));
-  sound = λ s h. absurd (omega (arith, h));
-  stay = λ s is. is;
-  known = λ s is isn't. absurd (cc);
-  failed = λ s is isn't. absurd (cc);
-}
 
 -- another slot is passed over, flushed, or fails
 module _ (tells : Type 0) (bank : Given) (tape tape' : List Operation) (n old lost lost' : ℕ) (before mid after : ℕ → ℕ)

@@ -17,7 +17,7 @@ use Rattle.superblocks.specs.Held.{MayRead, IsKnown, Shows, AreHeld, said_by}
 use Rattle.superblocks.specs.Crash.{EachReads}
 use Rattle.flat_history.specs.Same.{IsElsewhere}
 use Rattle.flat_history.proofs.SameLaws.{read-same}
-use Rattle.array.specs.Whole.{AreDrawnSuperblocks, Places, AreAllowedWrites}
+use Rattle.array.specs.Whole.{AreDrawnSuperblocks}
 use Rattle.array.specs.Held.{IsHeldBy, AreElsewhere}
 use Rattle.array.proofs.ReadWhole.{IsSomewhere, filled, filled-drawn, filled-same}
 
@@ -170,9 +170,3 @@ held-kept scope members start before after eighth ninth h =
       eighth = λ s v seen is. kept_in (disk start before s 8) (disk start after s 8) v (eighth s) is;
       ninth = λ s v seen is. kept_in (disk start before s 9) (disk start after s 9) v (ninth s) is;
     }) members h
-
--- the writes that the flat list allows are elsewhere
-pub allowed-elsewhere : (scope : Scope) (p : Places) (values : ℕ → List Sector) (ops : List Operation) → AreAllowedWrites scope p values ops → AreElsewhere scope ops
-allowed-elsewhere scope p values [] allowed = tt
-allowed-elsewhere scope p values (Write t j w ∷ ops) allowed = (allowed.0.0, allowed-elsewhere scope p values ops allowed.1)
-allowed-elsewhere scope p values (Flush t ∷ ops) allowed = allowed-elsewhere scope p values ops allowed.1

@@ -1,5 +1,5 @@
 -- What a history tells of losses, and where it ended.
-use Rattle.std.proofs.Common.{◌≡◌, ◌||◌, inl, inr, ℕ, drop, Bool, true, false, List, [], ◌∷◌, ◌++◌, length, refl, sym, ◌∙◌, ap, subst, arith, append-nil}
+use Rattle.std.proofs.Common.{◌≡◌, ◌||◌, inl, inr, ℕ, drop, Bool, true, false, Some, List, [], ◌∷◌, ◌++◌, length, refl, sym, ◌∙◌, ap, subst, arith}
 use Rattle.std.proofs.lemmas.List.Elements.{All-nil, All-cons}
 use Rattle.std.specs.Prelude.{IsFalse}
 use Rattle.std.proofs.lemmas.Bool.Decides.{nat_tests}
@@ -8,47 +8,37 @@ use Rattle.std.specs.List.{All, list_any}
 use Rattle.md_base.specs.Sectors.{Sector}
 use Rattle.md_base.specs.declared.answers.Who.{Who}
 use Rattle.md_base.specs.declared.answers.Refusal.{Refusal}
-use Rattle.md_base.specs.declared.answers.Refusal.TheVariants.{PastEnd, TooManyMissing}
 use Rattle.bank.specs.declared.bank.Operation.{Operation}
 use Rattle.superblocks.specs.declared.members.Members.{Members}
+use Rattle.superblocks.specs.Reading.{role_state, holder}
+use Rattle.row_io.specs.Rows.{reading_of}
 use Rattle.flat_history.specs.declared.events.Entry.{Entry}
 use Rattle.flat_history.specs.declared.events.Event.{Event}
-use Rattle.flat_history.specs.declared.events.Event.TheVariants.{Torn, Refused}
+use Rattle.flat_history.specs.declared.events.Event.TheVariants.{Torn, Lost, Failed, Refused}
+use Rattle.flat_history.specs.declared.events.LostCause.TheVariants.{Command}
 use Rattle.flat_history.specs.Plain.{entries_of}
 use Rattle.flat_history.specs.Transfers.{last_end_from}
-use Rattle.array.specs.Losing.{losses_of, failure_events, AreGone}
-use Rattle.array.specs.Kept.{IsLossOf, AreLossesOf, IsEndOf, IsBehind, IsRefusedFor, IsSettling, is_torn, has_torn}
+use Rattle.array.specs.Placed.{AreStillHeld}
+use Rattle.array.specs.Losing.{losses_of, failure_events}
+use Rattle.array.specs.Lacking.{AreLostSince}
+use Rattle.array.specs.Calls.{IsLossOf, AreLossesOf, IsEndOf, IsBehind, IsSettling, is_torn, has_torn}
 use Rattle.array.proofs.PlainLaws.{one}
 use Rattle.array.proofs.LosingLaws.{entries-both, no-losses}
 use Rattle.array.proofs.CallLaws.{all-losses, last_end-behind}
 
--- no entries tell of none
-pub losses-same : (members : Members) (before now : ℕ → ℕ) (old new : List Entry) → new ≡ old → AreLossesOf members before now old new
-losses-same members before now old new same =
-    record { more = []; grown = same ∙ sym (append-nil old); failed = All-nil (λ e. IsLossOf members before now e.event) }
-
--- an event that tells of none
-pub losses-alone : (members : Members) (before now : ℕ → ℕ) (old mid new : List Entry) (who : Who) (end : ℕ) (event : Event) → IsLossOf members before now event
-    → mid ≡ old → new ≡ mid ++ entries_of who end (event ∷ []) → AreLossesOf members before now old new
-losses-alone members before now old mid new who end event none mid_is is = record {
-  more = entries_of who end (event ∷ []);
-  grown = is ∙ ap (λ (l : List Entry). l ++ entries_of who end (event ∷ [])) mid_is;
-  failed = All-cons (λ e. IsLossOf members before now e.event) (one who end event) [] none (All-nil (λ e. IsLossOf members before now e.event));
-}
-
 -- losses, and events behind them that tell of none
-losses-tail : (old after : Members) (before now : ℕ → ℕ) (entries mid new : List Entry) (who : Who) (end roles spares : ℕ) (tail : List Event) → AreGone old after roles spares before now
+losses-tail : (old after : Members) (before now : ℕ → ℕ) (entries mid new : List Entry) (who : Who) (end roles spares : ℕ) (tail : List Event) → AreLostSince old after roles spares before now
     → All (λ e. IsLossOf old before now e.event) (entries_of who end tail) → mid ≡ entries → new ≡ mid ++ entries_of who end (losses_of roles spares ++ tail) → AreLossesOf old before now entries new
-losses-tail old after before now entries mid new who end roles spares tail gone rest mid_is is = record {
+losses-tail old after before now entries mid new who end roles spares tail since rest mid_is is = record {
   more = entries_of who end (losses_of roles spares ++ tail);
   grown = is ∙ ap (λ (l : List Entry). l ++ entries_of who end (losses_of roles spares ++ tail)) mid_is;
-  failed = all-losses (λ event. IsLossOf old before now event) who end roles spares tail gone.held gone.failed rest;
+  failed = all-losses (λ event. IsLossOf old before now event) who end roles spares tail since.held since.failed rest;
 }
 
-pub losses-behind : (old after : Members) (before now : ℕ → ℕ) (entries mid new : List Entry) (who : Who) (end roles spares : ℕ) (event : Event) → AreGone old after roles spares before now
+pub losses-behind : (old after : Members) (before now : ℕ → ℕ) (entries mid new : List Entry) (who : Who) (end roles spares : ℕ) (event : Event) → AreLostSince old after roles spares before now
     → IsLossOf old before now event → mid ≡ entries → new ≡ mid ++ entries_of who end (losses_of roles spares ++ event ∷ []) → AreLossesOf old before now entries new
-losses-behind old after before now entries mid new who end roles spares event gone none mid_is is =
-    losses-tail old after before now entries mid new who end roles spares (event ∷ []) gone
+losses-behind old after before now entries mid new who end roles spares event since none mid_is is =
+    losses-tail old after before now entries mid new who end roles spares (event ∷ []) since
     (All-cons (λ e. IsLossOf old before now e.event) (one who end event) [] none (All-nil (λ e. IsLossOf old before now e.event))) mid_is is
 
 assoc : (xs : List Event) (x y : Event) → (xs ++ x ∷ []) ++ y ∷ [] ≡ xs ++ x ∷ y ∷ []
@@ -56,14 +46,25 @@ assoc [] x y = refl
 assoc (z ∷ xs) x y = ap (λ (l : List Event). z ∷ l) (assoc xs x y)
 
 pub losses-failure : (old after : Members) (before now : ℕ → ℕ) (entries mid new : List Entry) (who : Who) (end roles spares : ℕ) (torn : Bool) (at : ℕ) (body : List Sector) (refusal : Refusal)
-    → AreGone old after roles spares before now → mid ≡ entries → new ≡ mid ++ entries_of who end (failure_events roles spares torn at body refusal) → AreLossesOf old before now entries new
-losses-failure old after before now entries mid new who end roles spares true at body refusal gone mid_is is =
-    losses-tail old after before now entries mid new who end roles spares (Torn at body ∷ Refused refusal ∷ []) gone
+    → AreLostSince old after roles spares before now → mid ≡ entries → new ≡ mid ++ entries_of who end (failure_events roles spares torn at body refusal) → AreLossesOf old before now entries new
+losses-failure old after before now entries mid new who end roles spares true at body refusal since mid_is is =
+    losses-tail old after before now entries mid new who end roles spares (Torn at body ∷ Refused refusal ∷ []) since
     (All-cons (λ e. IsLossOf old before now e.event) (one who end (Torn at body)) (one who end (Refused refusal) ∷ []) tt
     (All-cons (λ e. IsLossOf old before now e.event) (one who end (Refused refusal)) [] tt (All-nil (λ e. IsLossOf old before now e.event)))) mid_is
     (is ∙ ap (λ (l : List Event). mid ++ entries_of who end l) (assoc (losses_of roles spares) (Torn at body) (Refused refusal)))
-losses-failure old after before now entries mid new who end roles spares false at body refusal gone mid_is is =
-    losses-behind old after before now entries mid new who end roles spares (Refused refusal) gone tt mid_is is
+losses-failure old after before now entries mid new who end roles spares false at body refusal since mid_is is =
+    losses-behind old after before now entries mid new who end roles spares (Refused refusal) since tt mid_is is
+
+-- a role that was taken out by command, and what was lost while it was named
+pub losses-failed : (old out after : Members) (before now : ℕ → ℕ) (entries mid new : List Entry) (who : Who) (end role slot roles spares : ℕ) → AreStillHeld old out → AreLostSince out after roles spares before now
+    → holder (role_state (reading_of old) role) ≡ Some slot → mid ≡ entries → new ≡ mid ++ entries_of who end ((Lost role Command ∷ losses_of roles spares) ++ Failed role ∷ []) → AreLossesOf old before now entries new
+losses-failed old out after before now entries mid new who end role slot roles spares still since held mid_is is = record {
+  more = entries_of who end ((Lost role Command ∷ losses_of roles spares) ++ Failed role ∷ []);
+  grown = is ∙ ap (λ (l : List Entry). l ++ entries_of who end ((Lost role Command ∷ losses_of roles spares) ++ Failed role ∷ [])) mid_is;
+  failed = All-cons (λ e. IsLossOf old before now e.event) (one who end (Lost role Command)) (entries_of who end (losses_of roles spares ++ Failed role ∷ [])) (slot, held)
+      (all-losses (λ event. IsLossOf old before now event) who end roles spares (Failed role ∷ []) (λ r has. let h = since.held r has in (h.0, still r h.0 h.1, h.2)) since.failed
+      (All-cons (λ e. IsLossOf old before now e.event) (one who end (Failed role)) [] tt (All-nil (λ e. IsLossOf old before now e.event))));
+}
 
 -- ---- where a call ended
 
@@ -85,12 +86,6 @@ behind-alone {old = old} {mid = mid} who end event mid_is is = record {
   end = end;
   is = is ∙ ap (λ (l : List Entry). l ++ entries_of who end (event ∷ [])) mid_is ∙ ap (λ (l : List Event). old ++ entries_of who end (l ++ event ∷ [])) (sym no-losses);
 }
-
--- a refusal that doesn't speak of a place
-pub refused-zero : (visible : ℕ) (m : Members) (refusal : Refusal) → IsRefusedFor 0 0 m m refusal → IsRefusedFor visible 0 m m refusal
-refused-zero visible m (PastEnd told) why = absurd (omega (arith, why.1))
-refused-zero visible m (TooManyMissing count tolerance) why = (omega arith, why.1, why.2, why.3)
-refused-zero visible m refusal why = absurd why
 
 pub settling-no-loss : (members : Members) (before now : ℕ → ℕ) (event : Event) → IsSettling event → IsLossOf members before now event
 settling-no-loss members before now event (inl is) = subst (IsLossOf members before now) (sym is) tt

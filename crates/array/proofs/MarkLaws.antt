@@ -77,9 +77,6 @@ both false b e = absurd (cc)
 
 -- each slot stays what it was
 module _ (roles : List Role) (lost : ℕ) (apart : Apart roles) (small : (role slot : ℕ) → holder (get_or roles role Missing) ≡ Some slot → slot < 32) where
-  is_planned : ℕ → ℕ → Bool
-  is_planned role slot = is_planned_holder roles (replicate 32 Same) lost role slot
-
   planned-is : (role slot : ℕ) → is_planned_holder roles (replicate 32 Same) lost role slot ≡ (not (has_slot lost slot) && is_same role (role_from slot 0 roles))
   planned-is role slot = ap (λ (g : Give). not (has_slot lost slot) && is_same role (planned_role roles g slot)) (give_of-same 32 slot)
 
@@ -108,9 +105,6 @@ module _ (roles : List Role) (lost : ℕ) (apart : Apart roles) (small : (role s
       by : (b : Bool) → is_planned_holder roles (replicate 32 Same) lost role slot ≡ b → b ≡ false
       by true is = absurd (none (planned-held role slot is).1)
       by false is = refl
-
-  lost-holder : (role slot : ℕ) → has_slot lost slot ≡ true → is_planned_holder roles (replicate 32 Same) lost role slot ≡ false
-  lost-holder role slot gone = planned-is role slot ∙ ap (λ (b : Bool). not b && is_same role (role_from slot 0 roles)) gone
 
   found-is : (role : ℕ) (found : Option ℕ) → least_below 32 (is_planned_holder roles (replicate 32 Same) lost role) ≡ found
       → planned_state roles (replicate 32 Same) lost role ≡ option_map_or (λ slot. get_or roles role Missing) found Missing

@@ -1,5 +1,5 @@
 -- What device calls leave of an array's places.
-use Rattle.std.proofs.Common.{◌≡◌, ◌≢◌, ◌⊎◌, inl, inr, ℕ, ◌*◌, ◌<◌, ◌≤◌, ◌==◌, ◌&&◌, Bool, true, false, not, cond, nat_lt, max, List, [], ◌++◌, length, get_or, Option, Some, None, refl, sym, ◌∙◌, ap, ap₂, subst, arith, append_assoc, append-nil}
+use Rattle.std.proofs.Common.{◌≡◌, inl, inr, ℕ, ◌*◌, ◌<◌, ◌≤◌, ◌==◌, Bool, true, false, not, cond, max, List, [], ◌++◌, length, get_or, Option, Some, None, refl, sym, ◌∙◌, ap, ap₂, subst, arith, append_assoc, append-nil}
 use Rattle.std.proofs.lemmas.Bool.Decides.{nat_tests}
 use Rattle.std.proofs.lemmas.Bool.{cases_lt, cases_eq}
 use Rattle.std.proofs.lemmas.List.{get_or_past}
@@ -8,18 +8,16 @@ use Rattle.md_base.specs.Shapes.{has_slot, data_disks}
 use Rattle.md_base.specs.declared.places.Shape.{Shape}
 use Rattle.md_base.specs.declared.status.Role.{Role}
 use Rattle.md_base.specs.declared.status.Role.TheVariants.{Whole, Recovering, Missing}
-use Rattle.bank.specs.Given.{Given, IsFaulted}
+use Rattle.bank.specs.Given.{Given}
 use Rattle.bank.specs.declared.bank.Operation.{Operation}
 use Rattle.superblocks.specs.declared.members.Members.{Members}
 use Rattle.superblocks.specs.Reading.{shape_of, role_state, holder, is_whole}
-use Rattle.superblocks.proofs.SlotSets.{none_there}
-use Rattle.row_io.specs.Rows.{reading_of, is_missing, missing_count, role_without, members_without}
+use Rattle.row_io.specs.Rows.{reading_of, missing_count, role_without, members_without}
 use Rattle.row_io.proofs.Losses.{state_after, state_kept}
 use Rattle.array.specs.Whole.{list_size}
 use Rattle.array.specs.Placed.{places_of, AreWhole, IsPlaced, AreLost, AreUnlost, AreStillHeld, AreLess}
-use Rattle.array.specs.Losing.{AreGone}
 use Rattle.array.specs.Moving.{Grows, IsMoved}
-use Rattle.array.specs.Kept.{missing_in}
+use Rattle.array.specs.Lacking.{lacking}
 use Rattle.array.proofs.PlacedLaws.{kept-roles, none-lost, places-same, state-without}
 use Rattle.array.proofs.MemberLaws.{less-without, none_missing}
 
@@ -53,7 +51,7 @@ whole-kept lost slot (Recovering s) whole held = by (has_slot lost s) refl whole
 whole-kept lost slot Missing whole held = absurd (cc)
 
 module _ (given : Given) (lost : ℕ) (old new : Members) (less : AreLess lost old new) (was : IsPlaced given old) where
-  state-is : (role : ℕ) → role_state (reading_of new) role ≡ role_without lost (role_state (reading_of old) role)
+  pub state-is : (role : ℕ) → role_state (reading_of new) role ≡ role_without lost (role_state (reading_of old) role)
   state-is role = ap (λ (l : List Role). get_or l role Missing) less.roles ∙ state-without lost old.roles role
 
   -- where all roles are whole afterwards, none lost its slot
@@ -90,51 +88,10 @@ module _ (given : Given) (lost : ℕ) (old new : Members) (less : AreLess lost o
     spares = spares;
     shape = less.shape;
     size = less.size;
+    offsets = less.offsets;
     whole = whole-before;
     same = λ whole. places-same old new (less-whole whole);
   }
-
-  -- the roles that are missing afterwards, where none was before
-  module _ (roles spares : ℕ) (before after : ℕ → ℕ) (whole : AreWhole old) (are : (role : ℕ) → has_slot roles role ≡ (nat_lt role (shape_of new.newest).disks && is_missing (reading_of new) role))
-      (failed : (role slot : ℕ) → holder (role_state (reading_of old) role) ≡ Some slot → has_slot lost slot ≡ true → IsFaulted slot before after)
-      (spares_failed : (slot : ℕ) → has_slot spares slot ≡ true → IsFaulted slot before after) where
-    both : (a b : Bool) → (a && b) ≡ true → (a ≡ true) × (b ≡ true)
-    both true b e = (refl, e)
-    both false b e = absurd (cc)
-
-    lt-of : (a b : ℕ) → nat_lt a b ≡ true → a < b
-    lt-of a b e = grind (arith, nat_tests, e)
-
-    lt-is : (a b : ℕ) → a < b → nat_lt a b ≡ true
-    lt-is a b lt = grind (arith, nat_tests, lt)
-
-    gone-slot : (slot : ℕ) (state : Role) → state ≡ Whole slot → not (is_whole (role_without lost state)) ≡ true → has_slot lost slot ≡ true
-    gone-slot slot state is missing = by (has_slot lost slot) refl (ap (λ (s : Role). not (is_whole (role_without lost s))) (sym is) ∙ missing)
-      where
-        by : (b : Bool) → has_slot lost slot ≡ b → not (is_whole (cond (has_slot lost slot) Missing (Whole slot))) ≡ true → has_slot lost slot ≡ true
-        by true gone m = gone
-        by false kept m = absurd (let e = ap (λ (b : Bool). not (is_whole (cond b Missing (Whole slot)))) (sym kept) ∙ m in cc)
-
-    held : (role : ℕ) → has_slot roles role ≡ true → (slot : ℕ) × (holder (role_state (reading_of old) role) ≡ Some slot) × IsFaulted slot before after
-    held role has =
-        let parts : (nat_lt role (shape_of new.newest).disks ≡ true) × (is_missing (reading_of new) role ≡ true) =
-        both (nat_lt role (shape_of new.newest).disks) (is_missing (reading_of new) role) (sym (are role) ∙ has) in
-        let below : role < (shape_of old.newest).disks = subst (λ (s : Shape). role < s.disks) less.shape (lt-of role (shape_of new.newest).disks parts.0) in
-        by (role_state (reading_of old) role) refl (was.states role) (whole role below) (ap (λ (s : Role). not (is_whole s)) (sym (state-is role)) ∙ parts.1)
-      where
-        by : (state : Role) → role_state (reading_of old) role ≡ state → (role_state (reading_of old) role ≡ Missing) ⊎ ((slot : ℕ) × (role_state (reading_of old) role ≡ Whole slot))
-            → not (is_whole (role_state (reading_of old) role)) ≡ false → not (is_whole (role_without lost (role_state (reading_of old) role))) ≡ true
-            → (slot : ℕ) × (holder (role_state (reading_of old) role) ≡ Some slot) × IsFaulted slot before after
-        by state is (inl none) w missing = absurd (let e = ap (λ (s : Role). not (is_whole s)) (sym none) ∙ w in cc)
-        by state is (inr found) w missing =
-            (found.0, ap holder found.1, failed role found.0 (ap holder found.1) (gone-slot found.0 (role_state (reading_of old) role) found.1 missing))
-
-    pub gone-less : AreGone old new roles spares before after
-    gone-less = record {
-      missing = λ role lt is. are role ∙ ap₂ (λ (a b : Bool). a && b) (lt-is role (shape_of new.newest).disks lt) is;
-      held = held;
-      failed = spares_failed;
-    }
 
 -- nothing was done to the members
 pub moved-same : (given given' : Given) (old new : Members) → given' ≡ given → new ≡ old → IsPlaced given old → AreUnlost old → IsMoved given old new
@@ -146,9 +103,14 @@ moved-same given given' old new same is placed unlost =
       spares = λ few. few;
       shape = refl;
       size = refl;
+      offsets = λ slot. refl;
       whole = λ w. w;
       same = λ w. refl;
     })
+
+-- from the same bank and members
+pub moved-from : (given given' : Given) (old old' new : Members) → given' ≡ given → old' ≡ old → IsMoved given' old' new → IsMoved given old new
+moved-from given given' old old' new same is moved = subst (λ (g : Given). IsMoved g old new) same (subst (λ (m : Members). IsMoved given' m new) is moved)
 
 pub moved-then : (given : Given) (a b c : Members) → IsMoved given a b → IsMoved given b c → IsMoved given a c
 moved-then given a b c one two = record {
@@ -158,6 +120,7 @@ moved-then given a b c one two = record {
   spares = λ few. two.spares (one.spares few);
   shape = two.shape ∙ one.shape;
   size = two.size ∙ one.size;
+  offsets = λ slot. two.offsets slot ∙ one.offsets slot;
   whole = λ whole. one.whole (two.whole whole);
   same = λ whole. two.same whole ∙ one.same (two.whole whole);
 }
@@ -184,16 +147,8 @@ module _ (given : Given) (shape : Shape) (old new : Members) (lost : ℕ) (befor
   moved-lost unlost = moved-less given lost old new less-lost was did.placed (subst AreUnlost (sym did.members) (unlost-without old lost unlost))
       (subst (λ (m : Members). length old.spares ≤ 32 → length m.spares ≤ 32) (sym did.members) (λ few. few))
 
-  pub gone-lost : (roles : ℕ) → AreWhole old → shape ≡ shape_of old.newest → ((role : ℕ) → has_slot roles role ≡ (nat_lt role shape.disks && is_missing (reading_of new) role)) → AreGone old new roles 0 before after
-  gone-lost roles whole same are = gone-less given lost old new less-lost was roles 0 before after whole
-      (λ role. are role ∙ ap (λ (s : Shape). nat_lt role s.disks && is_missing (reading_of new) role) (same ∙ sym less-lost.shape))
-      (λ role slot held gone. (did.failed slot gone).0) (λ slot has. absurd (let e = none_there slot in cc))
-
-  pub missing-lost : shape ≡ shape_of old.newest → lost ≢ 0 → 0 < missing_in new
-  missing-lost same some = subst (λ (s : Shape). 0 < missing_count (reading_of new) s) (same ∙ sym less-lost.shape) (did.missing some)
-
 -- with a role missing, not every role is whole
-pub not-whole : (given : Given) (m : Members) → IsPlaced given m → 0 < missing_in m → AreWhole m → ⊥
+pub not-whole : (given : Given) (m : Members) → IsPlaced given m → 0 < lacking m → AreWhole m → ⊥
 not-whole given m placed some whole = absurd (let none = none_missing given m placed whole in omega (arith, none, some))
 
 -- where no role is missing afterwards, none was lost

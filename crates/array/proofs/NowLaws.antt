@@ -1,15 +1,21 @@
 -- What the flat list holds after one more call.
-use Rattle.std.proofs.Common.{◌≡◌, ℕ, zero, suc, ◌+◌, ◌*◌, ◌/◌, ◌<◌, ◌≤◌, ◌⊎◌, inl, inr, Bool, true, false, cond, Option, None, List, [], ◌∷◌, ◌++◌, length, take, drop, refl, sym, ◌∙◌, ap, arith}
+use Rattle.std.proofs.Common.{◌≡◌, ℕ, zero, suc, ◌+◌, ◌-◌, ◌*◌, ◌/◌, ◌<◌, ◌≤◌, ◌⊎◌, inl, inr, Bool, true, false, cond, Option, None, List, [], ◌∷◌, ◌++◌, length, take, drop, refl, sym, ◌∙◌, ap, arith}
 use Rattle.std.proofs.lemmas.Bool.Decides.{nat_tests}
 use Rattle.std.proofs.lemmas.List.{drop-drop}
 use Rattle.std.proofs.lemmas.List.Sums.{fold-append}
 use Rattle.std.specs.Prelude.{fold, slice_index_or, min}
 use Rattle.std.specs.Option.{option_map_or}
 use Rattle.md_base.specs.Sectors.{Sector, sectors_of, first_sectors}
+use Rattle.md_base.specs.declared.answers.Who.{Who}
+use Rattle.md_base.proofs.SectorLaws.{length-sectors_of}
 use Rattle.flat_history.specs.declared.events.Entry.{Entry}
+use Rattle.flat_history.specs.declared.events.Event.{Event}
 use Rattle.flat_history.specs.declared.events.Event.TheVariants.{Wrote}
 use Rattle.flat_history.specs.Flat.{values_after, values_of, first_values, now, covers, sector_at, length_of, length_after, limit_of, limit_after, visible_of}
-use Rattle.array.specs.Rows.{row_sector}
+use Rattle.flat_history.specs.Plain.{entries_of}
+use Rattle.array.specs.Rows.{row_sector, IsWritten}
+use Rattle.array.proofs.PlainLaws.{one}
+use Rattle.array.proofs.CallLaws.{AreLossEvents, values-losses}
 
 -- the values of a sector after some more entries
 pub values-more : (list : List Sector) (entries added : List Entry) (x : ℕ) → values_of list (entries ++ added) x ≡ fold (λ values e. values_after x values e.event) (values_of list entries x) added
@@ -69,6 +75,22 @@ first_sectors-at (suc n) (suc i) bytes lt =
 
 pub sectors_of-at : (i : ℕ) (bytes : List ℕ) → i < length bytes / 512 → slice_index_or (sectors_of bytes) i [] ≡ row_sector bytes i
 sectors_of-at i bytes lt = first_sectors-at (length bytes / 512) i bytes lt
+
+-- the list after a write's entry, which may stand behind losses
+pub wrote-is : (list : List Sector) (entries : List Entry) (who : Who) (end : ℕ) (losses : List Event) (first : ℕ) (from : List ℕ) → AreLossEvents losses
+    → IsWritten (now list entries) (now list (entries ++ entries_of who end (losses ++ Wrote first (sectors_of from) ∷ []))) first from
+wrote-is list entries who end losses first from are = record {
+  here = λ x low high. alone x
+      ∙ now-wrote_here list entries (one who end (Wrote first (sectors_of from))) first (sectors_of from) x refl low (omega (arith, high, length-sectors_of from))
+      ∙ sectors_of-at (x - first) from (omega (arith, low, high));
+  other = λ x apart. alone x
+      ∙ now-wrote_other list entries (one who end (Wrote first (sectors_of from))) first (sectors_of from) x refl
+      (elim apart [ inl below ↦ inl below | inr above ↦ inr (omega (arith, above, length-sectors_of from)) ]);
+}
+  where
+    alone : (x : ℕ) → now list (entries ++ entries_of who end (losses ++ Wrote first (sectors_of from) ∷ [])) x ≡ now list (entries ++ one who end (Wrote first (sectors_of from)) ∷ []) x
+    alone x = now-alike list entries (entries_of who end (losses ++ Wrote first (sectors_of from) ∷ [])) (one who end (Wrote first (sectors_of from)) ∷ []) x
+        (λ values. values-losses who end losses (Wrote first (sectors_of from) ∷ []) are x values)
 
 -- ---- the length
 

@@ -1,5 +1,5 @@
 -- An array's places after slots were lost, and after its superblocks were marked.
-use Rattle.std.proofs.Common.{◌≡◌, ℕ, zero, suc, ◌-◌, ◌<◌, ◌≤◌, ◌⊎◌, inl, inr, Bool, true, false, not, cond, ◌==◌, List, [], ◌∷◌, length, get_or, refl, sym, ap, ap₂, ◌∙◌, subst, arith, Option, Some, None, map, replicate, max, unwrap_or}
+use Rattle.std.proofs.Common.{◌≡◌, ℕ, zero, suc, ◌-◌, ◌≤◌, ◌⊎◌, inl, inr, Bool, true, false, not, cond, ◌==◌, List, [], ◌∷◌, length, get_or, refl, sym, ap, ap₂, ◌∙◌, subst, arith, Option, Some, None, map, replicate, max, unwrap_or}
 use Rattle.std.specs.Prelude.{◌^◌, pos, ◌-ℤ◌}
 use Rattle.std.specs.Option.{option_map_or}
 use Rattle.std.proofs.lemmas.Bool.Decides.{nat_tests}
@@ -18,8 +18,8 @@ use Rattle.superblocks.specs.Updating.{IsLater, planned_newest}
 use Rattle.superblocks.specs.Outcome.{AreLive, AreStored, IsPlannedOwn, planned_roles}
 use Rattle.superblocks.proofs.SlotSets.{none_there}
 use Rattle.superblocks.proofs.PlannedSb.{planned-of}
-use Rattle.row_io.specs.Rows.{reading_of, is_missing, role_without, IsHolder}
-use Rattle.array.specs.Placed.{places_of, AreWhole, IsPlaced, AreUnlost, AreLess}
+use Rattle.row_io.specs.Rows.{reading_of, role_without, IsHolder}
+use Rattle.array.specs.Placed.{places_of, IsPlaced, AreUnlost, AreLess}
 use Rattle.array.specs.Marking.{resync_of, marking}
 use Rattle.array.proofs.MarkLaws.{give_of-same, roles-kept}
 
@@ -107,11 +107,6 @@ module _ (old new : Members) (less : AreLess 0 old new) where
       offset-same role =
           less.offsets (unwrap_or (holder (role_state (reading_of new) role)) 0)
           ∙ ap (λ (l : List Role). data_offset_of (reading_of old) (unwrap_or (holder (get_or l role Missing)) 0)) roles-same
-
-  pub whole-same : AreWhole old → AreWhole new
-  whole-same whole role below =
-      ap (λ (l : List Role). is_missing (record { newest = new.newest; own = new.own; roles = l; spares = new.spares }) role) roles-same
-      ∙ whole role (subst (λ (s : Shape). role < s.disks) less.shape below)
 
 -- what is left of roles that had lost no slot
 kept-state : (lost : ℕ) (state : Role) → ((slot : ℕ) → holder state ≡ Some slot → has_slot lost slot ≡ false) → role_without lost state ≡ state

@@ -1,17 +1,15 @@
 -- How a legal history grows by a call.
-use Rattle.std.proofs.Common.{◌≡◌, ℕ, ◌+◌, ◌≤◌, ◌==◌, ◌&&◌, inl, Bool, true, false, cond, Option, Some, List, [], ◌∷◌, ◌++◌, unwrap_or, refl, sym, ◌∙◌, ap, subst, arith, append_assoc, append-nil}
+use Rattle.std.proofs.Common.{◌≡◌, ℕ, ◌+◌, ◌≤◌, ◌==◌, ◌&&◌, Bool, true, false, cond, Option, Some, List, [], ◌∷◌, ◌++◌, unwrap_or, refl, sym, ◌∙◌, ap, arith, append_assoc}
 use Rattle.std.proofs.lemmas.Bool.Decides.{nat_tests}
-use Rattle.std.specs.Prelude.{fold, IsFalse}
+use Rattle.std.specs.Prelude.{fold}
 use Rattle.std.specs.Option.{option_map_or}
 use Rattle.md_base.specs.declared.answers.Who.{Who}
 use Rattle.flat_history.specs.declared.events.Entry.{Entry}
 use Rattle.flat_history.specs.declared.events.Event.{Event}
 use Rattle.flat_history.specs.Flat.{is_same_call, rest_of_call, last_of, number_after}
 use Rattle.flat_history.specs.Transfers.{last_end_from}
-use Rattle.flat_history.specs.Legal.{IsNumbered, GoesOn, IsInnerOrLast}
 use Rattle.flat_history.specs.Growing.{BeginAnother}
-use Rattle.flat_history.specs.Plain.{Opening, IsPlainEvent, IsPlainEntry, ArePlain, entries_of}
-use Rattle.flat_history.proofs.LegalLaws.{rest-apart, another-behind}
+use Rattle.flat_history.specs.Plain.{Opening, ArePlain, entries_of}
 
 -- one entry of a call
 abbrev pub one : Who → ℕ → Event → Entry
@@ -32,15 +30,6 @@ plain-later opening ops more before (e ∷ entries) le plain = (
   plain-later opening ops more (before ++ e ∷ []) entries le plain.1,
 )
 
-pub plain-add_up : (opening : Opening) (ops : ℕ) (before xs added : List Entry) → BeginAnother (last_of xs) added
-    → ArePlain opening ops before xs → ArePlain opening ops (before ++ xs) added → ArePlain opening ops before (xs ++ added)
-plain-add_up opening ops before [] added begin plain behind = subst (λ (l : List Entry). ArePlain opening ops l added) (append-nil before) behind
-plain-add_up opening ops before (e ∷ xs) added begin plain behind = (
-  subst (λ (rest : List Entry). IsPlainEntry opening ops before e rest) (sym (rest-apart e xs added begin)) plain.0,
-  plain-add_up opening ops (before ++ e ∷ []) xs added (another-behind e xs added begin) plain.1
-      (subst (λ (l : List Entry). ArePlain opening ops l added) (sym (append_assoc before (e ∷ []) xs)) behind),
-)
-
 -- ---- one call
 
 same_call : (who : Who) (end : ℕ) (a b : Event) → is_same_call (one who end a) (one who end b) ≡ true
@@ -56,32 +45,6 @@ rest_whole who end event (next ∷ events) =
 pub last-snoc : (xs : List Entry) (e : Entry) → last_of (xs ++ e ∷ []) ≡ Some e
 last-snoc [] e = refl
 last-snoc (x ∷ xs) e = ap (λ (o : Option Entry). Some (unwrap_or o x)) (last-snoc xs e)
-
--- the events of a call, where these entries stand before it
-abbrev pub IsCallOf : Opening → List Entry → Who → ℕ → List Event → Type 0
-IsCallOf opening before who end [] = Unit {0}
-IsCallOf opening before who end (event ∷ events) =
-    IsPlainEvent opening before (one who end event) (entries_of who end events) event
-    × IsInnerOrLast event (entries_of who end events)
-    × IsCallOf opening (before ++ one who end event ∷ []) who end events
-
-pub call_plain : (opening : Opening) (ops : ℕ) (before : List Entry) (who : Who) (end : ℕ) (events : List Event) → IsFalse (who.caller == 254)
-    → ((event : Event) → IsNumbered before (one who end event)) → last_end_from opening.first before ≤ end → end ≤ ops → IsCallOf opening before who end events
-    → ArePlain opening ops before (entries_of who end events)
-call_plain opening ops before who end [] caller numbered rises within call = tt
-call_plain opening ops before who end (event ∷ events) caller numbered rises within call = (
-  record {
-    numbered = numbered event;
-    timed = record { rises = rises; within = within };
-    inner = subst (λ (rest : List Entry). IsInnerOrLast event rest) (sym (rest_whole who end event events)) call.1;
-    caller = caller;
-    event = subst (λ (rest : List Entry). IsPlainEvent opening before (one who end event) rest event) (sym (rest_whole who end event events)) call.0;
-  },
-  call_plain opening ops (before ++ one who end event ∷ []) who end events caller
-      (λ next. inl (subst (λ (o : Option Entry). GoesOn o (one who end next)) (sym (last-snoc before (one who end event))) (same_call who end event next)))
-      (let at : last_end_from opening.first (before ++ one who end event ∷ []) ≡ end = ap (λ (o : Option Entry). option_map_or (λ e. e.end) o opening.first) (last-snoc before (one who end event)) in omega (arith, at))
-      within call.2,
-)
 
 -- the next number begins another call
 pub begins : (entries : List Entry) (start : ℕ) (who : Who) (end : ℕ) (event : Event) (events : List Event)
@@ -99,10 +62,3 @@ last_end-call first entries who end event [] = ap (λ (o : Option Entry). option
 last_end-call first entries who end event (next ∷ events) =
     ap (λ (l : List Entry). last_end_from first l) (sym (append_assoc entries (one who end event ∷ []) (entries_of who end (next ∷ events))))
     ∙ last_end-call first (entries ++ one who end event ∷ []) who end next events
-
--- entries that are appended one after another
-pub appended_two : (a b c : List Entry) (x y : Entry) → b ≡ a ++ x ∷ [] → c ≡ b ++ y ∷ [] → c ≡ a ++ x ∷ y ∷ []
-appended_two a b c x y one two = two ∙ ap (λ (l : List Entry). l ++ y ∷ []) one ∙ append_assoc a (x ∷ []) (y ∷ [])
-
-pub appended_three : (a b c d : List Entry) (x y z : Entry) → b ≡ a ++ x ∷ [] → c ≡ b ++ y ∷ [] → d ≡ c ++ z ∷ [] → d ≡ a ++ x ∷ y ∷ z ∷ []
-appended_three a b c d x y z one two three = three ∙ ap (λ (l : List Entry). l ++ z ∷ []) (appended_two a b c x y one two) ∙ append_assoc a (x ∷ y ∷ []) (z ∷ [])

@@ -1,109 +1,42 @@
--- A call in which no slot is lost leaves an array safe.
-use Rattle.std.proofs.Common.{◌≡◌, inl, inr, ℕ, zero, suc, ◌+◌, ◌-◌, ◌<◌, ◌≤◌, ◌&&◌, Bool, true, false, cond, List, [], ◌∷◌, ◌++◌, length, take, take_all, Option, Some, None, refl, sym, ◌∙◌, ap, ap₂, subst, arith}
-use Rattle.std.specs.Prelude.{◌^◌, IfSome, slice_index_or}
-use Rattle.std.specs.List.{list_all}
-use Rattle.std.proofs.lemmas.Bool.Decides.{nat_tests}
+-- A call whose marks are seen right leaves an array safe.
+use Rattle.std.proofs.Common.{◌≡◌, inl, inr, ℕ, ◌+◌, ◌-◌, ◌<◌, ◌≤◌, ◌||◌, Bool, List, [], ◌∷◌, ◌++◌, length, take, take_all, drop, Option, Some, None, refl, sym, ◌∙◌, ap, subst, arith, length-append, append_assoc}
+use Rattle.std.specs.Prelude.{◌^◌, IfSome, ⊤}
+use Rattle.std.proofs.Math.Seq.{take-append_seam, drop-append_seam, take-length}
 use Rattle.std.proofs.lemmas.Bool.{cases_lt}
-use Rattle.md_base.specs.Sectors.{Sector, sectors_of}
-use Rattle.md_base.proofs.SectorLaws.{length-sectors_of}
-use Rattle.md_base.specs.Shapes.{has_slot}
+use Rattle.md_base.specs.Sectors.{Sector}
 use Rattle.md_base.specs.declared.answers.Who.{Who}
 use Rattle.bank.specs.declared.bank.Operation.{Operation}
-use Rattle.bank.specs.Given.{Given}
+use Rattle.bank.specs.Given.{Given, sizes}
 use Rattle.bank.specs.Tape.{Contents, IsIn, disk}
 use Rattle.bank.proofs.Laws.{contents-earlier}
+use Rattle.parity.specs.Rows.{IsSector}
 use Rattle.superblocks.specs.declared.members.Members.{Members}
-use Rattle.superblocks.specs.Reading.{Scope, Reading, reading, shape_of}
+use Rattle.superblocks.specs.Reading.{Scope, Reading, reading}
 use Rattle.superblocks.specs.Found.{AreLikeNewest}
-use Rattle.row_io.specs.Rows.{reading_of, is_missing, present}
 use Rattle.flat_history.specs.declared.events.Entry.{Entry}
 use Rattle.flat_history.specs.declared.events.Event.{Event}
-use Rattle.flat_history.specs.declared.events.Event.TheVariants.{Wrote, Lost, SpareLost}
-use Rattle.flat_history.specs.declared.events.LostCause.TheVariants.{Fault}
-use Rattle.flat_history.specs.Flat.{length_of, values_of, covers, sector_at, now}
-use Rattle.flat_history.specs.World.{World, opening_list, contents_at, reading_at}
+use Rattle.flat_history.specs.Flat.{length_of, values_of}
+use Rattle.flat_history.specs.Losses.{was_dirty}
+use Rattle.flat_history.specs.World.{World, opening_list, contents_at, reading_at, may_hold}
+use Rattle.flat_history.specs.Opened.{IsSound}
+use Rattle.flat_history.specs.Sound.{OpensFit, FillsRight}
+use Rattle.flat_history.specs.CrashSafe.{made_by, may_be_made, first_call_len, IsSafeAt}
 use Rattle.flat_history.specs.Growing.{grown, EndBy}
 use Rattle.flat_history.specs.Epochs.{HasRoomForEvents, OpensAlike}
-use Rattle.flat_history.specs.Plain.{Opening, ArePlain, is_no_loss, entries_of}
-use Rattle.array.specs.Whole.{Places, AreFit, list_size, placed, AreRight}
-use Rattle.array.specs.Rows.{row_sector, HoldsList}
-use Rattle.array.specs.Placed.{places_of, AreWhole}
-use Rattle.array.specs.Losing.{role_loss, role_losses, spare_loss, spare_losses, losses_of, AreGone}
-use Rattle.array.specs.Moving.{AreRowsKept, AreRowsFlushed}
-use Rattle.array.specs.Safety.{HasMarkRoom, IsStretch, AreMore, AreNone}
-use Rattle.array.specs.Kept.{world_in, opening_of, IsRecorded, IsCounted, IsSafe, HasNoLoss}
-use Rattle.layout.specs.Layout.{place}
-use Rattle.layout.proofs.Places.{place-role_below}
+use Rattle.flat_history.specs.OneShape.{ShapeOpening, is_lost, is_written, is_unsettled, KeepLosses}
+use Rattle.flat_history.specs.Plain.{entries_of}
+use Rattle.flat_history.proofs.GrowingLaws.{calls-owe}
+use Rattle.flat_history.proofs.OneShapeLegal.{opening-grown as shape-grown}
+use Rattle.array.specs.Safety.{HasLiveSlot, HasRoomLeft, IsRisen}
+use Rattle.array.specs.Kept.{world_in, ledger_now, IsRecorded, IsCounted, IsSafe}
+use Rattle.array.specs.Views.{Ledger, ledger_of, AreViewsRight, IsJudgedBy}
+use Rattle.array.specs.Steady.{IsSafeNow, IsSafeOver, KeepsSafe}
+use Rattle.array.proofs.Judged.{views-are-safe}
 use Rattle.array.proofs.LosingLaws.{entries-both}
-use Rattle.array.proofs.NowLaws.{values-more, sectors_of-at}
-use Rattle.array.proofs.CallLaws.{AreLossEvents, values-losses}
-use Rattle.array.proofs.RightLaws.{opening-grown, safe-after, safe-before}
-use Rattle.array.proofs.SafetyLaws.{stretch-last}
-
--- ---- what a history without losses tells
-
-both : (a b : Bool) → (a && b) ≡ true → (a ≡ true) × (b ≡ true)
-both true b e = (refl, e)
-both false b e = absurd (cc)
-
-all-parts : (xs ys : List Entry) → HasNoLoss (xs ++ ys) → HasNoLoss xs × HasNoLoss ys
-all-parts [] ys all = (refl, all)
-all-parts (x ∷ xs) ys all =
-    let parts = both (is_no_loss x) (list_all is_no_loss (xs ++ ys)) all in
-    let rest = all-parts xs ys parts.1 in
-    (ap₂ (λ (a b : Bool). a && b) parts.0 rest.0, rest.1)
-
-pub no-loss-before : (entries added : List Entry) → HasNoLoss (entries ++ added) → HasNoLoss entries
-no-loss-before entries added all = (all-parts entries added all).0
-
-none-role : (who : Who) (end roles n : ℕ) → HasNoLoss (entries_of who end (role_losses roles n)) → (role : ℕ) → role < n → has_slot roles role ≡ false
-unfolding role_losses
-none-role who end roles zero all role lt = absurd (omega (arith, lt))
-none-role who end roles (suc n) all role lt =
-    let parts = all-parts (entries_of who end (role_losses roles n)) (entries_of who end (role_loss roles n)) (subst HasNoLoss (entries-both who end (role_losses roles n) (role_loss roles n)) all) in
-    elim (cases_lt role n) [
-      | inl below ↦ none-role who end roles n parts.0 role below
-      | inr above ↦ let same : role ≡ n = omega (arith, lt, above) in ap (has_slot roles) same ∙ by (has_slot roles n) refl parts.1
-    ]
-  where
-    by : (b : Bool) → has_slot roles n ≡ b → HasNoLoss (entries_of who end (cond b (Lost n Fault ∷ []) [])) → has_slot roles n ≡ false
-    by true has all = absurd (cc)
-    by false none all = none
-
-none-spare : (who : Who) (end spares n : ℕ) → HasNoLoss (entries_of who end (spare_losses spares n)) → (slot : ℕ) → slot < n → has_slot spares slot ≡ false
-unfolding spare_losses
-none-spare who end spares zero all slot lt = absurd (omega (arith, lt))
-none-spare who end spares (suc n) all slot lt =
-    let parts = all-parts (entries_of who end (spare_losses spares n)) (entries_of who end (spare_loss spares n)) (subst HasNoLoss (entries-both who end (spare_losses spares n) (spare_loss spares n)) all) in
-    elim (cases_lt slot n) [
-      | inl below ↦ none-spare who end spares n parts.0 slot below
-      | inr above ↦ let same : slot ≡ n = omega (arith, lt, above) in ap (has_slot spares) same ∙ by (has_slot spares n) refl parts.1
-    ]
-  where
-    by : (b : Bool) → has_slot spares n ≡ b → HasNoLoss (entries_of who end (cond b (SpareLost n ∷ []) [])) → has_slot spares n ≡ false
-    by true has all = absurd (cc)
-    by false none all = none
-
--- a call that tells no loss lost no role and no spare
-pub none-lost-in : (entries : List Entry) (who : Who) (end roles spares : ℕ) (tail : List Event) (old new : Members) (before after : ℕ → ℕ) → AreGone old new roles spares before after → (shape_of new.newest).disks ≤ 16
-    → HasNoLoss (entries ++ entries_of who end (losses_of roles spares ++ tail)) → AreWhole new × AreNone spares
-none-lost-in entries who end roles spares tail old new before after gone few all =
-    let call = (all-parts entries (entries_of who end (losses_of roles spares ++ tail)) all).1 in
-    let losses = (all-parts (entries_of who end (losses_of roles spares)) (entries_of who end tail) (subst HasNoLoss (entries-both who end (losses_of roles spares) tail) call)).0 in
-    let parts = all-parts (entries_of who end (role_losses roles 16)) (entries_of who end (spare_losses spares 32)) (subst HasNoLoss (entries-both who end (role_losses roles 16) (spare_losses spares 32)) losses) in (
-      λ role lt. by role (is_missing (reading_of new) role) refl lt (none-role who end roles 16 parts.0 role (omega (arith, lt, few))),
-      λ slot lt. none-spare who end spares 32 parts.1 slot lt,
-    )
-  where
-    by : (role : ℕ) (b : Bool) → is_missing (reading_of new) role ≡ b → role < (shape_of new.newest).disks → has_slot roles role ≡ false → b ≡ false
-    by role true missing lt none = absurd (let e = gone.missing role lt missing in cc)
-    by role false kept lt none = refl
-
--- ---- the entries end within the tape
-
-ends-of : (opening : Opening) (ops : ℕ) (before entries : List Entry) → ArePlain opening ops before entries → EndBy ops entries
-ends-of opening ops before [] plain = tt
-ends-of opening ops before (e ∷ entries) plain = (plain.0.timed.within, ends-of opening ops (before ++ e ∷ []) entries plain.1)
+use Rattle.array.proofs.LedgerLaws.{told_by, told-ledger, now-ledger, none-lost-before}
+use Rattle.array.proofs.MadeLaws.{made-past, made-both, made-before, length-entries, call-length, made-from, ends-by, opening-grown}
+use Rattle.array.proofs.SoundViews.{throughout-kept}
+use Rattle.array.proofs.Steady.{safe-is-seen}
 
 -- ---- room for events
 
@@ -120,8 +53,7 @@ room-less None n k le room = tt
 room-less (Some q) n k le room = omega (arith, room, le)
 
 longer-by : (xs ys : List Operation) → length xs ≤ length (xs ++ ys)
-longer-by [] ys = omega arith
-longer-by (x ∷ xs) ys = let rest = longer-by xs ys in omega (arith, rest)
+longer-by xs ys = let both : length (xs ++ ys) ≡ length xs + length ys = length-append xs ys in omega (arith, both)
 
 -- the event count has room before it has it afterwards
 pub room-before : (world : World) (ops : List Operation) → world.first ≤ length world.tape → HasRoomForEvents (grown world ops) → HasRoomForEvents world
@@ -129,14 +61,18 @@ room-before world ops within room =
     room-less (reading_at world world.first) (length (world.tape ++ ops) - world.first) (length world.tape - world.first) (let more = longer-by world.tape ops in omega (arith, more))
     (subst (λ (o : Option Reading). IfSome o (λ r. r.newest.events + (length (world.tape ++ ops) - world.first) < 2 ^ 62)) (reading-grown world ops within) room)
 
-pub room-now : (world : World) (ops : List Operation) (members : Members) → world.first ≤ length world.tape → IsCounted world members → HasRoomForEvents (grown world ops) → HasMarkRoom members world.tape (world.tape ++ ops)
-room-now world ops members within counted room =
+pub room-now : (world : World) (ops : List Operation) (members : Members) → world.first ≤ length world.tape → (HasLiveSlot members → IsCounted world members) → HasRoomForEvents (grown world ops)
+    → HasRoomLeft members world.tape (world.tape ++ ops)
+room-now world ops members within counts room live =
+    let counted = counts live in
     let bound = room-at (reading_at world world.first) counted.found (length (world.tape ++ ops) - world.first) counted.is
     (subst (λ (o : Option Reading). IfSome o (λ r. r.newest.events + (length (world.tape ++ ops) - world.first) < 2 ^ 62)) (reading-grown world ops within) room) in
     let more = longer-by world.tape ops in
     omega (arith, bound, counted.events, within, more)
 
--- the opening found alike superblocks before it does afterwards
+-- ---- the opening, seen later
+
+-- it found alike superblocks before it does afterwards
 pub alike-before : (world : World) (ops : List Operation) → world.first ≤ length world.tape → OpensAlike (grown world ops) → OpensAlike world
 unfolding reading_at
 alike-before world ops within alike = subst (λ (c : Contents). IfSome (reading world.scope c) (λ r. AreLikeNewest world.scope r.newest c)) same alike
@@ -144,109 +80,217 @@ alike-before world ops within alike = subst (λ (c : Contents). IfSome (reading 
     same : contents_at (grown world ops) world.first ≡ contents_at world world.first
     same = λ i slot at. contents-earlier world.start world.tape ops world.first slot at within i
 
+fit-grown : (world : World) (ops : List Operation) → world.first ≤ length world.tape → OpensFit (grown world ops) ≡ OpensFit world
+unfolding reading_at
+fit-grown world ops within = λ i. IfSome (reading world.scope (same i)) (IsSound world.scope (same i)) × ((slot k : ℕ) → k < world.scope.sizes.sectors slot → IsSector (same i slot k))
+  where
+    same : contents_at (grown world ops) world.first ≡ contents_at world world.first
+    same = λ i slot at. contents-earlier world.start world.tape ops world.first slot at within i
+
+module _ (world : World) (ops : List Operation) (within : world.first ≤ length world.tape) where
+  dirty-grown : was_dirty (grown world ops) ≡ was_dirty world
+  dirty-grown = ap (λ (o : ShapeOpening). o.dirty) (shape-grown world ops within)
+
+  ledger-grown : (entries : List Entry) (k j : ℕ) → ledger_of (grown world ops) entries k j ≡ ledger_of world entries k j
+  ledger-grown entries k j = λ i. record {
+    values = values_of (opening-grown world ops within i) (take j entries);
+    gone = is_lost (take j entries);
+    unclean = dirty-grown i || is_written entries k j;
+  }
+
+  now-grown : (entries : List Entry) → ledger_now (grown world ops) entries ≡ ledger_now world entries
+  now-grown entries = λ i. record {
+    values = values_of (opening-grown world ops within i) entries;
+    gone = is_lost entries;
+    unclean = dirty-grown i || is_unsettled entries;
+  }
+
+-- ---- the mark at which each entry is made
+
+module _ (world : World) (given : Given) (size : ℕ) (entries : List Entry) (start : given.start ≡ world.start) (sizes_are : world.scope.sizes ≡ sizes given) (ends : EndBy (length world.tape) entries)
+    (sized : length_of (length (opening_list world)) entries ≡ size) (keep : KeepLosses entries) (fills : FillsRight world entries) where
+  made-all : made_by (length world.tape) entries ≡ length entries
+  made-all = made-past (length world.tape) entries ends
+
+  judged-last : IsJudgedBy world given entries (length world.tape) (length entries) size
+  judged-last = record {
+    start = start;
+    sizes_are = sizes_are;
+    within = omega arith;
+    made = let all = made-all in omega (arith, all);
+    running = let all = made-all in omega (arith, all);
+    sized = subst (λ (l : List Entry). length_of (length (opening_list world)) l ≡ size) (sym (take-length entries)) sized;
+    keep = keep;
+    fills = subst (λ (l : List Entry). FillsRight world l) (sym (take-length entries)) fills;
+  }
+
+  -- where what it may leave is seen right by them, it is safe
+  pub safe-last : AreViewsRight (OpensFit world) world.scope given size (ledger_now world entries) (disk given.start world.tape) → IsSafeAt world entries (length world.tape)
+  safe-last views =
+      views-are-safe world given entries (length world.tape) (length entries) size (disk given.start world.tape) judged-last
+      (λ s k v may. subst (λ (l : List Operation). IsIn (disk given.start l s k) v) (take_all (length world.tape) world.tape (omega arith))
+      (subst (λ (c : Contents). IsIn (disk c (take (length world.tape) world.tape) s k) v) (sym start) may))
+      (subst (λ (told : Ledger). AreViewsRight (OpensFit world) world.scope given size told (disk given.start world.tape))
+      (sym (ap (λ (k : ℕ). ledger_of world entries k (length entries)) made-all ∙ now-ledger world entries)) views)
+
 -- ---- a call
 
-module _ (given : Given) (tape : List Operation) (scope : Scope) (first : ℕ) (entries : List Entry) (members members' : Members) (who : Who) (ops : List Operation)
-    (recorded : IsRecorded (world_in given tape scope first) (list_size (places_of members)) entries) (fit : AreFit (places_of members)) (places : places_of members' ≡ places_of members)
-    (sized : length_of (list_size (places_of members)) entries ≡ list_size (places_of members)) (was : IsSafe (world_in given tape scope first) members entries) where
-  list-is : opening_list (grown (world_in given tape scope first) ops) ≡ opening_list (world_in given tape scope first)
-  list-is = opening-grown (world_in given tape scope first) ops recorded.begun
+-- what is needed of a history before it
+pub record IsBegun (world : World) (size : ℕ) (entries : List Entry) : Type 0 where
+  pub begun : world.first ≤ length world.tape
+  pub opened : length (opening_list world) ≡ size
+  pub ends : EndBy (length world.tape) entries
 
-  long : length (opening_list (grown (world_in given tape scope first) ops)) ≡ list_size (places_of members)
-  long = ap (λ (l : List Sector). length l) list-is ∙ recorded.opened
+pub begun-of : {size : ℕ} {unsynced : Bool} {members : Members} {entries : List Entry} (world : World) → IsRecorded world size unsynced members entries → IsBegun world size entries
+begun-of world was = record { begun = was.begun; opened = was.opened; ends = was.ends }
 
-  ends : EndBy (length tape) entries
-  ends = ends-of (opening_of (world_in given tape scope first)) (length tape) [] entries recorded.legal
+-- The call enters some events that are told while it runs, and others behind them that stand only for its end.
+module _ (given : Given) (tape : List Operation) (scope : Scope) (first size : ℕ) (entries : List Entry) (old new : Members) (who : Who) (early late : List Event) (ops : List Operation)
+    (sizes_are : scope.sizes ≡ sizes given) (begun : IsBegun (world_in given tape scope first) size entries)
+    (sized : length_of size (entries ++ entries_of who (length (tape ++ ops)) early) ≡ size)
+    (sized-all : length_of size (entries ++ entries_of who (length (tape ++ ops)) (early ++ late)) ≡ size)
+    (keep : KeepLosses (entries ++ entries_of who (length (tape ++ ops)) (early ++ late)))
+    (fills : FillsRight (grown (world_in given tape scope first) ops) (entries ++ entries_of who (length (tape ++ ops)) (early ++ late)))
+    (was : IsSafe (world_in given tape scope first) given size old entries) (rise : IsRisen ⊤ old new tape (tape ++ ops))
+    (stretch : KeepsSafe (world_in given tape scope first) given size (told_by (world_in given tape scope first) entries (entries_of who (length (tape ++ ops)) early)) new tape (tape ++ ops))
+    (last : IsSafeOver (world_in given tape scope first) given size (ledger_now (world_in given tape scope first) (entries ++ entries_of who (length (tape ++ ops)) (early ++ late))) new (tape ++ ops)) where
+  abbrev world : World
+  world = world_in given tape scope first
 
-  counted-after : {p : Places} {values : ℕ → List Sector} → IsStretch scope p values given.start tape (tape ++ ops) members members' → IsCounted (grown (world_in given tape scope first) ops) members'
-  counted-after s = record {
-    found = was.counted.found;
-    is = reading-grown (world_in given tape scope first) ops recorded.begun ∙ was.counted.is;
-    events = omega (arith, was.counted.events, s.events);
-  }
+  abbrev later : World
+  later = grown (world_in given tape scope first) ops
 
-  -- each mark is right by the history with the call's entries
-  pub judged-after : (events : List Event) → length_of (list_size (places_of members)) (entries ++ entries_of who (length (tape ++ ops)) events) ≡ list_size (places_of members)
-      → IsStretch scope (places_of members) (values_of (opening_list (world_in given tape scope first)) (entries ++ entries_of who (length (tape ++ ops)) events)) given.start tape (tape ++ ops) members members'
-      → IsSafe (grown (world_in given tape scope first) ops) members' (entries ++ entries_of who (length (tape ++ ops)) events)
-  judged-after events sized-all s = record {
-    past = safe-after (world_in given tape scope first) (places_of members) fit entries who events ops recorded.begun ends
-        (subst (λ (n : ℕ). length_of n (entries ++ entries_of who (length (tape ++ ops)) events) ≡ list_size (places_of members)) (sym long) sized-all)
-        (λ mark low high. subst (λ (l : List Sector). AreRight scope (places_of members) (values_of l (entries ++ entries_of who (length (tape ++ ops)) events)) (disk given.start (take mark (tape ++ ops)))) (sym list-is)
-        (s.marks.each tt mark low high)) was.past;
-    right = subst (λ (p : Places). AreRight scope p (values_of (opening_list (grown (world_in given tape scope first) ops)) (entries ++ entries_of who (length (tape ++ ops)) events)) (disk given.start (tape ++ ops))) (sym places)
-        (subst (λ (l : List Sector). AreRight scope (places_of members) (values_of l (entries ++ entries_of who (length (tape ++ ops)) events)) (disk given.start (tape ++ ops))) (sym list-is) (stretch-last s));
-    next = s.next;
-    counted = counted-after s;
-  }
+  abbrev end : ℕ
+  end = length (tape ++ ops)
 
-  -- each mark but the last is right by the history before the call
-  pub judged-before : (events : List Event) → length_of (list_size (places_of members)) (entries ++ entries_of who (length (tape ++ ops)) events) ≡ list_size (places_of members)
-      → IsStretch scope (places_of members) (values_of (opening_list (world_in given tape scope first)) entries) given.start tape (tape ++ ops) members members'
-      → AreRight scope (places_of members) (values_of (opening_list (world_in given tape scope first)) (entries ++ entries_of who (length (tape ++ ops)) events)) (disk given.start (tape ++ ops))
-      → IsSafe (grown (world_in given tape scope first) ops) members' (entries ++ entries_of who (length (tape ++ ops)) events)
-  judged-before events sized-all s last = record {
-    past = safe-before (world_in given tape scope first) (places_of members) fit entries who events ops recorded.begun ends
-        (subst (λ (n : ℕ). length_of n entries ≡ list_size (places_of members)) (sym long) sized)
-        (subst (λ (n : ℕ). length_of n (entries ++ entries_of who (length (tape ++ ops)) events) ≡ list_size (places_of members)) (sym long) sized-all)
-        (λ mark low early. subst (λ (l : List Sector). AreRight scope (places_of members) (values_of l entries) (disk given.start (take mark (tape ++ ops)))) (sym list-is)
-        (s.marks.each tt mark low (omega (arith, early))))
-        (subst (λ (l : List Operation). AreRight scope (places_of members) (values_of (opening_list (grown (world_in given tape scope first) ops)) (entries ++ entries_of who (length (tape ++ ops)) events)) (disk given.start l))
-        (sym (take_all (length (tape ++ ops)) (tape ++ ops) (omega arith))) now-right) was.past;
-    right = subst (λ (p : Places). AreRight scope p (values_of (opening_list (grown (world_in given tape scope first) ops)) (entries ++ entries_of who (length (tape ++ ops)) events)) (disk given.start (tape ++ ops))) (sym places) now-right;
-    next = s.next;
-    counted = counted-after s;
+  abbrev more : List Entry
+  more = entries_of who (length (tape ++ ops)) early
+
+  abbrev rest : List Entry
+  rest = entries_of who (length (tape ++ ops)) late
+
+  abbrev all : List Entry
+  all = entries ++ entries_of who (length (tape ++ ops)) (early ++ late)
+
+  all-is : all ≡ entries ++ (more ++ rest)
+  all-is = ap (λ (l : List Entry). entries ++ l) (entries-both who end early late)
+
+  all-parts : all ≡ (entries ++ more) ++ rest
+  all-parts = all-is ∙ sym (append_assoc entries more rest)
+
+  longer : length tape ≤ end
+  longer = longer-by tape ops
+
+  list-long : length (opening_list later) ≡ size
+  list-long = ap (λ (l : List Sector). length l) (opening-grown world ops begun.begun) ∙ begun.opened
+
+  first-all : take (length (entries ++ more)) all ≡ entries ++ more
+  first-all = ap (take (length (entries ++ more))) all-parts ∙ take-append_seam (entries ++ more) rest
+
+  -- ---- a mark before its end
+
+  made-early : (mark : ℕ) → length tape ≤ mark → mark < end → made_by mark all ≡ length entries
+  made-early mark low high =
+      let one : made_by mark entries ≡ length entries = made-past mark entries (ends-by (length tape) mark entries low begun.ends) in
+      let two : made_by mark (entries_of who end (early ++ late)) ≡ 0 = made-before mark end who (early ++ late) high in
+      let both : made_by mark all ≡ made_by mark entries + made_by mark (entries_of who end (early ++ late)) = made-both mark entries (entries_of who end (early ++ late)) in
+      omega (arith, one, two, both)
+
+  may-early : (mark : ℕ) → length tape ≤ mark → mark < end → may_be_made all (made_by mark all) ≡ length entries + length (early ++ late)
+  may-early mark low high =
+      ap (may_be_made all) (made-early mark low high)
+      ∙ ap (λ (l : List Entry). length entries + first_call_len l) (drop-append_seam entries (entries_of who end (early ++ late)))
+      ∙ ap (λ (n : ℕ). length entries + n) (call-length who end (early ++ late))
+
+  judged-early : (mark : ℕ) → length tape ≤ mark → mark < end → IsJudgedBy later given all mark (length (entries ++ more)) size
+  judged-early mark low high = record {
+    start = refl;
+    sizes_are = sizes_are;
+    within = omega (arith, high);
+    made = let few : made_by mark all ≡ length entries = made-early mark low high in let both : length (entries ++ more) ≡ length entries + length more = length-append entries more in omega (arith, few, both);
+    running =
+        let most : may_be_made all (made_by mark all) ≡ length entries + length (early ++ late) = may-early mark low high in
+        let both : length (entries ++ more) ≡ length entries + length more = length-append entries more in
+        let count : length more ≡ length early = length-entries who end early in
+        let parts : length (early ++ late) ≡ length early + length late = length-append early late in
+        omega (arith, most, both, count, parts);
+    sized = subst (λ (n : ℕ). length_of n (take (length (entries ++ more)) all) ≡ size) (sym list-long) (subst (λ (l : List Entry). length_of size l ≡ size) (sym first-all) sized);
+    keep = keep;
+    fills = subst (λ (l : List Entry). FillsRight later l) (sym first-all) (fills-early fills);
   }
     where
-      now-right : AreRight scope (places_of members) (values_of (opening_list (grown (world_in given tape scope first) ops)) (entries ++ entries_of who (length (tape ++ ops)) events)) (disk given.start (tape ++ ops))
-      now-right = subst (λ (l : List Sector). AreRight scope (places_of members) (values_of l (entries ++ entries_of who (length (tape ++ ops)) events)) (disk given.start (tape ++ ops))) (sym list-is) last
+      fills-early : FillsRight later all → FillsRight later (entries ++ more)
+      fills-early (inl none) = inl (none-lost-before (entries ++ more) rest (λ role. ap (λ (l : List Entry). is_lost l role) (sym all-parts) ∙ none role))
+      fills-early (inr good) = inr good
 
--- ---- the values of a write
+  ledger-early : (mark : ℕ) → length tape ≤ mark → mark < end → ledger_of later all (made_by mark all) (length (entries ++ more)) ≡ told_by world entries more
+  ledger-early mark low high =
+      ap (λ (k : ℕ). ledger_of later all k (length (entries ++ more))) (made-early mark low high) ∙ ledger-grown world ops begun.begun all (length entries) (length (entries ++ more))
+      ∙ ap (λ (l : List Entry). ledger_of world l (length entries) (length (entries ++ more))) all-is ∙ told-ledger world entries more rest
 
-pub more-wrote : (p : Places) (list : List Sector) (entries : List Entry) (who : Who) (end : ℕ) (losses : List Event) (at : ℕ) (from : List ℕ) → AreLossEvents losses
-    → AreMore p at from (values_of list entries) (values_of list (entries ++ entries_of who end (losses ++ Wrote at (sectors_of from) ∷ [])))
-more-wrote p list entries who end losses at from are = record {
-  old = λ x below v among. subst (λ (l : List Sector). IsIn l v) (sym (is x)) (behind (sector_at at (sectors_of from) x) (covers at (sectors_of from) x) (values_of list entries x) v among);
-  new = λ x below low high. subst (λ (l : List Sector). IsIn l (row_sector from (x - at))) (sym (is x))
-      (here (covers at (sectors_of from) x) (values_of list entries x) (covered at (sectors_of from) x low (omega (arith, high, length-sectors_of from)))
-      (sym (sectors_of-at (x - at) from (omega (arith, low, high)))));
-}
-  where
-    is : (x : ℕ) → values_of list (entries ++ entries_of who end (losses ++ Wrote at (sectors_of from) ∷ [])) x
-        ≡ cond (covers at (sectors_of from) x) (sector_at at (sectors_of from) x ∷ values_of list entries x) (values_of list entries x)
-    is x = values-more list entries (entries_of who end (losses ++ Wrote at (sectors_of from) ∷ [])) x ∙ values-losses who end losses (Wrote at (sectors_of from) ∷ []) are x (values_of list entries x)
+  safe-early : (mark : ℕ) → length tape ≤ mark → mark < end → IsSafeAt later all mark
+  safe-early mark low high =
+      views-are-safe later given all mark (length (entries ++ more)) size (disk given.start (take mark (tape ++ ops))) (judged-early mark low high) (λ s k v may. may)
+      (subst (λ (told : Ledger). AreViewsRight (OpensFit later) scope given size told (disk given.start (take mark (tape ++ ops)))) (sym (ledger-early mark low high))
+      (subst (λ (sound : Type 0). AreViewsRight sound scope given size (told_by world entries more) (disk given.start (take mark (tape ++ ops)))) (sym (fit-grown world ops begun.begun))
+      (stretch.marks.each tt mark low (omega (arith, high)))))
 
-    behind : (w : Sector) (b : Bool) (vs : List Sector) (v : Sector) → IsIn vs v → IsIn (cond b (w ∷ vs) vs) v
-    behind w true vs v among = inr among
-    behind w false vs v among = among
+  -- ---- its end
 
-    here : {w v : Sector} (b : Bool) (vs : List Sector) → b ≡ true → v ≡ w → IsIn (cond b (w ∷ vs) vs) v
-    here true vs e same = inl same
-    here false vs e same = absurd (cc)
+  now-last : IsSafeOver later given size (ledger_now later all) new (tape ++ ops)
+  now-last =
+      subst (λ (told : Ledger). IsSafeNow (OpensFit later) scope given size told new (disk given.start (tape ++ ops))) (sym (now-grown world ops begun.begun all))
+      (subst (λ (sound : Type 0). IsSafeNow sound scope given size (ledger_now world all) new (disk given.start (tape ++ ops))) (sym (fit-grown world ops begun.begun)) last)
 
-    covered : (at : ℕ) (body : List Sector) (x : ℕ) → at ≤ x → x < at + length body → covers at body x ≡ true
-    covered at body x low high = grind (arith, nat_tests, low, high)
+  safe-end : IsSafeAt later all end
+  safe-end =
+      safe-last later given size all refl sizes_are ends-all (subst (λ (n : ℕ). length_of n all ≡ size) (sym list-long) sized-all) keep fills
+      (safe-is-seen (OpensFit later) scope given size (ledger_now later all) new (tape ++ ops) now-last)
+    where
+      at-end : (events : List Event) → EndBy end (entries_of who end events)
+      at-end [] = tt
+      at-end (event ∷ events) = (omega arith, at-end events)
 
--- ---- what was flushed is the newest value
+      behind : (xs ys : List Entry) → EndBy end xs → EndBy end ys → EndBy end (xs ++ ys)
+      behind [] ys one two = two
+      behind (x ∷ xs) ys one two = (one.0, behind xs ys one.1 two)
 
-head-in : (vs : List Sector) (v : Sector) → IsIn vs v → v ≡ slice_index_or vs 0 [] → IsIn (take 1 vs) v
-head-in [] v among is = among
-head-in (w ∷ vs) v among is = inl is
+      ends-all : EndBy end all
+      ends-all = behind entries (entries_of who end (early ++ late)) (ends-by (length tape) end entries longer begun.ends) (at-end (early ++ late))
 
-pub flushed-right : (given : Given) (scope : Scope) (p : Places) (fit : AreFit p) (list : List Sector) (entries added : List Entry) (before after : List Operation)
-    → ((x : ℕ) → values_of list (entries ++ added) x ≡ take 1 (values_of list entries x)) → HoldsList p (present given before) (now list entries)
-    → AreRowsKept p (present given before) (present given after) → AreRowsFlushed p given after
-    → AreRight scope p (values_of list entries) (disk given.start after) → AreRight scope p (values_of list (entries ++ added)) (disk given.start after)
-flushed-right given scope p fit list entries added before after durable held kept flushed right = record {
-  read = right.read;
-  allowed = λ x below v among.
-      let role = (place p.shape x).role in
-      let row = (place p.shape x).row in
-      let lt = place-role_below p.shape fit.valid x in
-      subst (λ (l : List Sector). IsIn l v) (sym (durable x)) (head-in (values_of list entries x) v (right.allowed x below v among)
-      (only (placed p (present given after) x) v (subst (λ (l : List Sector). IsIn l v) (flushed role row lt) among) ∙ kept role row lt ∙ held x below));
-}
-  where
-    only : (w v : Sector) → IsIn (w ∷ []) v → v ≡ w
-    only w v (inl e) = e
-    only w v (inr none) = elim none [ ]
+  owed : (mark : ℕ) → length tape ≤ mark → mark ≤ end → IsSafeAt later all mark
+  owed mark low high = elim (cases_lt mark end) [
+    | inl before ↦ safe-early mark low before
+    | inr after ↦ let is : mark ≡ end = omega (arith, high, after) in subst (λ (m : ℕ). IsSafeAt later all m) (sym is) safe-end
+  ]
+
+  pub safe-call : IsSafe later given size new all
+  safe-call = record {
+    past = calls-owe world entries (entries_of who end (early ++ late)) ops begun.begun begun.ends (made-from (length tape) end who (early ++ late) longer) was.past owed;
+    sound = throughout-kept world given size (told_by world entries more) new ops refl begun.begun stretch was.sound;
+    now = now-last;
+    counted = λ live.
+        let counted = was.counted (rise.left live) in
+        record {
+          found = counted.found;
+          is = reading-grown world ops begun.begun ∙ counted.is;
+          events = let rose = rise.events tt live in omega (arith, counted.events, rose);
+        };
+  }
+
+-- the same, over a tape and an end that are given
+abbrev pub IsSafeThen : Given → List Operation → Scope → ℕ → ℕ → List Entry → Members → Members → Who → List Event → List Event → List Operation → ℕ → Type 0
+IsSafeThen given tape scope first size entries old new who early late tape' end =
+    length_of size (entries ++ entries_of who end early) ≡ size → length_of size (entries ++ entries_of who end (early ++ late)) ≡ size
+    → KeepLosses (entries ++ entries_of who end (early ++ late)) → FillsRight (world_in given tape' scope first) (entries ++ entries_of who end (early ++ late)) → IsRisen ⊤ old new tape tape'
+    → KeepsSafe (world_in given tape scope first) given size (told_by (world_in given tape scope first) entries (entries_of who end early)) new tape tape'
+    → IsSafeOver (world_in given tape scope first) given size (ledger_now (world_in given tape scope first) (entries ++ entries_of who end (early ++ late))) new tape'
+    → IsSafe (world_in given tape' scope first) given size new (entries ++ entries_of who end (early ++ late))
+
+pub safe-called : (given : Given) (tape : List Operation) (scope : Scope) (first size : ℕ) (entries : List Entry) (old new : Members) (who : Who) (early late : List Event) (ops tape' : List Operation) (end : ℕ)
+    → tape' ≡ tape ++ ops → end ≡ length (tape ++ ops) → scope.sizes ≡ sizes given → IsBegun (world_in given tape scope first) size entries → IsSafe (world_in given tape scope first) given size old entries
+    → IsSafeThen given tape scope first size entries old new who early late tape' end
+safe-called given tape scope first size entries old new who early late ops tape' end grown_is end_is sizes_are begun was =
+    subst (λ (l : List Operation). IsSafeThen given tape scope first size entries old new who early late l end) (sym grown_is)
+    (subst (IsSafeThen given tape scope first size entries old new who early late (tape ++ ops)) (sym end_is)
+    (λ sized sized-all keep fills rise stretch last. safe-call given tape scope first size entries old new who early late ops sizes_are begun sized sized-all keep fills was rise stretch last))

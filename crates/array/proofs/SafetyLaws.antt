@@ -1,5 +1,5 @@
 -- Stretches of calls in which no slot is lost, and what they leave safe.
-use Rattle.std.proofs.Common.{◌≡◌, ◌≢◌, inl, inr, ℕ, ◌+◌, ◌-◌, ◌<◌, ◌≤◌, ◌==◌, Bool, true, false, cond, List, [], ◌∷◌, ◌++◌, length, take, take_all, sym, subst, arith, append-nil, min}
+use Rattle.std.proofs.Common.{◌≡◌, ◌≢◌, inl, inr, ℕ, ◌+◌, ◌-◌, ◌/◌, ◌<◌, ◌≤◌, ◌==◌, Bool, true, false, cond, List, [], ◌∷◌, ◌++◌, length, take, take_all, sym, subst, arith, append-nil, min}
 use Rattle.std.specs.Prelude.{◌^◌, ⊤}
 use Rattle.md_base.specs.Sectors.{Sector}
 use Rattle.bank.specs.declared.bank.Operation.{Operation}
@@ -13,7 +13,7 @@ use Rattle.superblocks.specs.declared.members.Members.{Members}
 use Rattle.superblocks.specs.Reading.{Scope}
 use Rattle.array.specs.Whole.{Places, list_size, slot_of, sector_of, AreRight, AreAllowedWrites}
 use Rattle.array.specs.Placed.{places_of, AreWhole, IsPlaced, AreLess}
-use Rattle.array.specs.Rows.{IsPutting}
+use Rattle.array.specs.Rows.{row_sector, IsPutting}
 use Rattle.array.specs.Flushing.{OnlyFlushesAdded}
 use Rattle.array.specs.Marking.{IsMarked}
 use Rattle.array.specs.Held.{IsHeldBy}
@@ -21,8 +21,7 @@ use Rattle.array.specs.Safety.{HasMarkRoom, IsRightAt, IsStretch, AreMore}
 use Rattle.array.proofs.MarkedRight.{marked-right}
 use Rattle.array.proofs.MarksRight.{longer}
 use Rattle.array.proofs.HeldKept.{held-fewer, held-kept}
-use Rattle.array.proofs.PutLaws.{right-putting}
-use Rattle.array.proofs.RightLaws.{right-along, right-more}
+use Rattle.array.proofs.RightLaws.{read-fewer, right-along, right-more}
 
 -- ---- a stretch
 
@@ -85,6 +84,22 @@ module _ (given : Given) (scope : Scope) (values : ℕ → List Sector) (old : M
       }
 
 -- ---- a write's own rows
+
+-- What a stop may leave stays right, where the flat list allows the sectors of the write, and what it allowed before.
+pub right-putting : (scope : Scope) (p : Places) (values more : ℕ → List Sector) (first : ℕ) (from : List ℕ) (d e : ℕ → ℕ → List Sector)
+    → ((x : ℕ) → x < list_size p → first ≤ x → x < first + length from / 512 → IsIn (more x) (row_sector from (x - first)))
+    → ((x : ℕ) → x < list_size p → (v : Sector) → IsIn (values x) v → IsIn (more x) v)
+    → IsPutting p first from d e → AreRight scope p values d → AreRight scope p more e
+right-putting scope p values more first from d e new old putting right = record {
+  read = read-fewer scope p d e
+      (λ slot seen v among. subst (λ (l : List Sector). IsIn l v) (putting.superblocks slot 8 (omega arith)) among)
+      (λ slot seen v among. subst (λ (l : List Sector). IsIn l v) (putting.superblocks slot 9 (omega arith)) among)
+      right.read;
+  allowed = λ x below v among. elim (putting.values x below v among) [
+    | inl before ↦ old x below v (right.allowed x below v before)
+    | inr here ↦ subst (λ (w : Sector). IsIn (more x) w) (sym here.2) (new x below here.0 here.1)
+  ];
+}
 
 pub put-stretch : {tells : Type 0} (given : Given) (scope : Scope) (members : Members) (values more : ℕ → List Sector) (first : ℕ) (from : List ℕ) (before after : List Operation) → tells
     → AreMore (places_of members) first from values more → EachMark tells given.start before after (IsPutting (places_of members) first from (disk given.start before))

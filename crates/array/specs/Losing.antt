@@ -1,15 +1,11 @@
 -- The entries of the members that a call loses.
-use Rattle.std.specs.Prelude.{◌≡◌, ℕ, zero, suc, ◌<◌, Bool, true, false, Some, List, [], ◌∷◌, ◌++◌, if◌then◌else◌}
+use Rattle.std.specs.Prelude.{◌≡◌, ℕ, zero, suc, Bool, true, false, List, [], ◌∷◌, ◌++◌, if◌then◌else◌}
 use Rattle.md_base.specs.Shapes.{has_slot}
 use Rattle.flat_history.specs.declared.events.Epoch.{Epoch}
 use Rattle.flat_history.specs.declared.events.Event.{Event}
 use Rattle.flat_history.specs.declared.events.Event.TheVariants.{Torn, Lost, SpareLost, Refused}
 use Rattle.md_base.specs.Sectors.{Sector}
 use Rattle.md_base.specs.declared.answers.Refusal.{Refusal}
-use Rattle.bank.specs.Given.{IsFaulted}
-use Rattle.superblocks.specs.declared.members.Members.{Members}
-use Rattle.superblocks.specs.Reading.{shape_of, role_state, holder}
-use Rattle.row_io.specs.Rows.{reading_of, is_missing}
 use Rattle.flat_history.specs.declared.events.LostCause.TheVariants.{Fault}
 
 abbrev pub role_loss : ℕ → ℕ → List Event
@@ -42,9 +38,3 @@ pub record IsSameEpoch (old new : Epoch) : Type 0 where
 abbrev pub failure_events : ℕ → ℕ → Bool → ℕ → List Sector → Refusal → List Event
 failure_events roles spares true at body refusal = (losses_of roles spares ++ Torn at body ∷ []) ++ Refused refusal ∷ []
 failure_events roles spares false at body refusal = losses_of roles spares ++ Refused refusal ∷ []
-
--- These roles are missing now, each because the slot that held it has failed since, as have these spares.
-pub record AreGone (old new : Members) (roles spares : ℕ) (before after : ℕ → ℕ) : Type 0 where
-  pub missing : (role : ℕ) → role < (shape_of new.newest).disks → is_missing (reading_of new) role ≡ true → has_slot roles role ≡ true
-  pub held : (role : ℕ) → has_slot roles role ≡ true → (slot : ℕ) × (holder (role_state (reading_of old) role) ≡ Some slot) × IsFaulted slot before after
-  pub failed : (slot : ℕ) → has_slot spares slot ≡ true → IsFaulted slot before after

@@ -1,14 +1,16 @@
 -- The clean mark: an update of the superblocks that changes nothing else.
-use Rattle.std.specs.Prelude.{◌≡◌, ◌≢◌, ℕ, ◌+◌, ◌-◌, ◌^◌, min, Bool, List, replicate, if◌then◌else◌, None}
+use Rattle.std.specs.Prelude.{◌≡◌, ◌≢◌, ℕ, ◌+◌, ◌-◌, ◌^◌, min, Bool, true, false, List, replicate, if◌then◌else◌, None}
+use Rattle.md_base.specs.Shapes.{has_slot}
 use Rattle.bank.specs.declared.bank.Operation.{Operation}
 use Rattle.bank.specs.Given.{Given}
 use Rattle.bank.specs.Tape.{Contents, EachMark, disk}
 use Rattle.superblocks.specs.declared.change.Give.TheVariants.{Same}
 use Rattle.superblocks.specs.declared.change.Change.{Change}
 use Rattle.superblocks.specs.declared.members.Members.{Members}
-use Rattle.superblocks.specs.Updating.{IsUpdate, IsWrittenBy, ArePlanned, AreNamed, IsLater, IsSomeLeft, planned_newest}
+use Rattle.superblocks.specs.Updating.{IsUpdate, IsWrittenBy, ArePlanned, AreNamed, IsLater, IsSomeLeft, RisesByOperations, planned_newest}
 use Rattle.superblocks.specs.Plans.{next_newest}
 use Rattle.superblocks.specs.Stages.{AreLeft, IsInUpdate, IsStaged}
+use Rattle.superblocks.specs.Rounds.{round_at, IsInRounds, ArePast}
 use Rattle.superblocks.specs.Outcome.{live_set, is_left, AreStored, planned_spares}
 
 -- resync_offset is all ones where the array is clean, and 0 where it is dirty
@@ -31,6 +33,12 @@ pub record IsMarked (tells : Type 0) (given : Given) (clean : Bool) (old new : M
       → EachMark tells given.start before after (IsInUpdate old.newest new.newest (replicate 32 Same) old.own left (disk given.start before))
   pub whole : (left : ℕ) → AreLeft (live_set old (marking old clean)) old.lost left → new.lost ≡ old.lost → tells
       → IsStaged old.newest new.newest (replicate 32 Same) old.own left (disk given.start before) (disk given.start after)
+  pub rounds : EachMark tells given.start before after
+      (IsInRounds old (marking old clean) old.lost (live_set old (marking old clean)) new.lost new.newest.events (disk given.start before))
+  pub past : tells → ArePast old (marking old clean) old.lost (live_set old (marking old clean)) (disk given.start before) (round_at new.newest new.lost given.start after)
+  pub rise : RisesByOperations tells (live_set old (marking old clean)) new.lost old.newest.events new.newest.events before after
+  pub stay : (s : ℕ) → has_slot old.lost s ≡ true → has_slot new.lost s ≡ true
+  pub live : (s : ℕ) → has_slot new.lost s ≡ true → has_slot old.lost s ≡ false → has_slot (live_set old (marking old clean)) s ≡ true
   pub own : AreStored new.newest (replicate 32 Same) (is_left (live_set old (marking old clean)) new.lost) old.own new.own
   pub spares : new.spares ≡ planned_spares old (marking old clean) new.lost
 

@@ -5,7 +5,7 @@ use Rattle.bank.specs.declared.bank.Operation.{Operation}
 use Rattle.bank.specs.Given.{Given, IsFaulted}
 use Rattle.bank.specs.Tape.{Contents, disk}
 use Rattle.superblocks.specs.declared.members.Members.{Members}
-use Rattle.superblocks.specs.Reading.{shape_of, role_state, holder}
+use Rattle.superblocks.specs.Reading.{shape_of, role_state, holder, data_offset_of}
 use Rattle.row_io.specs.Rows.{reading_of, present}
 use Rattle.array.specs.Whole.{Places, in_row}
 use Rattle.array.specs.Placed.{places_of, AreWhole, IsPlaced, AreUnlost, AreStillHeld, AreLess}
@@ -30,6 +30,7 @@ pub record IsMoved (given : Given) (old new : Members) : Type 0 where
   pub spares : length old.spares ≤ 32 → length new.spares ≤ 32
   pub shape : shape_of new.newest ≡ shape_of old.newest
   pub size : new.newest.size ≡ old.newest.size
+  pub offsets : (slot : ℕ) → data_offset_of (reading_of new) slot ≡ data_offset_of (reading_of old) slot
   pub whole : AreWhole new → AreWhole old
   pub same : AreWhole new → places_of new ≡ places_of old
 

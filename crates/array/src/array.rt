@@ -6,26 +6,28 @@ ghost use Rattle.superblocks.specs.Reading.{shape_of};
 ghost use Rattle.flat_history.specs.Flat.{next_number};
 ghost use Rattle.array.specs.Whole.{list_size};
 ghost use Rattle.array.specs.Placed.{places_of};
-ghost use Rattle.array.specs.Kept.{IsRefusalOf};
+ghost use Rattle.array.specs.Lacking.{AreTooMany};
+ghost use Rattle.array.specs.Calls.{IsRefusalOf};
 
 mod adopting;
 mod asking;
 mod ending;
+mod failing;
 mod reading;
 mod settling;
 mod writing;
 
-use crate::losing::shape_in;
+use crate::refusing::too_many;
+use crate::roles::shape_in;
 pub use adopting::Opened;
 use bank::Bank;
 use flat_history::Epoch;
 use md_base::{Refusal, Shape};
-use row_io::missing_count;
 use std::alloc::Global;
 use std::marker::Model;
 use superblocks::Members;
 
-/// An array over slots of a bank, of one shape. It can do without no member: with a role missing its reads, writes and
+/// An array over slots of a bank, of one shape. With more roles missing than its level can do without its reads, writes and
 /// flushes are refused.
 #[derive(Drop)]
 pub struct Array<B: Bank> {
@@ -73,21 +75,16 @@ fn list_length(shape: &Shape, size: u64) -> u64
     (shape.disks - parities) as u64 * size
 }
 
-// The refusal of a call that ends at `to`, by the visible size and the roles that are missing.
+// The refusal of a call that ends at `to`, by the visible size and how many roles are missing.
 fn refusal_of(members: &Members, visible: u64, to: u64) -> Option<Refusal>
     requires shape { IsTrue (is_valid_shape (shape_of members.now.newest)) }
     requires roles { (shape_of members.now.newest).disks ≤ length members.now.roles }
-    ensures { IsRefusalOf visible to members.now result }
+    ensures { IsRefusalOf visible to AreTooMany members.now result }
 {
     if visible < to {
         return Some(Refusal::PastEnd(visible));
     }
-    let disks = shape_in(members).disks;
-    let count = missing_count(members, disks);
-    if count == 0 {
-        return None;
-    }
-    Some(Refusal::TooManyMissing(count as u64, 0))
+    too_many(members)
 }
 
 impl<B: Bank> Array<B> {

@@ -1,12 +1,20 @@
 //! An array that is taken over from its superblocks.
 
-ghost use Rattle.std.specs.Prelude.{◌≡◌, ◌≤◌, [], ℕ, length, vec_capacity, IfOk, IfErr};
-ghost use Rattle.array.specs.Kept.{scope_in, IsAdoptable, IsAdopted};
+ghost use Rattle.std.specs.Prelude.{◌≡◌, ◌<◌, ◌≤◌, ◌+◌, ◌++◌, [], ℕ, length, vec_capacity, IfOk, IfErr};
+ghost use Rattle.superblocks.specs.Reading.{shape_of};
+ghost use Rattle.row_io.specs.Rows.{reading_of};
+ghost use Rattle.flat_history.specs.Plain.{entries_of};
+ghost use Rattle.array.specs.Losing.{IsSameEpoch};
+ghost use Rattle.array.specs.Kept.{scope_in};
+ghost use Rattle.array.specs.Adopting.{opener, absent_loss, absent_losses, IsAdoptable, IsAdopted};
 
 use crate::array::Array;
+use crate::calls::enter;
+use crate::roles::shape_in;
 use bank::Bank;
-use flat_history::{Entries, Epoch};
-use md_base::NoMemory;
+use flat_history::{Entries, Epoch, Event, LostCause};
+use md_base::{NoMemory, Who};
+use row_io::is_missing;
 use std::alloc::Global;
 use superblocks::Members;
 use superblocks::says::is_clean;
@@ -29,12 +37,12 @@ struct Room {
 
 fn room_for(alloc: Global) -> Result<Room, NoMemory>
     ensures empty { IfOk result (λ room. room.entries.items ≡ []) }
-    ensures entries { IfOk result (λ room. 1 ≤ room.entries.room) }
+    ensures entries { IfOk result (λ room. 17 ≤ room.entries.room) }
     ensures rows { IfOk result (λ room. 128 ≤ vec_capacity room.rows) }
     ensures buffer { IfOk result (λ room. length room.buffer.items ≡ 1048576) }
 {
     let mut entries = Entries::new(alloc);
-    match entries.make_room(1) {
+    match entries.make_room(17) {
         Ok(()) => {}
         Err(_) => return Err(NoMemory {}),
     }
@@ -53,9 +61,43 @@ fn room_for(alloc: Global) -> Result<Room, NoMemory>
     })
 }
 
+// The loss of this role, if it is missing.
+fn enter_absent(epoch: &mut Epoch, members: &Members, end: u64, role: u32)
+    requires room { 0 < epoch.old.entries.room }
+    requires role { role < length members.now.roles }
+    ensures items { epoch.new.entries.items ≡ epoch.old.entries.items ++ entries_of opener end (absent_loss (reading_of members.now) role) }
+    ensures room { epoch.old.entries.room ≤ epoch.new.entries.room + 1 }
+    ensures same { IsSameEpoch epoch.old epoch.new }
+    ensures last { epoch.old.last ≡ end → epoch.new.last ≡ end }
+{
+    let opener = Who {
+        caller: 254,
+        number: 0,
+    };
+    if is_missing(members, role) {
+        let cause = LostCause::Absent;
+        enter(epoch, opener, end, Event::Lost { role, cause });
+    }
+}
+
+// The losses of the roles that are missing, in order.
+fn enter_all_absent(epoch: &mut Epoch, members: &Members, end: u64, disks: u32)
+    requires room { 17 ≤ epoch.old.entries.room }
+    requires disks { disks ≤ 16 }
+    requires roles { disks ≤ length members.now.roles }
+    ensures items { epoch.new.entries.items ≡ epoch.old.entries.items ++ entries_of opener end (absent_losses (reading_of members.now) disks) }
+    ensures room { 1 ≤ epoch.new.entries.room }
+    ensures same { IsSameEpoch epoch.old epoch.new }
+    ensures last { epoch.old.last ≡ end → epoch.new.last ≡ end }
+{
+    for role in 0..disks {
+        enter_absent(epoch, members, end, role);
+    }
+}
+
 impl<B: Bank> Array<B> {
-    /// Takes an array over whose superblocks were found in the slots of the bank, with every role whole. It makes no
-    /// device call. Refused only for want of memory, with the bank handed back.
+    /// Takes an array over whose superblocks were found in the slots of the bank; its first entries tell the roles that are
+    /// missing. It makes no device call. Refused only for want of memory, with the bank handed back.
     pub fn adopt(alloc: Global, bank: B, opened: Opened) -> Result<Array<B>, (B, NoMemory)>
         requires { IsAdoptable B.tells (B.given bank) (B.tape bank) (scope_in (B.given bank) opened.members.newest.set_uuid opened.given opened.backup) opened.members }
         ensures adopted { IfOk result (λ made. IsAdopted B.tells bank (B.tape bank) opened.given opened.backup opened.members made) }
@@ -71,13 +113,15 @@ impl<B: Bank> Array<B> {
             members,
             given,
         } = opened;
-        let epoch = Epoch {
+        let mut epoch = Epoch {
             uuid: members.newest.set_uuid,
             given,
             first,
             last: first,
             entries: room.entries,
         };
+        let disks = shape_in(&members).disks;
+        enter_all_absent(&mut epoch, &members, first, disks);
         let unsynced = !is_clean(&members.newest);
         Ok(Array {
             alloc,

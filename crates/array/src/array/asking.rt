@@ -5,12 +5,12 @@ ghost use Rattle.md_base.specs.Shapes.{is_valid_shape};
 ghost use Rattle.superblocks.specs.Reading.{shape_of};
 ghost use Rattle.flat_history.specs.Flat.{next_number};
 ghost use Rattle.flat_history.specs.declared.events.Event.TheVariants.{Shown};
-ghost use Rattle.array.specs.Kept.{world_for, IsEntered, IsSameArray, IsEndOf};
+ghost use Rattle.array.specs.Calls.{world_for, IsEntered, IsSameArray, IsEndOf};
 ghost use Rattle.array.specs.Status.{left_of, IsStatusFor};
 
 use crate::array::{Array, list_length};
 use crate::calls::{check_number, enter};
-use crate::losing::shape_in;
+use crate::roles::shape_in;
 use bank::Bank;
 use flat_history::Event;
 use md_base::{NoMemory, RoleList, SlotList, Status, Who};

@@ -2,17 +2,20 @@
 
 ghost use Rattle.std.specs.Prelude.{◌≡◌, ◌≢◌, [], ◌∷◌, length, IfOk, IfErr};
 ghost use Rattle.bank.specs.Given.{NeverFalls};
+ghost use Rattle.flat_history.specs.Growing.{EndBy};
 ghost use Rattle.flat_history.specs.Epochs.{world_of, IsEpochRight, HasRoomForEvents, OpensAlike};
 ghost use Rattle.array.specs.Whole.{list_size};
-ghost use Rattle.array.specs.Moving.{AreRowsFlushed, Grows};
+ghost use Rattle.array.specs.Moving.{Grows};
 ghost use Rattle.row_io.specs.Rows.{present};
 ghost use Rattle.flat_history.specs.World.{opening_list};
 ghost use Rattle.flat_history.specs.Flat.{next_number, now};
-ghost use Rattle.flat_history.specs.Plain.{IsPlainLegal};
+ghost use Rattle.flat_history.specs.OneShape.{opening_in, IsOneShapeLegal};
 ghost use Rattle.flat_history.specs.declared.events.Event.TheVariants.{Halted, Stopped};
-ghost use Rattle.array.specs.Rows.{HoldsList, AreGoodRows};
-ghost use Rattle.array.specs.Placed.{places_of, AreWhole, AreStillHeld};
-ghost use Rattle.array.specs.Kept.{world_for, opening_of, OpensGood, HasNoLoss, IsEntered, IsBehind, IsUnsettled, IsFaultFor, IsEndOf, IsSameArray, AreLossesOf};
+ghost use Rattle.array.specs.Placed.{places_of, AreStillHeld};
+ghost use Rattle.array.specs.Lacking.{DoesWithout, ListStands, RowsStand, AreTooMany, HaveFailedSince};
+ghost use Rattle.flat_history.specs.Opened.{OpensGood};
+ghost use Rattle.flat_history.specs.Sound.{FillsRight};
+ghost use Rattle.array.specs.Calls.{world_for, IsEntered, IsBehind, IsUnsettled, IsFaultFor, IsEndOf, IsSameArray, AreLossesOf, AreLeftFlushed};
 
 use crate::array::Array;
 use crate::calls::{check_number, enter};
@@ -28,12 +31,14 @@ impl<B: Bank> Array<B> {
         ensures bank { result.0 ≡ self.bank }
         ensures entered { IsEntered B.tells (B.tape self.bank) who self.entries result.1.entries.items (Halted ∷ []) }
         ensures losses { AreLossesOf self.members (B.faults_of self.bank) (B.faults_of self.bank) self.entries result.1.entries.items }
-        ensures legal { B.tells → IsPlainLegal (opening_of (world_for (B.given self.bank) (B.tape self.bank) self)) (length (B.tape self.bank)) result.1.entries.items }
-        ensures holds { B.tells → AreWhole self.members
-            → HoldsList (places_of self.members) (present (B.given self.bank) (B.tape self.bank)) (now (opening_list (world_for (B.given self.bank) (B.tape self.bank) self)) self.entries) }
-        ensures good { B.tells → AreWhole self.members → OpensGood (world_for (B.given self.bank) (B.tape self.bank) self)
-            → AreGoodRows (places_of self.members) (present (B.given self.bank) (B.tape self.bank)) }
-        ensures right { B.tells → HasNoLoss result.1.entries.items → HasRoomForEvents (world_of (B.given result.0) (B.tape result.0) self.backup result.1) → OpensAlike (world_of (B.given result.0) (B.tape result.0) self.backup result.1)
+        ensures legal { B.tells → FillsRight (world_for (B.given self.bank) (B.tape self.bank) self) result.1.entries.items
+            → IsOneShapeLegal (opening_in (world_for (B.given self.bank) (B.tape self.bank) self)) (length (B.tape self.bank)) result.1.entries.items }
+        ensures ends { B.tells → EndBy (length (B.tape self.bank)) result.1.entries.items }
+        ensures holds { B.tells → DoesWithout self.members
+            → ListStands self.members (present (B.given self.bank) (B.tape self.bank)) (now (opening_list (world_for (B.given self.bank) (B.tape self.bank) self)) self.entries) }
+        ensures good { B.tells → DoesWithout self.members → OpensGood (world_for (B.given self.bank) (B.tape self.bank) self)
+            → RowsStand self.members (present (B.given self.bank) (B.tape self.bank)) (now (opening_list (world_for (B.given self.bank) (B.tape self.bank) self)) self.entries) }
+        ensures right { B.tells → FillsRight (world_of (B.given result.0) (B.tape result.0) self.backup result.1) result.1.entries.items → HasRoomForEvents (world_of (B.given result.0) (B.tape result.0) self.backup result.1) → OpensAlike (world_of (B.given result.0) (B.tape result.0) self.backup result.1)
             → IsEpochRight (B.given result.0) (B.tape result.0) self.backup result.1 }
         ensures uuid { result.1.uuid ≡ self.uuid }
         ensures given { result.1.given ≡ self.given }
@@ -62,12 +67,15 @@ impl<B: Bank> Array<B> {
         requires next { who.number ≡ next_number who.caller self.entries }
         requires caller { who.caller ≢ 254 }
         ensures stopped { IfOk result (λ r. IsBehind who self.entries r.1.entries.items Stopped) }
-        ensures whole { IfOk result (λ r. AreWhole self.members) }
-        ensures flushed { IfOk result (λ r. B.tells → AreRowsFlushed (places_of self.members) (B.given self.bank) (B.tape r.0)) }
+        ensures ready { IfOk result (λ r. DoesWithout self.members) }
+        ensures flushed { IfOk result (λ r. B.tells → AreLeftFlushed self.members r.1.entries.items (B.given self.bank) (B.tape r.0)) }
         ensures grows { IfOk result (λ r. Grows B.tells (B.tape self.bank) (B.tape r.0)) }
         ensures losses { IfOk result (λ r. AreLossesOf self.members (B.faults_of self.bank) (B.faults_of r.0) self.entries r.1.entries.items) }
-        ensures legal { IfOk result (λ r. B.tells → IsPlainLegal (opening_of (world_of (B.given r.0) (B.tape r.0) self.backup r.1)) (length (B.tape r.0)) r.1.entries.items) }
-        ensures right { IfOk result (λ r. B.tells → HasNoLoss r.1.entries.items → HasRoomForEvents (world_of (B.given r.0) (B.tape r.0) self.backup r.1) → OpensAlike (world_of (B.given r.0) (B.tape r.0) self.backup r.1)
+        ensures legal { IfOk result (λ r. B.tells → FillsRight (world_of (B.given r.0) (B.tape r.0) self.backup r.1) r.1.entries.items
+            → IsOneShapeLegal (opening_in (world_of (B.given r.0) (B.tape r.0) self.backup r.1)) (length (B.tape r.0)) r.1.entries.items) }
+        ensures ends { IfOk result (λ r. B.tells → EndBy (length (B.tape r.0)) r.1.entries.items) }
+        ensures ended { IfOk result (λ r. IsEndOf B.tells r.1.first r.1.entries.items (B.tape r.0)) }
+        ensures right { IfOk result (λ r. B.tells → FillsRight (world_of (B.given r.0) (B.tape r.0) self.backup r.1) r.1.entries.items → HasRoomForEvents (world_of (B.given r.0) (B.tape r.0) self.backup r.1) → OpensAlike (world_of (B.given r.0) (B.tape r.0) self.backup r.1)
             → IsEpochRight (B.given r.0) (B.tape r.0) self.backup r.1) }
         ensures uuid { IfOk result (λ r. r.1.uuid ≡ self.uuid) }
         ensures slots { IfOk result (λ r. r.1.given ≡ self.given) }
@@ -76,7 +84,8 @@ impl<B: Bank> Array<B> {
         ensures given { IfOk result (λ r. B.given r.0 ≡ B.given self.bank) }
         ensures never_falls { IfOk result (λ r. NeverFalls (B.faults_of self.bank) (B.faults_of r.0)) }
         ensures refused { IfErr result (λ e. IsUnsettled who self.entries e.0.entries e.1) }
-        ensures caused { IfErr result (λ e. IsFaultFor (list_size (places_of self.members)) 0 self.members e.0.members e.1) }
+        ensures caused { IfErr result (λ e. IsFaultFor (list_size (places_of self.members)) 0 AreTooMany self.members e.0.members e.1) }
+        ensures left_failed { IfErr result (λ e. HaveFailedSince self.members e.0.members 0 (B.faults_of self.bank) (B.faults_of e.0.bank)) }
         ensures left_grows { IfErr result (λ e. Grows B.tells (B.tape self.bank) (B.tape e.0.bank)) }
         ensures left_held { IfErr result (λ e. AreStillHeld self.members e.0.members) }
         ensures left_losses { IfErr result (λ e. AreLossesOf self.members (B.faults_of self.bank) (B.faults_of e.0.bank) self.entries e.0.entries) }

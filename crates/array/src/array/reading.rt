@@ -1,25 +1,32 @@
 //! Reads of an array.
 
-ghost use Rattle.std.specs.Prelude.{◌≡◌, ◌≢◌, ◌+◌, ◌/◌, ◌^◌, ◌<◌, ◌≤◌, length, OnOk, OnErr, IfOk, IfErr};
+ghost use Rattle.std.specs.Prelude.{◌≡◌, ◌≢◌, ◌+◌, ◌/◌, ◌^◌, ◌<◌, ◌≤◌, not, length, OnOk, OnErr, IfOk, IfErr};
 ghost use Rattle.bank.specs.Given.{NeverFalls};
 ghost use Rattle.bank.specs.Tape.{AreSectors};
 ghost use Rattle.md_base.specs.Sectors.{IsWhole, sectors_of};
 ghost use Rattle.md_base.specs.declared.answers.Fault.TheVariants.{NoMemory as WantsMemory};
+ghost use Rattle.row_io.specs.Rows.{present};
 ghost use Rattle.flat_history.specs.World.{opening_list};
 ghost use Rattle.flat_history.specs.Flat.{next_number, now};
 ghost use Rattle.flat_history.specs.declared.events.Event.TheVariants.{Read};
 ghost use Rattle.flat_history.specs.declared.events.Request.TheVariants.{Read as AsksRead};
 ghost use Rattle.array.specs.Whole.{list_size};
-ghost use Rattle.array.specs.Placed.{places_of, AreStillHeld};
-ghost use Rattle.array.specs.Kept.{world_for, IsAnswered, IsCausedBy, IsSameArray, AreLossesOf, IsEndOf, OnNoMemory};
+ghost use Rattle.array.specs.Placed.{places_of, AreWhole, AreStillHeld};
+ghost use Rattle.array.specs.Marking.{AreOthersPresent};
+ghost use Rattle.array.specs.Moving.{Grows};
+ghost use Rattle.array.specs.Lacking.{HaveFailedSince, IsUnread};
+ghost use Rattle.array.specs.Kept.{AreFillsRight};
+ghost use Rattle.array.specs.Calls.{world_for, IsAnswered, IsCausedBy, IsRefusalOf, IsSameArray, AreLossesOf, IsEndOf, OnNoMemory};
 
 use crate::array::{Array, list_length, refusal_of};
 use crate::calls::{check_number, enter, enter_behind};
-use crate::lists::read_body;
-use crate::losing::{missing_roles, shape_in, too_many};
+use crate::fetching::fetch;
+use crate::naming::newly_missing;
+use crate::refusing::missing_place;
+use crate::roles::{missing_roles, shape_in};
 use bank::Bank;
 use flat_history::Event;
-use md_base::{Fault, Sectors, Who};
+use md_base::{Fault, Refusal, Sectors, Who};
 use std::alloc::Global;
 
 // So many zero bytes.
@@ -34,18 +41,40 @@ fn zeros(alloc: Global, len: usize) -> Result<Vec<u8>, Fault>
 }
 
 impl<B: Bank> Array<B> {
-    /// Fills `into`, of whole sectors, with those of the list from `at` on. Refusals: `PastEnd`, `TooManyMissing`.
+    // Why so many sectors from one on aren't read, before any is.
+    fn unread(&self, at: u64, count: u64) -> Option<Refusal>
+        requires short { at + count < 2 ^ 63 }
+        ensures { IsRefusalOf (list_size (places_of self.now.members)) (at + count) (IsUnread (not self.now.unsynced) at count) self.now.members result }
+    {
+        let shape = shape_in(&self.members);
+        let visible = list_length(&shape, self.members.newest.size);
+        let refusal = refusal_of(&self.members, visible, at + count);
+        if refusal.is_some() | !self.unsynced {
+            return refusal;
+        }
+        match missing_place(&self.members, &shape, at, count) {
+            Some(role) => Some(Refusal::NotResynced(role)),
+            None => None,
+        }
+    }
+
+    /// Fills `into`, of whole sectors, with those of the list from `at` on; what a missing member held is filled in from the
+    /// others. Refusals: `PastEnd`, `TooManyMissing`, and `NotResynced` in an array that was opened dirty.
     pub fn read(&mut self, who: Who, at: u64, into: &mut [u8]) -> Result<(), Fault>
         requires next { who.number ≡ next_number who.caller self.old.entries }
         requires caller { who.caller ≢ 254 }
         requires whole { IsWhole into.old }
         requires short { at + length into.old / 512 < 2 ^ 63 }
         ensures answered { IsAnswered (list_size (places_of self.old.members)) (AsksRead at (length into.old / 512)) who self.old.entries self.new.entries (Read at (sectors_of into.new)) result }
-        ensures holds { OnOk result (B.tells → AreSectors (now (opening_list (world_for (B.given self.old.bank) (B.tape self.old.bank) self.old)) self.old.entries) at into.new) }
+        ensures holds { OnOk result (B.tells → AreFillsRight (world_for (B.given self.old.bank) (B.tape self.old.bank) self.old) self.old.unsynced self.new.members
+            → AreSectors (now (opening_list (world_for (B.given self.old.bank) (B.tape self.old.bank) self.old)) self.old.entries) at into.new) }
         ensures unread { OnErr result (into.new ≡ into.old) }
         ensures unchanged { OnNoMemory result (self.new ≡ self.old) }
-        ensures tape { B.tells → B.tape self.new.bank ≡ B.tape self.old.bank }
-        ensures caused { IsCausedBy (list_size (places_of self.old.members)) (at + length into.old / 512) self.old.members self.new.members result }
+        ensures grows { Grows B.tells (B.tape self.old.bank) (B.tape self.new.bank) }
+        ensures tape { AreWhole self.new.members → B.tells → B.tape self.new.bank ≡ B.tape self.old.bank }
+        ensures others { B.tells → AreOthersPresent (present (B.given self.old.bank) (B.tape self.old.bank)) (present (B.given self.old.bank) (B.tape self.new.bank)) }
+        ensures caused { IsCausedBy (list_size (places_of self.old.members)) (at + length into.old / 512) (IsUnread (not self.old.unsynced) at (length into.old / 512)) self.old.members self.new.members result }
+        ensures failed { HaveFailedSince self.old.members self.new.members 0 (B.faults_of self.old.bank) (B.faults_of self.new.bank) }
         ensures held { AreStillHeld self.old.members self.new.members }
         ensures losses { AreLossesOf self.old.members (B.faults_of self.old.bank) (B.faults_of self.new.bank) self.old.entries self.new.entries }
         ensures ended { IsEndOf B.tells self.new.first self.new.entries (B.tape self.new.bank) }
@@ -62,38 +91,33 @@ impl<B: Bank> Array<B> {
             Err(_) => return Err(Fault::NoMemory),
         }
         check_number(&self.epoch.entries, who);
-        let shape = shape_in(&self.members);
-        let to = at + (into.len() / 512) as u64;
-        match refusal_of(
-            &self.members,
-            list_length(&shape, self.members.newest.size),
-            to,
-        ) {
-            Some(refusal) => {
-                let end = self.bank.ops();
-                enter(&mut self.epoch, who, end, Event::Refused { refusal });
-                return Err(Fault::Refused(refusal));
-            }
-            None => {}
+        if let Some(refusal) = self.unread(at, (into.len() / 512) as u64) {
+            let end = self.bank.ops();
+            enter(&mut self.epoch, who, end, Event::Refused { refusal });
+            return Err(Fault::Refused(refusal));
         }
-        let lost = read_body(&mut self.members, &mut self.bank, &shape, at, &mut bytes);
+        let shape = shape_in(&self.members);
+        let before = missing_roles(&self.members, shape.disks);
+        let fetched = fetch(
+            &mut self.members,
+            &mut self.bank,
+            &shape,
+            at,
+            bytes.as_mut_slice(),
+            self.buffer.as_mut_slice(),
+            !self.unsynced,
+        );
+        let roles = newly_missing(&self.members, shape.disks, before);
         let end = self.bank.ops();
-        if lost != 0 {
-            let roles = missing_roles(&self.members, shape.disks);
-            let refusal = too_many(&self.members);
-            enter_behind(
-                &mut self.epoch,
-                who,
-                end,
-                roles,
-                0,
-                Event::Refused { refusal },
-            );
+        if let Some(refusal) = fetched.refusal {
+            let event = Event::Refused { refusal };
+            enter_behind(&mut self.epoch, who, end, roles, fetched.spares, event);
             return Err(Fault::Refused(refusal));
         }
         into.copy_from_slice(bytes.as_slice());
         let body = Sectors::from_bytes(bytes);
-        enter(&mut self.epoch, who, end, Event::Read { at, body });
+        let event = Event::Read { at, body };
+        enter_behind(&mut self.epoch, who, end, roles, fetched.spares, event);
         Ok(())
     }
 }

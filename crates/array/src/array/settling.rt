@@ -2,18 +2,23 @@
 
 ghost use Rattle.std.specs.Prelude.{◌≡◌, ◌≢◌, ◌+◌, ◌^◌, ◌<◌, ◌≤◌, length, true, false, OnOk};
 ghost use Rattle.bank.specs.Given.{NeverFalls};
+ghost use Rattle.superblocks.specs.Reading.{is_clean};
+ghost use Rattle.row_io.specs.Rows.{reading_of, present};
 ghost use Rattle.flat_history.specs.Flat.{next_number};
 ghost use Rattle.flat_history.specs.declared.events.Event.TheVariants.{Flushed};
 ghost use Rattle.flat_history.specs.declared.events.Request.TheVariants.{Flush as AsksFlush};
 ghost use Rattle.array.specs.Whole.{list_size};
 ghost use Rattle.array.specs.Placed.{places_of, AreStillHeld};
-ghost use Rattle.superblocks.specs.Reading.{is_clean};
-ghost use Rattle.array.specs.Moving.{AreRowsFlushed, Grows};
-ghost use Rattle.array.specs.Kept.{world_for, IsSettled, IsSettling, IsAnswered, IsCausedBy, IsSameArray, AreLossesOf, IsEndOf, OnNoMemory};
+ghost use Rattle.array.specs.Marking.{AreOthersPresent};
+ghost use Rattle.array.specs.Moving.{Grows};
+ghost use Rattle.array.specs.Lacking.{HaveFailedSince, AreHoldersFlushed, AreTooMany};
+ghost use Rattle.array.specs.Calls.{world_for, IsSettled, IsSettling, IsAnswered, IsCausedBy, IsSameArray, AreLossesOf, AreLeftFlushed, IsEndOf, OnNoMemory};
 
 use crate::array::{Array, refusal_of};
 use crate::calls::{check_number, enter, enter_behind};
-use crate::losing::{settle, too_many};
+use crate::naming::newly_missing;
+use crate::roles::{missing_roles, shape_in};
+use crate::settles::settle;
 use bank::Bank;
 use flat_history::Event;
 use md_base::{Fault, Who};
@@ -26,14 +31,17 @@ impl<B: Bank> Array<B> {
         requires event { IsSettling event }
         ensures answered { IsSettled who self.old.entries self.new.entries event result }
         ensures unchanged { OnNoMemory result (self.new ≡ self.old) }
-        ensures flushed { OnOk result (B.tells → AreRowsFlushed (places_of self.old.members) (B.given self.old.bank) (B.tape self.new.bank)) }
+        ensures flushed { OnOk result (B.tells → AreHoldersFlushed (reading_of self.new.members) (B.given self.old.bank) (B.tape self.new.bank)) }
+        ensures left { OnOk result (B.tells → AreLeftFlushed self.old.members self.new.entries (B.given self.old.bank) (B.tape self.new.bank)) }
         ensures grows { Grows B.tells (B.tape self.old.bank) (B.tape self.new.bank) }
+        ensures others { B.tells → AreOthersPresent (present (B.given self.old.bank) (B.tape self.old.bank)) (present (B.given self.old.bank) (B.tape self.new.bank)) }
         ensures clean { OnOk result (self.old.unsynced ≡ false → is_clean self.new.members.newest ≡ true) }
-        ensures caused { IsCausedBy (list_size (places_of self.old.members)) 0 self.old.members self.new.members result }
+        ensures caused { IsCausedBy (list_size (places_of self.old.members)) 0 AreTooMany self.old.members self.new.members result }
+        ensures last { OnOk result (B.tells → self.new.last ≡ length (B.tape self.new.bank)) }
+        ensures failed { HaveFailedSince self.old.members self.new.members 0 (B.faults_of self.old.bank) (B.faults_of self.new.bank) }
         ensures held { AreStillHeld self.old.members self.new.members }
         ensures losses { AreLossesOf self.old.members (B.faults_of self.old.bank) (B.faults_of self.new.bank) self.old.entries self.new.entries }
         ensures ended { IsEndOf B.tells self.new.first self.new.entries (B.tape self.new.bank) }
-        ensures last { OnOk result (B.tells → self.new.last ≡ length (B.tape self.new.bank)) }
         ensures never_falls { NeverFalls (B.faults_of self.old.bank) (B.faults_of self.new.bank) }
         ensures given { B.given self.new.bank ≡ B.given self.old.bank }
         ensures same { IsSameArray B.tells self.old self.new (world_for (B.given self.old.bank) (B.tape self.old.bank) self.old) (world_for (B.given self.new.bank) (B.tape self.new.bank) self.new) }
@@ -43,31 +51,22 @@ impl<B: Bank> Array<B> {
             Err(_) => return Err(Fault::NoMemory),
         }
         check_number(&self.epoch.entries, who);
-        match refusal_of(&self.members, 0, 0) {
-            Some(refusal) => {
-                let end = self.bank.ops();
-                enter(&mut self.epoch, who, end, Event::Refused { refusal });
-                return Err(Fault::Refused(refusal));
-            }
-            None => {}
-        }
-        let lost = settle(&mut self.members, &mut self.bank, self.unsynced);
-        let end = self.bank.ops();
-        let roles = lost.roles;
-        let spares = lost.spares;
-        if !lost.begun {
-            let refusal = too_many(&self.members);
-            enter_behind(
-                &mut self.epoch,
-                who,
-                end,
-                roles,
-                spares,
-                Event::Refused { refusal },
-            );
+        if let Some(refusal) = refusal_of(&self.members, 0, 0) {
+            let end = self.bank.ops();
+            enter(&mut self.epoch, who, end, Event::Refused { refusal });
             return Err(Fault::Refused(refusal));
         }
-        enter_behind(&mut self.epoch, who, end, roles, spares, event);
+        let disks = shape_in(&self.members).disks;
+        let before = missing_roles(&self.members, disks);
+        let settled = settle(&mut self.members, &mut self.bank, self.unsynced);
+        let roles = newly_missing(&self.members, disks, before);
+        let end = self.bank.ops();
+        if let Some(refusal) = settled.refusal {
+            let event = Event::Refused { refusal };
+            enter_behind(&mut self.epoch, who, end, roles, settled.spares, event);
+            return Err(Fault::Refused(refusal));
+        }
+        enter_behind(&mut self.epoch, who, end, roles, settled.spares, event);
         Ok(())
     }
 
@@ -78,10 +77,12 @@ impl<B: Bank> Array<B> {
         requires caller { who.caller ≢ 254 }
         ensures answered { IsAnswered (list_size (places_of self.old.members)) AsksFlush who self.old.entries self.new.entries Flushed result }
         ensures unchanged { OnNoMemory result (self.new ≡ self.old) }
-        ensures flushed { OnOk result (B.tells → AreRowsFlushed (places_of self.old.members) (B.given self.old.bank) (B.tape self.new.bank)) }
+        ensures flushed { OnOk result (B.tells → AreHoldersFlushed (reading_of self.new.members) (B.given self.old.bank) (B.tape self.new.bank)) }
         ensures grows { Grows B.tells (B.tape self.old.bank) (B.tape self.new.bank) }
+        ensures others { B.tells → AreOthersPresent (present (B.given self.old.bank) (B.tape self.old.bank)) (present (B.given self.old.bank) (B.tape self.new.bank)) }
         ensures clean { OnOk result (self.old.unsynced ≡ false → is_clean self.new.members.newest ≡ true) }
-        ensures caused { IsCausedBy (list_size (places_of self.old.members)) 0 self.old.members self.new.members result }
+        ensures caused { IsCausedBy (list_size (places_of self.old.members)) 0 AreTooMany self.old.members self.new.members result }
+        ensures failed { HaveFailedSince self.old.members self.new.members 0 (B.faults_of self.old.bank) (B.faults_of self.new.bank) }
         ensures held { AreStillHeld self.old.members self.new.members }
         ensures losses { AreLossesOf self.old.members (B.faults_of self.old.bank) (B.faults_of self.new.bank) self.old.entries self.new.entries }
         ensures ended { IsEndOf B.tells self.new.first self.new.entries (B.tape self.new.bank) }

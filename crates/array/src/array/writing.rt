@@ -1,6 +1,6 @@
 //! Writes to an array.
 
-ghost use Rattle.std.specs.Prelude.{◌≡◌, ◌≢◌, ◌+◌, ◌/◌, ◌^◌, ◌<◌, ◌≤◌, length, OnOk, OnErr, IsFalse, false};
+ghost use Rattle.std.specs.Prelude.{◌≡◌, ◌≢◌, ◌+◌, ◌/◌, ◌^◌, ◌<◌, ◌≤◌, not, length, OnOk, OnErr, IsFalse, false};
 ghost use Rattle.bank.specs.Given.{NeverFalls};
 ghost use Rattle.md_base.specs.Sectors.{IsWhole, sectors_of};
 ghost use Rattle.superblocks.specs.Reading.{is_clean};
@@ -12,17 +12,39 @@ ghost use Rattle.array.specs.Whole.{list_size};
 ghost use Rattle.array.specs.Placed.{places_of, AreStillHeld};
 ghost use Rattle.array.specs.Marking.{AreOthersPresent};
 ghost use Rattle.array.specs.Moving.{Grows};
-ghost use Rattle.array.specs.Kept.{world_for, IsAnswered, IsCausedBy, IsSameArray, AreLossesOf, IsEndOf, OnNoMemory, has_torn};
+ghost use Rattle.array.specs.Lacking.{HaveFailedSince, IsUnwritten};
+ghost use Rattle.array.specs.Calls.{world_for, IsAnswered, IsCausedBy, IsRefusalOf, IsSameArray, AreLossesOf, IsEndOf, OnNoMemory, has_torn};
 
 use crate::array::{Array, list_length, refusal_of};
 use crate::calls::{check_number, enter, enter_behind, enter_failure};
-use crate::losing::{put, shape_in, too_many};
+use crate::naming::newly_missing;
+use crate::putting::put;
+use crate::roles::{missing_roles, shape_in};
 use bank::Bank;
 use flat_history::Event;
-use md_base::{Fault, Sectors, Who};
+use list_io::missing_data;
+use md_base::{Fault, Refusal, Sectors, Who};
 
 impl<B: Bank> Array<B> {
-    /// Makes the list hold `from`, of 1 to 128 whole sectors, from `at` on. Refusals: `PastEnd`, `TooManyMissing`.
+    // Why so many sectors from one on aren't written, before any row is read.
+    fn unwritten(&self, at: u64, count: u64) -> Option<Refusal>
+        requires short { at + count < 2 ^ 63 }
+        ensures { IsRefusalOf (list_size (places_of self.now.members)) (at + count) (IsUnwritten (not self.now.unsynced)) self.now.members result }
+    {
+        let shape = shape_in(&self.members);
+        let visible = list_length(&shape, self.members.newest.size);
+        let refusal = refusal_of(&self.members, visible, at + count);
+        if refusal.is_some() | !self.unsynced {
+            return refusal;
+        }
+        match missing_data(&self.members, &shape) {
+            Some(role) => Some(Refusal::NotResynced(role)),
+            None => None,
+        }
+    }
+
+    /// Makes the list hold `from`, of 1 to 128 whole sectors, from `at` on. Refusals: `PastEnd`, `TooManyMissing`, and
+    /// `NotResynced` in an array that was opened dirty.
     pub fn write(&mut self, who: Who, at: u64, from: &[u8]) -> Result<(), Fault>
         requires next { who.number ≡ next_number who.caller self.old.entries }
         requires caller { who.caller ≢ 254 }
@@ -35,7 +57,8 @@ impl<B: Bank> Array<B> {
         ensures dirty { OnOk result (is_clean self.new.members.newest ≡ false) }
         ensures untouched { OnErr result (IsFalse (has_torn self.old.entries self.new.entries) → B.tells
             → AreOthersPresent (present (B.given self.old.bank) (B.tape self.old.bank)) (present (B.given self.old.bank) (B.tape self.new.bank))) }
-        ensures caused { IsCausedBy (list_size (places_of self.old.members)) (at + length from.now / 512) self.old.members self.new.members result }
+        ensures caused { IsCausedBy (list_size (places_of self.old.members)) (at + length from.now / 512) (IsUnwritten (not self.old.unsynced)) self.old.members self.new.members result }
+        ensures failed { HaveFailedSince self.old.members self.new.members 0 (B.faults_of self.old.bank) (B.faults_of self.new.bank) }
         ensures held { AreStillHeld self.old.members self.new.members }
         ensures losses { AreLossesOf self.old.members (B.faults_of self.old.bank) (B.faults_of self.new.bank) self.old.entries self.new.entries }
         ensures ended { IsEndOf B.tells self.new.first self.new.entries (B.tape self.new.bank) }
@@ -52,21 +75,14 @@ impl<B: Bank> Array<B> {
             Err(_) => return Err(Fault::NoMemory),
         }
         check_number(&self.epoch.entries, who);
-        let shape = shape_in(&self.members);
-        let to = at + (from.len() / 512) as u64;
-        match refusal_of(
-            &self.members,
-            list_length(&shape, self.members.newest.size),
-            to,
-        ) {
-            Some(refusal) => {
-                let end = self.bank.ops();
-                enter(&mut self.epoch, who, end, Event::Refused { refusal });
-                return Err(Fault::Refused(refusal));
-            }
-            None => {}
+        if let Some(refusal) = self.unwritten(at, (from.len() / 512) as u64) {
+            let end = self.bank.ops();
+            enter(&mut self.epoch, who, end, Event::Refused { refusal });
+            return Err(Fault::Refused(refusal));
         }
-        let lost = put(
+        let shape = shape_in(&self.members);
+        let before = missing_roles(&self.members, shape.disks);
+        let done = put(
             &mut self.members,
             &mut self.bank,
             &shape,
@@ -74,33 +90,26 @@ impl<B: Bank> Array<B> {
             from,
             &mut self.rows,
             &mut self.buffer,
+            !self.unsynced,
         );
+        let roles = newly_missing(&self.members, shape.disks, before);
         let end = self.bank.ops();
-        let roles = lost.roles;
-        let spares = lost.spares;
-        if roles != 0 {
-            let refusal = too_many(&self.members);
+        if let Some(refusal) = done.refusal {
             enter_failure(
                 &mut self.epoch,
                 who,
                 end,
                 roles,
-                spares,
-                lost.begun,
+                done.spares,
+                done.begun,
                 at,
                 body,
                 refusal,
             );
             return Err(Fault::Refused(refusal));
         }
-        enter_behind(
-            &mut self.epoch,
-            who,
-            end,
-            roles,
-            spares,
-            Event::Wrote { at, body },
-        );
+        let event = Event::Wrote { at, body };
+        enter_behind(&mut self.epoch, who, end, roles, done.spares, event);
         Ok(())
     }
 }

@@ -1,15 +1,14 @@
-use Rattle.std.proofs.Common.{◌≡◌, ℕ, ◌<◌, Bool, true, false, refl, sym, subst, arith}
-use Rattle.md_base.specs.declared.places.Shape.{Shape}
-use Rattle.row_io.specs.Rows.{reading_of, is_missing}
-use Rattle.row_io.proofs.Tables.{count_below-above}
+use Rattle.std.proofs.Common.{ℕ, ◌≤◌, Option, Some, None, arith, MatchOption}
+use Rattle.md_base.specs.declared.answers.Refusal.{Refusal}
+use Rattle.superblocks.specs.declared.members.Members.{Members}
+use Rattle.array.specs.Lacking.{DoesWithout, AreTooMany}
+use Rattle.array.specs.Calls.{IsRefusalOf}
+use Rattle.array.proofs.ReplyLaws.{too-many-of, refused-for}
 use Rattle.array.proofs.array.refusal_of.Goals as goal
 
-pub returns-then-count-eq0 : goal.returns-then-count-eq0
-returns-then-count-eq0 c = (
-  omega arith,
-  λ role lt. none role (is_missing (reading_of c.args.members.now) role) refl (subst (λ (s : Shape). role < s.disks) (sym c.shape_in-disks.ensures) lt),
-)
-  where
-    none : (role : ℕ) (b : Bool) → is_missing (reading_of c.args.members.now) role ≡ b → role < c.shape_in-disks.result.disks → b ≡ false
-    none role true is lt = absurd (let above = count_below-above c.shape_in-disks.result.disks role (is_missing (reading_of c.args.members.now)) lt is in omega arith)
-    none role false is lt = refl
+by-missing : (visible to : ℕ) (m : Members) (found : Option Refusal) → to ≤ visible → MatchOption found (DoesWithout m) (AreTooMany m) → IsRefusalOf visible to AreTooMany m found
+by-missing visible to m None le does = (le, λ refusal many. absurd (omega (arith, does, many.above)))
+by-missing visible to m (Some refusal) le many = refused-for visible to AreTooMany m m refusal (too-many-of m refusal many) le many
+
+pub returns : goal.returns
+returns c = by-missing c.args.visible c.args.to c.args.members.now c.too_many.result (omega arith) c.too_many.ensures

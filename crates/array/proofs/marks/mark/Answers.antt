@@ -1,14 +1,17 @@
-use Rattle.std.proofs.Common.{◌≡◌, ℕ, ◌≤◌, refl, sym, subst, min, ◌+◌, ◌-◌}
-use Rattle.std.specs.Prelude.{◌^◌}
+use Rattle.std.proofs.Common.{◌≡◌, ℕ, ◌≤◌, true, false, refl, sym, ◌∙◌, ap, subst, min, ◌+◌, ◌-◌}
+use Rattle.std.specs.Prelude.{◌^◌, replicate}
 use Rattle.bank.specs.Given.{Given}
 use Rattle.bank.specs.Tape.{EachMark, disk}
 use Rattle.superblocks.specs.Plans.{next_newest}
-use Rattle.superblocks.specs.Stages.{AreLeft, IsInUpdate, IsStaged}
+use Rattle.md_base.specs.Shapes.{has_slot}
+use Rattle.superblocks.specs.Stages.{AreLeft, AreFirstKept, IsInUpdate, IsStaged}
+use Rattle.superblocks.specs.Rounds.{round_at, IsInRounds, ArePast}
 use Rattle.layout.proofs.Limits.{limited}
+use Rattle.superblocks.specs.declared.change.Give.TheVariants.{Same}
 use Rattle.superblocks.specs.declared.change.Change.{Change}
 use Rattle.superblocks.specs.Reading.{role_count, shape_of}
-use Rattle.superblocks.specs.Update.{IsRoleGive, give_of}
-use Rattle.superblocks.specs.Updating.{IsUpdate, IsWrittenBy, ArePlanned, AreNamed, IsLater, IsSomeLeft, planned_newest}
+use Rattle.superblocks.specs.Update.{IsRoleGive, give_of, is_recovery}
+use Rattle.superblocks.specs.Updating.{IsUpdate, IsWrittenBy, ArePlanned, AreNamed, IsLater, IsSomeLeft, RisesByOperations, planned_newest}
 use Rattle.superblocks.specs.Outcome.{with_added, live_set, is_left, AreStored, AreGivesOfLive, planned_roles, planned_spares}
 use Rattle.array.specs.Placed.{IsPlaced}
 use Rattle.array.specs.Marking.{marking}
@@ -30,6 +33,10 @@ pub update-requires-clause-alone : goal.update-requires-clause-alone
 update-requires-clause-alone g c =
     subst (λ (ch : Change). AreGivesOfLive c.args.members.now ch) (sym c.marking-change.ensures) (λ slot none. give_of-same 32 slot)
 
+-- no slot gets a recovery offset
+all-kept : (lost lost' : ℕ) → AreFirstKept (replicate 32 Same) lost lost'
+all-kept lost lost' s recovery gone = absurd (let none : false ≡ true = sym (ap is_recovery (give_of-same 32 s)) ∙ recovery in cc)
+
 pub returns-clause-marked : goal.returns-clause-marked
 returns-clause-marked g c =
     let m = c.args.members.now in
@@ -50,6 +57,13 @@ returns-clause-marked g c =
       named = subst (λ (ch : Change). IsSomeLeft (live_set m ch) n.lost → AreNamed (with_added m ch.added) ch (with_added m ch.added).lost n.lost n.newest) e did.named;
       newest = subst (λ (ch : Change). IsLater (planned_newest ch.shared m.newest) n.newest) e did.newest;
       events = subst (λ (ch : Change). n.lost ≡ (with_added m ch.added).lost → n.newest.events ≡ min (m.newest.events + 1) (2 ^ 64 - 1)) e did.events;
+      rounds = subst (λ (ch : Change). AreFirstKept ch.gives (with_added m ch.added).lost n.lost → EachMark g.B.Bank.tells start before after
+          (IsInRounds (with_added m ch.added) ch (with_added m ch.added).lost (live_set m ch) n.lost n.newest.events (disk start before))) e did.rounds (all-kept m.lost n.lost);
+      past = subst (λ (ch : Change). AreFirstKept ch.gives (with_added m ch.added).lost n.lost → g.B.Bank.tells
+          → ArePast (with_added m ch.added) ch (with_added m ch.added).lost (live_set m ch) (disk start before) (round_at n.newest n.lost start after)) e did.past (all-kept m.lost n.lost);
+      rise = subst (λ (ch : Change). RisesByOperations g.B.Bank.tells (live_set m ch) n.lost m.newest.events n.newest.events before after) e did.rise;
+      stay = subst (λ (ch : Change). (s : ℕ) → has_slot (with_added m ch.added).lost s ≡ true → has_slot n.lost s ≡ true) e did.losses.stay;
+      live = subst (λ (ch : Change). (s : ℕ) → has_slot n.lost s ≡ true → has_slot (with_added m ch.added).lost s ≡ false → has_slot (live_set m ch) s ≡ true) e did.losses.live;
       own = subst (λ (ch : Change). AreStored n.newest ch.gives (is_left (live_set m ch) n.lost) (with_added m ch.added).own n.own) e did.own;
       spares = subst (λ (ch : Change). n.spares ≡ planned_spares m ch n.lost) e did.spares;
     }

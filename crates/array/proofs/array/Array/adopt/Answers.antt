@@ -1,8 +1,26 @@
-use Rattle.std.proofs.Common.{arith}
-use Rattle.array.proofs.ReadyLaws.{ready_adopted}
+use Rattle.std.proofs.Common.{◌≡◌, ◌∙◌, ◌++◌, ℕ, List, refl, sym, ap, subst, arith}
+use Rattle.md_base.specs.declared.places.Shape.{Shape}
+use Rattle.superblocks.specs.Reading.{Scope}
+use Rattle.row_io.specs.Rows.{reading_of}
+use Rattle.flat_history.specs.declared.events.Entry.{Entry}
+use Rattle.flat_history.specs.Plain.{entries_of}
+use Rattle.array.specs.Kept.{scope_in}
+use Rattle.array.specs.Adopting.{opener, absent_losses, found_losses, IsAdoptable}
+use Rattle.array.proofs.ReadyLaws.{scope-same}
+use Rattle.array.proofs.AdoptingLaws.{ready_adopted}
 use Rattle.array.proofs.array.Array.adopt.Goals as goal
 
 pub invariant_of-result : goal.invariant_of-result
 invariant_of-result g c =
+    let m = c.args.opened.members in
+    let given = g.B.Bank.given c.args.bank in
+    let tape = g.B.Bank.tape c.args.bank in
     let room = c.in-Ok.ensures in
-    ready_adopted c.requires room.empty c.ops-first.ensures room.entries room.rows (omega (arith, room.buffer))
+    let did = c.enter_all_absent.ensures in
+    let epoch = c.enter_all_absent.new.epoch in
+    let adoptable : IsAdoptable g.B.Bank.tells given tape (scope_in given epoch.uuid epoch.given c.args.opened.backup) m =
+    subst (λ (s : Scope). IsAdoptable g.B.Bank.tells given tape s m) (sym (scope-same given c.args.opened.backup refl did.same.uuid did.same.given)) c.requires in
+    let entries : epoch.entries.items ≡ entries_of opener epoch.first (found_losses (reading_of m)) =
+    did.items ∙ ap (λ (l : List Entry). l ++ entries_of opener c.ops-first.result (absent_losses (reading_of m) c.shape_in-disks.result.disks)) room.empty
+    ∙ ap (λ (s : Shape). entries_of opener c.ops-first.result (absent_losses (reading_of m) s.disks)) c.shape_in-disks.ensures ∙ ap (λ (n : ℕ). entries_of opener n (found_losses (reading_of m))) (sym did.same.first) in
+    rw (c.is_clean-unsynced.ensures) (ready_adopted adoptable entries (λ t. did.same.first ∙ c.ops-first.ensures t) did.room room.rows (omega (arith, room.buffer)))

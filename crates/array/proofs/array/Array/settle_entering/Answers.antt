@@ -1,25 +1,29 @@
-use Rattle.std.proofs.Common.{◌≡◌, ◌++◌, ◌∷◌, [], Bool, true, false, not, refl, sym, ◌∙◌, ap, arith}
+use Rattle.std.proofs.Common.{◌≡◌, ◌++◌, ◌∷◌, [], List, Option, Some, refl, sym, ◌∙◌, ap, subst, arith}
+use Rattle.std.specs.Prelude.{MatchOption, ⊤}
 use Rattle.md_base.specs.declared.answers.Refusal.{Refusal}
-use Rattle.md_base.specs.declared.answers.Refusal.TheVariants.{TooManyMissing}
+use Rattle.md_base.specs.declared.places.Shape.{Shape}
+use Rattle.superblocks.specs.declared.members.Members.{Members}
 use Rattle.flat_history.specs.declared.events.Event.TheVariants.{Refused}
+use Rattle.superblocks.specs.Reading.{shape_of}
+use Rattle.layout.proofs.Limits.{limited}
+use Rattle.flat_history.specs.declared.events.Entry.{Entry}
 use Rattle.flat_history.specs.Flat.{next_number}
 use Rattle.flat_history.specs.Plain.{entries_of}
 use Rattle.array.specs.Whole.{list_size}
 use Rattle.array.specs.Placed.{places_of}
 use Rattle.array.specs.Losing.{losses_of}
-use Rattle.array.specs.Kept.{scope_in, missing_in}
-use Rattle.array.proofs.MovedLaws.{moved-same, grows-none}
-use Rattle.array.proofs.ReadyLaws.{ready, ready_refused, ready_lost, ready_settled, settles-of, scope-same, list-same}
-use Rattle.array.proofs.LossLaws.{losses-behind, ended-behind, behind-alone, refused-zero, settling-no-loss}
+use Rattle.array.specs.Lacking.{AreTooMany}
+use Rattle.array.specs.Kept.{scope_in, AreTold}
+use Rattle.array.proofs.LackingLaws.{lost-since, since-held}
+use Rattle.array.proofs.ReadyLaws.{ready, settles-of, scope-same, list-same}
+use Rattle.array.proofs.ReplyLaws.{refused-zero}
+use Rattle.array.proofs.LossLaws.{losses-behind, ended-behind, behind-alone, settling-no-loss}
+use Rattle.array.proofs.DegradedLaws.{told-since, kept-refused, degraded-refused, degraded-settled, too-many-here, refused-here}
+use Rattle.array.proofs.SettledLaws.{left-flushed, leaves-refused, leaves-settled}
 use Rattle.array.proofs.array.Array.settle_entering.Goals as goal
 
-flip : (b : Bool) → not b ≡ true → b ≡ false
-flip true e = absurd (cc)
-flip false e = refl
-
-back : (b : Bool) → not b ≡ false → b ≡ true
-back true e = refl
-back false e = absurd (cc)
+too-many-of : (m : Members) (o : Option Refusal) (refusal : Refusal) → o ≡ Some refusal → MatchOption o ⊤ (AreTooMany m) → AreTooMany m refusal
+too-many-of m o refusal is many = subst (λ (o : Option Refusal). MatchOption o ⊤ (AreTooMany m)) is many
 
 pub invariant_of-self-in-Some : goal.invariant_of-self-in-Some
 invariant_of-self-in-Some g c =
@@ -27,10 +31,11 @@ invariant_of-self-in-Some g c =
     let a = c.self.inside in
     let given = g.B.Bank.given a.bank in
     let number : c.args.who.number ≡ next_number c.args.who.caller a.epoch.entries.items = c.requires.next ∙ ap (λ p. next_number c.args.who.caller p.entries) (sym c.self.view_is) in
-    let why = refused-zero (list_size (places_of a.members)) a.members c.in-Some.refusal c.in-Some.ensures in
-    ready (entries_of c.args.who c.ops-end.result (Refused c.in-Some.refusal ∷ []))
-    (ready_refused c.args.who c.ops-end.result was.kept number c.requires.caller c.ops-end.ensures
-    (moved-same given given a.members a.members refl refl was.kept.placed was.kept.unlost) (grows-none (λ t. refl)) 0 c.in-Some.refusal (λ t. refl) refl why)
+    let visible = list_size (places_of a.members) in
+    let refusal = c.in-Some.refusal in
+    let why = refused-here visible 0 a.unsynced AreTooMany a.members refusal (too-many-here visible a.unsynced a.members refusal) (refused-zero visible AreTooMany a.members refusal c.in-Some.ensures) in
+    ready (entries_of c.args.who c.ops-end.result (Refused refusal ∷ []))
+    (kept-refused c.args.who c.ops-end.result was.kept number c.requires.caller c.ops-end.ensures refusal why)
     refl (scope-same given a.backup refl c.enter.ensures.uuid c.enter.ensures.given) c.enter.ensures.first c.make_room.ensures.items c.enter.ensures.items
     (omega (arith, c.enter.ensures.room, c.in-Ok.ensures.ok)) was.rows_fit was.buffer_fits
 
@@ -42,55 +47,65 @@ pub returns-in-Some-clause-ended : goal.returns-in-Some-clause-ended
 returns-in-Some-clause-ended g c =
     ended-behind (g.B.Bank.tape c.self.inside.bank) c.enter.new.epoch.first c.make_room.new.self.items c.args.who c.ops-end.result [] (Refused c.in-Some.refusal) c.enter.ensures.items c.ops-end.ensures
 
-pub invariant_of-self-then-not-lost : goal.invariant_of-self-then-not-lost
-invariant_of-self-then-not-lost g c =
+pub invariant_of-self-in-Some-refusal : goal.invariant_of-self-in-Some-refusal
+invariant_of-self-in-Some-refusal g c =
     let was = c.self.invariant in
     let a = c.self.inside in
     let given = g.B.Bank.given a.bank in
     let number : c.args.who.number ≡ next_number c.args.who.caller a.epoch.entries.items = c.requires.next ∙ ap (λ p. next_number c.args.who.caller p.entries) (sym c.self.view_is) in
-    let m = c.settle-lost.new.members in
-    let did = c.settle-lost.ensures in
+    let m = c.settle-settled.new.members in
+    let did = c.settle-settled.ensures in
     let before = g.B.Bank.faults_of a.bank in
-    let after = g.B.Bank.faults_of c.settle-lost.new.bank in
-    let roles = c.settle-lost.result.roles in
-    let spares = c.settle-lost.result.spares in
+    let after = g.B.Bank.faults_of c.settle-settled.new.bank in
+    let roles = c.newly_missing-roles.result in
+    let spares = c.settle-settled.result.spares in
     let end = c.ops-end-2.result in
-    ready (entries_of c.args.who end (losses_of roles spares ++ Refused (TooManyMissing (missing_in m) 0) ∷ []))
-    (ready_lost c.args.who end was.kept number c.requires.caller c.ops-end-2.ensures did.moved did.grows roles spares before after did.gone
-    (missing_in m) refl (did.some (flip c.settle-lost.result.begun c.if-not-lost.true)))
-    did.given (scope-same given a.backup did.given c.enter_behind.ensures.uuid c.enter_behind.ensures.given) c.enter_behind.ensures.first c.make_room.ensures.items
-    (c.enter_behind.ensures.items ∙ ap (λ (r : Refusal). c.make_room.new.self.items ++ entries_of c.args.who end (losses_of roles spares ++ Refused r ∷ [])) c.too_many-refusal.ensures)
+    let since = lost-since given a.members m c.shape_in-disks.result.disks c.missing_roles-before.result roles spares before after was.kept.placed did.moved did.failed (ap (λ (s : Shape). s.disks) c.shape_in-disks.ensures)
+    c.missing_roles-before.ensures c.newly_missing-roles.ensures in
+    let refusal = c.in-Some-refusal.refusal in
+    let many = too-many-of m c.settle-settled.result.refusal refusal c.in-Some-refusal.is did.refused in
+    ready (entries_of c.args.who end (losses_of roles spares ++ Refused refusal ∷ []))
+    (degraded-refused c.args.who end was.kept number c.requires.caller c.ops-end-2.ensures did.moved did.grows roles spares before after since refusal
+    (too-many-here (list_size (places_of a.members)) a.unsynced m refusal many) did.others
+    (leaves-refused c.args.who end was.kept number c.requires.caller c.ops-end-2.ensures did.moved did.grows roles spares before after since did.rise did.stays did.safe refusal many))
+    did.given (scope-same given a.backup did.given c.enter_behind.ensures.uuid c.enter_behind.ensures.given) c.enter_behind.ensures.first c.make_room.ensures.items c.enter_behind.ensures.items
     (omega (arith, c.enter_behind.ensures.room, c.in-Ok.ensures.ok)) was.rows_fit was.buffer_fits
 
-pub returns-then-not-lost-clause-held : goal.returns-then-not-lost-clause-held
-returns-then-not-lost-clause-held g c = rw (← c.self.view_is) c.settle-lost.ensures.moved.held
+pub returns-in-Some-refusal-clause-failed : goal.returns-in-Some-refusal-clause-failed
+returns-in-Some-refusal-clause-failed g c = rw (← c.self.view_is) (since-held c.self.inside.members c.settle-settled.new.members c.settle-settled.result.spares
+    (g.B.Bank.faults_of c.self.inside.bank) (g.B.Bank.faults_of c.settle-settled.new.bank) c.settle-settled.ensures.failed)
 
-pub returns-then-not-lost-clause-losses : goal.returns-then-not-lost-clause-losses
-returns-then-not-lost-clause-losses g c =
+pub returns-in-Some-refusal-clause-held : goal.returns-in-Some-refusal-clause-held
+returns-in-Some-refusal-clause-held g c = rw (← c.self.view_is) c.settle-settled.ensures.moved.held
+
+pub returns-in-Some-refusal-clause-losses : goal.returns-in-Some-refusal-clause-losses
+returns-in-Some-refusal-clause-losses g c =
     let was = c.self.invariant in
     let a = c.self.inside in
     let given = g.B.Bank.given a.bank in
     let number : c.args.who.number ≡ next_number c.args.who.caller a.epoch.entries.items = c.requires.next ∙ ap (λ p. next_number c.args.who.caller p.entries) (sym c.self.view_is) in
-    let m = c.settle-lost.new.members in
-    let did = c.settle-lost.ensures in
+    let m = c.settle-settled.new.members in
+    let did = c.settle-settled.ensures in
     let before = g.B.Bank.faults_of a.bank in
-    let after = g.B.Bank.faults_of c.settle-lost.new.bank in
-    let roles = c.settle-lost.result.roles in
-    let spares = c.settle-lost.result.spares in
+    let after = g.B.Bank.faults_of c.settle-settled.new.bank in
+    let roles = c.newly_missing-roles.result in
+    let spares = c.settle-settled.result.spares in
     let end = c.ops-end-2.result in
+    let since = lost-since given a.members m c.shape_in-disks.result.disks c.missing_roles-before.result roles spares before after was.kept.placed did.moved did.failed (ap (λ (s : Shape). s.disks) c.shape_in-disks.ensures)
+    c.missing_roles-before.ensures c.newly_missing-roles.ensures in
     rw (← c.self.view_is) (losses-behind a.members m before after a.epoch.entries.items c.make_room.new.self.items c.enter_behind.new.epoch.entries.items c.args.who end roles spares
-    (Refused c.too_many-refusal.result) did.gone tt c.make_room.ensures.items c.enter_behind.ensures.items)
+    (Refused c.in-Some-refusal.refusal) since tt c.make_room.ensures.items c.enter_behind.ensures.items)
 
-pub returns-then-not-lost-clause-ended : goal.returns-then-not-lost-clause-ended
-returns-then-not-lost-clause-ended g c =
-    ended-behind (g.B.Bank.tape c.settle-lost.new.bank) c.enter_behind.new.epoch.first c.make_room.new.self.items c.args.who c.ops-end-2.result (losses_of c.settle-lost.result.roles c.settle-lost.result.spares)
-    (Refused c.too_many-refusal.result) c.enter_behind.ensures.items c.ops-end-2.ensures
+pub returns-in-Some-refusal-clause-ended : goal.returns-in-Some-refusal-clause-ended
+returns-in-Some-refusal-clause-ended g c =
+    ended-behind (g.B.Bank.tape c.settle-settled.new.bank) c.enter_behind.new.epoch.first c.make_room.new.self.items c.args.who c.ops-end-2.result (losses_of c.newly_missing-roles.result c.settle-settled.result.spares)
+    (Refused c.in-Some-refusal.refusal) c.enter_behind.ensures.items c.ops-end-2.ensures
 
-pub returns-then-not-lost-clause-same : goal.returns-then-not-lost-clause-same
-returns-then-not-lost-clause-same g c =
+pub returns-in-Some-refusal-clause-same : goal.returns-in-Some-refusal-clause-same
+returns-in-Some-refusal-clause-same g c =
     let was = c.self.invariant in
     let a = c.self.inside in
-    let did = c.settle-lost.ensures in
+    let did = c.settle-settled.ensures in
     rw (← c.self.view_is) (record {
       uuid = c.enter_behind.ensures.uuid;
       given = c.enter_behind.ensures.given;
@@ -109,21 +124,47 @@ invariant_of-self-2 g c =
     let a = c.self.inside in
     let given = g.B.Bank.given a.bank in
     let number : c.args.who.number ≡ next_number c.args.who.caller a.epoch.entries.items = c.requires.next ∙ ap (λ p. next_number c.args.who.caller p.entries) (sym c.self.view_is) in
-    let m = c.settle-lost.new.members in
-    let did = c.settle-lost.ensures in
+    let m = c.settle-settled.new.members in
+    let did = c.settle-settled.ensures in
     let before = g.B.Bank.faults_of a.bank in
-    let after = g.B.Bank.faults_of c.settle-lost.new.bank in
-    let roles = c.settle-lost.result.roles in
-    let spares = c.settle-lost.result.spares in
+    let after = g.B.Bank.faults_of c.settle-settled.new.bank in
+    let roles = c.newly_missing-roles.result in
+    let spares = c.settle-settled.result.spares in
     let end = c.ops-end-2.result in
+    let since = lost-since given a.members m c.shape_in-disks.result.disks c.missing_roles-before.result roles spares before after was.kept.placed did.moved did.failed (ap (λ (s : Shape). s.disks) c.shape_in-disks.ensures)
+    c.missing_roles-before.ensures c.newly_missing-roles.ensures in
+    let settles = settles-of c.args.event c.requires.event in
     ready (entries_of c.args.who end (losses_of roles spares ++ c.args.event ∷ []))
-    (ready_settled c.args.who end was.kept number c.requires.caller c.ops-end-2.ensures did.moved did.grows roles spares before after did.gone c.args.event (settles-of c.args.event c.requires.event)
-    did.rows (did.flushed (back c.settle-lost.result.begun c.if-not-lost.false)) (λ t values at room whole none. did.right t (scope_in given a.epoch.uuid a.epoch.given a.backup) values at room whole none))
+    (degraded-settled c.args.who end was.kept number c.requires.caller c.ops-end-2.ensures did.moved did.grows roles spares before after since c.args.event settles did.others
+    (leaves-settled c.args.who end was.kept number c.requires.caller c.ops-end-2.ensures did.moved did.grows roles spares before after since did.rise did.stays did.safe c.args.event settles
+    (did.clean c.in_default-refusal.is) (did.settled c.in_default-refusal.is)))
     did.given (scope-same given a.backup did.given c.enter_behind-2.ensures.uuid c.enter_behind-2.ensures.given) c.enter_behind-2.ensures.first c.make_room.ensures.items c.enter_behind-2.ensures.items
     (omega (arith, c.enter_behind-2.ensures.room, c.in-Ok.ensures.ok)) was.rows_fit was.buffer_fits
 
+pub returns-clause-left : goal.returns-clause-left
+returns-clause-left g c = λ t.
+    let was = c.self.invariant in
+    let a = c.self.inside in
+    let given = g.B.Bank.given a.bank in
+    let number : c.args.who.number ≡ next_number c.args.who.caller a.epoch.entries.items = c.requires.next ∙ ap (λ p. next_number c.args.who.caller p.entries) (sym c.self.view_is) in
+    let m = c.settle-settled.new.members in
+    let did = c.settle-settled.ensures in
+    let before = g.B.Bank.faults_of a.bank in
+    let after = g.B.Bank.faults_of c.settle-settled.new.bank in
+    let roles = c.newly_missing-roles.result in
+    let spares = c.settle-settled.result.spares in
+    let end = c.ops-end-2.result in
+    let since = lost-since given a.members m c.shape_in-disks.result.disks c.missing_roles-before.result roles spares before after was.kept.placed did.moved did.failed (ap (λ (s : Shape). s.disks) c.shape_in-disks.ensures)
+    c.missing_roles-before.ensures c.newly_missing-roles.ensures in
+    let told = told-since a.members m a.epoch.entries.items c.args.who end roles spares (c.args.event ∷ []) before after (limited (shape_of m.newest) did.moved.placed.valid).most did.moved.shape was.kept.told since in
+    let entries_are = c.enter_behind-2.ensures.items ∙ ap (λ (l : List Entry). l ++ entries_of c.args.who end (losses_of roles spares ++ c.args.event ∷ [])) c.make_room.ensures.items in
+    rw (← c.self.view_is) (left-flushed given a.members m c.enter_behind-2.new.epoch.entries.items (g.B.Bank.tape c.settle-settled.new.bank) was.kept.placed did.moved (subst (λ (l : List Entry). AreTold m l) (sym entries_are) told) (did.flushed t))
+
+pub returns-clause-caused : goal.returns-clause-caused
+returns-clause-caused g c = rw (← c.self.view_is) (omega arith, c.in_default.ensures.1)
+
 pub returns-clause-held : goal.returns-clause-held
-returns-clause-held g c = rw (← c.self.view_is) c.settle-lost.ensures.moved.held
+returns-clause-held g c = rw (← c.self.view_is) c.settle-settled.ensures.moved.held
 
 pub returns-clause-losses : goal.returns-clause-losses
 returns-clause-losses g c =
@@ -131,26 +172,28 @@ returns-clause-losses g c =
     let a = c.self.inside in
     let given = g.B.Bank.given a.bank in
     let number : c.args.who.number ≡ next_number c.args.who.caller a.epoch.entries.items = c.requires.next ∙ ap (λ p. next_number c.args.who.caller p.entries) (sym c.self.view_is) in
-    let m = c.settle-lost.new.members in
-    let did = c.settle-lost.ensures in
+    let m = c.settle-settled.new.members in
+    let did = c.settle-settled.ensures in
     let before = g.B.Bank.faults_of a.bank in
-    let after = g.B.Bank.faults_of c.settle-lost.new.bank in
-    let roles = c.settle-lost.result.roles in
-    let spares = c.settle-lost.result.spares in
+    let after = g.B.Bank.faults_of c.settle-settled.new.bank in
+    let roles = c.newly_missing-roles.result in
+    let spares = c.settle-settled.result.spares in
     let end = c.ops-end-2.result in
+    let since = lost-since given a.members m c.shape_in-disks.result.disks c.missing_roles-before.result roles spares before after was.kept.placed did.moved did.failed (ap (λ (s : Shape). s.disks) c.shape_in-disks.ensures)
+    c.missing_roles-before.ensures c.newly_missing-roles.ensures in
     rw (← c.self.view_is) (losses-behind a.members m before after a.epoch.entries.items c.make_room.new.self.items c.enter_behind-2.new.epoch.entries.items c.args.who end roles spares
-    c.args.event did.gone (settling-no-loss a.members before after c.args.event c.requires.event) c.make_room.ensures.items c.enter_behind-2.ensures.items)
+    c.args.event since (settling-no-loss a.members before after c.args.event c.requires.event) c.make_room.ensures.items c.enter_behind-2.ensures.items)
 
 pub returns-clause-ended : goal.returns-clause-ended
 returns-clause-ended g c =
-    ended-behind (g.B.Bank.tape c.settle-lost.new.bank) c.enter_behind-2.new.epoch.first c.make_room.new.self.items c.args.who c.ops-end-2.result (losses_of c.settle-lost.result.roles c.settle-lost.result.spares)
+    ended-behind (g.B.Bank.tape c.settle-settled.new.bank) c.enter_behind-2.new.epoch.first c.make_room.new.self.items c.args.who c.ops-end-2.result (losses_of c.newly_missing-roles.result c.settle-settled.result.spares)
     c.args.event c.enter_behind-2.ensures.items c.ops-end-2.ensures
 
 pub returns-clause-same : goal.returns-clause-same
 returns-clause-same g c =
     let was = c.self.invariant in
     let a = c.self.inside in
-    let did = c.settle-lost.ensures in
+    let did = c.settle-settled.ensures in
     rw (← c.self.view_is) (record {
       uuid = c.enter_behind-2.ensures.uuid;
       given = c.enter_behind-2.ensures.given;

@@ -3,9 +3,9 @@ use Rattle.flat_history.specs.Flat.{next_number}
 use Rattle.flat_history.specs.Plain.{entries_of}
 use Rattle.flat_history.specs.declared.events.Event.TheVariants.{Shown}
 use Rattle.array.specs.Status.{left_of}
-use Rattle.array.proofs.MovedLaws.{moved-same, grows-none}
 use Rattle.array.proofs.LossLaws.{ended-behind}
-use Rattle.array.proofs.ReadyLaws.{ready, ready_shown, scope-same}
+use Rattle.array.proofs.ReadyLaws.{ready, scope-same}
+use Rattle.array.proofs.DegradedLaws.{kept-shown}
 use Rattle.array.proofs.array.Array.status.Goals as goal
 
 pub invariant_of-self-2 : goal.invariant_of-self-2
@@ -16,8 +16,7 @@ invariant_of-self-2 g c =
     let number : c.args.who.number ≡ next_number c.args.who.caller a.epoch.entries.items = c.requires.next ∙ ap (λ p. next_number c.args.who.caller p.entries) (sym c.self.view_is) in
     let steps : c.in-Ok.shown.left ≡ left_of a.unsynced a.members = c.in-Ok.ensures.left ∙ ap (λ p. left_of p.unsynced p.members) (sym c.self.view_is) in
     ready (entries_of c.args.who c.ops-end.result (Shown c.in-Ok.shown ∷ []))
-    (ready_shown c.args.who c.ops-end.result was.kept number c.requires.caller c.ops-end.ensures
-    (moved-same given given a.members a.members refl refl was.kept.placed was.kept.unlost) (grows-none (λ t. refl)) c.in-Ok.shown (λ t. refl) refl steps)
+    (kept-shown c.args.who c.ops-end.result was.kept number c.requires.caller c.ops-end.ensures c.in-Ok.shown steps)
     refl (scope-same given a.backup refl c.enter.ensures.uuid c.enter.ensures.given) c.enter.ensures.first c.make_room.ensures.items c.enter.ensures.items
     (omega (arith, c.enter.ensures.room, c.in-Ok-make_room.ensures.ok)) was.rows_fit was.buffer_fits
 

@@ -1,0 +1,178 @@
+-- What an array keeps that was taken over.
+use Rattle.std.proofs.Common.{◌≡◌, inl, inr, ℕ, ◌+◌, ◌<◌, ◌≤◌, ◌||◌, Bool, true, false, not, Option, None, List, [], ◌∷◌, length, take_all, refl, sym, ◌∙◌, ap, subst, arith}
+use Rattle.std.specs.Prelude.{IfSome}
+use Rattle.md_base.specs.Sectors.{Sector}
+use Rattle.bank.specs.Given.{Given}
+use Rattle.bank.specs.Tape.{IsIn, disk}
+use Rattle.bank.specs.declared.bank.Operation.{Operation}
+use Rattle.superblocks.specs.declared.members.Members.{Members}
+use Rattle.superblocks.specs.Reading.{Scope, shape_of, is_clean, holder, role_state, data_offset_of}
+use Rattle.row_io.specs.Rows.{reading_of, present}
+use Rattle.flat_history.specs.declared.events.Entry.{Entry}
+use Rattle.flat_history.specs.CrashSafe.{IsSafeAt}
+use Rattle.flat_history.specs.Sound.{OpensFit, FillsRight, LeavesSound}
+use Rattle.flat_history.specs.Flat.{now, values_of}
+use Rattle.flat_history.specs.World.{World, opening_list, reading_at}
+use Rattle.flat_history.specs.Plain.{entries_of}
+use Rattle.flat_history.specs.declared.events.Event.{Event}
+use Rattle.flat_history.specs.Growing.{EndBy}
+use Rattle.flat_history.specs.OneShape.{opening_in, is_unsettled, IsOneShapeLegal}
+use Rattle.array.specs.Status.{left_of}
+use Rattle.flat_history.specs.Epochs.{OpensAlike}
+use Rattle.array.specs.Whole.{list_size}
+use Rattle.array.specs.Placed.{places_of}
+use Rattle.array.specs.Views.{AreHeldAllowed, IsViewRight, AreViewsRight}
+use Rattle.array.specs.Steady.{IsSafeOver}
+use Rattle.array.specs.Lacking.{ListStands, RowsStand}
+use Rattle.array.specs.Kept.{world_in, ledger_now, IsReady, IsKept, IsRecorded, IsSafe, AreTold}
+use Rattle.flat_history.specs.Opened.{OpensGood}
+use Rattle.array.specs.Adopting.{opener, found_losses, IsAdoptable}
+use Rattle.layout.specs.Layout.{place}
+use Rattle.layout.proofs.Places.{place-role_below, place-row_below}
+use Rattle.list_io.proofs.FullLaws.{data_here, full-data}
+use Rattle.array.proofs.LackingWrites.{held-in}
+use Rattle.array.proofs.LedgerLaws.{newest-allowed}
+use Rattle.array.proofs.NowLaws.{values-more}
+use Rattle.array.proofs.RecordLaws.{ends-at}
+use Rattle.array.proofs.SafeLaws.{safe-last}
+use Rattle.array.proofs.Since.{since-none}
+use Rattle.array.proofs.SoundViews.{views-are-sound}
+use Rattle.array.proofs.Steady.{safe-is-seen, flushed-is-settled}
+use Rattle.array.proofs.AbsentLaws.{AreAbsent, absents-legal, absents-are, absents-length, absents-limit, absents-left, absents-values, absents-now, absents-end, absents-keep, absents-told}
+
+-- ---- the opening is safe
+
+module _ {tells : Type 0} {given : Given} {tape : List Operation} {scope : Scope} {members : Members} (is : IsAdoptable tells given tape scope members) (t : tells) where
+  abbrev world : World
+  world = world_in given tape scope (length tape)
+
+  abbrev list : List Sector
+  list = opening_list (world_in given tape scope (length tape))
+
+  abbrev size : ℕ
+  size = list_size (places_of members)
+
+  abbrev entries : List Entry
+  entries = entries_of opener (length tape) (found_losses (reading_of members))
+
+  -- each sector may have what the opening found there
+  found-allowed : (x : ℕ) → x < size → IsIn (values_of list entries x) (now list [] x)
+  found-allowed x lt =
+      subst (λ (l : List Sector). IsIn l (now list [] x))
+      (sym (values-more list [] entries x ∙ absents-values opener (length tape) x (values_of list [] x) (found_losses (reading_of members)) (absents-are (reading_of members) (shape_of members.newest).disks)))
+      (newest-allowed (opening_in world) (length tape) list [] tt x (subst (λ (n : ℕ). x < n) (sym (is.opened t)) lt))
+
+  -- and has nothing else
+  found-held : AreHeldAllowed members (values_of list entries) (disk given.start tape)
+  found-held x slot lt held v may =
+      let shape = shape_of members.newest in
+      let role = (place shape x).role in
+      let row = (place shape x).row in
+      let below : row < members.newest.size = place-row_below shape is.placed.valid x members.newest.size is.placed.multiple lt in
+      let behind = is.placed.behind role slot held in
+      let k = data_offset_of (reading_of members) slot + row in
+      let here : present given tape slot k ≡ now list [] x =
+      is.holds t row below role slot (place-role_below shape is.placed.valid x) (data_here shape role row x is.placed.valid refl) (held-in given members is.placed role row slot held below)
+      ∙ full-data shape (now list []) role row x is.placed.valid refl in
+      let only : v ≡ present given tape slot k =
+      alone v (present given tape slot k) (subst (λ (l : List Sector). IsIn l v) (is.flushed t role slot k held (λ e. absurd (omega (arith, behind, e)))) may) in
+      subst (λ (w : Sector). IsIn (values_of list entries x) w) (sym (only ∙ here)) (found-allowed x lt)
+    where
+      alone : (v w : Sector) → IsIn (w ∷ []) v → v ≡ w
+      alone v w (inl same) = same
+      alone v w (inr none) = absurd none
+
+  found-right : IsViewRight (OpensFit world) given size (ledger_now world entries) members (disk given.start tape)
+  found-right = record {
+    placed = is.placed;
+    sized = refl;
+    gone = λ role lt missing. absents-told (reading_of members) opener (length tape) (shape_of members.newest).disks role lt missing;
+    unclean = λ dirty. ap (λ (b : Bool). b || is_unsettled entries) (is.dirty t ∙ ap not dirty);
+    held = found-held;
+    settled = λ clean does fit.
+        flushed-is-settled given members tape (values_of list entries) (now list []) is.placed (is.flushed t)
+        (is.good t (record { clean = is.dirty t ∙ ap not clean; sound = fit.0; whole = fit.1 })) found-allowed;
+  }
+
+  found-safe : OpensAlike world → IsSafeOver world given size (ledger_now world entries) members tape
+  found-safe alike = inl (record { former = members; since = since-none scope members (disk given.start tape) (is.next t alike); right = found-right })
+
+  found-seen : OpensAlike world → AreViewsRight (OpensFit world) scope given size (ledger_now world entries) (disk given.start tape)
+  found-seen alike = safe-is-seen (OpensFit world) scope given size (ledger_now world entries) members tape (found-safe alike)
+
+  pub safe-adopted : FillsRight world entries → OpensAlike world → IsSafe world given size members entries
+  unfolding reading_at
+  safe-adopted fills alike = record {
+    past = λ mark low high.
+        let at : mark ≡ length tape = omega (arith, low, high) in
+        subst (λ (n : ℕ). IsSafeAt world entries n) (sym at)
+        (safe-last world given size entries refl is.sizes_are (ends-at opener (length tape) (found_losses (reading_of members)))
+        (absents-length opener (length tape) (length list) (found_losses (reading_of members)) (absents-are (reading_of members) (shape_of members.newest).disks) ∙ is.opened t)
+        (absents-keep opener (length tape) (found_losses (reading_of members)) (absents-are (reading_of members) (shape_of members.newest).disks)) fills (found-seen alike));
+    sound = λ fit mark low high.
+        let at : mark ≡ length tape = omega (arith, low, high) in
+        subst (λ (n : ℕ). LeavesSound world n) (sym at)
+        (views-are-sound world given (length tape) size (ledger_now world entries) (disk given.start tape) (omega arith)
+        (λ s k v may. subst (λ (l : List Operation). IsIn (disk given.start l s k) v) (take_all (length tape) tape (omega arith)) may) (found-seen alike) fit);
+    now = found-safe alike;
+    counted = λ live. let newest = is.newest t in record { found = newest.0; is = newest.1; events = let few = newest.2 in omega (arith, few) };
+  }
+
+-- ---- what is kept
+
+kept-adopted : {tells : Type 0} {given : Given} {tape : List Operation} {scope : Scope} {members : Members} (first : ℕ) → IsAdoptable tells given tape scope members → (tells → first ≡ length tape)
+    → IsKept tells given tape scope first (entries_of opener first (found_losses (reading_of members))) members (not (is_clean members.newest))
+kept-adopted {tells = tells} {given = given} {tape = tape} {scope = scope} {members = members} first is first_is = record {
+  slots = is.slots;
+  spares = is.spares;
+  placed = is.placed;
+  unlost = is.unlost;
+  told = told;
+  sized = absents-length opener first (list_size (places_of members)) losses are;
+  unlimited = absents-limit opener first None losses are;
+  left = subst (λ (o : Option ℕ). IfSome o (λ n. n ≡ left_of (not (is_clean members.newest)) members)) (sym (absents-left opener first losses are)) tt;
+  recorded = λ t. subst (λ (n : ℕ). IsRecorded (world_in given tape scope n) (list_size (places_of members)) (not (is_clean members.newest)) members (entries_of opener first losses)) (sym (first_is t)) (record {
+    begun = omega arith;
+    opened = is.opened t;
+    tolerated = is.tolerated t;
+    dirty = is.dirty t;
+    legal = λ fills. subst (λ (n : ℕ). IsOneShapeLegal (opening_in (world_in given tape scope (length tape))) (length tape) (entries_of opener n losses)) (sym (first_is t))
+        (absents-legal (opening_in (world_in given tape scope (length tape))) (reading_of members) disks (length tape) (omega arith) (is.absent t));
+    ends = subst (λ (n : ℕ). EndBy (length tape) (entries_of opener n losses)) (sym (first_is t)) (ends-at opener (length tape) losses);
+    ended = absents-end (length tape) opener first losses (sym (first_is t)) ∙ first_is t;
+  });
+  holds = λ t does. subst (λ (l : ℕ → Sector). ListStands members (present given tape) l) (sym (list t)) (is.holds t);
+  good = λ t does opens. subst (λ (l : ℕ → Sector). RowsStand members (present given tape) l) (sym (list t)) (is.good t (subst (λ (n : ℕ). OpensGood (world_in given tape scope n)) (first_is t) opens));
+  sizes_are = is.sizes_are;
+  dirty = λ is. flip (is_clean members.newest) is;
+  unclean = λ dirty. ap (λ (b : Bool). not b || is_unsettled (entries_of opener first losses)) dirty;
+  safe = λ t fills room alike.
+      subst (λ (n : ℕ). FillsRight (world_in given tape scope n) (entries_of opener n losses) → OpensAlike (world_in given tape scope n)
+      → IsSafe (world_in given tape scope n) given (list_size (places_of members)) members (entries_of opener n losses)) (sym (first_is t)) (safe-adopted is t) fills alike;
+}
+  where
+    flip : (b : Bool) → not b ≡ true → b ≡ false
+    flip true e = absurd (cc)
+    flip false e = refl
+
+    disks : ℕ
+    disks = (shape_of members.newest).disks
+
+    losses : List Event
+    losses = found_losses (reading_of members)
+
+    are : AreAbsent losses
+    are = absents-are (reading_of members) disks
+
+    told : AreTold members (entries_of opener first losses)
+    told role lt missing = absents-told (reading_of members) opener first disks role lt missing
+
+    list : tells → now (opening_list (world_in given tape scope first)) (entries_of opener first losses) ≡ now (opening_list (world_in given tape scope (length tape))) []
+    list t = absents-now (opening_list (world_in given tape scope first)) opener first losses are ∙ ap (λ (n : ℕ). now (opening_list (world_in given tape scope n)) []) (first_is t)
+
+pub ready_adopted : {tells : Type 0} {given : Given} {tape : List Operation} {scope : Scope} {first : ℕ} {entries : List Entry} {members : Members} {room rows buffer : ℕ} → IsAdoptable tells given tape scope members
+    → entries ≡ entries_of opener first (found_losses (reading_of members)) → (tells → first ≡ length tape) → 1 ≤ room → 128 ≤ rows → 1048576 ≤ buffer
+    → IsReady tells given tape scope first entries members (not (is_clean members.newest)) room rows buffer
+ready_adopted {tells = tells} {given = given} {tape = tape} {scope = scope} {first = first} {members = members} {room = room} {rows = rows} {buffer = buffer} is entries_are first_is room_left rows_fit buffer_fits =
+    subst (λ (l : List Entry). IsReady tells given tape scope first l members (not (is_clean members.newest)) room rows buffer) (sym entries_are)
+    (record { kept = kept-adopted first is first_is; room_left = room_left; rows_fit = rows_fit; buffer_fits = buffer_fits })

@@ -1,0 +1,636 @@
+-- What an array keeps that may lack members, after a call.
+use Rattle.std.proofs.Common.{◌≡◌, ◌≢◌, ◌⊎◌, inl, inr, ℕ, ◌+◌, ◌-◌, ◌/◌, ◌<◌, ◌≤◌, ◌==◌, ◌||◌, Bool, true, false, cond, not, Option, Some, None, List, [], ◌∷◌, ◌++◌, length, refl, sym, ◌∙◌, ap, subst, arith, length-append, append-nil, append_assoc}
+use Rattle.std.proofs.lemmas.Bool.Decides.{nat_tests}
+use Rattle.std.specs.Prelude.{IsTrue, IsFalse, IfSome, slice_index_or, fold, ⊤}
+use Rattle.std.specs.List.{list_any}
+use Rattle.md_base.specs.Sectors.{Sector, sectors_of}
+use Rattle.md_base.proofs.SectorLaws.{length-sectors_of}
+use Rattle.list_io.specs.Writing.{IsWritten}
+use Rattle.md_base.specs.Shapes.{tolerance, is_valid_shape}
+use Rattle.md_base.specs.declared.places.Shape.{Shape}
+use Rattle.md_base.specs.declared.answers.Who.{Who}
+use Rattle.md_base.specs.declared.status.Status.{Status}
+use Rattle.md_base.specs.declared.answers.Refusal.{Refusal}
+use Rattle.md_base.specs.declared.answers.Refusal.TheVariants.{PastEnd, TooManyMissing, NotResynced, NoSuchRole}
+use Rattle.bank.specs.Given.{Given}
+use Rattle.bank.specs.declared.bank.Operation.{Operation}
+use Rattle.layout.proofs.Limits.{limited}
+use Rattle.layout.proofs.Places.{place-role_below}
+use Rattle.superblocks.specs.declared.members.Members.{Members}
+use Rattle.superblocks.specs.Reading.{Scope, shape_of, is_clean, role_state, holder, is_whole}
+use Rattle.md_base.specs.declared.status.Role.{Role}
+use Rattle.md_base.specs.declared.status.Role.TheVariants.{Whole, Missing}
+use Rattle.row_io.specs.Rows.{reading_of, present, is_missing, missing_count}
+use Rattle.flat_history.specs.declared.events.Entry.{Entry}
+use Rattle.flat_history.specs.declared.events.Event.{Event}
+use Rattle.flat_history.specs.declared.events.Event.TheVariants.{Refused, Read, Wrote, Torn, Lost, SpareLost, Failed, Shown, Halted}
+use Rattle.flat_history.specs.Transfers.{IsReadOver}
+use Rattle.flat_history.specs.declared.events.LostCause.TheVariants.{Fault, Command}
+use Rattle.flat_history.specs.World.{World, opening_list}
+use Rattle.flat_history.specs.Flat.{next_number, now, length_of, visible_of, length_after, limit_after, values_after, values_of}
+use Rattle.flat_history.specs.Growing.{grown}
+use Rattle.flat_history.specs.Plain.{entries_of, loses_role, lost_count}
+use Rattle.flat_history.specs.OneShape.{ShapeOpening, opening_in, is_unsettled, keeps_losses, KeepLosses, IsOneShapeRefusal, AreTooManyLost}
+use Rattle.flat_history.proofs.OneShapeLegal.{opening-grown}
+use Rattle.flat_history.proofs.OneShapeGrowing.{one, IsOneShapeCall, AreFaults, record-grows, call-faults, call-fails, too_many_missing}
+use Rattle.array.specs.Whole.{list_size}
+use Rattle.array.specs.Placed.{places_of, AreWhole, IsPlaced}
+use Rattle.array.specs.Losing.{losses_of}
+use Rattle.array.specs.Moving.{Grows, IsMoved}
+use Rattle.array.specs.Marking.{AreOthersPresent}
+use Rattle.array.specs.Kept.{world_in, ledger_now, AreTold, AreFillsRight, IsRecorded, IsKept, IsSafe}
+use Rattle.flat_history.specs.Opened.{OpensGood}
+use Rattle.array.specs.Status.{left_of}
+use Rattle.flat_history.specs.Epochs.{HasRoomForEvents, OpensAlike}
+use Rattle.flat_history.specs.Legal.{told_left}
+use Rattle.array.specs.Lacking.{AreLostSince, AreTooMany, IsUnread, IsUnwritten, DoesWithout, ListStands, RowsStand}
+use Rattle.array.specs.Calls.{IsRefusedHere, IsRefusedFor}
+use Rattle.array.proofs.SafeLaws.{begun-of, room-before, alike-before, room-now, safe-called}
+use Rattle.array.proofs.LedgerLaws.{told_by, OnlyAdd, add-none, add-one, add-losses, unsettled-still, unsettled-by, none-lost-before, told-more as more-told, told-now, told-unclean, more-safe, newest-allowed, legal-keeps}
+use Rattle.array.proofs.Steady.{safe-is-seen}
+use Rattle.array.specs.Safety.{HasRoomLeft, IsRisen}
+use Rattle.array.specs.Views.{Ledger, AreViewsRight}
+use Rattle.array.specs.Steady.{IsSafeOver, KeepsSafe, AreGoneTold, IsUncleanTold}
+use Rattle.bank.proofs.Marks.{each_mark-along}
+use Rattle.flat_history.specs.Losses.{settles, unsettles}
+use Rattle.flat_history.specs.Sound.{OpensFit, FillsRight}
+use Rattle.flat_history.proofs.SoundLaws.{fit-before}
+use Rattle.flat_history.proofs.OneShapeGone.{keep-both}
+use Rattle.bank.specs.Tape.{IsIn, EachMark, disk}
+use Rattle.array.proofs.ReadyLaws.{Settles, opens-back, opening-later, AreStill, silent-behind, still-behind, kept-legal}
+use Rattle.array.proofs.MovedLaws.{grows-none, moved-same, size-moved, not-whole}
+use Rattle.array.proofs.LeftLaws.{TellLeft, left-more, left-behind, keeps-left}
+use Rattle.array.proofs.ReplyLaws.{IsOfMissing}
+use Rattle.array.proofs.NowLaws.{wrote-is, now-quiet, values-more, length-more, limit-more, visible-is}
+use Rattle.array.proofs.LackingLists.{list-moved, rows-moved, row-sector}
+use Rattle.array.proofs.MadeLaws.{opening-grown as list-grown}
+use Rattle.array.proofs.CallLaws.{AreLossEvents, losses-are, told-losses, last_end-behind, length-losses, limit-losses, values-losses}
+use Rattle.array.proofs.RecordLaws.{AreSilent, ends-call, told-more, any-behind, count-implied}
+
+-- What a call leaves: the array is marked as it was opened and as the history tells, and it is safe.
+pub record LeavesSafe (tells : Type 0) (given : Given) (tape : List Operation) (scope : Scope) (first : ℕ) (entries : List Entry) (members : Members) (unsynced : Bool) : Type 0 where
+  pub dirty : unsynced ≡ true → is_clean members.newest ≡ false
+  pub unclean : is_clean members.newest ≡ false → (unsynced || is_unsettled entries) ≡ true
+  pub safe : tells → FillsRight (world_in given tape scope first) entries → HasRoomForEvents (world_in given tape scope first) → OpensAlike (world_in given tape scope first)
+      → IsSafe (world_in given tape scope first) given (list_size (places_of members)) members entries
+
+-- what names the missing members keeps an array safe
+abbrev pub NamesSafe : Type 0 → Given → Members → Members → List Operation → List Operation → Type 0
+NamesSafe tells given old new before after = tells → (world : World) → (size : ℕ) → (told : Ledger) → HasRoomLeft old before after → AreGoneTold told new → IsUncleanTold told old
+    → IsSafeOver world given size told old before → KeepsSafe world given size told new before after
+
+-- nothing is done
+keeps-still : (world : World) (given : Given) (size : ℕ) (told : Ledger) (members : Members) (tape : List Operation) → IsSafeOver world given size told members tape → KeepsSafe world given size told members tape tape
+keeps-still world given size told members tape safe = record {
+  marks = subst (λ (l : List Operation). EachMark ⊤ given.start tape l (AreViewsRight (OpensFit world) world.scope given size told)) (append-nil tape)
+      (each_mark-along ⊤ given.start tape [] (AreViewsRight (OpensFit world) world.scope given size told) (safe-is-seen (OpensFit world) world.scope given size told members tape safe));
+  next = safe;
+}
+
+risen-still : {tells : Type 0} (m : Members) (tape : List Operation) → IsRisen tells m m tape tape
+risen-still m tape = record { left = λ live. live; events = λ t live. omega arith }
+
+-- ---- the history
+
+pub recorded-after : {size : ℕ} {unsynced : Bool} {old new : Members} {entries : List Entry} (world : World) (ops : List Operation) (who : Who) (inner : List Event) (event : Event)
+    → IsRecorded world size unsynced old entries → (AreWhole new → AreWhole old) → shape_of new.newest ≡ shape_of old.newest → who.number ≡ next_number who.caller entries → IsFalse (who.caller == 254)
+    → (AreFillsRight world unsynced new → IsOneShapeCall (opening_in world) entries who (length (world.tape ++ ops)) (inner ++ event ∷ []))
+    → IsRecorded (grown world ops) size unsynced new (entries ++ entries_of who (length (world.tape ++ ops)) (inner ++ event ∷ []))
+recorded-after {unsynced = unsynced} {old = old} {new = new} {entries = entries} world ops who inner event was whole shape number other call = record {
+  begun = omega (arith, was.begun, longer);
+  opened = ap (λ (l : List Sector). length l) (list-grown world ops was.begun) ∙ was.opened;
+  tolerated = ap (λ (o : ShapeOpening). o.tolerance) (opening-grown world ops was.begun) ∙ was.tolerated ∙ ap (λ (s : Shape). tolerance s) (sym shape);
+  dirty = ap (λ (o : ShapeOpening). o.dirty) (opening-grown world ops was.begun) ∙ was.dirty;
+  legal = λ fills.
+      let right : AreFillsRight world unsynced new = λ synced. elim (fills synced) [ inl is ↦ inl is | inr good ↦ inr (opens-back world ops was.begun good) ] in
+      let before : AreFillsRight world unsynced old = λ synced. elim (right synced) [ inl is ↦ inl (whole is) | inr good ↦ inr good ] in
+      record-grows world ops entries who (inner ++ event ∷ []) was.begun (was.legal before) (omega (arith, was.ended)) number other (call right);
+  ends = ends-call (length world.tape) entries who (length (world.tape ++ ops)) (inner ++ event ∷ []) (omega (arith, longer)) was.ends;
+  ended = last_end-behind world.first entries who (length (world.tape ++ ops)) inner event;
+}
+  where
+    longer : length (world.tape ++ ops) ≡ length world.tape + length ops
+    longer = length-append world.tape ops
+
+-- ---- what is told
+
+-- behind the entries of a call's losses each missing role is told lost
+pub told-since : (old new : Members) (entries : List Entry) (who : Who) (end roles spares : ℕ) (tail : List Event) (before after : ℕ → ℕ) → (shape_of new.newest).disks ≤ 16
+    → shape_of new.newest ≡ shape_of old.newest → AreTold old entries → AreLostSince old new roles spares before after
+    → AreTold new (entries ++ entries_of who end (losses_of roles spares ++ tail))
+told-since old new entries who end roles spares tail before after few shape told since role lt missing = elim (since.missing role lt missing) [
+  | inl was ↦ told-more old entries (entries_of who end (losses_of roles spares ++ tail)) told role (subst (λ (s : Shape). role < s.disks) shape lt) was
+  | inr has ↦ any-behind role entries (entries_of who end (losses_of roles spares ++ tail)) (told-losses role roles spares who end tail (omega (arith, lt, few)) has)
+]
+
+-- a refusal is right by the entries before it
+pub refusal-right : (world : World) (size visible : ℕ) (unsynced : Bool) (m : Members) (before : List Entry) (refusal : Refusal) → (shape_of m.newest).disks ≤ 16
+    → (opening_in world).tolerance ≡ tolerance (shape_of m.newest) → (opening_in world).dirty ≡ unsynced → visible ≡ visible_of (length (opening_list world)) before
+    → AreTold m before → IsRefusedHere visible unsynced m refusal → IsOneShapeRefusal (opening_in world) before refusal
+refusal-right world size visible unsynced m before (PastEnd told) few tolerated dirty seen lost why = why ∙ seen
+refusal-right world size visible unsynced m before (TooManyMissing count most) few tolerated dirty seen lost why =
+    let many = too_many_missing (opening_in world) before (shape_of m.newest).disks (is_missing (reading_of m)) (omega (arith, few)) lost (let above = why.0 in let is = why.1 in let t = why.2 in omega (arith, above, is, t, tolerated)) in
+    record { above = why.0; lost = subst (λ (n : ℕ). n ≤ lost_count before) (sym why.1) many.lost; tolerated = why.2 ∙ sym tolerated }
+refusal-right world size visible unsynced m before (NotResynced role) few tolerated dirty seen lost why = (lost role why.1 why.2, dirty ∙ why.0)
+refusal-right world size visible unsynced m before (NoSuchRole role) few tolerated dirty seen lost why = tt
+refusal-right world size visible unsynced m before refusal few tolerated dirty seen lost why = absurd why
+
+-- ---- members that moved
+
+-- a role that was missing still is
+pub missing-still : (given : Given) (old new : Members) → IsPlaced given old → IsMoved given old new → (role : ℕ) → is_missing (reading_of old) role ≡ true → is_missing (reading_of new) role ≡ true
+missing-still given old new was moved role missing = by (moved.placed.states role)
+  where
+    former : (slot : ℕ) → holder (role_state (reading_of old) role) ≡ Some slot → (role_state (reading_of old) role ≡ Missing) ⊎ ((s : ℕ) × (role_state (reading_of old) role ≡ Whole s)) → is_missing (reading_of new) role ≡ true
+    former slot held (inl none) = absurd (let e : ◌≡◌ {A = Option ℕ} None (Some slot) = sym (ap holder none) ∙ held in cc)
+    former slot held (inr found) = absurd (let e = sym (ap (λ (s : Role). not (is_whole s)) found.1) ∙ missing in cc)
+
+    by : (role_state (reading_of new) role ≡ Missing) ⊎ ((s : ℕ) × (role_state (reading_of new) role ≡ Whole s)) → is_missing (reading_of new) role ≡ true
+    by (inl none) = ap (λ (s : Role). not (is_whole s)) none
+    by (inr found) = former found.0 (moved.held role found.0 (ap holder found.1)) (was.states role)
+
+-- an array that does without those that are missing did so before
+pub without-before : (given : Given) (old new : Members) → IsPlaced given old → IsMoved given old new → DoesWithout new → DoesWithout old
+without-before given old new was moved does =
+    let more : missing_count (reading_of old) (shape_of old.newest) ≤ missing_count (reading_of new) (shape_of old.newest) =
+    count-implied (shape_of old.newest).disks (is_missing (reading_of old)) (is_missing (reading_of new)) (λ role lt missing. missing-still given old new was moved role missing) in
+    let same : missing_count (reading_of new) (shape_of old.newest) ≤ tolerance (shape_of old.newest) = subst (λ (s : Shape). missing_count (reading_of new) s ≤ tolerance s) moved.shape does in
+    omega (arith, more, same)
+
+faults-are : (xs : List Event) → AreLossEvents xs → AreFaults xs
+faults-are [] are = tt
+faults-are (Lost role Fault ∷ xs) are = faults-are xs are
+faults-are (SpareLost slot ∷ xs) are = faults-are xs are
+faults-are (event ∷ xs) are = absurd are
+
+assoc : (xs : List Event) (x y : Event) → xs ++ x ∷ y ∷ [] ≡ (xs ++ x ∷ []) ++ y ∷ []
+assoc xs x y = sym (append_assoc xs (x ∷ []) (y ∷ []))
+
+not_254 : (n : ℕ) → n ≢ 254 → (n == 254) ≡ false
+not_254 n ne = grind (arith, nat_tests, ne)
+
+-- ---- a call
+
+module _ {tells : Type 0} {given : Given} {tape tape' : List Operation} {scope : Scope} {first : ℕ} {entries : List Entry} {members members' : Members} {unsynced : Bool}
+    (who : Who) (end : ℕ) (was : IsKept tells given tape scope first entries members unsynced)
+    (number : who.number ≡ next_number who.caller entries) (caller : who.caller ≢ 254) (at_end : tells → end ≡ length tape')
+    (moved : IsMoved given members members') (grows : Grows tells tape tape') where
+  size-is : list_size (places_of members') ≡ list_size (places_of members)
+  size-is = size-moved given members members' moved
+
+  left-is : left_of unsynced members' ≡ left_of unsynced members
+  left-is = λ i. cond unsynced (moved.size i / (moved.shape i).chunk + 1) 0
+
+  few : (shape_of members'.newest).disks ≤ 16
+  few = (limited (shape_of members'.newest) moved.placed.valid).most
+
+  -- ---- what is safe before it
+
+  fills-here : (all : List Entry) (t : tells) → FillsRight (world_in given tape' scope first) all → FillsRight (world_in given tape scope first) all
+  fills-here all t (inl none) = inl none
+  fills-here all t (inr fit) = inr (fit-before (world_in given tape scope first) (grows.more t).0 (was.recorded t).begun (subst (λ (l : List Operation). OpensFit (world_in given l scope first)) (grows.more t).1 fit))
+
+  fills-before : (added : List Entry) → FillsRight (world_in given tape scope first) (entries ++ added) → FillsRight (world_in given tape scope first) entries
+  fills-before added (inl none) = inl (none-lost-before entries added none)
+  fills-before added (inr fit) = inr fit
+
+  safe-old : (added : List Entry) (t : tells) → FillsRight (world_in given tape' scope first) (entries ++ added) → HasRoomForEvents (world_in given tape' scope first) → OpensAlike (world_in given tape' scope first)
+      → IsSafe (world_in given tape scope first) given (list_size (places_of members)) members entries
+  safe-old added t fills room alike = was.safe t (fills-before added (fills-here (entries ++ added) t fills))
+      (room-before (world_in given tape scope first) (grows.more t).0 (was.recorded t).begun (subst (λ (l : List Operation). HasRoomForEvents (world_in given l scope first)) (grows.more t).1 room))
+      (alike-before (world_in given tape scope first) (grows.more t).0 (was.recorded t).begun (subst (λ (l : List Operation). OpensAlike (world_in given l scope first)) (grows.more t).1 alike))
+
+  room-left : (added : List Entry) (t : tells) → FillsRight (world_in given tape' scope first) (entries ++ added) → HasRoomForEvents (world_in given tape' scope first) → OpensAlike (world_in given tape' scope first)
+      → HasRoomLeft members tape tape'
+  room-left added t fills room alike =
+      subst (λ (l : List Operation). HasRoomLeft members tape l) (sym (grows.more t).1)
+      (room-now (world_in given tape scope first) (grows.more t).0 members (was.recorded t).begun (safe-old added t fills room alike).counted
+      (subst (λ (l : List Operation). HasRoomForEvents (world_in given l scope first)) (grows.more t).1 room))
+
+  -- a flat list's sector may have what it has
+  pub newest-old : (added : List Entry) (t : tells) → FillsRight (world_in given tape scope first) (entries ++ added) → (x : ℕ) → x < list_size (places_of members)
+      → IsIn (values_of (opening_list (world_in given tape scope first)) entries x) (now (opening_list (world_in given tape scope first)) entries x)
+  newest-old added t fills x lt =
+      newest-allowed (opening_in (world_in given tape scope first)) (length tape) (opening_list (world_in given tape scope first)) entries (kept-legal was t (fills-before added fills)) x
+      (subst (λ (n : ℕ). x < n) (sym (was.recorded t).opened) lt)
+
+  -- the rows stand as the list, where it was opened clean and what it found was sound
+  pub rows-old : (t : tells) → DoesWithout members → unsynced ≡ false → OpensFit (world_in given tape scope first) → RowsStand members (present given tape) (now (opening_list (world_in given tape scope first)) entries)
+  rows-old t does synced fit = was.good t does (record { clean = (was.recorded t).dirty ∙ synced; sound = fit.0; whole = fit.1 })
+
+  module _ (early late : List Event) (silent-early : AreSilent who end early) (silent : AreSilent who end (early ++ late)) (adds : OnlyAdd (entries_of who end early)) (keep : KeepLosses (entries_of who end (early ++ late)))
+      (rise : IsRisen tells members members' tape tape') where
+    abbrev pub IsTold : Ledger → Members → List Operation → Type 0
+    IsTold told m l = IsSafeOver (world_in given tape scope first) given (list_size (places_of members)) told m l
+
+    -- A call whose marks are seen right by the history and the first of its entries, and its end by all of them.
+    pub safe-by : ((t : tells) → FillsRight (world_in given tape scope first) (entries ++ entries_of who end (early ++ late)) → HasRoomLeft members tape tape'
+        → IsTold (told_by (world_in given tape scope first) entries (entries_of who end early)) members tape
+        → KeepsSafe (world_in given tape scope first) given (list_size (places_of members)) (told_by (world_in given tape scope first) entries (entries_of who end early)) members' tape tape')
+        → ((t : tells) → FillsRight (world_in given tape scope first) (entries ++ entries_of who end (early ++ late)) → HasRoomLeft members tape tape'
+        → IsTold (told_by (world_in given tape scope first) entries (entries_of who end early)) members tape
+        → IsTold (ledger_now (world_in given tape scope first) (entries ++ entries_of who end (early ++ late))) members' tape')
+        → tells → FillsRight (world_in given tape' scope first) (entries ++ entries_of who end (early ++ late)) → HasRoomForEvents (world_in given tape' scope first) → OpensAlike (world_in given tape' scope first)
+        → IsSafe (world_in given tape' scope first) given (list_size (places_of members')) members' (entries ++ entries_of who end (early ++ late))
+    safe-by stretch last t fills room alike =
+        let world = world_in given tape scope first in
+        let size = list_size (places_of members) in
+        let g = grows.more t in
+        let added = entries_of who end (early ++ late) in
+        let old = safe-old added t fills room alike in
+        let here = fills-here (entries ++ added) t fills in
+        let left = room-left added t fills room alike in
+        let told = told_by world entries (entries_of who end early) in
+        let began = more-safe (OpensFit world) scope given size (ledger_now world entries) told members (disk given.start tape) (more-told world size entries (entries_of who end early) adds) old.now in
+        subst (λ (n : ℕ). IsSafe (world_in given tape' scope first) given n members' (entries ++ added)) (sym size-is)
+        (safe-called given tape scope first size entries members members' who early late g.0 tape' end g.1 (at_end t ∙ ap (λ (l : List Operation). length l) g.1) was.sizes_are (begun-of world (was.recorded t)) old
+        (length-more size entries (entries_of who end early) was.sized (silent-early.length size)) (length-more size entries added was.sized (silent.length size))
+        (keep-both entries added (legal-keeps (opening_in world) (length tape) [] entries (kept-legal was t (fills-before added here))) keep) fills
+        (record { left = rise.left; events = λ u live. rise.events t live }) (stretch t here left began) (last t here left began))
+
+  -- a call that settles nothing
+  module _ (events : List Event) (silent : AreSilent who end events) (adds : OnlyAdd (entries_of who end events)) (rise : IsRisen tells members members' tape tape')
+      (stretch : (t : tells) → FillsRight (world_in given tape scope first) (entries ++ entries_of who end events) → HasRoomLeft members tape tape'
+      → IsSafeOver (world_in given tape scope first) given (list_size (places_of members)) (told_by (world_in given tape scope first) entries (entries_of who end events)) members tape
+      → KeepsSafe (world_in given tape scope first) given (list_size (places_of members)) (told_by (world_in given tape scope first) entries (entries_of who end events)) members' tape tape') where
+    no_more : events ++ [] ≡ events
+    no_more = append-nil events
+
+    safe-adding : tells → FillsRight (world_in given tape' scope first) (entries ++ entries_of who end events) → HasRoomForEvents (world_in given tape' scope first) → OpensAlike (world_in given tape' scope first)
+        → IsSafe (world_in given tape' scope first) given (list_size (places_of members')) members' (entries ++ entries_of who end events)
+    safe-adding t =
+        let world = world_in given tape scope first in
+        let size = list_size (places_of members) in
+        let told = told_by world entries (entries_of who end events) in
+        subst (λ (l : List Event). FillsRight (world_in given tape' scope first) (entries ++ entries_of who end l) → HasRoomForEvents (world_in given tape' scope first) → OpensAlike (world_in given tape' scope first)
+        → IsSafe (world_in given tape' scope first) given (list_size (places_of members')) members' (entries ++ entries_of who end l)) no_more
+        (safe-by events [] silent (subst (AreSilent who end) (sym no_more) silent) adds (subst (λ (l : List Event). KeepLosses (entries_of who end l)) (sym no_more) adds.keep) rise
+        (λ t fills. stretch t (subst (λ (l : List Event). FillsRight world (entries ++ entries_of who end l)) no_more fills))
+        (λ t fills room began. subst (λ (l : List Event). IsSafeOver world given size (ledger_now world (entries ++ entries_of who end l)) members' tape') (sym no_more)
+        (more-safe (OpensFit world) scope given size told (ledger_now world (entries ++ entries_of who end events)) members' (disk given.start tape') (told-now world size entries (entries_of who end events) adds)
+        (stretch t (subst (λ (l : List Event). FillsRight world (entries ++ entries_of who end l)) no_more fills) room began).next)) t)
+
+    -- and leaves the mark as it is
+    pub leaves-alike : is_clean members'.newest ≡ is_clean members.newest → LeavesSafe tells given tape' scope first (entries ++ entries_of who end events) members' unsynced
+    leaves-alike clean = record {
+      dirty = λ is. clean ∙ was.dirty is;
+      unclean = λ is. by unsynced (is_unsettled entries) (was.unclean (sym clean ∙ is)) (unsettled-still entries (entries_of who end events) adds.settles);
+      safe = safe-adding;
+    }
+      where
+        by : (a b : Bool) → (a || b) ≡ true → (b ≡ true → is_unsettled (entries ++ entries_of who end events) ≡ true) → (a || is_unsettled (entries ++ entries_of who end events)) ≡ true
+        by true b is still = refl
+        by false b is still = still is
+
+    -- or tells that a write may be unsettled, where it wasn't opened dirty
+    pub leaves-unsettled : (unsynced ≡ true → is_clean members'.newest ≡ false) → (unsynced ≡ false → list_any (λ e. unsettles e.event) (entries_of who end events) ≡ true)
+        → LeavesSafe tells given tape' scope first (entries ++ entries_of who end events) members' unsynced
+    leaves-unsettled dirty by_one = record {
+      dirty = dirty;
+      unclean = λ is. by unsynced (λ synced. unsettled-by entries (entries_of who end events) adds.settles (by_one synced));
+      safe = safe-adding;
+    }
+      where
+        by : (a : Bool) → (a ≡ false → is_unsettled (entries ++ entries_of who end events) ≡ true) → (a || is_unsettled (entries ++ entries_of who end events)) ≡ true
+        by true is = refl
+        by false is = is refl
+
+  -- a call that names the missing members, and leaves the mark as it is
+  pub leaves-named : (events : List Event) → AreSilent who end events → OnlyAdd (entries_of who end events) → IsRisen tells members members' tape tape' → AreTold members' (entries ++ entries_of who end events)
+      → is_clean members'.newest ≡ is_clean members.newest
+      → NamesSafe tells given members members' tape tape'
+      → LeavesSafe tells given tape' scope first (entries ++ entries_of who end events) members' unsynced
+  leaves-named events silent adds rise told clean named =
+      leaves-alike events silent adds rise
+      (λ t fills room began. named t (world_in given tape scope first) (list_size (places_of members)) (told_by (world_in given tape scope first) entries (entries_of who end events)) room told
+      (λ is. told-unclean (world_in given tape scope first) (list_size (places_of members)) entries (entries_of who end events) adds unsynced (was.recorded t).dirty (was.unclean is)) began) clean
+
+  pub degraded-after : (inner : List Event) (event : Event) → AreSilent who end (inner ++ event ∷ []) → TellLeft (left_of unsynced members) who end (inner ++ event ∷ [])
+      → AreTold members' (entries ++ entries_of who end (inner ++ event ∷ []))
+      → (tells → AreFillsRight (world_in given tape scope first) unsynced members' → IsOneShapeCall (opening_in (world_in given tape scope first)) entries who end (inner ++ event ∷ []))
+      → (tells → DoesWithout members' → ListStands members' (present given tape') (now (opening_list (world_in given tape scope first)) (entries ++ entries_of who end (inner ++ event ∷ []))))
+      → (tells → DoesWithout members' → OpensGood (world_in given tape scope first) → RowsStand members' (present given tape') (now (opening_list (world_in given tape scope first)) (entries ++ entries_of who end (inner ++ event ∷ []))))
+      → LeavesSafe tells given tape' scope first (entries ++ entries_of who end (inner ++ event ∷ [])) members' unsynced
+      → IsKept tells given tape' scope first (entries ++ entries_of who end (inner ++ event ∷ [])) members' unsynced
+  degraded-after inner event silent left told call holds good safe = record {
+    slots = was.slots;
+    spares = moved.spares was.spares;
+    placed = moved.placed;
+    unlost = moved.unlost;
+    told = told;
+    sized = subst (λ (n : ℕ). length_of n (entries ++ entries_of who end (inner ++ event ∷ [])) ≡ n) (sym size-is) (length-more (list_size (places_of members)) entries (entries_of who end (inner ++ event ∷ [])) was.sized (silent.length (list_size (places_of members))));
+    unlimited = limit-more entries (entries_of who end (inner ++ event ∷ [])) was.unlimited silent.limit;
+    left = subst (λ (steps : ℕ). IfSome (told_left (entries ++ entries_of who end (inner ++ event ∷ []))) (λ n. n ≡ steps)) (sym left-is) (left-more (left_of unsynced members) entries who end (inner ++ event ∷ []) was.left left);
+    recorded = recorded;
+    holds = λ t does. subst (λ (l : List Sector). ListStands members' (present given tape') (now l (entries ++ entries_of who end (inner ++ event ∷ []))))
+        (sym (opening-later given scope first grows (λ u. (was.recorded u).begun) t)) (holds t does);
+    good = λ t does opens. subst (λ (l : List Sector). RowsStand members' (present given tape') (now l (entries ++ entries_of who end (inner ++ event ∷ []))))
+        (sym (opening-later given scope first grows (λ u. (was.recorded u).begun) t))
+        (good t does (opens-back (world_in given tape scope first) (grows.more t).0 (was.recorded t).begun (subst (λ (l : List Operation). OpensGood (world_in given l scope first)) (grows.more t).1 opens)));
+    sizes_are = was.sizes_are;
+    dirty = safe.dirty;
+    unclean = safe.unclean;
+    safe = safe.safe;
+  }
+    where
+      recorded : tells → IsRecorded (world_in given tape' scope first) (list_size (places_of members')) unsynced members' (entries ++ entries_of who end (inner ++ event ∷ []))
+      recorded t =
+          let g = grows.more t in
+          let end_is : end ≡ length (tape ++ g.0) = at_end t ∙ ap (λ (l : List Operation). length l) g.1 in
+          subst (λ (n : ℕ). IsRecorded (world_in given tape' scope first) n unsynced members' (entries ++ entries_of who end (inner ++ event ∷ []))) (sym size-is)
+          (subst (λ (l : List Operation). IsRecorded (world_in given l scope first) (list_size (places_of members)) unsynced members' (entries ++ entries_of who end (inner ++ event ∷ []))) (sym g.1)
+          (subst (λ (n : ℕ). IsRecorded (grown (world_in given tape scope first) g.0) (list_size (places_of members)) unsynced members' (entries ++ entries_of who n (inner ++ event ∷ []))) (sym end_is)
+          (recorded-after (world_in given tape scope first) g.0 who inner event (was.recorded t) moved.whole moved.shape number (not_254 who.caller caller)
+          (λ fills. subst (λ (n : ℕ). IsOneShapeCall (opening_in (world_in given tape scope first)) entries who n (inner ++ event ∷ [])) end_is (call t fills)))))
+
+  -- a call that leaves the list and what the members have of it
+  pub degraded-quiet : (inner : List Event) (event : Event) → AreSilent who end (inner ++ event ∷ []) → TellLeft (left_of unsynced members) who end (inner ++ event ∷ []) → AreStill who end (inner ++ event ∷ [])
+      → AreTold members' (entries ++ entries_of who end (inner ++ event ∷ []))
+      → (tells → AreFillsRight (world_in given tape scope first) unsynced members' → IsOneShapeCall (opening_in (world_in given tape scope first)) entries who end (inner ++ event ∷ []))
+      → (tells → AreOthersPresent (present given tape) (present given tape'))
+      → LeavesSafe tells given tape' scope first (entries ++ entries_of who end (inner ++ event ∷ [])) members' unsynced
+      → IsKept tells given tape' scope first (entries ++ entries_of who end (inner ++ event ∷ [])) members' unsynced
+  degraded-quiet inner event silent left still told call others safe =
+      degraded-after inner event silent left told call
+      (λ t does. subst (λ (l : ℕ → Sector). ListStands members' (present given tape') l) (sym (same t))
+      (list-moved given members members' (present given tape) (present given tape') (now (opening_list (world_in given tape scope first)) entries) moved was.placed (others t)
+      (was.holds t (without-before given members members' was.placed moved does))))
+      (λ t does opens. subst (λ (l : ℕ → Sector). RowsStand members' (present given tape') l) (sym (same t))
+      (rows-moved given members members' (present given tape) (present given tape') (now (opening_list (world_in given tape scope first)) entries) moved was.placed (others t)
+      (was.good t (without-before given members members' was.placed moved does) opens)))
+      safe
+    where
+      same : tells → now (opening_list (world_in given tape scope first)) (entries ++ entries_of who end (inner ++ event ∷ [])) ≡ now (opening_list (world_in given tape scope first)) entries
+      same t = λ i x. now-quiet (opening_list (world_in given tape scope first)) entries (entries_of who end (inner ++ event ∷ [])) x (λ values. still x values) i
+
+  module _ (roles spares : ℕ) (before after : ℕ → ℕ) (since : AreLostSince members members' roles spares before after) where
+    pub told-behind : (tail : List Event) → AreTold members' (entries ++ entries_of who end (losses_of roles spares ++ tail))
+    told-behind tail = told-since members members' entries who end roles spares tail before after few moved.shape was.told since
+
+    pub told-alone : AreTold members' (entries ++ entries_of who end (losses_of roles spares))
+    told-alone = subst (λ (l : List Event). AreTold members' (entries ++ entries_of who end l)) (append-nil (losses_of roles spares)) (told-behind [])
+
+    -- the losses leave all of the list visible
+    seen-behind : tells → visible_of (length (opening_list (world_in given tape scope first))) (entries ++ entries_of who end (losses_of roles spares)) ≡ list_size (places_of members)
+    seen-behind t =
+        let n = list_size (places_of members) in
+        let long : (m : ℕ) → fold (λ m e. length_after m e.event) m (entries_of who end (losses_of roles spares)) ≡ m = λ m.
+        subst (λ (l : List Event). fold (λ m e. length_after m e.event) m (entries_of who end l) ≡ m) (append-nil (losses_of roles spares)) (length-losses who end (losses_of roles spares) [] (losses-are roles spares) m) in
+        let limit : fold (λ (limit : Option ℕ) e. limit_after limit e.event) None (entries_of who end (losses_of roles spares)) ≡ None =
+        subst (λ (l : List Event). fold (λ (limit : Option ℕ) e. limit_after limit e.event) None (entries_of who end l) ≡ None) (append-nil (losses_of roles spares)) (limit-losses who end (losses_of roles spares) [] (losses-are roles spares) None) in
+        ap (λ (k : ℕ). visible_of k (entries ++ entries_of who end (losses_of roles spares))) (was.recorded t).opened
+        ∙ visible-is n (entries ++ entries_of who end (losses_of roles spares)) (length-more n entries (entries_of who end (losses_of roles spares)) was.sized (long n))
+        (limit-more entries (entries_of who end (losses_of roles spares)) was.unlimited limit)
+
+    -- and what it holds
+    held-behind : (list : List Sector) (x : ℕ) → now list (entries ++ entries_of who end (losses_of roles spares)) x ≡ now list entries x
+    held-behind list x = now-quiet list entries (entries_of who end (losses_of roles spares)) x (λ values.
+        ap (λ (l : List Sector). slice_index_or l 0 [])
+        (subst (λ (l : List Event). fold (λ values e. values_after x values e.event) values (entries_of who end l) ≡ values) (append-nil (losses_of roles spares)) (values-losses who end (losses_of roles spares) [] (losses-are roles spares) x values)))
+
+    -- an event behind the losses of a call that names the missing members, and leaves the mark as it is
+    pub leaves-behind : (event : Event) → AreSilent who end (event ∷ []) → ((x : ℕ) (values : List Sector) (v : Sector) → IsIn values v → IsIn (values_after x values event) v) → settles event ≡ false → keeps_losses event ≡ true
+        → IsRisen tells members members' tape tape' → is_clean members'.newest ≡ is_clean members.newest
+        → NamesSafe tells given members members' tape tape'
+        → LeavesSafe tells given tape' scope first (entries ++ entries_of who end (losses_of roles spares ++ event ∷ [])) members' unsynced
+    leaves-behind event silent adds settles keeps rise clean named =
+        leaves-named (losses_of roles spares ++ event ∷ []) (silent-behind who end (losses_of roles spares) event (losses-are roles spares) silent)
+        (add-losses who end (losses_of roles spares) (event ∷ []) (losses-are roles spares) (add-one (one who end event) [] adds settles keeps add-none)) rise (told-behind (event ∷ [])) clean named
+
+    -- after a refusal behind the losses
+    pub degraded-refused : (refusal : Refusal) → IsRefusedHere (list_size (places_of members)) unsynced members' refusal → (tells → AreOthersPresent (present given tape) (present given tape'))
+        → LeavesSafe tells given tape' scope first (entries ++ entries_of who end (losses_of roles spares ++ Refused refusal ∷ [])) members' unsynced
+        → IsKept tells given tape' scope first (entries ++ entries_of who end (losses_of roles spares ++ Refused refusal ∷ [])) members' unsynced
+    degraded-refused refusal why others safe =
+        degraded-quiet (losses_of roles spares) (Refused refusal)
+        (silent-behind who end (losses_of roles spares) (Refused refusal) (losses-are roles spares) (record { length = λ n. refl; limit = refl }))
+        (left-behind (left_of unsynced members) who end (losses_of roles spares) (Refused refusal ∷ []) (losses-are roles spares) (λ left is. is))
+        (still-behind who end (losses_of roles spares) (Refused refusal) (losses-are roles spares) (λ x values. refl))
+        (told-behind (Refused refusal ∷ []))
+        (λ t fills. call-faults (opening_in (world_in given tape scope first)) entries who end (losses_of roles spares) (Refused refusal ∷ []) (faults-are (losses_of roles spares) (losses-are roles spares)) (
+          refusal-right (world_in given tape scope first) 0 (list_size (places_of members)) unsynced members' (entries ++ entries_of who end (losses_of roles spares)) refusal few
+              ((was.recorded t).tolerated ∙ ap (λ (s : Shape). tolerance s) (sym moved.shape)) (was.recorded t).dirty (sym (seen-behind t)) told-alone why,
+          tt,
+          tt,
+        ))
+        others safe
+
+    -- after a read behind the losses
+    pub degraded-read : (at : ℕ) (body : List Sector) → (tells → AreFillsRight (world_in given tape scope first) unsynced members' → IsReadOver (opening_list (world_in given tape scope first)) entries at body)
+        → (tells → AreOthersPresent (present given tape) (present given tape'))
+        → LeavesSafe tells given tape' scope first (entries ++ entries_of who end (losses_of roles spares ++ Read at body ∷ [])) members' unsynced
+        → IsKept tells given tape' scope first (entries ++ entries_of who end (losses_of roles spares ++ Read at body ∷ [])) members' unsynced
+    degraded-read at body read others safe =
+        degraded-quiet (losses_of roles spares) (Read at body)
+        (silent-behind who end (losses_of roles spares) (Read at body) (losses-are roles spares) (record { length = λ n. refl; limit = refl }))
+        (left-behind (left_of unsynced members) who end (losses_of roles spares) (Read at body ∷ []) (losses-are roles spares) (λ left is. is))
+        (still-behind who end (losses_of roles spares) (Read at body) (losses-are roles spares) (λ x values. refl))
+        (told-behind (Read at body ∷ []))
+        (λ t fills.
+        let had = read t fills in
+        let list = opening_list (world_in given tape scope first) in
+        let seen : visible_of (length list) entries ≡ list_size (places_of members) = ap (λ (k : ℕ). visible_of k entries) (was.recorded t).opened ∙ visible-is (list_size (places_of members)) entries was.sized was.unlimited in
+        let same : visible_of (length list) entries ≡ visible_of (length list) (entries ++ entries_of who end (losses_of roles spares)) = seen ∙ sym (seen-behind t) in
+        call-faults (opening_in (world_in given tape scope first)) entries who end (losses_of roles spares) (Read at body ∷ []) (faults-are (losses_of roles spares) (losses-are roles spares))
+        (record { within = subst (λ (n : ℕ). at + length body ≤ n) same had.within; holds = λ i lt. had.holds i lt ∙ sym (held-behind list (at + i)) }, tt, tt))
+        others safe
+
+    -- after a flush or a stop behind the losses
+    pub degraded-settled : (event : Event) → Settles event → (tells → AreOthersPresent (present given tape) (present given tape'))
+        → LeavesSafe tells given tape' scope first (entries ++ entries_of who end (losses_of roles spares ++ event ∷ [])) members' unsynced
+        → IsKept tells given tape' scope first (entries ++ entries_of who end (losses_of roles spares ++ event ∷ [])) members' unsynced
+    degraded-settled event settles others safe =
+        degraded-quiet (losses_of roles spares) event
+        (silent-behind who end (losses_of roles spares) event (losses-are roles spares) (settles.silent who end))
+        (left-behind (left_of unsynced members) who end (losses_of roles spares) (event ∷ []) (losses-are roles spares) (settles.left (left_of unsynced members) who end))
+        (still-behind who end (losses_of roles spares) event (losses-are roles spares) (settles.still who end))
+        (told-behind (event ∷ []))
+        (λ t fills. call-faults (opening_in (world_in given tape scope first)) entries who end (losses_of roles spares) (event ∷ []) (faults-are (losses_of roles spares) (losses-are roles spares))
+        (settles.call (opening_in (world_in given tape scope first)) (entries ++ entries_of who end (losses_of roles spares)) who end))
+        others safe
+
+    -- after a write behind the losses
+    pub degraded-wrote : (at : ℕ) (from : List ℕ) → at + length from / 512 ≤ list_size (places_of members)
+        → (tells → (list list' : ℕ → Sector) → IsWritten list list' at from → ListStands members (present given tape) list → ListStands members' (present given tape') list')
+        → (tells → (list list' : ℕ → Sector) → IsWritten list list' at from → RowsStand members (present given tape) list → RowsStand members' (present given tape') list')
+        → LeavesSafe tells given tape' scope first (entries ++ entries_of who end (losses_of roles spares ++ Wrote at (sectors_of from) ∷ [])) members' unsynced
+        → IsKept tells given tape' scope first (entries ++ entries_of who end (losses_of roles spares ++ Wrote at (sectors_of from) ∷ [])) members' unsynced
+    degraded-wrote at from within put good safe =
+        degraded-after (losses_of roles spares) (Wrote at (sectors_of from))
+        (silent-behind who end (losses_of roles spares) (Wrote at (sectors_of from)) (losses-are roles spares) (record { length = λ n. refl; limit = refl }))
+        (left-behind (left_of unsynced members) who end (losses_of roles spares) (Wrote at (sectors_of from) ∷ []) (losses-are roles spares) (λ left is. is))
+        (told-behind (Wrote at (sectors_of from) ∷ []))
+        (λ t fills. call-faults (opening_in (world_in given tape scope first)) entries who end (losses_of roles spares) (Wrote at (sectors_of from) ∷ []) (faults-are (losses_of roles spares) (losses-are roles spares))
+        (let all = seen-behind t in let n = length-sectors_of from in omega (arith, within, all, n), tt, tt))
+        (λ t does. put t (now (opening_list (world_in given tape scope first)) entries) (now (opening_list (world_in given tape scope first)) (entries ++ entries_of who end (losses_of roles spares ++ Wrote at (sectors_of from) ∷ [])))
+        (written t) (was.holds t (without-before given members members' was.placed moved does)))
+        (λ t does opens. good t (now (opening_list (world_in given tape scope first)) entries) (now (opening_list (world_in given tape scope first)) (entries ++ entries_of who end (losses_of roles spares ++ Wrote at (sectors_of from) ∷ [])))
+        (written t) (was.good t (without-before given members members' was.placed moved does) opens))
+        safe
+      where
+        written : tells → IsWritten (now (opening_list (world_in given tape scope first)) entries)
+            (now (opening_list (world_in given tape scope first)) (entries ++ entries_of who end (losses_of roles spares ++ Wrote at (sectors_of from) ∷ []))) at from
+        written t =
+            let w = wrote-is (opening_list (world_in given tape scope first)) entries who end (losses_of roles spares) at from (losses-are roles spares) in
+            record { here = λ x low high. w.here x low high ∙ sym (row-sector from (x - at)); other = w.other }
+
+    -- after a write that was torn, behind the losses: more are missing than the array can do without
+    pub degraded-torn : (at : ℕ) (body : List Sector) (count most : ℕ) → at + length body ≤ list_size (places_of members) → IsRefusedHere (list_size (places_of members)) unsynced members' (TooManyMissing count most)
+        → LeavesSafe tells given tape' scope first (entries ++ entries_of who end ((losses_of roles spares ++ Torn at body ∷ []) ++ Refused (TooManyMissing count most) ∷ [])) members' unsynced
+        → IsKept tells given tape' scope first (entries ++ entries_of who end ((losses_of roles spares ++ Torn at body ∷ []) ++ Refused (TooManyMissing count most) ∷ [])) members' unsynced
+    degraded-torn at body count most within why safe =
+        degraded-after (losses_of roles spares ++ Torn at body ∷ []) (Refused (TooManyMissing count most))
+        (subst (λ (l : List Event). AreSilent who end l) (assoc (losses_of roles spares) (Torn at body) (Refused (TooManyMissing count most)))
+        (record {
+          length = λ n. length-losses who end (losses_of roles spares) (Torn at body ∷ Refused (TooManyMissing count most) ∷ []) (losses-are roles spares) n;
+          limit = limit-losses who end (losses_of roles spares) (Torn at body ∷ Refused (TooManyMissing count most) ∷ []) (losses-are roles spares) None;
+        }))
+        (subst (λ (l : List Event). TellLeft (left_of unsynced members) who end l) (assoc (losses_of roles spares) (Torn at body) (Refused (TooManyMissing count most)))
+        (left-behind (left_of unsynced members) who end (losses_of roles spares) (Torn at body ∷ Refused (TooManyMissing count most) ∷ []) (losses-are roles spares) (λ left is. is)))
+        (subst (λ (l : List Event). AreTold members' (entries ++ entries_of who end l)) (assoc (losses_of roles spares) (Torn at body) (Refused (TooManyMissing count most)))
+        (told-behind (Torn at body ∷ Refused (TooManyMissing count most) ∷ [])))
+        (λ t fills. subst (λ (l : List Event). IsOneShapeCall (opening_in (world_in given tape scope first)) entries who end l) (assoc (losses_of roles spares) (Torn at body) (Refused (TooManyMissing count most)))
+        (call-faults (opening_in (world_in given tape scope first)) entries who end (losses_of roles spares) (Torn at body ∷ Refused (TooManyMissing count most) ∷ []) (faults-are (losses_of roles spares) (losses-are roles spares)) (
+          record { within = let all = seen-behind t in omega (arith, within, all); refused = tt },
+          tt,
+          (refused t, tt, tt),
+        )))
+        (λ t does. absurd (too-many does))
+        (λ t does opens. absurd (too-many does))
+        safe
+      where
+        too-many : DoesWithout members' → ⊥
+        too-many does = absurd (let above = why.0 in let is = why.1 in let n = why.2 in omega (arith, does, above, is, n))
+
+        refused : tells → AreTooManyLost (opening_in (world_in given tape scope first)) ((entries ++ entries_of who end (losses_of roles spares)) ++ one who end (Torn at body) ∷ []) count most
+        refused t = refusal-right (world_in given tape scope first) 0 (visible_of (length (opening_list (world_in given tape scope first))) ((entries ++ entries_of who end (losses_of roles spares)) ++ one who end (Torn at body) ∷ [])) unsynced members'
+            ((entries ++ entries_of who end (losses_of roles spares)) ++ one who end (Torn at body) ∷ []) (TooManyMissing count most) few
+            ((was.recorded t).tolerated ∙ ap (λ (s : Shape). tolerance s) (sym moved.shape)) (was.recorded t).dirty refl
+            (told-more members' (entries ++ entries_of who end (losses_of roles spares)) (one who end (Torn at body) ∷ []) told-alone) why
+
+  -- after a role was failed by command: its slot is taken out first, and others may be lost in the update that names it
+  module _ (role : ℕ) (mid : Members) (roles spares : ℕ) (before after : ℕ → ℕ) (same : shape_of members'.newest ≡ shape_of mid.newest)
+      (out : (other : ℕ) → is_missing (reading_of mid) other ≡ true → (is_missing (reading_of members) other ≡ true) ⊎ (other ≡ role))
+      (since : AreLostSince mid members' roles spares before after) where
+    told-failed : AreTold members' (entries ++ entries_of who end (Lost role Command ∷ (losses_of roles spares ++ Failed role ∷ [])))
+    told-failed other lt missing = elim (since.missing other lt missing) [
+      | inr has ↦ any-behind other entries (entries_of who end (Lost role Command ∷ (losses_of roles spares ++ Failed role ∷ [])))
+          (behind (loses_role other (Lost role Command)) (list_any (λ e. loses_role other e.event) (entries_of who end (losses_of roles spares ++ Failed role ∷ [])))
+          (told-losses other roles spares who end (Failed role ∷ []) (omega (arith, lt, few)) has))
+      | inl was_missing ↦ elim (out other was_missing) [
+        | inl former ↦ told-more members entries (entries_of who end (Lost role Command ∷ (losses_of roles spares ++ Failed role ∷ []))) was.told other (subst (λ (s : Shape). other < s.disks) moved.shape lt) former
+        | inr own ↦ any-behind other entries (entries_of who end (Lost role Command ∷ (losses_of roles spares ++ Failed role ∷ [])))
+            (itself other (list_any (λ e. loses_role other e.event) (entries_of who end (losses_of roles spares ++ Failed role ∷ []))) own)
+      ]
+    ]
+      where
+        behind : (a b : Bool) → b ≡ true → (a || b) ≡ true
+        behind true b e = refl
+        behind false b e = e
+
+        itself : (n : ℕ) (b : Bool) → n ≡ role → ((role == n) || b) ≡ true
+        itself n b e = grind (arith, nat_tests, e)
+
+    pub leaves-failed : IsRisen tells members members' tape tape' → is_clean members'.newest ≡ is_clean members.newest → NamesSafe tells given members members' tape tape'
+        → LeavesSafe tells given tape' scope first (entries ++ entries_of who end ((Lost role Command ∷ losses_of roles spares) ++ Failed role ∷ [])) members' unsynced
+    leaves-failed rise clean named =
+        leaves-named ((Lost role Command ∷ losses_of roles spares) ++ Failed role ∷ [])
+        (record {
+          length = λ n. length-losses who end (losses_of roles spares) (Failed role ∷ []) (losses-are roles spares) n;
+          limit = limit-losses who end (losses_of roles spares) (Failed role ∷ []) (losses-are roles spares) None;
+        })
+        (add-one (one who end (Lost role Command)) (entries_of who end (losses_of roles spares ++ Failed role ∷ [])) (λ x values v may. may) refl refl
+        (add-losses who end (losses_of roles spares) (Failed role ∷ []) (losses-are roles spares) (add-one (one who end (Failed role)) [] (λ x values v may. may) refl refl add-none)))
+        rise told-failed clean named
+
+    pub degraded-failed : (tells → AreOthersPresent (present given tape) (present given tape'))
+        → LeavesSafe tells given tape' scope first (entries ++ entries_of who end ((Lost role Command ∷ losses_of roles spares) ++ Failed role ∷ [])) members' unsynced
+        → IsKept tells given tape' scope first (entries ++ entries_of who end ((Lost role Command ∷ losses_of roles spares) ++ Failed role ∷ [])) members' unsynced
+    degraded-failed others safe =
+        degraded-quiet (Lost role Command ∷ losses_of roles spares) (Failed role)
+        (record {
+          length = λ n. length-losses who end (losses_of roles spares) (Failed role ∷ []) (losses-are roles spares) n;
+          limit = limit-losses who end (losses_of roles spares) (Failed role ∷ []) (losses-are roles spares) None;
+        })
+        (λ left is. left-behind (left_of unsynced members) who end (losses_of roles spares) (Failed role ∷ []) (losses-are roles spares) (λ left is. is) None tt)
+        (λ x values. still-behind who end (losses_of roles spares) (Failed role) (losses-are roles spares) (λ x values. refl) x values)
+        told-failed
+        (λ t fills. call-fails (opening_in (world_in given tape scope first)) entries who end role [] (losses_of roles spares) tt (faults-are (losses_of roles spares) (losses-are roles spares)))
+        others safe
+
+-- ---- a call that leaves the members and the bank
+
+module _ {tells : Type 0} {given : Given} {tape : List Operation} {scope : Scope} {first : ℕ} {entries : List Entry} {members : Members} {unsynced : Bool}
+    (who : Who) (end : ℕ) (was : IsKept tells given tape scope first entries members unsynced)
+    (number : who.number ≡ next_number who.caller entries) (caller : who.caller ≢ 254) (at_end : tells → end ≡ length tape) where
+  -- where its event leaves what each sector may hold
+  kept-alone : (event : Event) → AreSilent who end (event ∷ []) → TellLeft (left_of unsynced members) who end (event ∷ [])
+      → ((x : ℕ) (values : List Sector) → fold (λ values e. values_after x values e.event) values (entries_of who end (event ∷ [])) ≡ values)
+      → ((x : ℕ) (values : List Sector) (v : Sector) → IsIn values v → IsIn (values_after x values event) v) → settles event ≡ false → keeps_losses event ≡ true
+      → (tells → IsOneShapeCall (opening_in (world_in given tape scope first)) entries who end (event ∷ []))
+      → IsKept tells given tape scope first (entries ++ entries_of who end (event ∷ [])) members unsynced
+  kept-alone event silent left still adds settles keeps call =
+      let moved = moved-same given given members members refl refl was.placed was.unlost in
+      let grows : Grows tells tape tape = grows-none (λ t. refl) in
+      degraded-quiet who end was number caller at_end moved grows [] event silent left (λ x values. ap (λ (l : List Sector). slice_index_or l 0 []) (still x values))
+      (told-more members entries (entries_of who end (event ∷ [])) was.told) (λ t fills. call t) (λ t s k apart. refl)
+      (leaves-named who end was number caller at_end moved grows (event ∷ []) silent (add-one (one who end event) [] adds settles keeps add-none) (risen-still members tape)
+      (told-more members entries (entries_of who end (event ∷ [])) was.told) refl
+      (λ t world size told room gone unclean safe. keeps-still world given size told members tape safe))
+
+  -- all of the list is visible
+  seen-before : tells → visible_of (length (opening_list (world_in given tape scope first))) entries ≡ list_size (places_of members)
+  seen-before t = ap (λ (k : ℕ). visible_of k entries) (was.recorded t).opened ∙ visible-is (list_size (places_of members)) entries was.sized was.unlimited
+
+  pub kept-refused : (refusal : Refusal) → IsRefusedHere (list_size (places_of members)) unsynced members refusal → IsKept tells given tape scope first (entries ++ entries_of who end (Refused refusal ∷ [])) members unsynced
+  kept-refused refusal why =
+      kept-alone (Refused refusal) (record { length = λ n. refl; limit = refl }) (λ left is. is) (λ x values. refl) (λ x values v may. may) refl refl
+      (λ t. (
+        refusal-right (world_in given tape scope first) 0 (list_size (places_of members)) unsynced members entries refusal (limited (shape_of members.newest) was.placed.valid).most
+            (was.recorded t).tolerated (was.recorded t).dirty (sym (seen-before t)) was.told why,
+        tt,
+        tt,
+      ))
+
+  -- after what it tells of itself
+  pub kept-shown : (status : Status) → status.left ≡ left_of unsynced members → IsKept tells given tape scope first (entries ++ entries_of who end (Shown status ∷ [])) members unsynced
+  kept-shown status steps =
+      kept-alone (Shown status) (record { length = λ n. refl; limit = refl }) (λ left is. steps) (λ x values. refl) (λ x values v may. may) refl refl
+      (λ t. (keeps-left (left_of unsynced members) entries (one who end (Shown status)) [] status.left was.left steps, tt, tt))
+
+  -- after its end
+  pub kept-halted : IsKept tells given tape scope first (entries ++ entries_of who end (Halted ∷ [])) members unsynced
+  kept-halted = kept-alone Halted (record { length = λ n. refl; limit = refl }) (λ left is. is) (λ x values. refl) (λ x values v may. may) refl refl (λ t. (tt, tt, tt))
+
+-- ---- why calls are refused
+
+pub too-many-here : (visible : ℕ) (unsynced : Bool) (m : Members) (refusal : Refusal) → AreTooMany m refusal → IsRefusedHere visible unsynced m refusal
+too-many-here visible unsynced m refusal many = subst (IsRefusedHere visible unsynced m) (sym many.told) (many.above, refl, refl)
+
+dirty-of : (unsynced synced : Bool) → synced ≡ not unsynced → synced ≡ false → unsynced ≡ true
+dirty-of true synced same e = refl
+dirty-of false synced same e = absurd (let no = sym same ∙ e in cc)
+
+pub unread-here : (visible at count : ℕ) (unsynced synced : Bool) (m : Members) (refusal : Refusal) → IsTrue (is_valid_shape (shape_of m.newest)) → synced ≡ not unsynced → IsUnread synced at count m refusal
+    → IsRefusedHere visible unsynced m refusal
+unread-here visible at count unsynced synced m refusal valid same (inl many) = too-many-here visible unsynced m refusal many
+unread-here visible at count unsynced synced m refusal valid same (inr found) = subst (IsRefusedHere visible unsynced m) (sym found.1)
+    (dirty-of unsynced synced same found.2, subst (λ (r : ℕ). r < (shape_of m.newest).disks) found.4.3 (place-role_below (shape_of m.newest) valid found.4.0), found.3)
+
+pub unwritten-here : (visible : ℕ) (unsynced synced : Bool) (m : Members) (refusal : Refusal) → synced ≡ not unsynced → IsUnwritten synced m refusal → IsRefusedHere visible unsynced m refusal
+unwritten-here visible unsynced synced m refusal same (inl many) = too-many-here visible unsynced m refusal many
+unwritten-here visible unsynced synced m refusal same (inr found) = subst (IsRefusedHere visible unsynced m) (sym found.1) (dirty-of unsynced synced same found.2, found.4.0, found.3)
+
+-- a call that is refused before anything is done
+pub refused-here : (visible to : ℕ) (unsynced : Bool) (why : Members → Refusal → Type 0) (m : Members) (refusal : Refusal) → (why m refusal → IsRefusedHere visible unsynced m refusal)
+    → IsRefusedFor visible to why m m refusal → IsRefusedHere visible unsynced m refusal
+refused-here visible to unsynced why m (PastEnd told) here w = w.0
+refused-here visible to unsynced why m refusal here w = here w.1
+
+-- where every role is whole, no refusal tells that members are missing
+pub never-missing : {P : Type 0} (given : Given) (visible : ℕ) (unsynced : Bool) (m : Members) (refusal : Refusal) → IsPlaced given m → AreWhole m → IsOfMissing refusal → IsRefusedHere visible unsynced m refusal → P
+never-missing given visible unsynced m (TooManyMissing count most) placed whole of why =
+    absurd (not-whole given m placed (let above = why.0 in let is = why.1 in omega (arith, above, is)) whole)
+never-missing given visible unsynced m (NotResynced role) placed whole of why = absurd (let e = sym why.2 ∙ whole role why.1 in cc)
+never-missing given visible unsynced m (PastEnd told) placed whole of why = absurd (of.1 tt)
+never-missing given visible unsynced m refusal placed whole of why = absurd of.0

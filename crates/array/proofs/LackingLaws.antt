@@ -1,0 +1,234 @@
+-- Losses that add up over the parts of a call, and what a mark leaves of holders' sectors.
+use Rattle.std.proofs.Common.{◌≡◌, ◌⊎◌, inl, inr, ℕ, ◌<◌, ◌&&◌, ◌||◌, ◌==◌, nat_lt, max, bit_or, Bool, true, false, not, cond, List, [], ◌∷◌, get_or, Option, Some, None, refl, sym, ◌∙◌, ap, ap₂, subst, arith}
+use Rattle.std.proofs.lemmas.Bool.Decides.{nat_tests}
+use Rattle.std.specs.Option.{option_map_or}
+use Rattle.md_base.specs.Sectors.{Sector}
+use Rattle.md_base.specs.Shapes.{has_slot}
+use Rattle.md_base.specs.declared.places.Shape.{Shape}
+use Rattle.md_base.specs.declared.status.Role.{Role}
+use Rattle.md_base.specs.declared.status.Role.TheVariants.{Whole, Missing}
+use Rattle.bank.specs.Given.{Given, IsFaulted, NeverFalls}
+use Rattle.bank.specs.declared.bank.Operation.{Operation}
+use Rattle.bank.specs.Tape.{disk}
+use Rattle.bank.proofs.Causes.{faulted_longer}
+use Rattle.superblocks.specs.declared.members.Members.{Members}
+use Rattle.superblocks.specs.Reading.{Reading, shape_of, role_state, holder, is_whole}
+use Rattle.superblocks.proofs.SlotSets.{none_there}
+use Rattle.row_io.specs.Rows.{reading_of, present, is_missing, role_without}
+use Rattle.array.specs.Placed.{places_of, AreStillHeld, AreWhole, IsPlaced, AreLost, AreLess}
+use Rattle.array.specs.Marking.{IsMarked}
+use Rattle.array.specs.Flushing.{AreMembersFlushed}
+use Rattle.array.specs.Moving.{IsMoved, AreFailed}
+use Rattle.array.specs.Safety.{AreNone, IsRightAt, IsStretch}
+use Rattle.list_io.proofs.LossLaws.{slot_of_both}
+use Rattle.superblocks.specs.Reading.{Scope}
+use Rattle.row_io.proofs.Losses.{state_kept}
+use Rattle.std.proofs.lemmas.Nat.Bits.{bit_at_or}
+use Rattle.array.proofs.MemberLaws.{less-without}
+use Rattle.array.proofs.SafetyLaws.{stretch-none}
+use Rattle.array.specs.Lacking.{HaveFailedSince, AreLostSince, AreHoldersFlushed, AreTooMany, refused_by}
+use Rattle.std.specs.Prelude.{MatchOption, ⊤, Result, Ok, Err}
+use Rattle.md_base.specs.Shapes.{tolerance}
+use Rattle.md_base.specs.declared.answers.Refusal.{Refusal}
+use Rattle.row_io.specs.Rows.{missing_count}
+use Rattle.list_io.specs.declared.outcome.Unavailable.{Unavailable}
+use Rattle.list_io.specs.declared.outcome.Unavailable.TheVariants.{TooManyMissing, NotResynced}
+use Rattle.list_io.specs.Calls.{IsAnswer}
+use Rattle.array.proofs.MovedLaws.{not-whole}
+use Rattle.array.proofs.PlacedLaws.{state-without}
+use Rattle.array.proofs.MarkedLaws.{others-present, single-kept}
+
+-- ---- the slots that failed
+
+pub holder-without : (lost slot : ℕ) (state : Role) → holder state ≡ Some slot → has_slot lost slot ≡ false → holder (role_without lost state) ≡ Some slot
+holder-without lost slot state held kept =
+    ap (λ (h : Option ℕ). holder (cond (option_map_or (has_slot lost) h false) Missing state)) held ∙ ap (λ (b : Bool). holder (cond b Missing state)) kept ∙ held
+
+-- members that lost these slots, where each that held a role has failed
+pub since-less : (lost spares : ℕ) (old new : Members) (before after : ℕ → ℕ) → AreLess lost old new
+    → ((role slot : ℕ) → holder (role_state (reading_of old) role) ≡ Some slot → has_slot lost slot ≡ true → IsFaulted slot before after)
+    → ((slot : ℕ) → has_slot spares slot ≡ true → IsFaulted slot before after) → HaveFailedSince old new spares before after
+since-less lost spares old new before after less failed spares_failed = record {
+  roles = λ role slot held. by role slot held (has_slot lost slot) refl;
+  spares_are = spares_failed;
+}
+  where
+    state-is : (role : ℕ) → role_state (reading_of new) role ≡ role_without lost (role_state (reading_of old) role)
+    state-is role = ap (λ (l : List Role). get_or l role Missing) less.roles ∙ state-without lost old.roles role
+
+    by : (role slot : ℕ) → holder (role_state (reading_of old) role) ≡ Some slot → (b : Bool) → has_slot lost slot ≡ b
+        → (holder (role_state (reading_of new) role) ≡ Some slot) ⊎ IsFaulted slot before after
+    by role slot held true gone = inr (failed role slot held gone)
+    by role slot held false kept = inl (ap holder (state-is role) ∙ holder-without lost slot (role_state (reading_of old) role) held kept)
+
+pub since-failed : (old new : Members) (spares : ℕ) (before after : ℕ → ℕ) → AreFailed old new spares before after → HaveFailedSince old new spares before after
+since-failed old new spares before after failed = since-less new.lost spares old new before after failed.less failed.held failed.failed
+
+pub since-then : (a b c : Members) (s t u : ℕ) (f g h : ℕ → ℕ) → NeverFalls f g → NeverFalls g h → HaveFailedSince a b s f g → HaveFailedSince b c t g h
+    → ((slot : ℕ) → has_slot u slot ≡ true → (has_slot s slot ≡ true) ⊎ (has_slot t slot ≡ true)) → HaveFailedSince a c u f h
+since-then a b c s t u f g h early late one two either = record {
+  roles = λ role slot held. by role slot (one.roles role slot held);
+  spares_are = λ slot has. spare slot (either slot has);
+}
+  where
+    first : (slot : ℕ) → IsFaulted slot f g → IsFaulted slot f h
+    first slot did = faulted_longer slot f f g h (omega arith) (late slot) (early slot) did
+
+    second : (slot : ℕ) → IsFaulted slot g h → IsFaulted slot f h
+    second slot did = faulted_longer slot f g h h (early slot) (omega arith) (late slot) did
+
+    by : (role slot : ℕ) → (holder (role_state (reading_of b) role) ≡ Some slot) ⊎ IsFaulted slot f g → (holder (role_state (reading_of c) role) ≡ Some slot) ⊎ IsFaulted slot f h
+    by role slot (inr did) = inr (first slot did)
+    by role slot (inl held) = again role slot (two.roles role slot held)
+      where
+        again : (role slot : ℕ) → (holder (role_state (reading_of c) role) ≡ Some slot) ⊎ IsFaulted slot g h → (holder (role_state (reading_of c) role) ≡ Some slot) ⊎ IsFaulted slot f h
+        again role slot (inl held) = inl held
+        again role slot (inr did) = inr (second slot did)
+
+    spare : (slot : ℕ) → (has_slot s slot ≡ true) ⊎ (has_slot t slot ≡ true) → IsFaulted slot f h
+    spare slot (inl has) = first slot (one.spares_are slot has)
+    spare slot (inr has) = second slot (two.spares_are slot has)
+
+-- of the roles alone
+pub since-held : (old new : Members) (spares : ℕ) (before after : ℕ → ℕ) → HaveFailedSince old new spares before after → HaveFailedSince old new 0 before after
+since-held old new spares before after since = record { roles = since.roles; spares_are = λ slot has. absurd (let e = none_there slot in cc) }
+
+-- ---- the roles that are missing since
+
+-- exactly the missing roles are in the set
+abbrev pub AreMissing : Members → ℕ → ℕ → Type 0
+AreMissing m disks roles = (role : ℕ) → has_slot roles role ≡ (nat_lt role disks && is_missing (reading_of m) role)
+
+-- these roles are missing, and weren't before
+abbrev pub AreNewlyMissing : Members → ℕ → ℕ → ℕ → Type 0
+AreNewlyMissing m disks before roles = (role : ℕ) → has_slot roles role ≡ ((nat_lt role disks && is_missing (reading_of m) role) && not (has_slot before role))
+
+pub lost-since : (given : Given) (old new : Members) (disks was roles spares : ℕ) (before after : ℕ → ℕ) → IsPlaced given old → IsMoved given old new → HaveFailedSince old new spares before after
+    → disks ≡ (shape_of old.newest).disks → AreMissing old disks was → AreNewlyMissing new disks was roles → AreLostSince old new roles spares before after
+lost-since given old new disks was roles spares before after placed moved failed same missing newly = record {
+  missing = λ role lt is. old-or role (is_missing (reading_of old) role) refl (subst (λ (n : ℕ). role < n) (sym same) (subst (λ (s : Shape). role < s.disks) moved.shape lt)) is;
+  held = λ role has. at role (parts (nat_lt role disks) (is_missing (reading_of new) role) (has_slot was role) (sym (newly role) ∙ has)) (placed.states role);
+  failed = failed.spares_are;
+}
+  where
+    lt-is : (a b : ℕ) → a < b → nat_lt a b ≡ true
+    lt-is a b lt = grind (arith, nat_tests, lt)
+
+    parts : (a b c : Bool) → ((a && b) && not c) ≡ true → (a ≡ true) × (b ≡ true) × (c ≡ false)
+    parts true true false e = (refl, refl, refl)
+    parts true true true e = absurd (cc)
+    parts true false c e = absurd (cc)
+    parts false b c e = absurd (cc)
+
+    -- a role that was there before isn't in the set of those that were missing
+    old-or : (role : ℕ) (b : Bool) → is_missing (reading_of old) role ≡ b → role < disks → is_missing (reading_of new) role ≡ true
+        → (is_missing (reading_of old) role ≡ true) ⊎ (has_slot roles role ≡ true)
+    old-or role true is lt now = inl is
+    old-or role false is lt now =
+        let out : has_slot was role ≡ false = missing role ∙ ap (λ (b : Bool). nat_lt role disks && b) is ∙ none (nat_lt role disks) in
+        inr (newly role ∙ ap (λ (b : Bool). (nat_lt role disks && is_missing (reading_of new) role) && not b) out
+        ∙ ap₂ (λ (a b : Bool). (a && b) && not false) (lt-is role disks lt) now)
+      where
+        none : (b : Bool) → (b && false) ≡ false
+        none true = refl
+        none false = refl
+
+    not-missing : (role : ℕ) → nat_lt role disks ≡ true → has_slot was role ≡ false → is_missing (reading_of old) role ≡ false
+    not-missing role lt out = by (is_missing (reading_of old) role) (ap (λ (b : Bool). b && is_missing (reading_of old) role) (sym lt) ∙ sym (missing role) ∙ out)
+      where
+        by : (b : Bool) → (true && b) ≡ false → b ≡ false
+        by true e = absurd (cc)
+        by false e = refl
+
+    gone : (role slot : ℕ) → is_missing (reading_of new) role ≡ true → (holder (role_state (reading_of new) role) ≡ Some slot) ⊎ IsFaulted slot before after
+        → (role_state (reading_of new) role ≡ Missing) ⊎ ((slot : ℕ) × (role_state (reading_of new) role ≡ Whole slot)) → IsFaulted slot before after
+    gone role slot is (inr did) state = did
+    gone role slot is (inl held) (inl none) = absurd (let e : ◌≡◌ {A = Option ℕ} None (Some slot) = sym (ap holder none) ∙ held in cc)
+    gone role slot is (inl held) (inr found) = absurd (let e = sym (ap (λ (s : Role). not (is_whole s)) found.1) ∙ is in cc)
+
+    at : (role : ℕ) → (nat_lt role disks ≡ true) × (is_missing (reading_of new) role ≡ true) × (has_slot was role ≡ false)
+        → (role_state (reading_of old) role ≡ Missing) ⊎ ((slot : ℕ) × (role_state (reading_of old) role ≡ Whole slot))
+        → (slot : ℕ) × (holder (role_state (reading_of old) role) ≡ Some slot) × IsFaulted slot before after
+    at role are (inl none) = absurd (let e = sym (ap (λ (s : Role). not (is_whole s)) none) ∙ not-missing role are.0 are.2 in cc)
+    at role are (inr found) = (found.0, ap holder found.1, gone role found.0 are.1 (failed.roles role found.0 (ap holder found.1)) (moved.placed.states role))
+
+-- ---- what was flushed
+
+pub holders-marked : {tells : Type 0} {clean : Bool} {old new : Members} {given : Given} {before after : List Operation} → IsMarked tells given clean old new before after → tells
+    → AreHoldersFlushed (reading_of old) given before → AreHoldersFlushed (reading_of old) given after
+holders-marked {old = old} {given = given} {before = before} {after = after} marked told flushed role slot k held other =
+    single-kept (present given before slot k) (disk given.start before slot k) (disk given.start after slot k) (flushed role slot k held other) ((marked.update.end told).touched.elsewhere slot k other)
+    ∙ ap (λ (v : Sector). v ∷ []) (sym (others-present marked told slot k other))
+
+-- a stop leaves what holders had before as it is, for fewer holders too
+pub holders-fewer : (given : Given) (old new : Members) (tape : List Operation) → AreStillHeld old new → AreHoldersFlushed (reading_of old) given tape → AreHoldersFlushed (reading_of new) given tape
+holders-fewer given old new tape still flushed role slot k held other = flushed role slot k (still role slot held) other
+
+pub holders-at : (r : Reading) (given given' : Given) (tape : List Operation) → given' ≡ given → AreHoldersFlushed r given tape → AreHoldersFlushed r given' tape
+holders-at r given given' tape same flushed = subst (λ (b : Given). AreHoldersFlushed r b tape) (sym same) flushed
+
+-- what was flushed, behind the loss of the slots that failed
+pub holders-flushed : {tells : Type 0} (given : Given) (shape : Shape) (old new : Members) (tape : List Operation) (lost : ℕ) (before after : ℕ → ℕ) → AreLost given shape old new lost before after
+    → AreMembersFlushed tells given tape (reading_of old) lost → tells → AreHoldersFlushed (reading_of new) given tape
+holders-flushed given shape old new tape lost before after did flushed told role slot k held other =
+    let less : AreLess lost old new = subst (λ (m : Members). AreLess lost old m) (sym did.members) (less-without old lost) in
+    let state = ap (λ (l : List Role). get_or l role Missing) less.roles ∙ state-without lost old.roles role in
+    let kept = state_kept lost slot (role_state (reading_of old) role) (ap holder (sym state) ∙ held) in
+    flushed told role slot kept.holder kept.here k
+
+pub since-lost : (given : Given) (shape : Shape) (old new : Members) (lost : ℕ) (before after : ℕ → ℕ) → AreLost given shape old new lost before after → HaveFailedSince old new 0 before after
+since-lost given shape old new lost before after did =
+    since-less lost 0 old new before after (subst (λ (m : Members). AreLess lost old m) (sym did.members) (less-without old lost)) (λ role slot held gone. (did.failed slot gone).0)
+    (λ slot has. absurd (let e = none_there slot in cc))
+
+-- ---- sets of spares
+
+either-is : (a b : ℕ) → (max a b == 1) ≡ true → ((a == 1) ≡ true) ⊎ ((b == 1) ≡ true)
+either-is a b e = by (a == 1) (b == 1) refl refl
+  where
+    by : (x y : Bool) → (a == 1) ≡ x → (b == 1) ≡ y → ((a == 1) ≡ true) ⊎ ((b == 1) ≡ true)
+    by true y one two = inl one
+    by false true one two = inr two
+    by false false one two = absurd (let no : (max a b == 1) ≡ false = grind (arith, nat_tests, one, two) in cc)
+
+pub in-either : (s t slot : ℕ) → has_slot (bit_or s t) slot ≡ true → (has_slot s slot ≡ true) ⊎ (has_slot t slot ≡ true)
+in-either s t slot has = either-is _ _ (sym (ap (λ (n : ℕ). n == 1) (bit_at_or s t slot)) ∙ has)
+
+pub none-right : (s t : ℕ) → AreNone (bit_or s t) → AreNone t
+none-right s t none slot lt = by (has_slot t slot) (has_slot s slot) (sym (slot_of_both s t slot) ∙ none slot lt)
+  where
+    by : (b a : Bool) → (a || b) ≡ false → b ≡ false
+    by false a e = refl
+    by true true e = absurd (cc)
+    by true false e = absurd (cc)
+
+pub none-left : (s t : ℕ) → AreNone (bit_or s t) → AreNone s
+none-left s t none slot lt = by (has_slot s slot) (has_slot t slot) (sym (slot_of_both s t slot) ∙ none slot lt)
+  where
+    by : (a b : Bool) → (a || b) ≡ false → a ≡ false
+    by false b e = refl
+    by true b e = absurd (cc)
+
+-- ---- nothing was done
+
+pub stretch-still : (given : Given) (scope : Scope) (values : ℕ → List Sector) (m m' : Members) (tape tape' : List Operation) → m' ≡ m → tape' ≡ tape → IsRightAt given scope values m tape
+    → IsStretch scope (places_of m) values given.start tape tape' m m'
+stretch-still given scope values m m' tape tape' is same at =
+    subst (λ (x : Members). IsStretch scope (places_of m) values given.start tape tape' m x) (sym is)
+    (subst (λ (l : List Operation). IsStretch scope (places_of m) values given.start tape l m m) (sym same) (stretch-none given scope values m tape at))
+
+-- ---- refusals
+
+-- where no role was asked for, an answer is refused only where too many are missing
+pub too-many-answer : {T : Type 0} (m : Members) (shape : Shape) (answer : Result T Unavailable) → shape ≡ shape_of m.newest → IsAnswer shape true (reading_of m) (λ role. ⊥) answer
+    → MatchOption (refused_by m answer) ⊤ (AreTooMany m)
+too-many-answer m shape (Ok done) same is = tt
+too-many-answer m shape (Err TooManyMissing) same is = record { above = subst (λ (s : Shape). tolerance s < missing_count (reading_of m) s) same is; told = refl }
+too-many-answer m shape (Err (NotResynced role)) same is = absurd (is.3)
+
+pub never-too-many : {P : Type 0} (given : Given) (m : Members) (refusal : Refusal) → IsPlaced given m → AreWhole m → AreTooMany m refusal → P
+never-too-many given m refusal placed whole many = absurd (not-whole given m placed (let above = many.above in omega (arith, above)) whole)
+
+pub none-refused : (given : Given) (m : Members) (o : Option Refusal) → MatchOption o ⊤ (AreTooMany m) → IsPlaced given m → AreWhole m → o ≡ None
+none-refused given m None fine placed whole = refl
+none-refused given m (Some refusal) many placed whole = never-too-many given m refusal placed whole many

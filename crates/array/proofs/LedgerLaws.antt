@@ -1,0 +1,335 @@
+-- What a call tells, as the ledger by which its marks are judged.
+use Rattle.std.proofs.Common.{◌≡◌, ℕ, zero, suc, ◌+◌, ◌-◌, ◌/◌, ◌<◌, ◌≤◌, ◌⊎◌, inl, inr, Bool, true, false, not, cond, ◌&&◌, ◌||◌, ◌==◌, List, [], ◌∷◌, ◌++◌, length, take, drop, refl, sym, ◌∙◌, ap, ap₂, subst, arith, length-append, append_assoc, append-nil, slice_range}
+use Rattle.std.specs.Prelude.{fold, slice_index_or, IsTrue}
+use Rattle.std.specs.List.{list_any, list_all}
+use Rattle.std.proofs.Math.Seq.{take-append_seam, drop-append_seam, take-length}
+use Rattle.std.proofs.lemmas.Bool.{cases_lt}
+use Rattle.std.proofs.lemmas.Bool.Decides.{nat_tests}
+use Rattle.std.proofs.lemmas.List.Folds.{list_any-append}
+use Rattle.md_base.specs.Sectors.{Sector, sectors_of}
+use Rattle.md_base.proofs.SectorLaws.{length-sectors_of}
+use Rattle.md_base.specs.declared.answers.Who.{Who}
+use Rattle.bank.specs.Given.{Given}
+use Rattle.bank.specs.Tape.{IsIn}
+use Rattle.parity.specs.Rows.{sector_of}
+use Rattle.superblocks.specs.declared.members.Members.{Members}
+use Rattle.superblocks.specs.Reading.{Scope}
+use Rattle.row_io.specs.Rows.{members_without}
+use Rattle.list_io.specs.Writing.{IsWritten}
+use Rattle.flat_history.specs.declared.events.Entry.{Entry}
+use Rattle.flat_history.specs.declared.events.Event.{Event}
+use Rattle.flat_history.specs.declared.events.Event.TheVariants.{Wrote, Torn, Flushed, Stopped, Lost, SpareLost, Rebuilt, Step, Resized}
+use Rattle.flat_history.specs.declared.events.LostCause.TheVariants.{Fault}
+use Rattle.flat_history.specs.Flat.{values_after, values_of, first_values, now, covers, sector_at, behind}
+use Rattle.flat_history.specs.Losses.{was_dirty, settles, unsettles}
+use Rattle.flat_history.specs.Plain.{entries_of, loses_role}
+use Rattle.flat_history.specs.World.{World, opening_list}
+use Rattle.flat_history.specs.OneShape.{ShapeOpening, IsOneShapeEvent, AreOneShape, is_lost, is_unsettled, is_written, keeps_losses, KeepLosses}
+use Rattle.array.specs.Whole.{list_size}
+use Rattle.array.specs.Placed.{places_of}
+use Rattle.array.specs.Kept.{ledger_now}
+use Rattle.array.specs.Views.{Ledger, ledger_of}
+use Rattle.array.specs.Steady.{IsSafeNow, IsMoreTold, settled_ledger}
+use Rattle.array.proofs.CallLaws.{AreLossEvents}
+use Rattle.array.proofs.LackingLists.{row-sector}
+use Rattle.array.proofs.LosingLaws.{entries-both}
+use Rattle.array.proofs.MemberLaws.{without-none}
+use Rattle.array.proofs.NowLaws.{values-more, sectors_of-at}
+use Rattle.array.proofs.Steady.{losing-stays-safe}
+
+-- ---- the ledger of a call
+
+-- by the history before the call and the first of its entries
+abbrev pub told_by : World → List Entry → List Entry → Ledger
+told_by world entries more = record {
+  values = values_of (opening_list world) (entries ++ more);
+  gone = is_lost (entries ++ more);
+  unclean = was_dirty world || (is_unsettled entries || list_any (λ e. unsettles e.event) more);
+}
+
+-- it judges a mark at which the call's entries aren't made yet
+pub told-ledger : (world : World) (entries more rest : List Entry) → ledger_of world (entries ++ (more ++ rest)) (length entries) (length (entries ++ more)) ≡ told_by world entries more
+told-ledger world entries more rest =
+    λ i. record {
+      values = values_of (opening_list world) (first i);
+      gone = is_lost (first i);
+      unclean = was_dirty world || (is_unsettled (take-append_seam entries (more ++ rest) i) || list_any (λ e. unsettles e.event) (range i));
+    }
+  where
+    first : take (length (entries ++ more)) (entries ++ (more ++ rest)) ≡ entries ++ more
+    first = ap (take (length (entries ++ more))) (sym (append_assoc entries more rest)) ∙ take-append_seam (entries ++ more) rest
+
+    count : length (entries ++ more) - length entries ≡ length more
+    count = let both : length (entries ++ more) ≡ length entries + length more = length-append entries more in omega (arith, both)
+
+    range : slice_range (entries ++ (more ++ rest)) (length entries) (length (entries ++ more)) ≡ more
+    range = ap₂ (λ (n : ℕ) (l : List Entry). take n l) count (drop-append_seam entries (more ++ rest)) ∙ take-append_seam more rest
+
+-- the whole history's judges one at which each entry is made
+pub now-ledger : (world : World) (entries : List Entry) → ledger_of world entries (length entries) (length entries) ≡ ledger_now world entries
+now-ledger world entries =
+    λ i. record {
+      values = values_of (opening_list world) (take-length entries i);
+      gone = is_lost (take-length entries i);
+      unclean = was_dirty world || unwritten i;
+    }
+  where
+    none : (n : ℕ) (l : List Entry) → n ≡ 0 → list_any (λ e. unsettles e.event) (take n l) ≡ false
+    none n l is = ap (λ (m : ℕ). list_any (λ e. unsettles e.event) (take m l)) is
+
+    same : (n : ℕ) → n - n ≡ 0
+    same n = omega arith
+
+    or_none : (a b : Bool) → b ≡ false → (a || b) ≡ a
+    or_none true b e = refl
+    or_none false b e = e
+
+    unwritten : is_written entries (length entries) (length entries) ≡ is_unsettled entries
+    unwritten = or_none (is_unsettled (take (length entries) entries)) _ (none _ _ (same (length entries))) ∙ ap is_unsettled (take-length entries)
+
+-- ---- what more entries tell
+
+-- These entries settle nothing and give no role back: whatever value a sector may have, it may have after them.
+pub record OnlyAdd (more : List Entry) : Type 0 where
+  pub values : (x : ℕ) (values : List Sector) (v : Sector) → IsIn values v → IsIn (fold (λ values e. values_after x values e.event) values more) v
+  pub settles : list_any (λ e. settles e.event) more ≡ false
+  pub keep : KeepLosses more
+
+pub add-none : OnlyAdd []
+add-none = record { values = λ x values v may. may; settles = refl; keep = refl }
+
+pub add-one : (e : Entry) (more : List Entry) → ((x : ℕ) (values : List Sector) (v : Sector) → IsIn values v → IsIn (values_after x values e.event) v) → settles e.event ≡ false → keeps_losses e.event ≡ true
+    → OnlyAdd more → OnlyAdd (e ∷ more)
+add-one e more adds unsettled keeps rest = record {
+  values = λ x values v may. rest.values x (values_after x values e.event) v (adds x values v may);
+  settles = ap (λ (b : Bool). b || list_any (λ e. settles e.event) more) unsettled ∙ rest.settles;
+  keep = ap (λ (b : Bool). b && list_all (λ e. keeps_losses e.event) more) keeps ∙ rest.keep;
+}
+
+pub add-losses : (who : Who) (end : ℕ) (xs ys : List Event) → AreLossEvents xs → OnlyAdd (entries_of who end ys) → OnlyAdd (entries_of who end (xs ++ ys))
+add-losses who end [] ys are rest = rest
+add-losses who end (Lost role Fault ∷ xs) ys are rest = add-one _ _ (λ x values v may. may) refl refl (add-losses who end xs ys are rest)
+add-losses who end (SpareLost slot ∷ xs) ys are rest = add-one _ _ (λ x values v may. may) refl refl (add-losses who end xs ys are rest)
+add-losses who end (event ∷ xs) ys are rest = absurd are
+
+pub keep-losses : (who : Who) (end : ℕ) (xs ys : List Event) → AreLossEvents xs → KeepLosses (entries_of who end ys) → KeepLosses (entries_of who end (xs ++ ys))
+keep-losses who end [] ys are rest = rest
+keep-losses who end (Lost role Fault ∷ xs) ys are rest = keep-losses who end xs ys are rest
+keep-losses who end (SpareLost slot ∷ xs) ys are rest = keep-losses who end xs ys are rest
+keep-losses who end (event ∷ xs) ys are rest = absurd are
+
+-- a write's values are added, and so are those of one that was torn
+pub wrote-adds : (at : ℕ) (body : List Sector) (x : ℕ) (values : List Sector) (v : Sector) → IsIn values v → IsIn (values_after x values (Wrote at body)) v
+wrote-adds at body x values v may = by (covers at body x)
+  where
+    by : (b : Bool) → IsIn (cond b (sector_at at body x ∷ values) values) v
+    by true = inr may
+    by false = may
+
+pub torn-adds : (at : ℕ) (body : List Sector) (x : ℕ) (values : List Sector) (v : Sector) → IsIn values v → IsIn (values_after x values (Torn at body)) v
+torn-adds at body x values v may = by (covers at body x) values may
+  where
+    by : (b : Bool) (values : List Sector) → IsIn values v → IsIn (cond b (behind (sector_at at body x) values) values) v
+    by false values may = may
+    by true [] may = absurd may
+    by true (w ∷ values) (inl is) = inl is
+    by true (w ∷ values) (inr may) = inr (inr may)
+
+-- ---- whether a write is unsettled
+
+or_left : (a b : Bool) → a ≡ true → (a || b) ≡ true
+or_left true b e = refl
+or_left false b e = absurd (cc)
+
+or_right : (a b : Bool) → b ≡ true → (a || b) ≡ true
+or_right true b e = refl
+or_right false b e = e
+
+or_assoc : (a b c : Bool) → (a || (b || c)) ≡ ((a || b) || c)
+or_assoc true b c = refl
+or_assoc false b c = refl
+
+neither : (a b : Bool) → (a || b) ≡ false → (a ≡ false) × (b ≡ false)
+neither true b e = absurd (cc)
+neither false b e = (refl, e)
+
+-- where none settles, it is so if one of them is
+alone-unsettled : (more : List Entry) → list_any (λ e. settles e.event) more ≡ false → is_unsettled more ≡ list_any (λ e. unsettles e.event) more
+alone-unsettled [] none = refl
+alone-unsettled (e ∷ more) none =
+    let parts = neither (settles e.event) (list_any (λ e. settles e.event) more) none in
+    ap₂ (λ (a b : Bool). a || b) (unclosed (unsettles e.event) (list_any (λ e. settles e.event) more) parts.1) (alone-unsettled more parts.1)
+  where
+    unclosed : (a b : Bool) → b ≡ false → (a && not b) ≡ a
+    unclosed true b e = ap not e
+    unclosed false b e = refl
+
+pub unsettled-more : (entries more : List Entry) → list_any (λ e. settles e.event) more ≡ false → is_unsettled (entries ++ more) ≡ (is_unsettled entries || list_any (λ e. unsettles e.event) more)
+unsettled-more [] more none = alone-unsettled more none
+unsettled-more (e ∷ entries) more none =
+    ap₂ (λ (a b : Bool). unsettles e.event && not a || b) (list_any-append (λ e. settles e.event) entries more ∙ or_none (list_any (λ e. settles e.event) entries) _ none) (unsettled-more entries more none)
+    ∙ or_assoc (unsettles e.event && not (list_any (λ e. settles e.event) entries)) (is_unsettled entries) (list_any (λ e. unsettles e.event) more)
+  where
+    or_none : (a b : Bool) → b ≡ false → (a || b) ≡ a
+    or_none true b e = refl
+    or_none false b e = e
+
+-- what was unsettled stays so
+pub unsettled-still : (entries more : List Entry) → list_any (λ e. settles e.event) more ≡ false → is_unsettled entries ≡ true → is_unsettled (entries ++ more) ≡ true
+unsettled-still entries more none is = unsettled-more entries more none ∙ or_left (is_unsettled entries) (list_any (λ e. unsettles e.event) more) is
+
+-- and it is so where one of them unsettles
+pub unsettled-by : (entries more : List Entry) → list_any (λ e. settles e.event) more ≡ false → list_any (λ e. unsettles e.event) more ≡ true → is_unsettled (entries ++ more) ≡ true
+unsettled-by entries more none is = unsettled-more entries more none ∙ or_right (is_unsettled entries) (list_any (λ e. unsettles e.event) more) is
+
+-- one stands behind others
+pub unsettles-behind : (who : Who) (end : ℕ) (xs ys : List Event) → list_any (λ e. unsettles e.event) (entries_of who end ys) ≡ true → list_any (λ e. unsettles e.event) (entries_of who end (xs ++ ys)) ≡ true
+unsettles-behind who end xs ys is =
+    ap (λ (l : List Entry). list_any (λ e. unsettles e.event) l) (entries-both who end xs ys) ∙ list_any-append (λ e. unsettles e.event) (entries_of who end xs) (entries_of who end ys)
+    ∙ or_right (list_any (λ e. unsettles e.event) (entries_of who end xs)) (list_any (λ e. unsettles e.event) (entries_of who end ys)) is
+
+-- ---- more that is told
+
+lost-still : (entries more : List Entry) (role : ℕ) → is_lost entries role ≡ true → is_lost (entries ++ more) role ≡ true
+lost-still entries more role is = list_any-append (λ e. loses_role role e.event) entries more ∙ or_left (is_lost entries role) (is_lost more role) is
+
+-- where no role is told lost, none was before
+pub none-lost-before : (entries more : List Entry) → ((role : ℕ) → is_lost (entries ++ more) role ≡ false) → (role : ℕ) → is_lost entries role ≡ false
+none-lost-before entries more none role = (neither (is_lost entries role) (is_lost more role) (sym (list_any-append (λ e. loses_role role e.event) entries more) ∙ none role)).0
+
+module _ (world : World) (size : ℕ) (entries more : List Entry) (adds : OnlyAdd more) where
+  -- a call tells more than the history before it
+  pub told-more : IsMoreTold size (ledger_now world entries) (told_by world entries more)
+  told-more = record {
+    values = λ x lt v may. subst (λ (l : List Sector). IsIn l v) (sym (values-more (opening_list world) entries more x)) (adds.values x (values_of (opening_list world) entries x) v may);
+    gone = λ role is. lost-still entries more role is;
+    unclean = λ is. by (was_dirty world) (is_unsettled entries) is;
+  }
+    where
+      by : (a b : Bool) → (a || b) ≡ true → (a || (b || list_any (λ e. unsettles e.event) more)) ≡ true
+      by true b e = refl
+      by false b e = or_left b (list_any (λ e. unsettles e.event) more) e
+
+  -- and its end no less than the call
+  pub told-now : IsMoreTold size (told_by world entries more) (ledger_now world (entries ++ more))
+  told-now = record {
+    values = λ x lt v may. may;
+    gone = λ role is. is;
+    unclean = λ is. ap (λ (b : Bool). was_dirty world || b) (unsettled-more entries more adds.settles) ∙ is;
+  }
+
+  -- what was unclean before the call is told so
+  pub told-unclean : (unsynced : Bool) → was_dirty world ≡ unsynced → (unsynced || is_unsettled entries) ≡ true → (told_by world entries more).unclean ≡ true
+  told-unclean unsynced same is = told-more.unclean (ap (λ (b : Bool). b || is_unsettled entries) same ∙ is)
+
+-- what is told of an array is told if more is
+pub more-safe : (sound : Type 0) (scope : Scope) (given : Given) (size : ℕ) (told more : Ledger) (members : Members) (d : ℕ → ℕ → List Sector) → IsMoreTold size told more
+    → IsSafeNow sound scope given size told members d → IsSafeNow sound scope given size more members d
+more-safe sound scope given size told more members d is safe =
+    subst (λ (m : Members). IsSafeNow sound scope given size more m d) (without-none members) (losing-stays-safe sound scope given size 0 told more members d is safe)
+
+-- ---- the newest value of a sector
+
+-- it is among its values
+abbrev pub HasNewest : List Sector → Type 0
+HasNewest values = IsIn values (slice_index_or values 0 [])
+
+first-newest : (list : List Sector) (x : ℕ) → x < length list → HasNewest (take 1 (drop x list))
+first-newest [] x lt = absurd (omega (arith, lt))
+first-newest (w ∷ list) zero lt = inl refl
+first-newest (w ∷ list) (suc x) lt = first-newest list x (omega (arith, lt))
+
+newest-first : (values : List Sector) → HasNewest values → HasNewest (take 1 values)
+newest-first [] has = absurd has
+newest-first (w ∷ values) has = inl refl
+
+-- a legal event leaves it one
+event-newest : (opening : ShapeOpening) (before : List Entry) (e : Entry) (rest : List Entry) (event : Event) → IsOneShapeEvent opening before e rest event → (x : ℕ) (values : List Sector) → HasNewest values
+    → HasNewest (values_after x values event)
+event-newest opening before e rest (Wrote at body) is x values has = by (covers at body x)
+  where
+    by : (b : Bool) → HasNewest (cond b (sector_at at body x ∷ values) values)
+    by true = inl refl
+    by false = has
+event-newest opening before e rest (Torn at body) is x values has = by (covers at body x) values has
+  where
+    by : (b : Bool) (values : List Sector) → HasNewest values → HasNewest (cond b (behind (sector_at at body x) values) values)
+    by false values has = has
+    by true [] has = absurd has
+    by true (w ∷ values) has = inl refl
+event-newest opening before e rest Flushed is x values has = newest-first values has
+event-newest opening before e rest Stopped is x values has = newest-first values has
+event-newest opening before e rest (Resized n) is x values has = absurd is
+event-newest opening before e rest event is x values has = has
+
+entries-newest : (opening : ShapeOpening) (ops : ℕ) (before entries : List Entry) → AreOneShape opening ops before entries → (x : ℕ) (values : List Sector) → HasNewest values
+    → HasNewest (fold (λ values e. values_after x values e.event) values entries)
+entries-newest opening ops before [] legal x values has = has
+entries-newest opening ops before (e ∷ entries) legal x values has =
+    entries-newest opening ops (before ++ e ∷ []) entries legal.1 x (values_after x values e.event) (event-newest opening before e _ e.event legal.0.event x values has)
+
+-- so has each sector of the list, after a legal history
+pub newest-allowed : (opening : ShapeOpening) (ops : ℕ) (list : List Sector) (entries : List Entry) → AreOneShape opening ops [] entries → (x : ℕ) → x < length list → IsIn (values_of list entries x) (now list entries x)
+unfolding values_of
+newest-allowed opening ops list entries legal x lt = entries-newest opening ops [] entries legal x (first_values list x) (first-newest list x lt)
+
+-- no event of such a history gives a role back
+event-keeps : (opening : ShapeOpening) (before : List Entry) (e : Entry) (rest : List Entry) (event : Event) → IsOneShapeEvent opening before e rest event → keeps_losses event ≡ true
+event-keeps opening before e rest (Step kind left) is = absurd is
+event-keeps opening before e rest (Rebuilt role) is = absurd is
+event-keeps opening before e rest event is = refl
+
+pub legal-keeps : (opening : ShapeOpening) (ops : ℕ) (before entries : List Entry) → AreOneShape opening ops before entries → KeepLosses entries
+legal-keeps opening ops before [] legal = refl
+legal-keeps opening ops before (e ∷ entries) legal =
+    ap₂ (λ (a b : Bool). a && b) (event-keeps opening before e _ e.event legal.0.event) (legal-keeps opening ops (before ++ e ∷ []) entries legal.1)
+
+-- ---- the values of a write
+
+covered : (at : ℕ) (body : List Sector) (x : ℕ) → at ≤ x → x < at + length body → covers at body x ≡ true
+covered at body x low high = grind (arith, nat_tests, low, high)
+
+-- the sectors of a write, and those that it leaves, are allowed
+pub written-allowed : (size first : ℕ) (from : List ℕ) (list list' : ℕ → Sector) (values : ℕ → List Sector) → IsWritten list list' first from → ((x : ℕ) → x < size → IsIn (values x) (list x))
+    → ((x : ℕ) → x < size → covers first (sectors_of from) x ≡ true → IsIn (values x) (sector_at first (sectors_of from) x)) → (x : ℕ) → x < size → IsIn (values x) (list' x)
+written-allowed size first from list list' values w old new x lt = elim (cases_lt x first) [
+  | inl low ↦ outside (inl low)
+  | inr within ↦ elim (cases_lt x (first + length from / 512)) [
+    | inl high ↦ subst (λ (v : Sector). IsIn (values x) v)
+        (sectors_of-at (x - first) from (omega (arith, within, high)) ∙ sym (row-sector from (x - first)) ∙ sym (w.here x within high))
+        (new x lt (covered first (sectors_of from) x within (let n = length-sectors_of from in omega (arith, high, n))))
+    | inr high ↦ outside (inr high)
+  ]
+]
+  where
+    outside : (x < first) ⊎ (first + length from / 512 ≤ x) → IsIn (values x) (list' x)
+    outside out = subst (λ (v : Sector). IsIn (values x) v) (sym (w.other x out)) (old x lt)
+
+-- a write's entry gives its sectors
+pub wrote-in : (at : ℕ) (body : List Sector) (x : ℕ) (values : List Sector) → covers at body x ≡ true → IsIn (values_after x values (Wrote at body)) (sector_at at body x)
+wrote-in at body x values is = subst (λ (b : Bool). IsIn (cond b (sector_at at body x ∷ values) values) (sector_at at body x)) (sym is) (inl refl)
+
+-- and so does that of one that was torn
+pub torn-in : (at : ℕ) (body : List Sector) (x : ℕ) (values : List Sector) → HasNewest values → covers at body x ≡ true → IsIn (values_after x values (Torn at body)) (sector_at at body x)
+torn-in at body x values has is = subst (λ (b : Bool). IsIn (cond b (behind (sector_at at body x) values) values) (sector_at at body x)) (sym is) (by values has)
+  where
+    by : (values : List Sector) → HasNewest values → IsIn (behind (sector_at at body x) values) (sector_at at body x)
+    by [] has = absurd has
+    by (w ∷ values) has = inr (inl refl)
+
+-- ---- what is settled
+
+-- A flush or a stop behind the call's losses leaves each sector its newest value alone.
+pub settled-now : (world : World) (size : ℕ) (unsynced : Bool) (entries more rest : List Entry) → was_dirty world ≡ unsynced
+    → ((x : ℕ) → values_of (opening_list world) (entries ++ (more ++ rest)) x ≡ take 1 (values_of (opening_list world) entries x))
+    → ((x : ℕ) → x < size → IsIn (values_of (opening_list world) entries x) (now (opening_list world) entries x))
+    → IsMoreTold size (settled_ledger unsynced (now (opening_list world) entries) (told_by world entries more)) (ledger_now world (entries ++ (more ++ rest)))
+settled-now world size unsynced entries more rest dirty durable allowed = record {
+  values = λ x lt v only. subst (λ (l : List Sector). IsIn l v) (sym (durable x)) (newest (values_of (opening_list world) entries x) v (allowed x lt) only);
+  gone = λ role is. subst (λ (l : List Entry). is_lost l role ≡ true) (append_assoc entries more rest) (lost-still (entries ++ more) rest role is);
+  unclean = λ is. or_left (was_dirty world) (is_unsettled (entries ++ (more ++ rest))) (dirty ∙ is);
+}
+  where
+    newest : (values : List Sector) (v : Sector) → HasNewest values → IsIn (slice_index_or values 0 [] ∷ []) v → IsIn (take 1 values) v
+    newest [] v has only = absurd has
+    newest (w ∷ values) v has only = only

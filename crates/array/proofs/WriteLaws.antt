@@ -1,0 +1,162 @@
+-- What an array keeps after a write.
+use Rattle.std.proofs.Common.{◌≡◌, ◌≢◌, ◌⊎◌, inl, inr, ℕ, ◌+◌, ◌/◌, ◌<◌, ◌≤◌, ◌||◌, Bool, true, false, not, None, List, [], ◌∷◌, ◌++◌, length, refl, sym, ◌∙◌, ap, ap₂, subst, arith, append_assoc}
+use Rattle.md_base.specs.Sectors.{Sector, sectors_of}
+use Rattle.md_base.specs.Shapes.{tolerance}
+use Rattle.md_base.specs.declared.answers.Who.{Who}
+use Rattle.md_base.specs.declared.answers.Refusal.{Refusal}
+use Rattle.bank.specs.Given.{Given}
+use Rattle.bank.specs.declared.bank.Operation.{Operation}
+use Rattle.superblocks.specs.declared.members.Members.{Members}
+use Rattle.superblocks.specs.Reading.{Scope, shape_of, is_clean}
+use Rattle.row_io.specs.Rows.{present}
+use Rattle.list_io.specs.Writing.{IsWritten}
+use Rattle.flat_history.specs.declared.events.Entry.{Entry}
+use Rattle.flat_history.specs.declared.events.Event.{Event}
+use Rattle.flat_history.specs.declared.events.Event.TheVariants.{Wrote, Torn, Refused}
+use Rattle.flat_history.specs.World.{World, opening_list}
+use Rattle.flat_history.specs.Flat.{next_number, now, values_of, values_after, covers, sector_at}
+use Rattle.flat_history.specs.Losses.{was_dirty, unsettles}
+use Rattle.flat_history.specs.OneShape.{is_unsettled}
+use Rattle.flat_history.specs.Sound.{FillsRight}
+use Rattle.bank.specs.Tape.{IsIn}
+use Rattle.md_base.proofs.SectorLaws.{length-sectors_of}
+use Rattle.std.specs.List.{list_any}
+use Rattle.std.specs.Prelude.{fold}
+use Rattle.flat_history.specs.Plain.{entries_of}
+use Rattle.array.specs.Whole.{list_size}
+use Rattle.array.specs.Placed.{places_of, AreWhole}
+use Rattle.array.specs.Losing.{losses_of, failure_events}
+use Rattle.array.specs.Marking.{AreOthersPresent}
+use Rattle.array.specs.Moving.{Grows, IsMoved}
+use Rattle.array.specs.Safety.{HasRoomLeft, IsRisen}
+use Rattle.array.specs.Views.{Ledger}
+use Rattle.array.specs.Steady.{IsSafeOver, KeepsSafe, AreGoneTold, AreWritesAllowed}
+use Rattle.array.specs.Lacking.{AreLostSince, AreTooMany, IsUnwritten, DoesWithout, ListStands, RowsStand, lacking, too_many}
+use Rattle.array.specs.Kept.{world_in, AreTold, IsKept}
+use Rattle.array.specs.Calls.{IsRefusedHere}
+use Rattle.array.proofs.CallLaws.{losses-are, length-losses, limit-losses, values-losses}
+use Rattle.array.proofs.LackingWrites.{list-with, list-with-is}
+use Rattle.array.proofs.LedgerLaws.{told_by, HasNewest, OnlyAdd, add-none, add-one, add-losses, wrote-adds, torn-adds, wrote-in, torn-in, written-allowed, unsettles-behind}
+use Rattle.array.proofs.NowLaws.{values-more}
+use Rattle.array.proofs.PlainLaws.{one}
+use Rattle.array.proofs.RecordLaws.{AreSilent, whole-told}
+use Rattle.array.proofs.ReadyLaws.{silent-behind}
+use Rattle.array.proofs.DegradedLaws.{LeavesSafe, too-many-here, unwritten-here, newest-old, rows-old, leaves-unsettled, told-behind, degraded-refused, degraded-torn, degraded-wrote}
+use Rattle.array.proofs.ReadLaws.{synced-of}
+
+module _ {tells : Type 0} {given : Given} {tape tape' : List Operation} {scope : Scope} {first : ℕ} {entries : List Entry} {members members' : Members} {unsynced : Bool}
+    (who : Who) (end : ℕ) (was : IsKept tells given tape scope first entries members unsynced) (number : who.number ≡ next_number who.caller entries) (caller : who.caller ≢ 254) (at_end : tells → end ≡ length tape')
+    (moved : IsMoved given members members') (grows : Grows tells tape tape')
+    (roles spares : ℕ) (before after : ℕ → ℕ) (since : AreLostSince members members' roles spares before after)
+    (at : ℕ) (from : List ℕ) (within : at + length from / 512 ≤ list_size (places_of members)) (does : DoesWithout members) (begun : Bool)
+    (rise : IsRisen tells members members' tape tape') (stays : is_clean members.newest ≡ false → is_clean members'.newest ≡ false)
+    (safe : tells → (world : World) → (size : ℕ) → (told : Ledger) → HasRoomLeft members tape tape' → AreGoneTold told members' → told.unclean ≡ true → (list list' : ℕ → Sector) → IsWritten list list' at from
+    → ListStands members (present given tape) list → (not unsynced ≡ true → AreWhole members' ⊎ RowsStand members (present given tape) list) → (begun ≡ true → AreWritesAllowed members told.values list')
+    → IsSafeOver world given size told members tape → KeepsSafe world given size told members' tape tape') where
+  all-within : at + length (sectors_of from) ≤ list_size (places_of members)
+  all-within = let n : length (sectors_of from) ≡ length from / 512 = length-sectors_of from in omega (arith, within, n)
+
+  -- The call tells these events, of which one unsettles, if it wasn't opened dirty; where rows had begun to be written, they allow its sectors.
+  leaves-written : (events : List Event) → AreSilent who end events → OnlyAdd (entries_of who end events) → AreTold members' (entries ++ entries_of who end events)
+      → (unsynced ≡ false → list_any (λ e. unsettles e.event) (entries_of who end events) ≡ true)
+      → (begun ≡ true → (x : ℕ) (values : List Sector) → HasNewest values → covers at (sectors_of from) x ≡ true
+      → IsIn (fold (λ values e. values_after x values e.event) values (entries_of who end events)) (sector_at at (sectors_of from) x))
+      → LeavesSafe tells given tape' scope first (entries ++ entries_of who end events) members' unsynced
+  leaves-written events silent adds told unsettled allows =
+      leaves-unsettled who end was number caller at_end moved grows events silent adds rise stretch (λ is. stays (was.dirty is)) unsettled
+    where
+      list : ℕ → Sector
+      list = now (opening_list (world_in given tape scope first)) entries
+
+      allowed : (t : tells) → FillsRight (world_in given tape scope first) (entries ++ entries_of who end events) → begun ≡ true
+          → AreWritesAllowed members (values_of (opening_list (world_in given tape scope first)) (entries ++ entries_of who end events)) (list-with list at from)
+      allowed t fills is =
+          let opened = opening_list (world_in given tape scope first) in
+          let newest = newest-old who end was number caller at_end moved grows (entries_of who end events) t fills in
+          written-allowed (list_size (places_of members)) at from list (list-with list at from) (values_of opened (entries ++ entries_of who end events)) (list-with-is list at from)
+          (λ x lt. subst (λ (l : List Sector). IsIn l (list x)) (sym (values-more opened entries (entries_of who end events) x)) (adds.values x (values_of opened entries x) (list x) (newest x lt)))
+          (λ x lt covered. subst (λ (l : List Sector). IsIn l (sector_at at (sectors_of from) x)) (sym (values-more opened entries (entries_of who end events) x))
+          (allows is x (values_of opened entries x) (newest x lt) covered))
+
+      unclean : (t : tells) → (told_by (world_in given tape scope first) entries (entries_of who end events)).unclean ≡ true
+      unclean t = by unsynced (was_dirty (world_in given tape scope first)) (is_unsettled entries) (was.recorded t).dirty unsettled
+        where
+          by : (a b c : Bool) → b ≡ a → (a ≡ false → list_any (λ e. unsettles e.event) (entries_of who end events) ≡ true) → (b || (c || list_any (λ e. unsettles e.event) (entries_of who end events))) ≡ true
+          by true b c same is = ap (λ (x : Bool). x || (c || list_any (λ e. unsettles e.event) (entries_of who end events))) same
+          by false b c same is = ap₂ (λ (x y : Bool). x || (c || y)) same (is refl) ∙ last c
+            where
+              last : (c : Bool) → (c || true) ≡ true
+              last true = refl
+              last false = refl
+
+      rows : (t : tells) → FillsRight (world_in given tape scope first) (entries ++ entries_of who end events) → not unsynced ≡ true → AreWhole members' ⊎ RowsStand members (present given tape) list
+      rows t (inl none) synced = inl (whole-told members' (entries ++ entries_of who end events) told none)
+      rows t (inr fit) synced = inr (rows-old who end was number caller at_end moved grows t does (synced-of unsynced synced) fit)
+
+      stretch : (t : tells) → FillsRight (world_in given tape scope first) (entries ++ entries_of who end events) → HasRoomLeft members tape tape'
+          → IsSafeOver (world_in given tape scope first) given (list_size (places_of members)) (told_by (world_in given tape scope first) entries (entries_of who end events)) members tape
+          → KeepsSafe (world_in given tape scope first) given (list_size (places_of members)) (told_by (world_in given tape scope first) entries (entries_of who end events)) members' tape tape'
+      stretch t fills room began =
+          safe t (world_in given tape scope first) (list_size (places_of members)) (told_by (world_in given tape scope first) entries (entries_of who end events)) room told (unclean t)
+          list (list-with list at from) (list-with-is list at from) (was.holds t does) (rows t fills) (allowed t fills) began
+
+  -- a write that tore rows
+  kept-torn : IsRefusedHere (list_size (places_of members)) unsynced members' (too_many members')
+      → IsKept tells given tape' scope first (entries ++ entries_of who end ((losses_of roles spares ++ Torn at (sectors_of from) ∷ []) ++ Refused (too_many members') ∷ [])) members' unsynced
+  kept-torn here =
+      degraded-torn who end was number caller at_end moved grows roles spares before after since at (sectors_of from) (lacking members') (tolerance (shape_of members'.newest)) all-within here
+      (subst (λ (l : List Event). LeavesSafe tells given tape' scope first (entries ++ entries_of who end l) members' unsynced) (sym (append_assoc (losses_of roles spares) (Torn at (sectors_of from) ∷ []) (Refused (too_many members') ∷ [])))
+      (leaves-written (losses_of roles spares ++ tail)
+      (record {
+        length = λ n. length-losses who end (losses_of roles spares) tail (losses-are roles spares) n;
+        limit = limit-losses who end (losses_of roles spares) tail (losses-are roles spares) None;
+      })
+      (add-losses who end (losses_of roles spares) tail (losses-are roles spares)
+      (add-one (one who end (Torn at (sectors_of from))) (one who end (Refused (too_many members')) ∷ []) (torn-adds at (sectors_of from)) refl refl
+      (add-one (one who end (Refused (too_many members'))) [] (λ x values v may. may) refl refl add-none)))
+      (told-behind who end was number caller at_end moved grows roles spares before after since tail)
+      (λ synced. unsettles-behind who end (losses_of roles spares) tail refl)
+      (λ is x values newest covered. subst (λ (l : List Sector). IsIn l (sector_at at (sectors_of from) x)) (sym (values-losses who end (losses_of roles spares) tail (losses-are roles spares) x values))
+      (torn-in at (sectors_of from) x values newest covered))))
+    where
+      tail : List Event
+      tail = Torn at (sectors_of from) ∷ Refused (too_many members') ∷ []
+
+  -- one that wasn't done
+  pub kept-unwritten : (refusal : Refusal) → IsUnwritten (not unsynced) members' refusal → (begun ≡ true → AreTooMany members' refusal) → (begun ≡ false → tells → AreOthersPresent (present given tape) (present given tape'))
+      → IsKept tells given tape' scope first (entries ++ entries_of who end (failure_events roles spares begun at (sectors_of from) refusal)) members' unsynced
+  kept-unwritten refusal why many others = by begun refl
+    where
+      by : (b : Bool) → begun ≡ b → IsKept tells given tape' scope first (entries ++ entries_of who end (failure_events roles spares b at (sectors_of from) refusal)) members' unsynced
+      by true is =
+          let told = (many is).told in
+          subst (λ (r : Refusal). IsKept tells given tape' scope first (entries ++ entries_of who end (failure_events roles spares true at (sectors_of from) r)) members' unsynced) (sym told)
+          (kept-torn (subst (IsRefusedHere (list_size (places_of members)) unsynced members') told (too-many-here (list_size (places_of members)) unsynced members' refusal (many is))))
+      by false is =
+          degraded-refused who end was number caller at_end moved grows roles spares before after since refusal
+          (unwritten-here (list_size (places_of members)) unsynced (not unsynced) members' refusal refl why) (others is)
+          (leaves-written (losses_of roles spares ++ Refused refusal ∷ [])
+          (silent-behind who end (losses_of roles spares) (Refused refusal) (losses-are roles spares) (record { length = λ n. refl; limit = refl }))
+          (add-losses who end (losses_of roles spares) (Refused refusal ∷ []) (losses-are roles spares) (add-one (one who end (Refused refusal)) [] (λ x values v may. may) refl refl add-none))
+          (told-behind who end was number caller at_end moved grows roles spares before after since (Refused refusal ∷ []))
+          (λ synced. unsettles-behind who end (losses_of roles spares) (Refused refusal ∷ []) (gave-up why synced))
+          (λ now_begun. absurd (let no = sym is ∙ now_begun in cc)))
+        where
+          gave-up : IsUnwritten (not unsynced) members' refusal → unsynced ≡ false → list_any (λ e. unsettles e.event) (entries_of who end (Refused refusal ∷ [])) ≡ true
+          gave-up (inl too) synced = subst (λ (r : Refusal). list_any (λ e. unsettles e.event) (entries_of who end (Refused r ∷ [])) ≡ true) (sym too.told) refl
+          gave-up (inr found) synced = absurd (let no = sym (ap not synced) ∙ found.2 in cc)
+
+  -- one that was done
+  pub kept-wrote : (tells → (list list' : ℕ → Sector) → IsWritten list list' at from → ListStands members (present given tape) list → ListStands members' (present given tape') list')
+      → (tells → (list list' : ℕ → Sector) → IsWritten list list' at from → RowsStand members (present given tape) list → RowsStand members' (present given tape') list')
+      → IsKept tells given tape' scope first (entries ++ entries_of who end (losses_of roles spares ++ Wrote at (sectors_of from) ∷ [])) members' unsynced
+  kept-wrote put good =
+      degraded-wrote who end was number caller at_end moved grows roles spares before after since at from within put good
+      (leaves-written (losses_of roles spares ++ Wrote at (sectors_of from) ∷ [])
+      (silent-behind who end (losses_of roles spares) (Wrote at (sectors_of from)) (losses-are roles spares) (record { length = λ n. refl; limit = refl }))
+      (add-losses who end (losses_of roles spares) (Wrote at (sectors_of from) ∷ []) (losses-are roles spares)
+      (add-one (one who end (Wrote at (sectors_of from))) [] (wrote-adds at (sectors_of from)) refl refl add-none))
+      (told-behind who end was number caller at_end moved grows roles spares before after since (Wrote at (sectors_of from) ∷ []))
+      (λ synced. unsettles-behind who end (losses_of roles spares) (Wrote at (sectors_of from) ∷ []) refl)
+      (λ is x values newest covered. subst (λ (l : List Sector). IsIn l (sector_at at (sectors_of from) x)) (sym (values-losses who end (losses_of roles spares) (Wrote at (sectors_of from) ∷ []) (losses-are roles spares) x values))
+      (wrote-in at (sectors_of from) x values covered)))

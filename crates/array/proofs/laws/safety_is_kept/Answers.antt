@@ -1,0 +1,23 @@
+use Rattle.std.specs.Prelude.{⊤}
+use Rattle.array.proofs.Steady.{safe-is-seen, losing-stays-safe, flushes-stay-safe, flushed-is-settled}
+use Rattle.array.proofs.WriteSafe.{writes-stay-safe}
+use Rattle.array.proofs.MarkSafe.{mark-stays-safe}
+use Rattle.array.proofs.laws.safety_is_kept.Goals as goal
+
+pub returns-clause-seen : goal.returns-clause-seen
+returns-clause-seen c = safe-is-seen ⊤
+
+pub returns-clause-losing : goal.returns-clause-losing
+returns-clause-losing c = losing-stays-safe ⊤
+
+pub returns-clause-flushes : goal.returns-clause-flushes
+returns-clause-flushes c = flushes-stay-safe ⊤
+
+pub returns-clause-flushed : goal.returns-clause-flushed
+returns-clause-flushed c = flushed-is-settled
+
+pub returns-clause-writes : goal.returns-clause-writes
+returns-clause-writes c = writes-stay-safe ⊤
+
+pub returns-clause-mark : goal.returns-clause-mark
+returns-clause-mark c = mark-stays-safe ⊤

@@ -1,0 +1,8 @@
+use Rattle.std.proofs.Common.{◌≡◌, ◌<◌, ℕ, true}
+use Rattle.row_io.specs.Rows.{reading_of, is_missing}
+use Rattle.array.specs.Lacking.{IsNamed}
+use Rattle.array.proofs.naming.has_unnamed.Given as goal
+
+-- no role before this one is missing and named
+abbrev pub invariant-loop-role : goal.invariant-loop-role
+invariant-loop-role l = (role : ℕ) → role < l.role → is_missing (reading_of l.members) role ≡ true → IsNamed l.members.newest role → ⊥

@@ -1,0 +1,80 @@
+//! Reads of an array that may lack members.
+
+ghost use Rattle.std.specs.Prelude.{◌≡◌, ◌⊎◌, ◌+◌, ◌*◌, ◌/◌, ◌^◌, ◌<◌, ◌≤◌, ℕ, true, false, length, None, MatchOption, ⊤};
+ghost use Rattle.bank.specs.Given.{NeverFalls};
+ghost use Rattle.md_base.specs.Sectors.{Sector, IsWhole};
+ghost use Rattle.parity.specs.Rows.{sector_of};
+ghost use Rattle.superblocks.specs.Reading.{shape_of, is_clean};
+ghost use Rattle.row_io.specs.Rows.{present};
+ghost use Rattle.array.specs.Whole.{list_size};
+ghost use Rattle.array.specs.Placed.{places_of, AreWhole, IsPlaced, AreUnlost};
+ghost use Rattle.array.specs.Marking.{AreOthersPresent};
+ghost use Rattle.array.specs.Moving.{Grows, IsMoved};
+ghost use Rattle.array.specs.Lacking.{HaveFailedSince, IsUnread, ListStands, RowsStand};
+ghost use Rattle.flat_history.specs.World.{World};
+ghost use Rattle.array.specs.Safety.{HasRoomLeft, IsRisen};
+ghost use Rattle.array.specs.Views.{Ledger};
+ghost use Rattle.array.specs.Steady.{IsSafeOver, KeepsSafe, AreGoneTold, IsUncleanTold};
+
+use crate::naming::name_missing;
+use crate::refusing::refused_by;
+use bank::Bank;
+use list_io::read_list;
+use md_base::{Refusal, Shape};
+use superblocks::Members;
+
+/// The spares that were lost in a read, and why it wasn't done.
+#[derive(Clone, Copy)]
+pub struct Fetched {
+    pub spares: u32,
+    pub refusal: Option<Refusal>,
+}
+
+/// Fills `into` with sectors of the list, from `first` on: each from the slot that holds it, or, in a synced array, filled
+/// in from its row; and names the members that are missing.
+pub fn fetch<B: Bank>(
+    members: &mut Members,
+    bank: &mut B,
+    shape: &Shape,
+    first: u64,
+    into: &mut [u8],
+    scratch: &mut [u8],
+    synced: bool,
+) -> Fetched
+    requires slots { (B.given bank.old).slots ≤ 32 }
+    requires placed { IsPlaced (B.given bank.old) members.old }
+    requires unlost { AreUnlost members.old }
+    requires shape { shape.now ≡ shape_of members.old.newest }
+    requires into { IsWhole into.old }
+    requires within { first + length into.old / 512 ≤ list_size (places_of members.old) }
+    requires short { first + length into.old / 512 ≤ 2 ^ 53 }
+    requires scratch { 8192 ≤ length scratch.old }
+    ensures moved { IsMoved (B.given bank.old) members.old members.new }
+    ensures failed { HaveFailedSince members.old members.new result.spares (B.faults_of bank.old) (B.faults_of bank.new) }
+    ensures refused { MatchOption result.refusal ⊤ (IsUnread synced first (length into.old / 512) members.new) }
+    ensures grows { Grows B.tells (B.tape bank.old) (B.tape bank.new) }
+    ensures others { B.tells → AreOthersPresent (present (B.given bank.old) (B.tape bank.old)) (present (B.given bank.old) (B.tape bank.new)) }
+    ensures holds { result.refusal ≡ None → B.tells → (list : ℕ → Sector) → ListStands members.old (present (B.given bank.old) (B.tape bank.old)) list
+        → (synced ≡ true → AreWhole members.new ⊎ RowsStand members.old (present (B.given bank.old) (B.tape bank.old)) list)
+        → (i : ℕ) → i < length into.old / 512 → sector_of into.new i ≡ list (first + i) }
+    ensures clean { is_clean members.new.newest ≡ is_clean members.old.newest }
+    ensures kept { AreWhole members.new → members.new ≡ members.old }
+    ensures tape { AreWhole members.new → B.tells → B.tape bank.new ≡ B.tape bank.old }
+    ensures rise { IsRisen B.tells members.old members.new (B.tape bank.old) (B.tape bank.new) }
+    ensures safe { B.tells → (world : World) → (size : ℕ) → (told : Ledger) → HasRoomLeft members.old (B.tape bank.old) (B.tape bank.new)
+        → AreGoneTold told members.new → IsUncleanTold told members.old → IsSafeOver world (B.given bank.old) size told members.old (B.tape bank.old)
+        → KeepsSafe world (B.given bank.old) size told members.new (B.tape bank.old) (B.tape bank.new) }
+    ensures given { B.given bank.new ≡ B.given bank.old }
+    ensures counts { NeverFalls (B.faults_of bank.old) (B.faults_of bank.new) }
+{
+    let read = read_list(members, bank, shape, first, into, scratch, synced);
+    let refusal = refused_by(read.answer, members);
+    if refusal.is_some() {
+        return Fetched { spares: 0, refusal };
+    }
+    let spares = name_missing(members, bank);
+    Fetched {
+        spares,
+        refusal: None,
+    }
+}

@@ -1,0 +1,370 @@
+//! Writes of an array that may lack members.
+
+ghost use Rattle.std.specs.Prelude.{◌≡◌, ◌≢◌, ◌⊎◌, ◌+◌, ◌*◌, ◌/◌, ◌^◌, ◌<◌, ◌≤◌, ℕ, List, true, false, length, slice_index, Contains, vec_capacity, None, MatchOption, ⊤};
+ghost use Rattle.bank.specs.Given.{NeverFalls};
+ghost use Rattle.bank.specs.Tape.{EachMark, disk};
+ghost use Rattle.md_base.specs.Sectors.{Sector, IsWhole};
+ghost use Rattle.superblocks.specs.Reading.{Scope, shape_of, is_clean};
+ghost use Rattle.row_io.specs.Rows.{reading_of, present};
+ghost use Rattle.list_io.specs.Buffers.{buffered, AreDistinct, AreStanding, AreTouched};
+ghost use Rattle.list_io.specs.Writing.{IsWritten, AreDataFrom};
+ghost use Rattle.array.specs.Placed.{places_of, AreWhole, IsPlaced, AreUnlost};
+ghost use Rattle.array.specs.Moving.{Grows, IsMoved};
+ghost use Rattle.array.specs.Whole.{list_size};
+ghost use Rattle.array.specs.Marking.{AreOthersPresent};
+ghost use Rattle.array.specs.Safety.{HasMarkRoom, HasRoomLeft, IsRightAt, IsStretch, IsRisen, AreMore, AreNone};
+ghost use Rattle.array.specs.Lacking.{HaveFailedSince, AreTooMany, IsUnwritten, ListStands, RowsStand, AreBytes, AreRowsRead, AreRowsWritten, IsListPut};
+ghost use Rattle.flat_history.specs.World.{World};
+ghost use Rattle.array.specs.Views.{Ledger};
+ghost use Rattle.array.specs.Steady.{IsSafeOver, KeepsSafe, AreGoneTold, AreWritesAllowed};
+
+use crate::naming::{name_missing, raise};
+use crate::refusing::{refused_by, too_many};
+use bank::Bank;
+use list_io::{read_touched, write_touched};
+use md_base::{Refusal, Shape};
+use superblocks::Members;
+
+// The first row that isn't written, and why the rows weren't all written.
+#[derive(Clone, Copy)]
+struct Part {
+    next: usize,
+    refusal: Option<Refusal>,
+}
+
+// The same, and the spares that were lost.
+#[derive(Clone, Copy)]
+struct Stretch {
+    next: usize,
+    spares: u32,
+    refusal: Option<Refusal>,
+}
+
+// The spares that were lost before rows are written, and why none is.
+#[derive(Clone, Copy)]
+struct Prepared {
+    spares: u32,
+    refusal: Option<Refusal>,
+}
+
+// Writes rows from one on, up to the first in which a member is lost.
+fn write_stretch<B: Bank>(
+    members: &mut Members,
+    bank: &mut B,
+    shape: &Shape,
+    first: u64,
+    from: &[u8],
+    rows: &[u64],
+    start: usize,
+    buffer: &mut Vec<u8>,
+) -> Part
+    requires slots { (B.given bank.old).slots ≤ 32 }
+    requires placed { IsPlaced (B.given bank.old) members.old }
+    requires unlost { AreUnlost members.old }
+    requires shape { shape.now ≡ shape_of members.old.newest }
+    requires from { IsWhole from.now }
+    requires short { first + length from.now / 512 < 2 ^ 63 }
+    requires below { (row : ℕ) → Contains rows.now row → row < members.old.newest.size }
+    requires once { AreDistinct rows.now }
+    requires few { length rows.now ≤ 128 }
+    requires start { start ≤ length rows.now }
+    requires buffer { 1048576 ≤ length buffer.old.items }
+    requires standing { B.tells → (i : ℕ) → start ≤ i → i < length rows.now → AreStanding (reading_of members.old)
+        (present (B.given bank.old) (B.tape bank.old)) shape.now (slice_index rows.now i) (buffered buffer.old.items i) }
+    ensures moved { IsMoved (B.given bank.old) members.old members.new }
+    ensures failed { HaveFailedSince members.old members.new 0 (B.faults_of bank.old) (B.faults_of bank.new) }
+    ensures refused { MatchOption result.refusal ⊤ (AreTooMany members.new) }
+    ensures grows { Grows B.tells (B.tape bank.old) (B.tape bank.new) }
+    ensures written { B.tells → AreRowsWritten shape.now first from.now rows.now start result.next members.new
+        (present (B.given bank.old) (B.tape bank.old)) (present (B.given bank.old) (B.tape bank.new)) buffer.old.items buffer.new.items }
+    ensures reached { start ≤ result.next }
+    ensures within { result.next ≤ length rows.now }
+    ensures further { result.refusal ≡ None → start < length rows.now → start < result.next }
+    ensures clean { is_clean members.new.newest ≡ is_clean members.old.newest }
+    ensures kept { AreWhole members.new → members.new ≡ members.old }
+    ensures all { AreWhole members.new → result.next ≡ length rows.now }
+    ensures marks { AreWhole members.new → (list list' : ℕ → Sector) → IsWritten list list' first from.now → (B.tells → AreDataFrom start shape.now list rows.now buffer.old.items)
+        → EachMark B.tells (B.given bank.old).start (B.tape bank.old) (B.tape bank.new) (IsListPut members.old list' rows.now (disk (B.given bank.old).start (B.tape bank.old))) }
+    ensures rise { IsRisen B.tells members.old members.new (B.tape bank.old) (B.tape bank.new) }
+    ensures safe { B.tells → (world : World) → (size : ℕ) → (told : Ledger) → is_clean members.old.newest ≡ false → (list list' : ℕ → Sector) → IsWritten list list' first from.now
+        → (B.tells → AreDataFrom start shape.now list rows.now buffer.old.items) → AreWritesAllowed members.old told.values list' → IsSafeOver world (B.given bank.old) size told members.old (B.tape bank.old)
+        → KeepsSafe world (B.given bank.old) size told members.new (B.tape bank.old) (B.tape bank.new) }
+    ensures given { B.given bank.new ≡ B.given bank.old }
+    ensures counts { NeverFalls (B.faults_of bank.old) (B.faults_of bank.new) }
+    ensures size { length buffer.new.items ≡ length buffer.old.items }
+{
+    let written = write_touched(members, bank, shape, first, from, rows, start, buffer);
+    let next = written.next_row;
+    let refusal = refused_by(written.answer, members);
+    Part { next, refusal }
+}
+
+// Writes rows from one on, up to the first in which a member is lost, and names those that are missing.
+fn put_stretch<B: Bank>(
+    members: &mut Members,
+    bank: &mut B,
+    shape: &Shape,
+    first: u64,
+    from: &[u8],
+    rows: &[u64],
+    start: usize,
+    buffer: &mut Vec<u8>,
+) -> Stretch
+    requires slots { (B.given bank.old).slots ≤ 32 }
+    requires placed { IsPlaced (B.given bank.old) members.old }
+    requires unlost { AreUnlost members.old }
+    requires shape { shape.now ≡ shape_of members.old.newest }
+    requires from { IsWhole from.now }
+    requires short { first + length from.now / 512 < 2 ^ 63 }
+    requires below { (row : ℕ) → Contains rows.now row → row < members.old.newest.size }
+    requires once { AreDistinct rows.now }
+    requires few { length rows.now ≤ 128 }
+    requires start { start ≤ length rows.now }
+    requires buffer { 1048576 ≤ length buffer.old.items }
+    requires standing { B.tells → (i : ℕ) → start ≤ i → i < length rows.now → AreStanding (reading_of members.old)
+        (present (B.given bank.old) (B.tape bank.old)) shape.now (slice_index rows.now i) (buffered buffer.old.items i) }
+    ensures moved { IsMoved (B.given bank.old) members.old members.new }
+    ensures failed { HaveFailedSince members.old members.new result.spares (B.faults_of bank.old) (B.faults_of bank.new) }
+    ensures refused { MatchOption result.refusal ⊤ (AreTooMany members.new) }
+    ensures grows { Grows B.tells (B.tape bank.old) (B.tape bank.new) }
+    ensures written { B.tells → AreRowsWritten shape.now first from.now rows.now start result.next members.new
+        (present (B.given bank.old) (B.tape bank.old)) (present (B.given bank.old) (B.tape bank.new)) buffer.old.items buffer.new.items }
+    ensures reached { start ≤ result.next }
+    ensures within { result.next ≤ length rows.now }
+    ensures further { result.refusal ≡ None → start < length rows.now → start < result.next }
+    ensures clean { is_clean members.new.newest ≡ is_clean members.old.newest }
+    ensures kept { AreWhole members.new → members.new ≡ members.old }
+    ensures all { AreWhole members.new → result.next ≡ length rows.now }
+    ensures marks { AreWhole members.new → (list list' : ℕ → Sector) → IsWritten list list' first from.now → (B.tells → AreDataFrom start shape.now list rows.now buffer.old.items)
+        → EachMark B.tells (B.given bank.old).start (B.tape bank.old) (B.tape bank.new) (IsListPut members.old list' rows.now (disk (B.given bank.old).start (B.tape bank.old))) }
+    ensures rise { IsRisen B.tells members.old members.new (B.tape bank.old) (B.tape bank.new) }
+    ensures safe { B.tells → (world : World) → (size : ℕ) → (told : Ledger) → HasRoomLeft members.old (B.tape bank.old) (B.tape bank.new)
+        → AreGoneTold told members.new → told.unclean ≡ true → is_clean members.old.newest ≡ false → (list list' : ℕ → Sector) → IsWritten list list' first from.now
+        → (B.tells → AreDataFrom start shape.now list rows.now buffer.old.items) → AreWritesAllowed members.old told.values list' → IsSafeOver world (B.given bank.old) size told members.old (B.tape bank.old)
+        → KeepsSafe world (B.given bank.old) size told members.new (B.tape bank.old) (B.tape bank.new) }
+    ensures given { B.given bank.new ≡ B.given bank.old }
+    ensures counts { NeverFalls (B.faults_of bank.old) (B.faults_of bank.new) }
+    ensures size { length buffer.new.items ≡ length buffer.old.items }
+{
+    let Part { next, refusal } = write_stretch(
+        members, bank, shape, first, from, rows, start, buffer,
+    );
+    if refusal.is_some() {
+        return Stretch {
+            next,
+            spares: 0,
+            refusal,
+        };
+    }
+    let spares = name_missing(members, bank);
+    Stretch {
+        next,
+        spares,
+        refusal: None,
+    }
+}
+
+// Writes the rows, and names the members that are lost before the next row is written.
+fn put_rows<B: Bank>(
+    members: &mut Members,
+    bank: &mut B,
+    shape: &Shape,
+    first: u64,
+    from: &[u8],
+    rows: &[u64],
+    buffer: &mut Vec<u8>,
+) -> Stretch
+    requires slots { (B.given bank.old).slots ≤ 32 }
+    requires placed { IsPlaced (B.given bank.old) members.old }
+    requires unlost { AreUnlost members.old }
+    requires shape { shape.now ≡ shape_of members.old.newest }
+    requires from { IsWhole from.now }
+    requires short { first + length from.now / 512 < 2 ^ 63 }
+    requires below { (row : ℕ) → Contains rows.now row → row < members.old.newest.size }
+    requires once { AreDistinct rows.now }
+    requires few { length rows.now ≤ 128 }
+    requires buffer { 1048576 ≤ length buffer.old.items }
+    requires standing { B.tells → (i : ℕ) → i < length rows.now → AreStanding (reading_of members.old)
+        (present (B.given bank.old) (B.tape bank.old)) shape.now (slice_index rows.now i) (buffered buffer.old.items i) }
+    ensures moved { IsMoved (B.given bank.old) members.old members.new }
+    ensures failed { HaveFailedSince members.old members.new result.spares (B.faults_of bank.old) (B.faults_of bank.new) }
+    ensures refused { MatchOption result.refusal ⊤ (AreTooMany members.new) }
+    ensures grows { Grows B.tells (B.tape bank.old) (B.tape bank.new) }
+    ensures written { B.tells → AreRowsWritten shape.now first from.now rows.now 0 result.next members.new
+        (present (B.given bank.old) (B.tape bank.old)) (present (B.given bank.old) (B.tape bank.new)) buffer.old.items buffer.new.items }
+    ensures within { result.next ≤ length rows.now }
+    ensures done { result.refusal ≡ None → result.next ≡ length rows.now }
+    ensures clean { is_clean members.new.newest ≡ is_clean members.old.newest }
+    ensures kept { AreWhole members.new → members.new ≡ members.old }
+    ensures marks { AreWhole members.new → result.refusal ≡ None → (list list' : ℕ → Sector) → IsWritten list list' first from.now → (B.tells → AreDataFrom 0 shape.now list rows.now buffer.old.items)
+        → EachMark B.tells (B.given bank.old).start (B.tape bank.old) (B.tape bank.new) (IsListPut members.old list' rows.now (disk (B.given bank.old).start (B.tape bank.old))) }
+    ensures rise { IsRisen B.tells members.old members.new (B.tape bank.old) (B.tape bank.new) }
+    ensures safe { B.tells → (world : World) → (size : ℕ) → (told : Ledger) → HasRoomLeft members.old (B.tape bank.old) (B.tape bank.new)
+        → AreGoneTold told members.new → told.unclean ≡ true → is_clean members.old.newest ≡ false → (list list' : ℕ → Sector) → IsWritten list list' first from.now
+        → (B.tells → AreDataFrom 0 shape.now list rows.now buffer.old.items) → AreWritesAllowed members.old told.values list' → IsSafeOver world (B.given bank.old) size told members.old (B.tape bank.old)
+        → KeepsSafe world (B.given bank.old) size told members.new (B.tape bank.old) (B.tape bank.new) }
+    ensures given { B.given bank.new ≡ B.given bank.old }
+    ensures counts { NeverFalls (B.faults_of bank.old) (B.faults_of bank.new) }
+    ensures size { length buffer.new.items ≡ length buffer.old.items }
+{
+    let mut next = 0;
+    let mut spares = 0;
+    while next < rows.len() {
+        let one = put_stretch(members, bank, shape, first, from, rows, next, buffer);
+        next = one.next;
+        spares |= one.spares;
+        if one.refusal.is_some() {
+            return Stretch {
+                next,
+                spares,
+                refusal: one.refusal,
+            };
+        }
+    }
+    Stretch {
+        next,
+        spares,
+        refusal: None,
+    }
+}
+
+// Reads the rows that so many sectors from `first` on touch, marks the array dirty where it is clean, and names those that
+// are missing.
+fn prepare<B: Bank>(
+    members: &mut Members,
+    bank: &mut B,
+    shape: &Shape,
+    first: u64,
+    count: u64,
+    rows: &mut Vec<u64>,
+    buffer: &mut Vec<u8>,
+    synced: bool,
+) -> Prepared
+    requires slots { (B.given bank.old).slots ≤ 32 }
+    requires placed { IsPlaced (B.given bank.old) members.old }
+    requires unlost { AreUnlost members.old }
+    requires shape { shape.now ≡ shape_of members.old.newest }
+    requires few { count ≤ 128 }
+    requires within { first + count ≤ list_size (places_of members.old) }
+    requires short { first + count < 2 ^ 53 }
+    requires rows { 128 ≤ vec_capacity rows.old }
+    requires buffer { 1048576 ≤ length buffer.old.items }
+    ensures moved { IsMoved (B.given bank.old) members.old members.new }
+    ensures failed { HaveFailedSince members.old members.new result.spares (B.faults_of bank.old) (B.faults_of bank.new) }
+    ensures refused { MatchOption result.refusal ⊤ (IsUnwritten synced members.new) }
+    ensures grows { Grows B.tells (B.tape bank.old) (B.tape bank.new) }
+    ensures others { B.tells → AreOthersPresent (present (B.given bank.old) (B.tape bank.old)) (present (B.given bank.old) (B.tape bank.new)) }
+    ensures read { result.refusal ≡ None → B.tells → AreRowsRead shape.now synced members.old members.new (present (B.given bank.old) (B.tape bank.old)) rows.new.items buffer.new.items }
+    ensures dirty { result.refusal ≡ None → is_clean members.new.newest ≡ false }
+    ensures stays { is_clean members.old.newest ≡ false → is_clean members.new.newest ≡ false }
+    ensures right { AreWhole members.new → AreNone result.spares → B.tells → (scope : Scope) → (values : ℕ → List Sector) → IsRightAt (B.given bank.old) scope values members.old (B.tape bank.old)
+        → HasMarkRoom members.old (B.tape bank.old) (B.tape bank.new)
+        → IsStretch scope (places_of members.old) values (B.given bank.old).start (B.tape bank.old) (B.tape bank.new) members.old members.new }
+    ensures touched { AreTouched shape.now first count rows.new.items }
+    ensures below { (row : ℕ) → Contains rows.new.items row → row < members.new.newest.size }
+    ensures few { length rows.new.items ≤ count }
+    ensures rise { IsRisen B.tells members.old members.new (B.tape bank.old) (B.tape bank.new) }
+    ensures safe { B.tells → (world : World) → (size : ℕ) → (told : Ledger) → HasRoomLeft members.old (B.tape bank.old) (B.tape bank.new)
+        → AreGoneTold told members.new → told.unclean ≡ true → IsSafeOver world (B.given bank.old) size told members.old (B.tape bank.old)
+        → KeepsSafe world (B.given bank.old) size told members.new (B.tape bank.old) (B.tape bank.new) }
+    ensures given { B.given bank.new ≡ B.given bank.old }
+    ensures counts { NeverFalls (B.faults_of bank.old) (B.faults_of bank.new) }
+    ensures rows { vec_capacity rows.old ≤ vec_capacity rows.new }
+    ensures buffer { length buffer.new.items ≡ length buffer.old.items }
+{
+    let read = read_touched(members, bank, shape, first, count, rows, buffer, synced);
+    let unread = refused_by(read.answer, members);
+    if unread.is_some() {
+        return Prepared {
+            spares: 0,
+            refusal: unread,
+        };
+    }
+    let spares = raise(members, bank);
+    Prepared {
+        spares,
+        refusal: too_many(members),
+    }
+}
+
+/// What a write came to: whether rows had begun to be written, the spares that were lost, and why it wasn't done.
+#[derive(Clone, Copy)]
+pub struct Outcome {
+    pub begun: bool,
+    pub spares: u32,
+    pub refusal: Option<Refusal>,
+}
+
+/// Puts the sectors of `from` into the list from `first` on: the rows that they touch are read, the array is marked dirty
+/// where it is clean, those that are missing are named, and the rows are written. It ends where more are missing than the
+/// array can do without, or, in an array that isn't synced, one that has data.
+pub fn put<B: Bank>(
+    members: &mut Members,
+    bank: &mut B,
+    shape: &Shape,
+    first: u64,
+    from: &[u8],
+    rows: &mut Vec<u64>,
+    buffer: &mut Vec<u8>,
+    synced: bool,
+) -> Outcome
+    requires slots { (B.given bank.old).slots ≤ 32 }
+    requires placed { IsPlaced (B.given bank.old) members.old }
+    requires unlost { AreUnlost members.old }
+    requires shape { shape.now ≡ shape_of members.old.newest }
+    requires from { IsWhole from.now }
+    requires few { length from.now / 512 ≤ 128 }
+    requires within { first + length from.now / 512 ≤ list_size (places_of members.old) }
+    requires short { first + length from.now / 512 < 2 ^ 53 }
+    requires rows { 128 ≤ vec_capacity rows.old }
+    requires buffer { 1048576 ≤ length buffer.old.items }
+    ensures moved { IsMoved (B.given bank.old) members.old members.new }
+    ensures failed { HaveFailedSince members.old members.new result.spares (B.faults_of bank.old) (B.faults_of bank.new) }
+    ensures refused { MatchOption result.refusal ⊤ (IsUnwritten synced members.new) }
+    ensures torn { result.begun ≡ true → MatchOption result.refusal ⊤ (AreTooMany members.new) }
+    ensures grows { Grows B.tells (B.tape bank.old) (B.tape bank.new) }
+    ensures put { result.refusal ≡ None → B.tells → (list list' : ℕ → Sector) → IsWritten list list' first from.now
+        → ListStands members.old (present (B.given bank.old) (B.tape bank.old)) list → ListStands members.new (present (B.given bank.old) (B.tape bank.new)) list' }
+    ensures good { result.refusal ≡ None → B.tells → (list list' : ℕ → Sector) → IsWritten list list' first from.now → AreBytes from.now
+        → RowsStand members.old (present (B.given bank.old) (B.tape bank.old)) list → RowsStand members.new (present (B.given bank.old) (B.tape bank.new)) list' }
+    ensures dirty { result.refusal ≡ None → is_clean members.new.newest ≡ false }
+    ensures stays { is_clean members.old.newest ≡ false → is_clean members.new.newest ≡ false }
+    ensures untouched { result.begun ≡ false → B.tells → AreOthersPresent (present (B.given bank.old) (B.tape bank.old)) (present (B.given bank.old) (B.tape bank.new)) }
+    ensures right { AreWhole members.new → AreNone result.spares → B.tells → (scope : Scope) → (values more : ℕ → List Sector) → IsRightAt (B.given bank.old) scope values members.old (B.tape bank.old)
+        → HasMarkRoom members.old (B.tape bank.old) (B.tape bank.new) → AreMore (places_of members.old) first from.now values more
+        → IsStretch scope (places_of members.old) more (B.given bank.old).start (B.tape bank.old) (B.tape bank.new) members.old members.new }
+    ensures rise { IsRisen B.tells members.old members.new (B.tape bank.old) (B.tape bank.new) }
+    ensures safe { B.tells → (world : World) → (size : ℕ) → (told : Ledger) → HasRoomLeft members.old (B.tape bank.old) (B.tape bank.new)
+        → AreGoneTold told members.new → told.unclean ≡ true → (list list' : ℕ → Sector) → IsWritten list list' first from.now
+        → ListStands members.old (present (B.given bank.old) (B.tape bank.old)) list → (synced ≡ true → AreWhole members.new ⊎ RowsStand members.old (present (B.given bank.old) (B.tape bank.old)) list)
+        → (result.begun ≡ true → AreWritesAllowed members.old told.values list') → IsSafeOver world (B.given bank.old) size told members.old (B.tape bank.old)
+        → KeepsSafe world (B.given bank.old) size told members.new (B.tape bank.old) (B.tape bank.new) }
+    ensures given { B.given bank.new ≡ B.given bank.old }
+    ensures counts { NeverFalls (B.faults_of bank.old) (B.faults_of bank.new) }
+    ensures rows { vec_capacity rows.old ≤ vec_capacity rows.new }
+    ensures buffer { length buffer.new.items ≡ length buffer.old.items }
+{
+    let begun = prepare(
+        members,
+        bank,
+        shape,
+        first,
+        (from.len() / 512) as u64,
+        rows,
+        buffer,
+        synced,
+    );
+    if begun.refusal.is_some() {
+        return Outcome {
+            begun: false,
+            spares: begun.spares,
+            refusal: begun.refusal,
+        };
+    }
+    let done = put_rows(members, bank, shape, first, from, rows.as_slice(), buffer);
+    Outcome {
+        begun: true,
+        spares: begun.spares | done.spares,
+        refusal: done.refusal,
+    }
+}

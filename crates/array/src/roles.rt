@@ -1,0 +1,35 @@
+//! The shape of an array, and the roles that it misses.
+
+ghost use Rattle.std.specs.Prelude.{◌≡◌, ◌≤◌, ◌&&◌, ℕ, nat_lt, length, IsTrue};
+ghost use Rattle.md_base.specs.Shapes.{has_slot, is_valid_shape};
+ghost use Rattle.superblocks.specs.Reading.{shape_of};
+ghost use Rattle.row_io.specs.Rows.{reading_of, is_missing};
+
+use md_base::Shape;
+use row_io::is_missing;
+use superblocks::Members;
+use superblocks::says::shape_of;
+use superblocks::sets::with;
+
+/// The shape of the array, by its newest superblock.
+pub fn shape_in(members: &Members) -> Shape
+    requires { IsTrue (is_valid_shape (shape_of members.now.newest)) }
+    ensures { result ≡ shape_of members.now.newest }
+{
+    shape_of(&members.newest)
+}
+
+/// The roles that are missing, of so many.
+pub fn missing_roles(members: &Members, disks: u32) -> u32
+    requires known { disks ≤ length members.now.roles }
+    requires few { disks ≤ 32 }
+    ensures { (role : ℕ) → has_slot result role ≡ (nat_lt role disks && is_missing (reading_of members.now) role) }
+{
+    let mut roles = 0;
+    for role in 0..disks {
+        if is_missing(members, role) {
+            roles = with(roles, role);
+        }
+    }
+    roles
+}
