@@ -1,5 +1,5 @@
--- Where the rows of an opened array stand: each role whole, on a slot of its own.
-use Rattle.std.proofs.Common.{◌≡◌, inl, inr, ℕ, zero, suc, ◌+◌, ◌*◌, ◌^◌, ◌<◌, ◌≤◌, ◌==◌, Bool, true, false, cond, not, ◌||◌, ◌&&◌, nat_lt, nat_le, List, [], ◌∷◌, length, take, drop, get_or, Option, Some, None, unwrap_or, option_map, refl, sym, ◌∙◌, ap, subst, arith}
+-- Where the rows of an opened array stand: each role whole, on a slot of its own, or missing.
+use Rattle.std.proofs.Common.{◌≡◌, ◌⊎◌, inl, inr, ℕ, zero, suc, ◌+◌, ◌*◌, ◌^◌, ◌<◌, ◌≤◌, ◌==◌, Bool, true, false, cond, not, ◌||◌, ◌&&◌, nat_lt, nat_le, List, [], ◌∷◌, length, take, drop, get_or, Option, Some, None, unwrap_or, option_map, refl, sym, ◌∙◌, ap, subst, arith}
 use Rattle.std.specs.Prelude.{find, max}
 use Rattle.std.specs.Option.{option_or, option_map_or}
 use Rattle.std.specs.List.{list_any}
@@ -18,17 +18,28 @@ use Rattle.md_base.proofs.Tabulated.{length-tabulate, get_or-tabulate}
 use Rattle.sb1.specs.declared.sb.Sb.{Sb}
 use Rattle.bank.specs.Given.{Given, sizes}
 use Rattle.superblocks.specs.declared.members.Members.{Members}
-use Rattle.superblocks.specs.Reading.{Reading, reading_by, newest_of, holder_from, spares_from, holds_role, state_of, is_fresh, is_spare, is_recovering, is_reshaping, entry_of, role_count, shape_of, target_of, is_whole, role_state, holder, data_offset_of}
+use Rattle.superblocks.specs.Reading.{Reading, reading_by, newest_of, holder_from, spares_from, holds_role, state_of, is_fresh, is_spare, is_recovering, is_reshaping, entry_of, role_count, shape_of, target_of, role_state, holder, data_offset_of}
 use Rattle.superblocks.specs.Verdict.{members_refusal, bad_field, judged_fields, is_bad_entry, is_bad_size}
 use Rattle.superblocks.specs.Election.{reading_in, IsElected}
 use Rattle.superblocks.specs.Update.{is_held_by, is_live}
 use Rattle.superblocks.specs.Writing.{IsMember, AreWritable}
 use Rattle.superblocks.proofs.Accepted.{IsAccepted, is-accepted}
-use Rattle.row_io.specs.Rows.{reading_of, is_missing}
+use Rattle.row_io.specs.Rows.{reading_of}
 use Rattle.row_io.proofs.Apart.{readings-are-apart}
-use Rattle.array.specs.Placed.{IsPlaced, AreWhole, AreUnlost}
+use Rattle.array.specs.Placed.{IsPlaced, AreUnlost}
 use Rattle.assemble.specs.Opening.{AreOfGiven, AreCounted}
+use Rattle.assemble.specs.Running.{HasRebuilding}
 use Rattle.assemble.proofs.Judged.{elected-valid, reading-made}
+
+-- the roles of an array without a reshape are those of its shape
+pub count-is : (newest : Sb) → is_reshaping newest ≡ false → role_count newest ≡ (shape_of newest).disks
+count-is newest still = ap (λ (target : Option Shape). max (shape_of newest).disks (unwrap_or target (shape_of newest)).disks) none ∙ same (shape_of newest).disks
+  where
+    none : target_of newest ≡ None
+    none = ap (λ (b : Bool). cond b (Some (record { level = newest.new_level; layout = newest.new_layout; chunk = newest.new_chunk; disks = newest.raid_disks })) None) still
+
+    same : (a : ℕ) → max a a ≡ a
+    same a = omega arith
 
 -- ---- how many spares
 
@@ -200,17 +211,8 @@ module _ (bank : Given) (few : bank.slots ≤ 32) (m : Members) (elected : IsEle
   accepted = is-accepted sec m.newest X
       (sym (ap (λ (found : Option Sb). option_map_or (members_refusal sec) (option_map (reading_by sec X) found) (Some NoSuperblock)) newest-is) ∙ elected.accepted)
 
-  pub count-is : role_count m.newest ≡ (shape_of m.newest).disks
-  count-is = ap (λ (target : Option Shape). max (shape_of m.newest).disks (unwrap_or target (shape_of m.newest)).disks) none ∙ same (shape_of m.newest).disks
-    where
-      none : target_of m.newest ≡ None
-      none = ap (λ (b : Bool). cond b (Some (record { level = m.newest.new_level; layout = m.newest.new_layout; chunk = m.newest.new_chunk; disks = m.newest.raid_disks })) None) still
-
-      same : (a : ℕ) → max a a ≡ a
-      same a = omega arith
-
   pub roles-long : length m.roles ≡ (shape_of m.newest).disks
-  roles-long = ap (λ (l : List Role). length l) roles-are ∙ length-tabulate (role_count m.newest) (λ role. holder_from m.newest role 0 X) ∙ count-is
+  roles-long = ap (λ (l : List Role). length l) roles-are ∙ length-tabulate (role_count m.newest) (λ role. holder_from m.newest role 0 X) ∙ count-is m.newest still
 
   own-at : (k : ℕ) (sb : Sb) → get_or (take bank.slots m.own) k None ≡ Some sb → (k < bank.slots) × (get_or m.own k None ≡ Some sb)
   own-at k sb e = elim (cases_lt k (length X)) [
@@ -273,15 +275,6 @@ module _ (bank : Given) (few : bank.slots ≤ 32) (m : Members) (elected : IsEle
   offset-at : (role s : ℕ) → (found : IsHeldAt role s) → data_offset_of (reading_of m) s ≡ found.sb.data_offset
   offset-at role s found = ap (λ (o : Option Sb). option_map_or (λ sb. sb.data_offset) o 0) found.own
 
-  -- the slot of a role that is whole
-  pub whole-state : (role : ℕ) → is_missing (reading_of m) role ≡ false → (slot : ℕ) × (role_state (reading_of m) role ≡ Whole slot)
-  whole-state role is = by (role_state (reading_of m) role) refl is
-    where
-      by : (state : Role) → role_state (reading_of m) role ≡ state → not (is_whole state) ≡ false → (slot : ℕ) × (role_state (reading_of m) role ≡ Whole slot)
-      by (Whole slot) is fine = (slot, is)
-      by (Recovering slot) is fine = absurd (cc)
-      by Missing is fine = absurd (cc)
-
   pub unlost-found : (given : ℕ) → AreOfGiven given m.own → ((s : ℕ) → has_slot m.lost s ≡ (nat_lt s bank.slots && not (has_slot given s))) → AreUnlost m
   unlost-found given own lost role slot held =
       let found = held-at role slot held in
@@ -312,7 +305,15 @@ module _ (bank : Given) (few : bank.slots ≤ 32) (m : Members) (elected : IsEle
   pub valid-is : is_valid_shape (shape_of m.newest) ≡ true
   valid-is = (elected-valid sec X m.lost m elected).old
 
-  module _ (whole : AreWhole m) where
+  module _ (none : HasRebuilding (reading_of m) → ⊥) where
+    state-is : (role : ℕ) → role < (shape_of m.newest).disks → (role_state (reading_of m) role ≡ Missing) ⊎ ((slot : ℕ) × (role_state (reading_of m) role ≡ Whole slot))
+    state-is role lt = by (role_state (reading_of m) role) refl
+      where
+        by : (state : Role) → role_state (reading_of m) role ≡ state → (role_state (reading_of m) role ≡ Missing) ⊎ ((slot : ℕ) × (role_state (reading_of m) role ≡ Whole slot))
+        by (Whole slot) is = inr (slot, is)
+        by (Recovering slot) is = absurd (none (role, slot, lt, is))
+        by Missing is = inl is
+
     pub placed-found : IsPlaced bank m
     placed-found = record {
       still = still;
@@ -321,7 +322,7 @@ module _ (bank : Given) (few : bank.slots ≤ 32) (m : Members) (elected : IsEle
       short = sized.0;
       roles = roles-long;
       states = λ role. elim (cases_lt role (shape_of m.newest).disks) [
-        | inl lt ↦ inr (whole-state role (whole role lt))
+        | inl lt ↦ state-is role lt
         | inr past ↦ inl (get_or_past m.roles role Missing (omega (arith, past, roles-long)))
       ];
       holders = λ role slot is. (let found = held-at role slot is in

@@ -1,5 +1,5 @@
 -- What runs was made, or found, as it is answered.
-use Rattle.std.proofs.Common.{◌≡◌, ◌⊎◌, inl, inr, ℕ, zero, suc, ◌+◌, ◌*◌, ◌<◌, ◌≤◌, Bool, true, false, cond, not, ◌&&◌, nat_lt, List, length, get_or, Option, Some, None, IfSome, Result, Ok, Err, IfOk, refl, sym, ◌∙◌, ap, subst, arith}
+use Rattle.std.proofs.Common.{◌≡◌, ◌⊎◌, inl, inr, ℕ, zero, suc, ◌*◌, ◌<◌, ◌≤◌, Bool, true, false, cond, not, ◌&&◌, nat_lt, List, [], ◌∷◌, ◌++◌, length, take, get_or, Option, Some, None, IfSome, Result, Ok, Err, IfOk, refl, sym, ◌∙◌, ap, ap₂, subst, arith}
 use Rattle.std.proofs.lemmas.Bool.{cases_lt}
 use Rattle.std.proofs.lemmas.Bool.Decides.{nat_tests}
 use Rattle.std.proofs.lemmas.List.{get_or-take}
@@ -11,11 +11,10 @@ use Rattle.md_base.specs.declared.status.Role.{Role}
 use Rattle.md_base.specs.declared.status.Role.TheVariants.{Whole, Missing}
 use Rattle.md_base.specs.declared.places.Shape.{Shape}
 use Rattle.md_base.specs.Shapes.{has_slot, data_disks}
-use Rattle.md_base.specs.Search.{count_below}
 use Rattle.md_base.proofs.Tabulated.{get_or-tabulate}
 use Rattle.sb1.specs.declared.sb.Sb.{Sb}
 use Rattle.bank.specs.declared.bank.Operation.{Operation}
-use Rattle.bank.specs.Given.{Given}
+use Rattle.bank.specs.Given.{Given, sizes}
 use Rattle.bank.specs.Tape.{Contents, contents}
 use Rattle.superblocks.specs.declared.members.Members.{Members}
 use Rattle.superblocks.specs.Reading.{Scope, Reading, is_reshaping, is_backward, is_clean, is_backup, entry_of, shape_of, is_whole, role_state}
@@ -28,19 +27,27 @@ use Rattle.superblocks.proofs.SaidSlots.{read-parts}
 use Rattle.superblocks.proofs.SlotSets.{none_there}
 use Rattle.superblocks.proofs.FoundHeld.{found-of}
 use Rattle.row_io.specs.Rows.{reading_of, is_missing, missing_count}
+use Rattle.flat_history.specs.declared.events.Event.{Event}
+use Rattle.flat_history.specs.declared.events.Event.TheVariants.{Lost}
+use Rattle.flat_history.specs.declared.events.LostCause.TheVariants.{Absent}
 use Rattle.flat_history.specs.Stands.{verdict}
+use Rattle.flat_history.specs.Plain.{entries_of}
 use Rattle.flat_history.specs.World.{World, opening_list, reading_at}
 use Rattle.flat_history.specs.Epochs.{OpensAlike}
 use Rattle.array.specs.declared.spec.CreateSpec.{CreateSpec}
 use Rattle.array.specs.Parts.{Parts}
 use Rattle.array.specs.Placed.{AreWhole, AreUnlost}
-use Rattle.array.specs.Kept.{world_in, world_for, scope_in, IsAdoptable, IsAdopted}
+use Rattle.array.specs.Lacking.{DoesWithout}
+use Rattle.array.specs.Kept.{world_in, scope_in}
+use Rattle.array.specs.Calls.{world_for}
+use Rattle.array.specs.Adopting.{opener, absent_losses, found_losses, IsAdoptable, IsAdopted}
 use Rattle.assemble.specs.declared.opening.Opened.{Opened}
 use Rattle.assemble.specs.Opening.{scope_of, array_of, AreGiven, AreFlushed, IsOpened, IsReshapeRefused, HasCause}
 use Rattle.assemble.specs.Making.{created_sb}
 use Rattle.assemble.specs.Filling.{IsMade, AreZeros}
 use Rattle.assemble.specs.Made.{IsNew}
-use Rattle.assemble.specs.Running.{opened_of, IsBegun, OpensWithZeros, IsCreated, IsAssembled, IsMissingSome, untolerated, HasAssembleCause}
+use Rattle.assemble.specs.Running.{opened_of, IsBegun, OpensWithZeros, IsCreated, IsAssembled, HasRebuilding, IsRebuildingSome, HasAssembleCause}
+use Rattle.assemble.proofs.Judged.{elected-does}
 use Rattle.assemble.proofs.MadeLaws.{entry-is}
 use Rattle.assemble.proofs.SafeLaws.{opened-told}
 use Rattle.assemble.proofs.NewZeros.{new-arrays-are-zeros}
@@ -162,9 +169,20 @@ module _ {tells : Type 0} (bank : Given) (tape : List Operation) (backup : Optio
 
   pub new-adoptable : bank.slots ≤ 32 → (tells → AreFlushed bank.start tape opened.given) → (tells → AreInSectors (contents bank.start tape (length tape)) opened.members.own)
       → IsAdoptable tells bank tape (scope_of bank backup opened.given opened.members.newest.set_uuid) opened.members
-  new-adoptable few flushed stand = adoptable bank tape backup (Some spec.uuid) opened few is inside flushed stand new.placed new-unlost new-whole
+  new-adoptable few flushed stand = adoptable bank tape backup (Some spec.uuid) opened few is inside flushed stand new.placed new-unlost
 
 -- ---- what was taken over
+
+does-without : {tells : Type 0} (bank : Given) (tape : List Operation) (backup : Option ℕ) (asked : Option (List ℕ)) (opened : Opened)
+    → IsOpened tells bank (contents bank.start tape (length tape)) backup asked opened → DoesWithout opened.members
+does-without bank tape backup asked opened is = elected-does (sizes bank).sectors (take bank.slots opened.members.own) opened.members.lost opened.members is.elected
+
+-- no loss is told where no role is missing
+none-absent : (r : Reading) (disks : ℕ) → ((role : ℕ) → role < disks → is_missing r role ≡ false) → absent_losses r disks ≡ []
+unfolding absent_losses
+none-absent r zero whole = refl
+none-absent r (suc disks) whole =
+    ap₂ (λ (l : List Event) (b : Bool). l ++ cond b (Lost disks Absent ∷ []) []) (none-absent r disks (λ role lt. whole role (omega (arith, lt)))) (whole disks (omega arith))
 
 module _ {B tells : Type 0} (device : B) (bank : Given) (tape : List Operation) (backup : Option ℕ) (opened : Opened) (made : Parts B)
     (adopted : IsAdopted tells device tape opened.given backup opened.members made) where
@@ -174,32 +192,38 @@ module _ {B tells : Type 0} (device : B) (bank : Given) (tape : List Operation) 
   same-world : tells → world_in bank tape (scope_of bank backup opened.given opened.members.newest.set_uuid) (length tape) ≡ world_for bank tape made
   same-world told = λ i. world_in bank tape (scope_in bank (sym adopted.uuid i) (sym adopted.given i) (sym adopted.backup_is i)) (sym (adopted.first told) i)
 
-  pub begun : AreWhole opened.members → IsBegun tells tape backup made
-  begun whole = record {
-    entries = adopted.entries;
+  pub begun : DoesWithout opened.members → IsBegun tells tape backup made
+  begun does = record {
+    entries = adopted.entries ∙ sym (ap (λ (m : Members). entries_of opener made.first (found_losses (reading_of m))) adopted.members_are);
     first = adopted.first;
     last = adopted.last;
     backup_is = adopted.backup_is;
     uuid = adopted.uuid ∙ sym (ap (λ (m : Members). m.newest.set_uuid) adopted.members_are);
     unsynced = adopted.unsynced ∙ sym (ap (λ (m : Members). not (is_clean m.newest)) adopted.members_are);
-    whole = subst (λ (m : Members). AreWhole m) (sym adopted.members_are) whole;
+    does = subst (λ (m : Members). DoesWithout m) (sym adopted.members_are) does;
   }
+
+  -- no entry is there where no role is missing
+  quiet : AreWhole opened.members → made.entries ≡ []
+  quiet whole = adopted.entries ∙ ap (entries_of opener made.first) (none-absent (reading_of opened.members) (shape_of opened.members.newest).disks whole)
 
   pub created : (spec : CreateSpec) → IsNew bank spec opened → IsOpened tells bank (contents bank.start tape (length tape)) backup (Some spec.uuid) opened
       → (tells → AreZeros spec.shape.disks spec (contents bank.start tape (length tape))) → IsCreated tells bank tape backup spec made
   created spec new is zeros = record {
-    begun = begun (new-whole bank tape backup spec opened new is);
+    begun = begun (does-without bank tape backup (Some spec.uuid) opened is);
     new = subst (λ (o : Opened). IsNew bank spec o) same-opened new;
+    whole = subst (λ (m : Members). AreWhole m) (sym adopted.members_are) (new-whole bank tape backup spec opened new is);
+    quiet = quiet (new-whole bank tape backup spec opened new is);
     opened = subst (λ (o : Opened). IsOpened tells bank (contents bank.start tape (length tape)) backup (Some spec.uuid) o) same-opened is;
     zeros = λ told. subst (λ (w : World). OpensWithZeros (data_disks spec.shape * spec.size) (opening_list w)) (same-world told)
         (new-zeros bank tape backup spec opened new is told (zeros told));
     alike = λ told. subst (λ (w : World). OpensAlike w) (same-world told) (new-alike bank tape backup spec opened new is told);
   }
 
-  pub assembled : (asked : Option (List ℕ)) (before after : ℕ → ℕ) → AreWhole opened.members → IsOpened tells bank (contents bank.start tape (length tape)) backup asked opened
+  pub assembled : (asked : Option (List ℕ)) (before after : ℕ → ℕ) → IsOpened tells bank (contents bank.start tape (length tape)) backup asked opened
       → AreGiven bank opened.given before after → IfSome asked (λ uuid. opened.members.newest.set_uuid ≡ uuid) → IsAssembled tells bank tape backup asked before after made
-  assembled asked before after whole is given named = record {
-    begun = begun whole;
+  assembled asked before after is given named = record {
+    begun = begun (does-without bank tape backup asked opened is);
     opened = subst (λ (o : Opened). IsOpened tells bank (contents bank.start tape (length tape)) backup asked o) same-opened is;
     given = subst (λ (n : ℕ). AreGiven bank n before after) (sym adopted.given) given;
     named = subst (λ (u : List ℕ). IfSome asked (λ uuid. u ≡ uuid)) (sym adopted.uuid) named;
@@ -207,59 +231,34 @@ module _ {B tells : Type 0} (device : B) (bank : Given) (tape : List Operation) 
 
 -- ---- what is refused
 
-pub caused : (tells : Type 0) (bank : Given) (c c' : Contents) (backup : Option ℕ) (asked : Option (List ℕ)) (before after : ℕ → ℕ) (fault told : Fault)
-    → (tells → c' ≡ c) → HasCause tells bank c' backup asked before after fault → ((refusal : Refusal) → fault ≡ Refused refusal → told ≡ Refused (untolerated refusal))
-    → (fault ≡ NoMemory → told ≡ NoMemory) → HasAssembleCause tells bank c backup asked before after told
-caused tells bank c c' backup asked before after (Refused refusal) told same cause refused short =
-    subst (λ (f : Fault). HasAssembleCause tells bank c backup asked before after f) (sym (refused refusal refl)) (inl (record {
-      told = refusal;
-      cause = record {
-        given = cause.given;
-        slots = cause.slots;
-        why = λ t. subst (λ (k : Contents). (verdict (scope_of bank backup cause.given (array_of bank backup cause.given asked k)) k ≡ Some refusal)
-            ⊎ IsReshapeRefused (scope_of bank backup cause.given (array_of bank backup cause.given asked k)) k refusal) (same t) (cause.why t);
-      };
-      is = refl;
-    }))
-caused tells bank c c' backup asked before after NoMemory told same cause refused short =
-    subst (λ (f : Fault). HasAssembleCause tells bank c backup asked before after f) (sym (short refl)) tt
+pub caused : (tells : Type 0) (bank : Given) (c c' : Contents) (backup : Option ℕ) (asked : Option (List ℕ)) (before after : ℕ → ℕ) (fault : Fault)
+    → (tells → c' ≡ c) → HasCause tells bank c' backup asked before after fault → HasAssembleCause tells bank c backup asked before after fault
+caused tells bank c c' backup asked before after (Refused refusal) same cause = inl (record {
+  given = cause.given;
+  slots = cause.slots;
+  why = λ told. subst (λ (k : Contents). (verdict (scope_of bank backup cause.given (array_of bank backup cause.given asked k)) k ≡ Some refusal)
+      ⊎ IsReshapeRefused (scope_of bank backup cause.given (array_of bank backup cause.given asked k)) k refusal) (same told) (cause.why told);
+})
+caused tells bank c c' backup asked before after NoMemory same cause = tt
 
-pub missing : (tells : Type 0) (bank : Given) (c c' : Contents) (backup : Option ℕ) (asked : Option (List ℕ)) (before after : ℕ → ℕ) (opened : Opened) (refusal : Refusal)
+pub rebuilding : (tells : Type 0) (bank : Given) (c c' : Contents) (backup : Option ℕ) (asked : Option (List ℕ)) (before after : ℕ → ℕ) (opened : Opened) (refusal : Refusal)
     → (tells → c' ≡ c) → IsOpened tells bank c' backup asked opened → AreGiven bank opened.given before after
-    → 0 < missing_count (reading_of opened.members) (shape_of opened.members.newest)
+    → HasRebuilding (reading_of opened.members)
     → refusal ≡ MembersMissing (missing_count (reading_of opened.members) (shape_of opened.members.newest)) 0
     → HasAssembleCause tells bank c backup asked before after (Refused refusal)
-missing tells bank c c' backup asked before after opened refusal same is given some count = inr (record {
+rebuilding tells bank c c' backup asked before after opened refusal same is given some count = inr (record {
   given = opened.given;
   slots = given;
-  why = λ told. subst (λ (k : Contents). IsMissingSome (scope_of bank backup opened.given (array_of bank backup opened.given asked k)) k refusal) (same told)
-      (subst (λ (u : List ℕ). IsMissingSome (scope_of bank backup opened.given u) c' refusal) (is.array told) (record {
+  why = λ told. subst (λ (k : Contents). IsRebuildingSome (scope_of bank backup opened.given (array_of bank backup opened.given asked k)) k refusal) (same told)
+      (subst (λ (u : List ℕ). IsRebuildingSome (scope_of bank backup opened.given u) c' refusal) (is.array told) (record {
         accepted = is.accepted told;
         found = reading_in bank.slots opened.members;
         says = is.says told;
         still = is.still;
-        some = some;
+        rebuilding = some;
         count = count;
       }));
 })
-
--- none is missing where they are counted as 0
-pub none-missing : (m : Members) → missing_count (reading_of m) (shape_of m.newest) ≡ 0 → AreWhole m
-unfolding count_below
-none-missing m none role lt = each (shape_of m.newest).disks (is_missing (reading_of m)) none role lt
-  where
-    last : (n : ℕ) (b : Bool) → n + cond b 1 0 ≡ 0 → (n ≡ 0) × (b ≡ false)
-    last n true e = absurd (omega (arith, e))
-    last n false e = (omega (arith, e), refl)
-
-    each : (n : ℕ) (test : ℕ → Bool) → count_below n test ≡ 0 → (k : ℕ) → k < n → test k ≡ false
-    each zero test none k h = absurd (omega (arith, h))
-    each (suc n) test none k h =
-        let parts = last (count_below n test) (test n) none in
-        elim (cases_lt k n) [
-          | inl below ↦ each n test parts.0 k below
-          | inr past ↦ (let same : n ≡ k = omega (arith, h, past) in subst (λ (j : ℕ). test j ≡ false) same parts.1)
-        ]
 
 pub ok-then : {T E : Type 0} (result : Result T E) (P Q : T → Type 0) → ((x : T) → P x → Q x) → IfOk result P → IfOk result Q
 ok-then (Ok x) P Q step p = step x p

@@ -1,7 +1,7 @@
 //! An array that runs, made in a bank's slots or found there.
 
 ghost use Rattle.std.specs.Prelude.{◌≡◌, ◌<◌, ◌≤◌, ℕ, length, Some, None, IfOk, IfErr, IfSome, IfNone, IsTrue};
-ghost use Rattle.md_base.specs.Shapes.{is_valid_shape, has_slot};
+ghost use Rattle.md_base.specs.Shapes.{is_valid_shape};
 ghost use Rattle.md_base.specs.declared.answers.Fault.TheVariants.{Refused as IsRefused, NoMemory as WantsMemory};
 ghost use Rattle.md_base.specs.declared.answers.Refusal.{Refusal as AnyRefusal};
 ghost use Rattle.md_base.specs.declared.answers.Refusal.TheVariants.{UuidInUse as IsInUse, MembersMissing as AreMissing};
@@ -9,19 +9,19 @@ ghost use Rattle.bank.specs.Tape.{contents};
 ghost use Rattle.superblocks.specs.Reading.{shape_of};
 ghost use Rattle.row_io.specs.Rows.{present, reading_of, missing_count};
 ghost use Rattle.array.specs.Flushing.{OnlyFlushesAdded, OnlyItsSlotsFail};
-ghost use Rattle.array.specs.Placed.{AreWhole};
-ghost use Rattle.array.specs.Kept.{scope_in, IsAdoptable, IsAdopted};
+ghost use Rattle.array.specs.Kept.{scope_in};
+ghost use Rattle.array.specs.Adopting.{IsAdoptable, IsAdopted};
 ghost use Rattle.assemble.specs.Opening.{scope_of};
 ghost use Rattle.assemble.specs.Creating.{IsLastSlot, create_refusal};
 ghost use Rattle.assemble.specs.Filling.{OnlyBelow};
 ghost use Rattle.assemble.specs.Made.{used_slot, HasCreateCause};
-ghost use Rattle.assemble.specs.Running.{untolerated, IsCreated, IsAssembled, HasAssembleCause};
+ghost use Rattle.assemble.specs.Running.{HasRebuilding, IsCreated, IsAssembled, HasAssembleCause};
 
 use crate::making::make;
 use crate::opening::{Opened, open};
 use array::{Array, CreateSpec};
 use bank::Bank;
-use md_base::{Fault, Refusal};
+use md_base::{Fault, Refusal, Role};
 use row_io::missing_count;
 use std::alloc::Global;
 use superblocks::Members;
@@ -82,39 +82,27 @@ pub fn create<B: Bank>(
     take_over(alloc, bank, backup, opened)
 }
 
-// The refusal of missing roles, if there are some: the array can do without none.
-fn missing_refusal(members: &Members) -> Option<Refusal>
+// The refusal of an array in which a role is being rebuilt: it can't go on yet.
+fn rebuilding_refusal(members: &Members) -> Option<Refusal>
     requires valid { IsTrue (is_valid_shape (shape_of members.now.newest)) }
     requires roles { (shape_of members.now.newest).disks ≤ length members.now.roles }
-    ensures whole { IfNone result (AreWhole members.now) }
-    ensures some { IfSome result (λ refusal. 0 < missing_count (reading_of members.now) (shape_of members.now.newest)) }
+    ensures none { IfNone result (HasRebuilding (reading_of members.now) → ⊥) }
+    ensures some { IfSome result (λ refusal. HasRebuilding (reading_of members.now)) }
     ensures count { IfSome result (λ refusal. refusal ≡ AreMissing (missing_count (reading_of members.now) (shape_of members.now.newest)) 0) }
 {
     let disks = shape_of(&members.newest).disks;
-    let count = missing_count(members, disks);
-    if count == 0 {
-        None
-    } else {
-        Some(Refusal::MembersMissing(count as u64, 0))
-    }
-}
-
-// The refusal of an opening, for an array that can do without no member.
-fn untolerated(fault: Fault) -> Fault
-    ensures refused { (told : AnyRefusal) → fault ≡ IsRefused told → result ≡ IsRefused (untolerated told) }
-    ensures short { fault ≡ WantsMemory → result ≡ WantsMemory }
-{
-    match fault {
-        Fault::Refused(Refusal::MembersMissing(count, _)) => {
-            Fault::Refused(Refusal::MembersMissing(count, 0))
+    for role in 0..disks {
+        if let Role::Recovering(_) = members.roles.get(role) {
+            let count = missing_count(members, disks);
+            return Some(Refusal::MembersMissing(count as u64, 0));
         }
-        other => other,
     }
+    None
 }
 
-/// Opens an array as `open` does, and runs it. Where nothing else is refused but roles are missing, `MembersMissing` says
-/// how many, and 0 as often as it comes, since the array can do without none. A refusal hands the bank back, as `open`
-/// leaves it.
+/// Opens an array as `open` does, and runs it; its first entries tell the roles that are missing. Where nothing else is
+/// refused but a role is being rebuilt, it is refused by `MembersMissing`, with 0 for what is tolerated. A refusal hands the
+/// bank back, as `open` leaves it.
 pub fn assemble<B: Bank>(
     alloc: Global,
     mut bank: B,
@@ -139,10 +127,10 @@ pub fn assemble<B: Bank>(
     ensures left_counts { IfErr result (λ e. OnlyItsSlotsFail (B.given bank) (B.faults_of bank) (B.faults_of e.0)) }
 {
     let opened = match open(alloc, &mut bank, backup, uuid) {
-        Err(fault) => return Err((bank, untolerated(fault))),
+        Err(fault) => return Err((bank, fault)),
         Ok(opened) => opened,
     };
-    match missing_refusal(&opened.members) {
+    match rebuilding_refusal(&opened.members) {
         Some(refusal) => Err((bank, Fault::Refused(refusal))),
         None => take_over(alloc, bank, backup, opened),
     }

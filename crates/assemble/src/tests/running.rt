@@ -1,10 +1,13 @@
 //! Arrays that run: made or found, written and read.
 
 use super::made::{SPEC, bank_of, made};
+use super::put;
 use crate::{assemble, create};
 use array::Array;
 use bank::{Bank, MemoryBank};
+use flat_history::{Event, LostCause};
 use md_base::{Fault, Refusal, Who};
+use sb1::Sb;
 use std::alloc::Global;
 use std::process::Abort;
 use std::test::Fail;
@@ -85,17 +88,54 @@ fn finds_what_was_written(rt: HostRuntime) -> Result<(), Fail> {
     Ok(())
 }
 
-/// Call 142 reads the superblock of slot 1, behind the calls that made the array.
+/// Call 142 reads the superblock of slot 1, behind the calls that made the array. Sector 8 has its place on that slot's role.
 #[test]
-fn does_without_no_member(rt: HostRuntime) -> Result<(), Fail> {
+fn goes_on_without_a_member(rt: HostRuntime) -> Result<(), Fail> {
     let alloc = rt.alloc();
     let mut bank = bank_of(alloc, &[142])?;
     made(&rt, alloc, &mut bank, &SPEC).expect(&rt, "an array");
+    let mut array = match assembled(&rt, alloc, bank) {
+        Ok(array) => array,
+        Err(_) => return Err(Fail::from("not found")),
+    };
+    let entries = &array.epoch().entries;
+    assert!(rt; entries.len() == 1);
+    let first = entries.get(0);
+    assert_eq!(rt; first.caller, 254);
+    assert_eq!(rt; first.number, 0);
+    assert!(rt;
+        matches!(
+            first.event,
+            Event::Lost {
+                role: 1,
+                cause: LostCause::Absent
+            }
+        )
+    );
+    assert!(rt; write(&mut array, 7, &[5; 1024]) == Ok(()));
+    assert!(rt; read(&mut array, 7) == (Ok(()), [5; 1024]));
+    assert!(rt; read(&mut array, 9) == (Ok(()), [0; 1024]));
+    Ok(())
+}
+
+/// Slot 1 has the first 8 rows of its role.
+#[test]
+fn refuses_what_is_rebuilt(rt: HostRuntime) -> Result<(), Fail> {
+    let alloc = rt.alloc();
+    let mut bank = bank_of(alloc, &[])?;
+    let opened = made(&rt, alloc, &mut bank, &SPEC).expect(&rt, "an array");
+    let second = Sb {
+        dev_number: 1,
+        feature_map: 2,
+        recovery_offset: 8,
+        ..opened.members.newest
+    };
+    put(&rt, &mut bank, 1, &second);
     match assembled(&rt, alloc, bank) {
         Err((_, Fault::Refused(refusal))) => {
             assert_eq!(rt; refusal, Refusal::MembersMissing(1, 0))
         }
-        _ => return Err(Fail::from("found in spite of a missing member")),
+        _ => return Err(Fail::from("found in spite of a role that is rebuilt")),
     }
     Ok(())
 }
