@@ -14,13 +14,15 @@ use Rattle.flat_history.specs.declared.events.Event.TheVariants.{Stopped, Halted
 use Rattle.flat_history.specs.Fits.{FitsStop}
 use Rattle.bank.specs.declared.bank.Operation.{Operation}
 use Rattle.md_base.specs.declared.answers.Refusal.{Refusal}
-use Rattle.md_base.specs.declared.answers.Refusal.TheVariants.{PastEnd, TooManyMissing}
+use Rattle.md_base.specs.declared.answers.Refusal.TheVariants.{PastEnd}
 use Rattle.superblocks.specs.declared.members.Members.{Members}
 use Rattle.array.specs.Losing.{losses_of}
 use Rattle.flat_history.specs.declared.events.Request.{Request}
 use Rattle.flat_history.specs.Flat.{rest_of_call, next_number}
-use Rattle.flat_history.specs.Plain.{PlainFitsIn, entries_of}
-use Rattle.array.specs.Kept.{OnNoMemory, IsReplied, IsAnswered, IsEntered, IsBehind, IsRefusedFor}
+use Rattle.flat_history.specs.Plain.{entries_of}
+use Rattle.flat_history.specs.OneShape.{OneShapeFits}
+use Rattle.array.specs.Lacking.{AreTooMany}
+use Rattle.array.specs.Calls.{OnNoMemory, IsReplied, IsAnswered, IsEntered, IsBehind, IsRefusedFor}
 use Rattle.script.specs.declared.lines.Line.TheVariants.{Stop, Halt}
 use Rattle.script.specs.declared.lines.Line.{Line}
 use Rattle.script.specs.Seeds.{seeded, seed_sector}
@@ -54,7 +56,7 @@ grew {who = who} {old = old} {event = event} was =
 
 -- a request that was answered is a line that was
 pub asked_at : {size : ℕ} {request : Request} {who : Who} {old new : List Entry} {event : Event} (line : Line) (place : ℕ) → IsReplied size request who old new event
-    → ((before : List Entry) (e : Entry) → PlainFitsIn size before e request → FitsLine size before e line) → who ≡ script_who old → place + 1 ≡ length new → IsAskedAt size line old new place
+    → ((before : List Entry) (e : Entry) → OneShapeFits size before e request → FitsLine size before e line) → who ≡ script_who old → place + 1 ≡ length new → IsAskedAt size line old new place
 asked_at {size = size} {request = request} {old = old} {new = new} {event = event} line place was fits script at_end =
     let now = subst (λ (w : Who). IsReplied size request w old new event) script was in record {
       inner = now.inner;
@@ -128,13 +130,12 @@ asked_stop {old = old} {new = new} size place who script was at_end =
     let now = subst (λ (w : Who). IsBehind w old new Stopped) script was in
     (record { inner = losses_of now.roles now.spares; event = Stopped; end = now.end; is = now.is; fits = tt; at_end = at_end }, refl)
 
--- a stop is refused where roles are missing
-fits_refused : (visible : ℕ) (old new : Members) (refusal : Refusal) → IsRefusedFor visible 0 old new refusal → FitsStop (Refused refusal)
+-- a stop is refused where too many roles are missing
+fits_refused : (visible : ℕ) (old new : Members) (refusal : Refusal) → IsRefusedFor visible 0 AreTooMany old new refusal → FitsStop (Refused refusal)
 fits_refused visible old new (PastEnd told) (same, past, kept) = absurd (omega (arith, past))
-fits_refused visible old new (TooManyMissing count tolerance) is = tt
-fits_refused visible old new refusal is = absurd is
+fits_refused visible old new refusal is = subst (λ (r : Refusal). FitsStop (Refused r)) (sym is.1.told) tt
 
-pub asked_unstopped : {old new : List Entry} (size place visible : ℕ) (before after : Members) (who : Who) (refusal : Refusal) → who ≡ script_who old → IsBehind who old new (Refused refusal) → IsRefusedFor visible 0 before after refusal → place + 1 ≡ length new → (asked : IsAskedAt size Stop old new place) × (asked.event ≡ Refused refusal)
+pub asked_unstopped : {old new : List Entry} (size place visible : ℕ) (before after : Members) (who : Who) (refusal : Refusal) → who ≡ script_who old → IsBehind who old new (Refused refusal) → IsRefusedFor visible 0 AreTooMany before after refusal → place + 1 ≡ length new → (asked : IsAskedAt size Stop old new place) × (asked.event ≡ Refused refusal)
 asked_unstopped {old = old} {new = new} size place visible before after who refusal script was why at_end =
     let now = subst (λ (w : Who). IsBehind w old new (Refused refusal)) script was in
     (record { inner = losses_of now.roles now.spares; event = Refused refusal; end = now.end; is = now.is; fits = fits_refused visible before after refusal why; at_end = at_end }, refl)

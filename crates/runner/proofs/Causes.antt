@@ -24,7 +24,7 @@ use Rattle.flat_history.specs.Stands.{verdict}
 use Rattle.array.specs.declared.spec.CreateSpec.{CreateSpec}
 use Rattle.assemble.specs.Opening.{scope_of, array_of, AreGiven, IsReshapeRefused}
 use Rattle.assemble.specs.Made.{is_used, used_slot, IsUse, IsLateRefusal, HasCreateCause}
-use Rattle.assemble.specs.Running.{IsMissingSome, HasAssembleCause}
+use Rattle.assemble.specs.Running.{IsRebuildingSome, HasAssembleCause}
 
 -- has failed since every earlier moment, and at every later one
 pub faulted-wider : {first before now last : ℕ → ℕ} (slot : ℕ) → NeverFalls first before → NeverFalls before now → NeverFalls now last → IsFaulted slot before now → IsFaulted slot first last
@@ -82,19 +82,15 @@ module _ {told later : Type 0} {first before now last : ℕ → ℕ} (fewer : la
   module _ (asked : Option (List ℕ)) (same : later → d ≡ c) where
     pub assemble-later : (fault : Fault) → HasAssembleCause told bank c backup asked before now fault → HasAssembleCause later bank d backup asked first last fault
     assemble-later (IsRefusedWith refusal) (inl was) = inl (record {
-      told = was.told;
-      cause = record {
-        given = was.cause.given;
-        slots = given-wider early between late was.cause.slots;
-        why = λ t. subst (λ (x : Contents). (verdict (scope_of bank backup was.cause.given (array_of bank backup was.cause.given asked x)) x ≡ Some was.told) ⊎ IsReshapeRefused (scope_of bank backup was.cause.given (array_of bank backup was.cause.given asked x)) x was.told)
-            (sym (same t)) (was.cause.why (fewer t));
-      };
-      is = was.is;
+      given = was.given;
+      slots = given-wider early between late was.slots;
+      why = λ t. subst (λ (x : Contents). (verdict (scope_of bank backup was.given (array_of bank backup was.given asked x)) x ≡ Some refusal) ⊎ IsReshapeRefused (scope_of bank backup was.given (array_of bank backup was.given asked x)) x refusal)
+          (sym (same t)) (was.why (fewer t));
     })
     assemble-later (IsRefusedWith refusal) (inr was) = inr (record {
       given = was.given;
       slots = given-wider early between late was.slots;
-      why = λ t. subst (λ (x : Contents). IsMissingSome (scope_of bank backup was.given (array_of bank backup was.given asked x)) x refusal) (sym (same t)) (was.why (fewer t));
+      why = λ t. subst (λ (x : Contents). IsRebuildingSome (scope_of bank backup was.given (array_of bank backup was.given asked x)) x refusal) (sym (same t)) (was.why (fewer t));
     })
     assemble-later NoMemory was = tt
 

@@ -12,7 +12,7 @@ use Rattle.flat_history.specs.declared.events.Event.TheVariants.{Halted}
 use Rattle.flat_history.specs.Flat.{next_number, last_of}
 use Rattle.flat_history.specs.Plain.{entries_of}
 use Rattle.md_base.specs.declared.answers.Who.{Who}
-use Rattle.array.specs.Kept.{IsEntered}
+use Rattle.array.specs.Calls.{IsEntered}
 use Rattle.array.specs.Parts.{Parts}
 use Rattle.array.specs.Whole.{list_size}
 use Rattle.array.specs.Placed.{places_of}

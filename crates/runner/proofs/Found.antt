@@ -1,6 +1,6 @@
 -- What stands in the superblocks of an array that was made or found.
-use Rattle.std.proofs.Common.{◌≡◌, ℕ, ◌+◌, ◌/◌, ◌*◌, min, not, Bool, true, false, Option, Some, None, List, [], length, map, refl, sym, ◌∙◌, ap, subst, arith}
-use Rattle.std.specs.Prelude.{if◌then◌else◌, IsFalse, IsTrue}
+use Rattle.std.proofs.Common.{◌≡◌, ℕ, zero, suc, ◌+◌, ◌/◌, ◌*◌, ◌<◌, min, max, not, Bool, true, false, Option, Some, None, List, [], ◌++◌, length, map, refl, sym, ◌∙◌, ap, subst, arith}
+use Rattle.std.specs.Prelude.{if◌then◌else◌, MatchOption, IsFalse, IsTrue}
 use Rattle.std.specs.Option.{option_map_or}
 use Rattle.md_base.specs.Shapes.{data_disks}
 use Rattle.md_base.specs.Search.{tabulate}
@@ -12,11 +12,16 @@ use Rattle.sb1.specs.declared.sb.Sb.{Sb}
 use Rattle.bank.specs.declared.bank.Operation.{Operation}
 use Rattle.bank.specs.Given.{Given, sizes}
 use Rattle.bank.specs.Tape.{contents}
-use Rattle.superblocks.specs.Reading.{Reading, shape_of, final_shape, target_of, list_length, is_clean, is_reshaping, is_whole, role_state}
+use Rattle.superblocks.specs.declared.members.Members.{Members}
+use Rattle.superblocks.specs.Reading.{Reading, shape_of, final_shape, target_of, role_count, list_length, is_clean, is_reshaping, is_whole, role_state}
 use Rattle.superblocks.specs.Election.{reading_in}
+use Rattle.row_io.specs.Rows.{reading_of, is_missing}
+use Rattle.flat_history.specs.declared.events.Event.{Event}
 use Rattle.flat_history.specs.World.{World, reading_at, opening_list}
 use Rattle.flat_history.specs.Stands.{stands, standing_sector}
 use Rattle.flat_history.specs.Fits.{whole_slot}
+use Rattle.flat_history.specs.Reopened.{OpensAccepted}
+use Rattle.array.specs.Adopting.{absent_loss, absent_losses, found_losses}
 use Rattle.array.specs.Parts.{Parts}
 use Rattle.array.specs.Whole.{list_size}
 use Rattle.array.specs.Placed.{places_of}
@@ -25,7 +30,7 @@ use Rattle.assemble.specs.Opening.{scope_of, IsOpened}
 use Rattle.assemble.specs.Running.{opened_of, IsBegun, IsCreated, IsAssembled}
 use Rattle.array.specs.Status.{IsStatusFor}
 use Rattle.runner.specs.Histories.{History}
-use Rattle.runner.specs.Making.{Setting, world_at, history_world, HeldAtFirst, AreHeldAtFirst, IsStored, IsStoredNew, IsStoredAs}
+use Rattle.runner.specs.Making.{Setting, world_at, history_world, HeldAtFirst, MissingAtFirst, AreHeldAtFirst, IsStored, IsStoredNew, IsStoredAs}
 use Rattle.runner.specs.States.{running_history}
 
 -- the world of an array that begins where the tape ends
@@ -64,25 +69,51 @@ module _ {B tells : Type 0} (given : Given) (tape : List Operation) (backup : Op
       ∙ length-tabulate (list_length array.members.newest) (standing_sector world.scope (contents given.start tape (length tape)) r) ∙ still-length array.members.newest opened.still
 
   pub opened_stored : IsStored world r
-  opened_stored = record { says = says; accepted = opened.accepted t; still = opened.still; whole = λ role lt. turned (is_whole (role_state r role)) (begun.whole role lt) }
+  opened_stored = record { says = says; accepted = opened.accepted t; still = opened.still }
+
+  -- each role that is missing now was missing then
+  pub opened_missing : (role : ℕ) → role < (shape_of array.members.newest).disks → is_missing (reading_of array.members) role ≡ true → MissingAtFirst world role
+  opened_missing role lt is = record {
+    begun = omega arith;
+    missing = subst (λ (o : Option Reading). MatchOption o ⊥ (λ r. (role < role_count r.newest) × IsFalse (is_whole (role_state r role)))) (sym says)
+        (counted (shape_of array.members.newest).disks (final_shape array.members.newest).disks lt, turned (is_whole (role_state r role)) is);
+  }
     where
-      turned : (b : Bool) → not b ≡ false → IsTrue b
-      turned true is = refl
-      turned false is = absurd (cc)
+      counted : (a b : ℕ) → role < a → role < max a b
+      counted a b lt = omega (arith, lt)
+
+      turned : (b : Bool) → not b ≡ true → IsFalse b
+      turned true is = absurd (cc)
+      turned false is = refl
+
+  -- the world in which it began is that of its history
+  opened_world : array.uuid ≡ array.members.newest.set_uuid → world ≡ world_at given tape backup (running_history array)
+  opened_world uuid =
+      ap (λ (u : List ℕ). record { start = given.start; tape = tape; scope = record { uuid = u; given = array.given; backup = backup; sizes = sizes given }; first = length tape }) (sym uuid)
+      ∙ ap (λ (n : ℕ). record { start = given.start; tape = tape; scope = record { uuid = array.uuid; given = array.given; backup = backup; sizes = sizes given }; first = n }) (sym (begun.first t))
+
+  -- what it found was refused for nothing
+  pub opened_accepted : array.uuid ≡ array.members.newest.set_uuid → OpensAccepted (world_at given tape backup (running_history array))
+  opened_accepted uuid = subst (λ (w : World). OpensAccepted w) (opened_world uuid) (opened.accepted t)
 
   -- each slot that holds a role now held it then
   pub opened_held : array.uuid ≡ array.members.newest.set_uuid → AreHeldAtFirst (world_at given tape backup (running_history array)) array.members
   opened_held uuid role slot is =
-      subst (λ (w : World). HeldAtFirst w role slot)
-      (ap (λ (u : List ℕ). record { start = given.start; tape = tape; scope = record { uuid = u; given = array.given; backup = backup; sizes = sizes given }; first = length tape }) (sym uuid)
-      ∙ ap (λ (n : ℕ). record { start = given.start; tape = tape; scope = record { uuid = array.uuid; given = array.given; backup = backup; sizes = sizes given }; first = n }) (sym (begun.first t)))
+      subst (λ (w : World). HeldAtFirst w role slot) (opened_world uuid)
       (record { begun = omega arith; found = r; says = says; held = is })
+
+-- what the members and the superblocks say is missing is the same
+losses-same_reading : (slots : ℕ) (members : Members) (n : ℕ) → absent_losses (reading_of members) n ≡ absent_losses (reading_in slots members) n
+unfolding absent_losses
+losses-same_reading slots members zero = refl
+losses-same_reading slots members (suc n) = ap (λ (l : List Event). l ++ absent_loss (reading_in slots members) n) (losses-same_reading slots members n)
 
 -- what stands in the superblocks of an array that was made
 pub stored_made : {B tells : Type 0} (given : Given) (tape : List Operation) (backup : Option ℕ) (spec : CreateSpec) (made : Parts B) → IsCreated tells given tape backup spec made → tells → IsStoredNew (found_world given tape backup made) spec
 stored_made given tape backup spec made is t = record {
   found = reading_in given.slots made.members;
   stored = opened_stored given tape backup (Some spec.uuid) made is.begun is.opened t;
+  whole = λ role lt. turned (is_whole (role_state (reading_in given.slots made.members) role)) (is.whole role lt);
   shape = is.new.shape;
   size = is.new.size;
   events = is.new.events;
@@ -90,6 +121,10 @@ stored_made given tape backup spec made is t = record {
   roles = is.new.members.roles;
   spares = is.new.members.spares;
 }
+  where
+    turned : (b : Bool) → not b ≡ false → IsTrue b
+    turned true is = refl
+    turned false is = absurd (cc)
 
 -- and of one that was found
 module _ {B tells : Type 0} {before after : ℕ → ℕ} (given : Given) (tape : List Operation) (backup : Option ℕ) (asked : Option (List ℕ)) (status : Status) (found : Parts B)
@@ -104,7 +139,7 @@ module _ {B tells : Type 0} {before after : ℕ → ℕ} (given : Given) (tape :
       turned true = refl
       turned false = refl
 
-  pub stored_found : IsStoredAs (found_world given tape backup found) status
+  pub stored_found : IsStoredAs (found_world given tape backup found) status (found_losses (reading_of found.members))
   stored_found =
       let size = opened_size given tape backup asked found is.begun is.opened t in
       record {
@@ -119,6 +154,7 @@ module _ {B tells : Type 0} {before after : ℕ → ℕ} (given : Given) (tape :
           roles = ap (λ (l : List Role). map whole_slot l) told.roles;
           spares = told.spares;
         };
+        lost = losses-same_reading given.slots found.members (shape_of found.members.newest).disks;
         position = told.position;
         sized = told.length ∙ sym size;
         visible = told.visible ∙ sym size;

@@ -1,5 +1,5 @@
 -- The replies to several lines, as the histories grow.
-use Rattle.std.proofs.Common.{◌≡◌, ℕ, zero, suc, ◌+◌, ◌*◌, ◌≤◌, ◌||◌, Bool, true, false, Option, Some, None, List, [], ◌∷◌, ◌++◌, length, take, drop, refl, sym, ◌∙◌, ap, subst, arith, length-append}
+use Rattle.std.proofs.Common.{◌≡◌, ℕ, zero, suc, ◌+◌, ◌*◌, ◌≤◌, ◌||◌, Bool, true, false, Option, Some, None, List, [], ◌∷◌, ◌++◌, length, take, drop, refl, sym, ◌∙◌, ap, subst, arith, append_assoc, length-append}
 use Rattle.std.proofs.lemmas.List.{take-append-le, drop-append-le}
 use Rattle.std.proofs.lemmas.Option.{slice_get_within}
 use Rattle.std.specs.Prelude.{slice_get, MatchOption, if◌then◌else◌, IfSome, IsSome, nat_lt}
@@ -24,8 +24,11 @@ use Rattle.assemble.specs.Running.{OpensWithZeros, HasAssembleCause}
 use Rattle.std.specs.List.{All}
 use Rattle.std.proofs.lemmas.List.Elements.{All-head, All-tail}
 use Rattle.array.specs.declared.spec.CreateSpec.{CreateSpec}
-use Rattle.script.specs.declared.lines.Line.TheVariants.{Create, Read, Write, Flush, Stop, Halt, Assemble}
+use Rattle.script.specs.declared.lines.Line.TheVariants.{Create, Read, Write, Flush, Fail, Stop, Halt, Assemble}
 use Rattle.flat_history.specs.declared.events.Entry.{Entry}
+use Rattle.flat_history.specs.declared.events.Event.TheVariants.{Shown}
+use Rattle.flat_history.specs.Plain.{entries_of}
+use Rattle.array.specs.Adopting.{opener}
 use Rattle.flat_history.specs.Flat.{rest_of_call, is_same_call}
 use Rattle.script.specs.Texts.{event_text, lane_text}
 use Rattle.script.specs.declared.lines.Line.{Line}
@@ -35,7 +38,7 @@ use Rattle.runner.specs.declared.report.Answered.{Answered}
 use Rattle.runner.specs.declared.report.Answered.TheVariants.{Inside, Outside as IsOutside}
 use Rattle.runner.specs.declared.report.LineReply.{LineReply}
 use Rattle.runner.specs.Histories.{History, entry_at, is_end}
-use Rattle.runner.specs.Making.{Setting, held_at, history_world, IsUncreated, IsUnassembled, IsStoredNew, IsStoredAs}
+use Rattle.runner.specs.Making.{Setting, held_at, history_world, IsUncreated, IsUnassembled, IsStoredNew, IsStoredAs, BeginsShown}
 use Rattle.runner.specs.Replies.{Course, spec_of, FitsLine, IsMadeBy, IsFoundBy, IsRefusedOutside, at_rest, one_call_more, course_after, course_of, IsReplyAt, IsAnsweredInside, IsAnswer, IsEnd, IsReplyTo, AreReplies}
 use Rattle.runner.specs.Shown.{answer_text, reply_text, report_text, tells_refusal, is_refusal, has_refusal}
 use Rattle.runner.specs.States.{IsGrown, AreGrown, IsNamed}
@@ -157,6 +160,7 @@ module _ (was now : Setting) (wider : IsWider was now) (end later : ℕ) (moved 
   refused_stays true (Read at count) refusal is = is
   refused_stays true (Write at count seed) refusal is = is
   refused_stays true Flush refusal is = is
+  refused_stays true (Fail role) refusal is = is
   refused_stays true Stop refusal is = is
   refused_stays true Halt refusal is = is
   refused_stays true (Assemble uuid) refusal is = is
@@ -164,6 +168,7 @@ module _ (was now : Setting) (wider : IsWider was now) (end later : ℕ) (moved 
   refused_stays false (Read at count) refusal is = is
   refused_stays false (Write at count seed) refusal is = is
   refused_stays false Flush refusal is = is
+  refused_stays false (Fail role) refusal is = is
   refused_stays false Stop refusal is = is
   refused_stays false Halt refusal is = is
   refused_stays false (Assemble uuid) refusal is = unassembled_stays uuid refusal is
@@ -192,6 +197,7 @@ module _ (was now : Setting) (wider : IsWider was now) (end later : ℕ) (moved 
   made_wider histories epoch (Read at count) is = is
   made_wider histories epoch (Write at count seed) is = is
   made_wider histories epoch Flush is = is
+  made_wider histories epoch (Fail role) is = is
   made_wider histories epoch Stop is = is
   made_wider histories epoch Halt is = is
   made_wider histories epoch (Assemble uuid) is = is
@@ -201,6 +207,7 @@ module _ (was now : Setting) (wider : IsWider was now) (end later : ℕ) (moved 
   found_wider histories epoch (Read at count) status is = is
   found_wider histories epoch (Write at count seed) status is = is
   found_wider histories epoch Flush status is = is
+  found_wider histories epoch (Fail role) status is = is
   found_wider histories epoch Stop status is = is
   found_wider histories epoch Halt status is = is
   found_wider histories epoch (Assemble asked) status is = record {
@@ -214,7 +221,7 @@ module _ (was now : Setting) (wider : IsWider was now) (end later : ℕ) (moved 
     elected = λ t. is.elected (wider.told t) ∙ sym (ap (λ (g : Given). array_of g now.backup is.history.given asked (held_at now later)) wider.given
         ∙ ap (λ (b : Option ℕ). array_of was.given b is.history.given asked (held_at now later)) wider.backup
         ∙ ap (λ (c : Contents). array_of was.given was.backup is.history.given asked c) (held t));
-    stored = λ t. subst (λ (w : World). IsStoredAs w status) (sym (world_stays was now wider is.history t))
+    stored = λ t. subst (λ (w : World). IsStoredAs w status is.shown.losses) (sym (world_stays was now wider is.history t))
         (stored-later (history_world was is.history) (wider.grows.more t).0 (begun_by is.history is.first t) (is.stored (wider.told t)));
   }
 
@@ -251,15 +258,29 @@ made_stays setting olds news grown epoch end (Create line) is =
 made_stays setting olds news grown epoch end (Read at count) is = is
 made_stays setting olds news grown epoch end (Write at count seed) is = is
 made_stays setting olds news grown epoch end Flush is = is
+made_stays setting olds news grown epoch end (Fail role) is = is
 made_stays setting olds news grown epoch end Stop is = is
 made_stays setting olds news grown epoch end Halt is = is
 made_stays setting olds news grown epoch end (Assemble uuid) is = is
+
+-- it still begins with its opening
+abbrev begins_still : (old new : History) (status : Status) → IsGrown old new → BeginsShown old status → BeginsShown new status
+begins_still old new status grown was =
+    let first : Entry = record { caller = 0; number = 0; end = was.end; event = Shown status } in
+    record {
+      losses = was.losses;
+      end = was.end;
+      more = was.more ++ grown.more;
+      is = grown.grown ∙ ap (λ (l : List Entry). l ++ grown.more) was.is ∙ append_assoc (entries_of opener old.first was.losses) (first ∷ was.more) grown.more
+          ∙ ap (λ (n : ℕ). entries_of opener n was.losses ++ first ∷ (was.more ++ grown.more)) (sym grown.first);
+    }
 
 found_stays : (setting : Setting) (olds news : List History) → AreGrown olds news → (epoch end : ℕ) (line : Line) (status : Status) → IsFoundBy setting olds epoch end line status → IsFoundBy setting news epoch end line status
 found_stays setting olds news grown epoch end (Create line) status is = is
 found_stays setting olds news grown epoch end (Read at count) status is = is
 found_stays setting olds news grown epoch end (Write at count seed) status is = is
 found_stays setting olds news grown epoch end Flush status is = is
+found_stays setting olds news grown epoch end (Fail role) status is = is
 found_stays setting olds news grown epoch end Stop status is = is
 found_stays setting olds news grown epoch end Halt status is = is
 found_stays setting olds news grown epoch end (Assemble asked) status is =
@@ -269,11 +290,11 @@ found_stays setting olds news grown epoch end (Assemble asked) status is =
       there = now.1;
       named = subst (λ (u : List ℕ). IfSome asked (λ uuid. u ≡ uuid)) (sym now.2.uuid) is.named;
       given = subst (λ (n : ℕ). AreGiven setting.given n setting.before setting.now) (sym now.2.given) is.given;
-      shown = record { end = is.shown.end; more = is.shown.more ++ now.2.more; is = now.2.grown ∙ ap (λ (l : List Entry). l ++ now.2.more) is.shown.is };
+      shown = begins_still is.history now.0 status now.2 is.shown;
       at_end = is.at_end;
       first = λ t. now.2.first ∙ is.first t;
       elected = λ t. now.2.uuid ∙ is.elected t ∙ ap (λ (n : ℕ). array_of setting.given setting.backup n asked (held_at setting end)) (sym now.2.given);
-      stored = λ t. subst (λ (w : World). IsStoredAs w status) (world_grown setting is.history now.0 now.2) (is.stored t);
+      stored = λ t. subst (λ (w : World). IsStoredAs w status is.shown.losses) (world_grown setting is.history now.0 now.2) (is.stored t);
     }
 
 -- and as the histories grow

@@ -1,18 +1,17 @@
 -- The histories of the arrays that ran stay legal as the tape grows.
-use Rattle.std.proofs.Common.{refl, ◌≡◌, ℕ, suc, ◌+◌, ◌≤◌, List, [], ◌∷◌, ◌++◌, length, Option, sym, ◌∙◌, ap, subst, arith, append-nil, length-append}
+use Rattle.std.proofs.Common.{◌≡◌, ℕ, suc, ◌+◌, ◌≤◌, List, [], ◌∷◌, ◌++◌, length, Option, sym, ◌∙◌, ap, subst, arith, append-nil, length-append}
 use Rattle.std.proofs.lemmas.List.Elements.{All-push, All-weaker}
-use Rattle.md_base.specs.Sectors.{Sector}
 use Rattle.bank.specs.Given.{Given, sizes}
 use Rattle.bank.specs.declared.bank.Operation.{Operation}
 use Rattle.flat_history.specs.declared.events.Entry.{Entry}
 use Rattle.flat_history.specs.declared.events.Epoch.{Epoch}
 use Rattle.flat_history.specs.Epochs.{world_of}
-use Rattle.flat_history.specs.Plain.{Opening, IsPlainLegal}
-use Rattle.array.specs.Kept.{opening_of, world_for}
+use Rattle.flat_history.specs.OneShape.{ShapeOpening, opening_in, IsOneShapeLegal}
+use Rattle.flat_history.proofs.OneShapeLegal.{opening-grown, found-in, one_shape-legal}
+use Rattle.flat_history.proofs.OneShapeGrowing.{one_shape-later}
+use Rattle.array.specs.Calls.{IsEndOf, world_for}
 use Rattle.array.specs.Moving.{Grows}
 use Rattle.array.specs.Parts.{Parts}
-use Rattle.array.proofs.PlainLaws.{plain-later}
-use Rattle.array.proofs.RightLaws.{opening-grown}
 use Rattle.std.specs.Prelude.{⊤, slice_get, Result, Ok, Err, IfOk, IfErr}
 use Rattle.md_base.specs.declared.answers.NoMemory.{NoMemory}
 use Rattle.std.proofs.lemmas.List.{map-append}
@@ -21,53 +20,53 @@ use Rattle.flat_history.specs.CrashSafe.{IsCrashSafe}
 use Rattle.flat_history.specs.World.{World}
 use Rattle.flat_history.specs.Epochs.{IsEpochRight}
 use Rattle.flat_history.specs.Growing.{EndBy}
-use Rattle.array.specs.Kept.{IsEndOf}
+use Rattle.flat_history.specs.Reopened.{OpensAccepted}
+use Rattle.flat_history.specs.Sound.{FillsRight, StaysSound}
 use Rattle.array.specs.Placed.{AreStillHeld}
 use Rattle.runner.specs.Histories.{History, history_of, histories_of}
 use Rattle.runner.specs.Making.{world_at, AreHeldAtFirst}
 use Rattle.runner.specs.States.{running_history}
-use Rattle.runner.proofs.Losses.{held-later}
+use Rattle.runner.proofs.Losses.{IsSameOpening, world_same, held-later}
 use Rattle.std.specs.Option.{option_map_or}
 use Rattle.runner.specs.Runs.{mark_behind, AreEndedAt}
-use Rattle.runner.proofs.Worlds.{plain-ends, room-before, alike-before, safe-longer}
-use Rattle.flat_history.proofs.PlainLegal.{plain-legal}
-use Rattle.runner.specs.Ended.{IsLegalEpoch, AreLegal, IfSound, AreRight, AreSafe, next_mark, AreRising, AreFormer, IsGoing}
-
-legal_longer : (given : Given) (tape more : List Operation) (backup : Option ℕ) (epoch : Epoch) → IsLegalEpoch given tape backup epoch → IsLegalEpoch given (tape ++ more) backup epoch
-legal_longer given tape more backup epoch was =
-    let longer : length tape ≤ length (tape ++ more) = omega (arith, length-append tape more) in
-    record {
-      begun = omega (arith, was.begun, longer);
-      legal = subst (λ (l : List Sector). IsPlainLegal (record { list = l; first = epoch.first }) (length (tape ++ more)) epoch.entries.items) (sym (opening-grown (world_of given tape backup epoch) more was.begun))
-          (plain-later (opening_of (world_of given tape backup epoch)) (length tape) (length (tape ++ more)) [] epoch.entries.items longer was.legal);
-    }
-
--- the entries of a legal epoch end within the tape
-legal_ends : (given : Given) (tape : List Operation) (backup : Option ℕ) (epoch : Epoch) → IsLegalEpoch given tape backup epoch → EndBy (length tape) epoch.entries.items
-legal_ends given tape backup epoch legal = plain-ends (opening_of (world_of given tape backup epoch)) (length tape) [] epoch.entries.items legal.legal
-
--- what holds of a sound epoch goes on to hold
-sound_longer : (given : Given) (tape more : List Operation) (backup : Option ℕ) (epoch : Epoch) → IsLegalEpoch given tape backup epoch
-    → IfSound given tape backup epoch (IsCrashSafe (world_of given tape backup epoch) (length tape) epoch.entries.items)
-    → IfSound given (tape ++ more) backup epoch (IsCrashSafe (world_of given (tape ++ more) backup epoch) (length (tape ++ more)) epoch.entries.items)
-sound_longer given tape more backup epoch legal was none room alike =
-    let world = world_of given tape backup epoch in
-    safe-longer world more epoch.entries.items legal.begun (legal_ends given tape backup epoch legal) (was none (room-before world more legal.begun room) (alike-before world more legal.begun alike))
-
-safes_longer : (given : Given) (tape more : List Operation) (backup : Option ℕ) (epochs : List Epoch) → AreLegal given tape backup epochs → AreSafe given tape backup epochs → AreSafe given (tape ++ more) backup epochs
-safes_longer given tape more backup [] legal safe = All-nil (λ e. IfSound given (tape ++ more) backup e (IsCrashSafe (world_of given (tape ++ more) backup e) (length (tape ++ more)) e.entries.items))
-safes_longer given tape more backup (e ∷ epochs) legal safe =
-    All-cons (λ e. IfSound given (tape ++ more) backup e (IsCrashSafe (world_of given (tape ++ more) backup e) (length (tape ++ more)) e.entries.items)) e epochs
-    (sound_longer given tape more backup e (All-head (λ e. IsLegalEpoch given tape backup e) e epochs legal)
-    (All-head (λ e. IfSound given tape backup e (IsCrashSafe (world_of given tape backup e) (length tape) e.entries.items)) e epochs safe))
-    (safes_longer given tape more backup epochs (All-tail (λ e. IsLegalEpoch given tape backup e) e epochs legal)
-    (All-tail (λ e. IfSound given tape backup e (IsCrashSafe (world_of given tape backup e) (length tape) e.entries.items)) e epochs safe))
-
--- ---- the marks at which the histories begin
+use Rattle.runner.proofs.Worlds.{room-before, alike-before, fills-before, accepted-later, safe-longer, sound-longer}
+use Rattle.runner.specs.Ended.{IsLegalEpoch, AreLegal, IfFilledRight, IsSafeEpoch, AreRight, AreSafe, next_mark, AreRising, AreFormer, IsGoing}
 
 ends_later : (a b : ℕ) (entries : List Entry) → a ≤ b → EndBy a entries → EndBy b entries
 ends_later a b [] le was = tt
 ends_later a b (e ∷ entries) le (one, rest) = (omega (arith, le, one), ends_later a b entries le rest)
+
+legal_longer : (given : Given) (tape more : List Operation) (backup : Option ℕ) (epoch : Epoch) → IsLegalEpoch given tape backup epoch → IsLegalEpoch given (tape ++ more) backup epoch
+legal_longer given tape more backup epoch was =
+    let world = world_of given tape backup epoch in
+    let longer : length tape ≤ length (tape ++ more) = omega (arith, length-append tape more) in
+    record {
+      begun = omega (arith, was.begun, longer);
+      accepted = accepted-later world more was.begun was.accepted;
+      ends = ends_later (length tape) (length (tape ++ more)) epoch.entries.items longer was.ends;
+      legal = λ fills. subst (λ (opening : ShapeOpening). IsOneShapeLegal opening (length (tape ++ more)) epoch.entries.items) (sym (opening-grown world more was.begun))
+          (one_shape-later (opening_in world) (length tape) (length (tape ++ more)) [] epoch.entries.items longer (was.legal (fills-before world more was.begun epoch.entries.items fills)));
+    }
+
+-- what is safe and sound goes on to be
+sound_longer : (given : Given) (tape more : List Operation) (backup : Option ℕ) (epoch : Epoch) → IsLegalEpoch given tape backup epoch
+    → IsSafeEpoch given tape backup epoch → IsSafeEpoch given (tape ++ more) backup epoch
+sound_longer given tape more backup epoch legal was fills room alike =
+    let world = world_of given tape backup epoch in
+    let entries = epoch.entries.items in
+    let before = was (fills-before world more legal.begun entries fills) (room-before world more legal.begun room) (alike-before world more legal.begun alike) in
+    (safe-longer world more entries legal.begun legal.ends before.0, sound-longer world more entries legal.begun legal.ends before.1)
+
+safes_longer : (given : Given) (tape more : List Operation) (backup : Option ℕ) (epochs : List Epoch) → AreLegal given tape backup epochs → AreSafe given tape backup epochs → AreSafe given (tape ++ more) backup epochs
+safes_longer given tape more backup [] legal safe = All-nil (λ e. IsSafeEpoch given (tape ++ more) backup e)
+safes_longer given tape more backup (e ∷ epochs) legal safe =
+    All-cons (λ e. IsSafeEpoch given (tape ++ more) backup e) e epochs
+    (sound_longer given tape more backup e (All-head (λ e. IsLegalEpoch given tape backup e) e epochs legal)
+    (All-head (λ e. IsSafeEpoch given tape backup e) e epochs safe))
+    (safes_longer given tape more backup epochs (All-tail (λ e. IsLegalEpoch given tape backup e) e epochs legal)
+    (All-tail (λ e. IsSafeEpoch given tape backup e) e epochs safe))
+
+-- ---- the marks at which the histories begin
 
 pub rising_later : (a b : ℕ) (hs : List History) → a ≤ b → AreRising a hs → AreRising b hs
 rising_later a b [] le was = tt
@@ -111,6 +110,14 @@ pub idle_grown : {tells : Type 0} {before after : List Operation} (given : Given
 idle_grown {before = before} {after = after} given backup olds news same grows was told =
     former_same given after backup (length after) olds news same (former_grown given backup (length before) (length after) olds grows told (grows_longer grows told) (was told))
 
+-- what an opening found goes on to be refused for nothing
+pub accepted-grown : {tells : Type 0} {before after : List Operation} (given : Given) (backup : Option ℕ) (old new : History) → Grows tells before after → IsSameOpening old new → (tells → old.first ≤ length before)
+    → (tells → OpensAccepted (world_at given before backup old)) → tells → OpensAccepted (world_at given after backup new)
+accepted-grown {before = before} {after = after} given backup old new grows same begun was t =
+    let more = grows.more t in
+    subst (λ (w : World). OpensAccepted w) (sym (world_same given after backup old new same))
+    (subst (λ (l : List Operation). OpensAccepted (world_at given l backup old)) (sym (more.1)) (accepted-later (world_at given before backup old) (more.0) (begun t) (was t)))
+
 -- the array that runs went on
 pub going_grown : {B tells : Type 0} {before after : List Operation} (given : Given) (backup : Option ℕ) (old new : Parts B) (epochs : List Epoch) → Grows tells before after → new.first ≡ old.first → new.backup ≡ old.backup
     → new.uuid ≡ old.uuid → new.given ≡ old.given → AreStillHeld old.members new.members → IsEndOf tells new.first new.entries after → IsGoing tells given before backup old epochs → IsGoing tells given after backup new epochs
@@ -118,6 +125,7 @@ going_grown given backup old new epochs grows first same uuid slots still ended 
   backup_is = same ∙ was.backup_is;
   former = λ t. former_grown given backup old.first new.first epochs grows t (omega (arith, first)) (was.former t);
   begun = λ t. omega (arith, first, was.begun t, grows_longer grows t);
+  accepted = accepted-grown given backup (running_history old) (running_history new) grows (record { uuid = uuid; given = slots; first = first }) was.begun was.accepted;
   held = λ t role slot is. held-later given backup (running_history old) (running_history new) old.members grows (record { uuid = uuid; given = slots; first = first }) was.held t role slot (still role slot is);
   ended = ended;
 }
@@ -130,24 +138,28 @@ going_asked {B = B} {tells = tells} given tape backup old new epochs (Err fault)
 
 -- an array was opened where the tape ends
 pub going_begun : {B tells : Type 0} {before after : List Operation} (given : Given) (backup : Option ℕ) (olds news : List Epoch) (array : Parts B) → news ≡ olds → Grows tells before after
-    → array.backup ≡ backup → (tells → array.first ≡ length after) → (tells → AreHeldAtFirst (world_at given after backup (running_history array)) array.members) → IsEndOf tells array.first array.entries after
+    → array.backup ≡ backup → (tells → array.first ≡ length after) → (tells → OpensAccepted (world_at given after backup (running_history array))) → (tells → AreHeldAtFirst (world_at given after backup (running_history array)) array.members) → IsEndOf tells array.first array.entries after
     → (tells → AreFormer given before backup (length before) olds) → IsGoing tells given after backup array news
-going_begun {before = before} {after = after} given backup olds news array same grows backup_is first held ended was = record {
+going_begun {before = before} {after = after} given backup olds news array same grows backup_is first accepted held ended was = record {
   backup_is = backup_is;
   former = λ t. former_same given after backup array.first olds news same (former_grown given backup (length before) array.first olds grows t (omega (arith, first t, grows_longer grows t)) (was t));
   begun = λ t. omega (arith, first t);
+  accepted = accepted;
   held = held;
   ended = ended;
 }
 
-begun_by : (opening : Opening) (ops : ℕ) (entries : List Entry) → 1 ≤ length entries → IsPlainLegal opening ops entries → opening.first ≤ ops
-begun_by opening ops [] some plain = absurd (omega (arith, some))
-begun_by opening ops (e ∷ entries) some plain = omega (arith, plain.0.timed.rises, plain.0.timed.within)
-
--- a legal history of one entry at least
-pub legal_epoch : (given : Given) (tape : List Operation) (backup : Option ℕ) (epoch : Epoch) → 1 ≤ length epoch.entries.items → IsPlainLegal (opening_of (world_of given tape backup epoch)) (length tape) epoch.entries.items
-    → IsLegalEpoch given tape backup epoch
-legal_epoch given tape backup epoch some legal = record { begun = begun_by (opening_of (world_of given tape backup epoch)) (length tape) epoch.entries.items some legal; legal = legal }
+-- the history of an array that ran
+pub legal_epoch : {B tells : Type 0} {before after : List Operation} (given : Given) (backup : Option ℕ) (array : Parts B) (epochs : List Epoch) (epoch : Epoch) → Grows tells before after → IsSameOpening (running_history array) (history_of epoch) → IsGoing tells given before backup array epochs
+    → (tells → EndBy (length after) epoch.entries.items)
+    → (tells → FillsRight (world_of given after backup epoch) epoch.entries.items → IsOneShapeLegal (opening_in (world_of given after backup epoch)) (length after) epoch.entries.items)
+    → tells → IsLegalEpoch given after backup epoch
+legal_epoch given backup array epochs epoch grows same was ends legal told = record {
+  begun = omega (arith, same.first, was.begun told, grows_longer grows told);
+  accepted = accepted-grown given backup (running_history array) (history_of epoch) grows same was.begun was.accepted told;
+  ends = ends told;
+  legal = legal told;
+}
 
 -- the world of an array is that of the epoch that it leaves
 pub world_left : {B : Type 0} (given : Given) (tape : List Operation) (backup : Option ℕ) (array : Parts B) (epoch : Epoch) → epoch.uuid ≡ array.uuid → epoch.given ≡ array.given → epoch.first ≡ array.first → array.backup ≡ backup
@@ -160,33 +172,36 @@ world_left given tape backup array epoch uuid slots first same =
 
 -- the array that ran has ended
 pub former_more : {B tells : Type 0} {before after : List Operation} (given : Given) (backup : Option ℕ) (array : Parts B) (epochs ended : List Epoch) (epoch : Epoch) → ended ≡ epochs ++ epoch ∷ [] → Grows tells before after → epoch.first ≡ array.first
-    → IsGoing tells given before backup array epochs → (tells → IsLegalEpoch given after backup epoch) → (tells → epoch.last ≡ length after) → (tells → IfSound given after backup epoch (IsEpochRight given after backup epoch))
+    → IsGoing tells given before backup array epochs → (tells → IsLegalEpoch given after backup epoch) → (tells → epoch.last ≡ length after) → (tells → IfFilledRight given after backup epoch (IsEpochRight given after backup epoch))
     → tells → AreFormer given after backup (length after) ended
 former_more {after = after} given backup array epochs ended epoch items grows first was legal last right told =
     let former = former_grown given backup array.first epoch.first epochs grows told (omega (arith, first)) (was.former told) in
     subst (λ (l : List Epoch). AreFormer given after backup (length after) l) (sym items) (record {
       legal = All-push (λ e. IsLegalEpoch given after backup e) epochs epoch former.legal (legal told);
-      safe = All-push (λ e. IfSound given after backup e (IsCrashSafe (world_of given after backup e) (length after) e.entries.items)) epochs epoch former.safe
-          (λ none room alike. subst (λ (n : ℕ). IsCrashSafe (world_of given after backup epoch) n epoch.entries.items) (last told) (right told none room alike).safe);
+      safe = All-push (λ e. IsSafeEpoch given after backup e) epochs epoch former.safe
+          (λ fills room alike.
+          let fine = right told fills room alike in
+          subst (λ (n : ℕ). IsCrashSafe (world_of given after backup epoch) n epoch.entries.items × StaysSound (world_of given after backup epoch) n epoch.entries.items) (last told) (fine.safe, fine.sound));
       rising = subst (λ (l : List History). AreRising (length after) l) (sym (map-append history_of epochs (epoch ∷ [])))
-          (rising_more (length after) (histories_of epochs) (history_of epoch) former.rising (legal told).begun (legal_ends given after backup epoch (legal told)));
+          (rising_more (length after) (histories_of epochs) (history_of epoch) former.rising (legal told).begun (legal told).ends);
     })
 
 -- the array that ran was halted
 pub former_halted : {B : Type 0} (tells : Type 0) (given : B → Given) (tape : B → List Operation) (backup : Option ℕ) (array : Parts B) (bank : B) (epoch : Epoch) (epochs ended : List Epoch) → ended ≡ epochs ++ epoch ∷ [] → bank ≡ array.bank
-    → epoch.uuid ≡ array.uuid → epoch.given ≡ array.given → epoch.first ≡ array.first → 1 ≤ length epoch.entries.items
-    → (tells → IsPlainLegal (opening_of (world_for (given array.bank) (tape array.bank) array)) (length (tape array.bank)) epoch.entries.items) → (tells → epoch.last ≡ length (tape array.bank))
-    → (tells → IfSound (given bank) (tape bank) array.backup epoch (IsEpochRight (given bank) (tape bank) array.backup epoch)) → IsGoing tells (given array.bank) (tape array.bank) backup array epochs
+    → epoch.uuid ≡ array.uuid → epoch.given ≡ array.given → epoch.first ≡ array.first → (tells → EndBy (length (tape array.bank)) epoch.entries.items)
+    → (tells → FillsRight (world_for (given array.bank) (tape array.bank) array) epoch.entries.items → IsOneShapeLegal (opening_in (world_for (given array.bank) (tape array.bank) array)) (length (tape array.bank)) epoch.entries.items) → (tells → epoch.last ≡ length (tape array.bank))
+    → (tells → IfFilledRight (given bank) (tape bank) array.backup epoch (IsEpochRight (given bank) (tape bank) array.backup epoch)) → IsGoing tells (given array.bank) (tape array.bank) backup array epochs
     → tells → AreFormer (given array.bank) (tape bank) backup (length (tape bank)) ended
-former_halted {B = B} tells given tape backup array bank epoch epochs ended items same uuid slots first some legal last right was =
+former_halted {B = B} tells given tape backup array bank epoch epochs ended items same uuid slots first ends legal last right was =
     let known = given array.bank in
     let now = tape array.bank in
     subst (λ (b : B). tells → AreFormer known (tape b) backup (length (tape b)) ended) (sym same)
     (former_more known backup array epochs ended epoch items (record { more = λ t. ([], sym (append-nil now)) }) first was
-    (λ t. legal_epoch known now backup epoch some (subst (λ (w : World). IsPlainLegal (opening_of w) (length now) epoch.entries.items) (world_left known now backup array epoch uuid slots first was.backup_is) (legal t)))
+    (legal_epoch known backup array epochs epoch (record { more = λ t. ([], sym (append-nil now)) }) (record { uuid = uuid; given = slots; first = first }) was ends
+    (λ t. subst (λ (w : World). FillsRight w epoch.entries.items → IsOneShapeLegal (opening_in w) (length now) epoch.entries.items) (world_left known now backup array epoch uuid slots first was.backup_is) (legal t)))
     last
-    (λ t. subst (λ (o : Option ℕ). IfSound known now o epoch (IsEpochRight known now o epoch)) was.backup_is
-    (subst (λ (b : B). IfSound (given b) (tape b) array.backup epoch (IsEpochRight (given b) (tape b) array.backup epoch)) same (right t))))
+    (λ t. subst (λ (o : Option ℕ). IfFilledRight known now o epoch (IsEpochRight known now o epoch)) was.backup_is
+    (subst (λ (b : B). IfFilledRight (given b) (tape b) array.backup epoch (IsEpochRight (given b) (tape b) array.backup epoch)) same (right t))))
 
 -- ---- the epochs of a whole run
 
@@ -203,24 +218,26 @@ ended_to ops (e ∷ f ∷ epochs) ended = (ended 0 e (omega arith), ended_to ops
     behind : (h : History) (hs : List History) (k : ℕ) → mark_behind ops (h ∷ hs) (suc k) ≡ mark_behind ops hs k
     behind h hs k = ap (λ (n : ℕ). option_map_or (λ (history : History). history.first) (slice_get (h ∷ hs) n) ops) {x = suc k + 1} {y = suc (k + 1)} (omega arith)
 
--- where nothing was lost, such a history is right
+-- where what was filled in is right, such a history is
 pub all_right : (given : Given) (tape : List Operation) (backup : Option ℕ) (epochs : List Epoch) → AreFormer given tape backup (length tape) epochs → AreEndedTo (length tape) epochs → AreRight given tape backup epochs
-all_right given tape backup [] was ended = All-nil (λ e. IfSound given tape backup e (IsEpochRight given tape backup e))
+all_right given tape backup [] was ended = All-nil (λ e. IfFilledRight given tape backup e (IsEpochRight given tape backup e))
 all_right given tape backup (e ∷ epochs) was (last, ended) =
     let legal = All-head (λ e. IsLegalEpoch given tape backup e) e epochs was.legal in
     let world = world_of given tape backup e in
-    All-cons (λ e. IfSound given tape backup e (IsEpochRight given tape backup e)) e epochs
-    (λ none room alike. let right = plain-legal world (opening_of world) e.entries.items refl refl none legal.legal in
+    All-cons (λ e. IfFilledRight given tape backup e (IsEpochRight given tape backup e)) e epochs
+    (λ fills room alike. let right = one_shape-legal world (opening_in world) e.entries.items (found-in world) (legal.legal fills) in
     let within = next_within tape epochs was.rising.1 in
+    let fine = All-head (λ e. IsSafeEpoch given tape backup e) e epochs was.safe fills room alike in
     record {
       begins = omega (arith, last, was.rising.0.0);
       ends = omega (arith, last, within);
       legal = right.0;
-      safe = λ mark low high only. All-head (λ e. IfSound given tape backup e (IsCrashSafe (world_of given tape backup e) (length tape) e.entries.items)) e epochs was.safe none room alike mark low (omega (arith, high, last, within)) only;
+      safe = λ mark low high only. fine.0 mark low (omega (arith, high, last, within)) only;
+      sound = λ opens mark low high only. fine.1 opens mark low (omega (arith, high, last, within)) only;
       reshaped = right.1;
     })
     (all_right given tape backup epochs (record {
       legal = All-tail (λ e. IsLegalEpoch given tape backup e) e epochs was.legal;
-      safe = All-tail (λ e. IfSound given tape backup e (IsCrashSafe (world_of given tape backup e) (length tape) e.entries.items)) e epochs was.safe;
+      safe = All-tail (λ e. IsSafeEpoch given tape backup e) e epochs was.safe;
       rising = was.rising.1;
     }) ended)

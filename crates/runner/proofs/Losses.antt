@@ -1,6 +1,7 @@
 -- What the histories of a run tell of losses.
-use Rattle.std.proofs.Common.{◌≡◌, ℕ, Option, List, [], ◌∷◌, ◌++◌, refl, sym, ◌∙◌, ap, subst, append_assoc, append-nil}
+use Rattle.std.proofs.Common.{◌≡◌, ℕ, zero, suc, ◌<◌, Bool, true, false, Option, List, [], ◌∷◌, ◌++◌, refl, sym, ◌∙◌, ap, subst, arith, append_assoc, append-nil}
 use Rattle.std.proofs.lemmas.List.Elements.{All-nil, All-cons, All-append, All-weaker}
+use Rattle.std.specs.Prelude.{if◌then◌else◌}
 use Rattle.std.specs.List.{All}
 use Rattle.bank.specs.Given.{Given}
 use Rattle.bank.specs.declared.bank.Operation.{Operation}
@@ -9,17 +10,23 @@ use Rattle.superblocks.specs.declared.members.Members.{Members}
 use Rattle.flat_history.specs.declared.events.Entry.{Entry}
 use Rattle.flat_history.specs.declared.events.Event.{Event}
 use Rattle.flat_history.specs.declared.events.Event.TheVariants.{Lost, SpareLost, Halted}
+use Rattle.flat_history.specs.declared.events.LostCause.{LostCause}
+use Rattle.flat_history.specs.declared.events.LostCause.TheVariants.{Absent, Recovering, Command, Fault}
+use Rattle.flat_history.specs.Plain.{entries_of}
 use Rattle.flat_history.specs.Growing.{grown}
 use Rattle.flat_history.specs.World.{World}
-use Rattle.array.specs.Kept.{IsLossOf, AreLossesOf, IsEntered}
+use Rattle.superblocks.specs.Reading.{Reading, shape_of}
+use Rattle.row_io.specs.Rows.{is_missing}
+use Rattle.array.specs.Adopting.{opener, absent_loss, absent_losses, found_losses}
+use Rattle.array.specs.Calls.{IsRoleLossOf, IsLossOf, AreLossesOf, IsEntered}
 use Rattle.array.specs.Moving.{Grows}
-use Rattle.array.proofs.PlainLaws.{one}
 use Rattle.runner.specs.Histories.{History}
-use Rattle.runner.specs.Making.{Setting, world_at, history_world, HeldAtFirst, AreHeldAtFirst}
-use Rattle.runner.specs.States.{IsLossSince, AreLossesSince, AreLossesFrom, AreGrown}
+use Rattle.runner.specs.Making.{Setting, world_at, history_world, HeldAtFirst, MissingAtFirst, AreHeldAtFirst}
+use Rattle.runner.specs.States.{IsRoleLossSince, IsLossSince, AreLossesSince, AreLossesFrom, AreGrown}
+use Rattle.runner.proofs.AskLaws.{one, entries_of-append}
 use Rattle.runner.proofs.Causes.{faulted-wider}
 use Rattle.runner.proofs.Growth.{IsWider, world_stays}
-use Rattle.runner.proofs.Worlds.{held-longer}
+use Rattle.runner.proofs.Worlds.{held-longer, missing-longer}
 
 -- ---- what held a role at the opening
 
@@ -29,7 +36,7 @@ pub record IsSameOpening (old new : History) : Type 0 where
   pub given : new.given ≡ old.given
   pub first : new.first ≡ old.first
 
-world_same : (given : Given) (tape : List Operation) (backup : Option ℕ) (old new : History) → IsSameOpening old new → world_at given tape backup new ≡ world_at given tape backup old
+pub world_same : (given : Given) (tape : List Operation) (backup : Option ℕ) (old new : History) → IsSameOpening old new → world_at given tape backup new ≡ world_at given tape backup old
 world_same given tape backup old new same =
     ap (λ (u : List ℕ). world_at given tape backup (record { uuid = u; given = new.given; first = new.first; entries = [] })) same.uuid
     ∙ ap (λ (n : ℕ). world_at given tape backup (record { uuid = old.uuid; given = n; first = new.first; entries = [] })) same.given
@@ -43,15 +50,26 @@ held-later {before = before} {after = after} given backup old new members grows 
     subst (λ (w : World). HeldAtFirst w role slot) (sym (world_same given after backup old new same))
     (subst (λ (l : List Operation). HeldAtFirst (world_at given l backup old) role slot) (sym (more.1)) (held-longer (world_at given before backup old) (more.0) (was t role slot is)))
 
-held-wider : (was now : Setting) → IsWider was now → (old new : History) → IsSameOpening old new → (role slot : ℕ) → (was.tells → HeldAtFirst (history_world was old) role slot) → now.tells → HeldAtFirst (history_world now new) role slot
-held-wider was now wider old new same role slot held t =
-    subst (λ (w : World). HeldAtFirst w role slot) (sym (world_same now.given now.tape now.backup old new same ∙ world_stays was now wider old t))
-    (held-longer (history_world was old) (wider.grows.more t).0 (held (wider.told t)))
+module _ (was now : Setting) (wider : IsWider was now) (old new : History) (same : IsSameOpening old new) (t : now.tells) where
+  world_later : history_world now new ≡ grown (history_world was old) (wider.grows.more t).0
+  world_later = world_same now.given now.tape now.backup old new same ∙ world_stays was now wider old t
+
+  held-wider : (role slot : ℕ) → HeldAtFirst (history_world was old) role slot → HeldAtFirst (history_world now new) role slot
+  held-wider role slot held = subst (λ (w : World). HeldAtFirst w role slot) (sym world_later) (held-longer (history_world was old) (wider.grows.more t).0 held)
+
+  missing-wider : (role : ℕ) → MissingAtFirst (history_world was old) role → MissingAtFirst (history_world now new) role
+  missing-wider role missing = subst (λ (w : World). MissingAtFirst w role) (sym world_later) (missing-longer (history_world was old) (wider.grows.more t).0 missing)
 
 -- ---- a loss has its cause, over a longer time
 
+role-wider : (was now : Setting) → IsWider was now → (old new : History) → IsSameOpening old new → (role : ℕ) (cause : LostCause) → IsRoleLossSince was old role cause → IsRoleLossSince now new role cause
+role-wider was now wider old new same role Fault (slot, failed, held) = (slot, faulted-wider slot wider.early wider.between wider.late failed, λ t. held-wider was now wider old new same t role slot (held (wider.told t)))
+role-wider was now wider old new same role Command held = λ t. let is = held (wider.told t) in (is.0, held-wider was now wider old new same t role is.0 is.1)
+role-wider was now wider old new same role Absent missing = λ t. missing-wider was now wider old new same t role (missing (wider.told t))
+role-wider was now wider old new same role Recovering loss = absurd loss
+
 loss-wider : (was now : Setting) → IsWider was now → (old new : History) → IsSameOpening old new → (event : Event) → IsLossSince was old event → IsLossSince now new event
-loss-wider was now wider old new same (Lost role cause) (slot, failed, held) = (slot, faulted-wider slot wider.early wider.between wider.late failed, held-wider was now wider old new same role slot held)
+loss-wider was now wider old new same (Lost role cause) loss = role-wider was now wider old new same role cause loss
 loss-wider was now wider old new same (SpareLost slot) loss = faulted-wider slot wider.early wider.between wider.late loss
 loss-wider was now wider old new same event loss = tt
 
@@ -61,8 +79,14 @@ failed-wider was now wider old new same entries failed =
 
 -- ---- one history
 
+role-since : (setting : Setting) (history : History) (members : Members) → (setting.tells → AreHeldAtFirst (history_world setting history) members) → (role : ℕ) (cause : LostCause) → IsRoleLossOf members setting.before setting.now role cause → IsRoleLossSince setting history role cause
+role-since setting history members first role Fault (slot, held, failed) = (slot, failed, λ t. first t role slot held)
+role-since setting history members first role Command (slot, held) = λ t. (slot, first t role slot held)
+role-since setting history members first role Absent loss = absurd loss
+role-since setting history members first role Recovering loss = absurd loss
+
 loss-since : (setting : Setting) (history : History) (members : Members) → (setting.tells → AreHeldAtFirst (history_world setting history) members) → (event : Event) → IsLossOf members setting.before setting.now event → IsLossSince setting history event
-loss-since setting history members first (Lost role cause) (slot, held, failed) = (slot, failed, λ t. first t role slot held)
+loss-since setting history members first (Lost role cause) loss = role-since setting history members first role cause loss
 loss-since setting history members first (SpareLost slot) failed = failed
 loss-since setting history members first event loss = tt
 
@@ -87,6 +111,27 @@ losses-halted setting who new entered = record {
   more = one who entered.end Halted ∷ [];
   grown = entered.is;
   failed = All-cons (λ e. IsLossSince setting new e.event) (one who entered.end Halted) [] tt (All-nil (λ e. IsLossSince setting new e.event));
+}
+
+-- what holds of the entry of each missing role holds of all that an opening enters
+pub each-absent : (P : Entry → Type 0) (who : Who) (end : ℕ) (r : Reading) (n : ℕ) → ((role : ℕ) → role < n → is_missing r role ≡ true → P (one who end (Lost role Absent))) → All P (entries_of who end (absent_losses r n))
+unfolding absent_losses
+each-absent P who end r zero each = All-nil P
+each-absent P who end r (suc n) each =
+    subst (λ (l : List Entry). All P l) (sym (entries_of-append who end (absent_losses r n) (absent_loss r n)))
+    (All-append P (entries_of who end (absent_losses r n)) (entries_of who end (absent_loss r n)) (each-absent P who end r n (λ role lt. each role (omega (arith, lt)))) (by_role (is_missing r n) refl))
+  where
+    by_role : (b : Bool) → is_missing r n ≡ b → All P (entries_of who end (if b then Lost n Absent ∷ [] else []))
+    by_role true is = All-cons P (one who end (Lost n Absent)) [] (each n (omega arith) is) (All-nil P)
+    by_role false is = All-nil P
+
+-- an opening tells what was missing there
+pub losses-found : (setting : Setting) (new : History) (r : Reading) (end : ℕ) (more : List Entry) → ((role : ℕ) → role < (shape_of r.newest).disks → is_missing r role ≡ true → setting.tells → MissingAtFirst (history_world setting new) role)
+    → All (λ e. IsLossSince setting new e.event) more → new.entries ≡ entries_of opener end (found_losses r) ++ more → AreLossesSince setting [] new
+losses-found setting new r end more missing others is = record {
+  more = entries_of opener end (found_losses r) ++ more;
+  grown = is;
+  failed = All-append (λ e. IsLossSince setting new e.event) (entries_of opener end (found_losses r)) more (each-absent (λ e. IsLossSince setting new e.event) opener end r (shape_of r.newest).disks missing) others;
 }
 
 pub losses-wider : (was now : Setting) → IsWider was now → (old : List Entry) (new : History) → AreLossesSince was old new → AreLossesSince now old new

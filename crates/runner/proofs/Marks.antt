@@ -7,15 +7,16 @@ use Rattle.flat_history.specs.declared.events.Epoch.{Epoch}
 use Rattle.runner.specs.Histories.{History, history_of, histories_of}
 use Rattle.bank.specs.Given.{Given, sizes}
 use Rattle.bank.specs.declared.bank.Operation.{Operation}
-use Rattle.flat_history.specs.Plain.{IsPlainLegal}
-use Rattle.array.specs.Kept.{opening_of}
+use Rattle.flat_history.specs.OneShape.{opening_in, IsOneShapeLegal}
 use Rattle.runner.specs.declared.states.State.{State}
 use Rattle.flat_history.specs.World.{World}
 use Rattle.flat_history.specs.CrashSafe.{IsCrashSafe}
-use Rattle.flat_history.specs.Epochs.{world_of, HasRoomForEvents, OpensAlike}
-use Rattle.array.specs.Kept.{HasNoLoss}
+use Rattle.flat_history.specs.Epochs.{HasRoomForEvents, OpensAlike}
+use Rattle.flat_history.specs.Growing.{EndBy}
+use Rattle.flat_history.specs.Reopened.{OpensAccepted}
+use Rattle.flat_history.specs.Sound.{FillsRight, StaysSound}
 use Rattle.runner.specs.Making.{Setting}
-use Rattle.runner.specs.Ended.{IsLegalEpoch, AreLegal, IfSound, AreSafe, AreRising, AreFormer}
+use Rattle.runner.specs.Ended.{IsLegalEpoch, AreLegal, IsSafeEpoch, AreSafe, AreRising, AreFormer}
 use Rattle.runner.specs.Runs.{AreHalted, IsEnded, mark_behind, AreEndedBelow}
 use Rattle.runner.specs.States.{histories_in, course_in, AreOfScript, AreGrown, AreLossesFrom}
 
@@ -45,10 +46,16 @@ ended_kept {setting = setting} {state = state} olds news same was = record {
   losses = subst (λ (l : List History). AreLossesFrom setting (histories_in state) l) (sym same) was.losses;
 }
 
+-- a history's world, over a tape
+abbrev over : Given → List Operation → Option ℕ → History → World
+over given tape backup h = record { start = given.start; tape = tape; scope = record { uuid = h.uuid; given = h.given; backup = backup; sizes = sizes given }; first = h.first }
+
 legal_same : (given : Given) (tape : List Operation) (backup : Option ℕ) (old new : Epoch) → history_of new ≡ history_of old → IsLegalEpoch given tape backup old → IsLegalEpoch given tape backup new
 legal_same given tape backup old new same was = record {
   begun = omega (arith, was.begun, ap (λ (h : History). h.first) same);
-  legal = subst (λ (h : History). IsPlainLegal (opening_of (record { start = given.start; tape = tape; scope = record { uuid = h.uuid; given = h.given; backup = backup; sizes = sizes given }; first = h.first })) (length tape) h.entries) (sym same) was.legal;
+  accepted = subst (λ (h : History). OpensAccepted (over given tape backup h)) (sym same) was.accepted;
+  ends = subst (λ (h : History). EndBy (length tape) h.entries) (sym same) was.ends;
+  legal = subst (λ (h : History). FillsRight (over given tape backup h) h.entries → IsOneShapeLegal (opening_in (over given tape backup h)) (length tape) h.entries) (sym same) was.legal;
 }
 
 legal_kept : (given : Given) (tape : List Operation) (backup : Option ℕ) (olds news : List Epoch) → histories_of news ≡ histories_of olds → AreLegal given tape backup olds → AreLegal given tape backup news
@@ -65,24 +72,22 @@ legal_kept given tape backup (old ∷ olds) (new ∷ news) same was =
     tail_same : {a b : History} {l k : List History} → a ∷ l ≡ b ∷ k → l ≡ k
     tail_same is = cc
 
--- a history's world, over a tape
-abbrev over : Given → List Operation → Option ℕ → History → World
-over given tape backup h = record { start = given.start; tape = tape; scope = record { uuid = h.uuid; given = h.given; backup = backup; sizes = sizes given }; first = h.first }
-
 abbrev sound_of : Given → List Operation → Option ℕ → History → Type 0
-sound_of given tape backup h = HasNoLoss h.entries → HasRoomForEvents (over given tape backup h) → OpensAlike (over given tape backup h) → IsCrashSafe (over given tape backup h) (length tape) h.entries
+sound_of given tape backup h =
+    FillsRight (over given tape backup h) h.entries → HasRoomForEvents (over given tape backup h) → OpensAlike (over given tape backup h)
+    → IsCrashSafe (over given tape backup h) (length tape) h.entries × StaysSound (over given tape backup h) (length tape) h.entries
 
 safe_same : (given : Given) (tape : List Operation) (backup : Option ℕ) (old new : Epoch) → history_of new ≡ history_of old
-    → IfSound given tape backup old (IsCrashSafe (world_of given tape backup old) (length tape) old.entries.items) → IfSound given tape backup new (IsCrashSafe (world_of given tape backup new) (length tape) new.entries.items)
+    → IsSafeEpoch given tape backup old → IsSafeEpoch given tape backup new
 safe_same given tape backup old new same was = subst (λ (h : History). sound_of given tape backup h) (sym same) was
 
 safes_kept : (given : Given) (tape : List Operation) (backup : Option ℕ) (olds news : List Epoch) → histories_of news ≡ histories_of olds → AreSafe given tape backup olds → AreSafe given tape backup news
-safes_kept given tape backup olds [] same was = All-nil (λ e. IfSound given tape backup e (IsCrashSafe (world_of given tape backup e) (length tape) e.entries.items))
+safes_kept given tape backup olds [] same was = All-nil (λ e. IsSafeEpoch given tape backup e)
 safes_kept given tape backup [] (new ∷ news) same was = absurd (omega (arith, ap (λ (l : List History). length l) same))
 safes_kept given tape backup (old ∷ olds) (new ∷ news) same was =
-    All-cons (λ e. IfSound given tape backup e (IsCrashSafe (world_of given tape backup e) (length tape) e.entries.items)) new news
-    (safe_same given tape backup old new (head_same same) (All-head (λ e. IfSound given tape backup e (IsCrashSafe (world_of given tape backup e) (length tape) e.entries.items)) old olds was))
-    (safes_kept given tape backup olds news (tail_same same) (All-tail (λ e. IfSound given tape backup e (IsCrashSafe (world_of given tape backup e) (length tape) e.entries.items)) old olds was))
+    All-cons (λ e. IsSafeEpoch given tape backup e) new news
+    (safe_same given tape backup old new (head_same same) (All-head (λ e. IsSafeEpoch given tape backup e) old olds was))
+    (safes_kept given tape backup olds news (tail_same same) (All-tail (λ e. IsSafeEpoch given tape backup e) old olds was))
   where
     head_same : {a b : History} {l k : List History} → a ∷ l ≡ b ∷ k → a ≡ b
     head_same is = cc

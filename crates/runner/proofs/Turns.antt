@@ -1,5 +1,5 @@
 -- What one line does to a run, by the answer that it got.
-use Rattle.std.proofs.Common.{◌≡◌, ℕ, ◌+◌, ◌*◌, ◌^◌, ◌<◌, ◌==◌, ◌&&◌, Bool, true, false, Option, Some, None, List, [], ◌∷◌, ◌++◌, length, length-append, refl, sym, ◌∙◌, ap, subst, arith, append-nil, append_assoc, Result, Ok, Err, inl, inr, ◌≤◌}
+use Rattle.std.proofs.Common.{◌≡◌, ℕ, ◌+◌, ◌*◌, ◌^◌, ◌<◌, ◌==◌, ◌&&◌, fold, Bool, true, false, Option, Some, None, List, [], ◌∷◌, ◌++◌, length, length-append, refl, sym, ◌∙◌, ap, subst, arith, append-nil, Result, Ok, Err, inl, inr, ◌≤◌}
 use Rattle.std.proofs.lemmas.List.Sums.{fold-append}
 use Rattle.std.proofs.lemmas.List.{map-append, length-map}
 use Rattle.std.proofs.lemmas.Bool.Decides.{nat_tests}
@@ -23,36 +23,40 @@ use Rattle.flat_history.specs.declared.events.Entry.{Entry}
 use Rattle.flat_history.specs.declared.events.Epoch.{Epoch}
 use Rattle.flat_history.specs.declared.events.Event.{Event}
 use Rattle.flat_history.specs.declared.events.Event.TheVariants.{Shown, Stopped, Halted}
-use Rattle.flat_history.specs.declared.events.Request.TheVariants.{Read as AsksRead, Write as AsksWrite, Flush as AsksFlush}
+use Rattle.flat_history.specs.declared.events.Request.TheVariants.{Read as AsksRead, Write as AsksWrite, Flush as AsksFlush, Fail as AsksFail}
 use Rattle.flat_history.specs.Flat.{rest_of_call, is_same_call, next_number, number_after}
-use Rattle.flat_history.specs.Plain.{Opening, IsPlainLegal, ArePlain, PlainAnswersIn, entries_of}
-use Rattle.flat_history.specs.Transfers.{last_end_from, IsTimedBetween}
+use Rattle.flat_history.specs.Plain.{entries_of}
+use Rattle.flat_history.specs.OneShape.{OneShapeAnswers}
+use Rattle.flat_history.specs.Transfers.{last_end_from}
+use Rattle.flat_history.proofs.OneShapeLegal.{last-snoc}
+use Rattle.flat_history.proofs.OneShapeGrowing.{call-ends}
 use Rattle.flat_history.specs.World.{World, opening_list}
 use Rattle.flat_history.specs.Epochs.{OpensAlike}
 use Rattle.bank.specs.Given.{sizes}
 use Rattle.superblocks.specs.declared.members.Members.{Members}
-use Rattle.array.specs.Kept.{IsEndOf, IsEntered, world_for}
-use Rattle.array.proofs.PlainLaws.{last-snoc}
+use Rattle.row_io.specs.Rows.{reading_of}
+use Rattle.array.specs.Adopting.{opener, found_losses}
+use Rattle.array.specs.Calls.{IsEndOf, IsEntered, world_for}
 use Rattle.assemble.specs.Creating.{create_refusal}
 use Rattle.assemble.specs.Opening.{AreGiven, array_of, scope_of}
 use Rattle.assemble.specs.Made.{used_slot}
 use Rattle.assemble.specs.Running.{IsCreated, IsAssembled, OpensWithZeros}
 use Rattle.script.specs.declared.lines.CreateLine.{CreateLine}
 use Rattle.script.specs.declared.lines.Line.{Line}
-use Rattle.script.specs.declared.lines.Line.TheVariants.{Create, Read, Write, Flush, Assemble}
+use Rattle.script.specs.declared.lines.Line.TheVariants.{Create, Read, Write, Flush, Fail, Assemble}
 use Rattle.runner.specs.declared.report.Outside.TheVariants.{Created, Assembled, Refused}
 use Rattle.runner.specs.declared.report.Answered.TheVariants.{Inside, Outside as IsOutside}
 use Rattle.runner.specs.declared.states.State.TheVariants.{Idle, Running}
 use Rattle.runner.specs.Asked.{script_who, IsAskedAt, IsAsked}
 use Rattle.runner.specs.Histories.{History, history_of, histories_of, entry_at, is_end, ends_epoch}
-use Rattle.runner.specs.Making.{Setting, held_at, history_world, IsStoredNew, IsStoredAs}
+use Rattle.runner.specs.Making.{Setting, held_at, history_world, MissingAtFirst, IsStoredNew, IsStoredAs}
 use Rattle.runner.specs.Replies.{at_rest, begun, one_call_more, IsAnsweredInside, IsRefusedOutside, spec_of}
 use Rattle.superblocks.specs.Reading.{shape_of}
 use Rattle.script.specs.Seeds.{seeded}
-use Rattle.runner.specs.States.{EndsBetween, IsLossSince, AreLossesFrom, running_history, course_with, answer_at, IsGrown, AreGrown, AreLossesSince, IsTurn, IsNoTurn, IsTurnOrNone, RunsOwn, AreByScript, IsByScript, AreOfScript}
+use Rattle.runner.specs.States.{EndsBetween, IsLossSince, AreLossesFrom, running_history, course_with, answer_at, IsGrown, AreGrown, AreLossesSince, IsTurn, IsNoTurn, IsTurnOrNone, RunsOwn, IsOwnEntry, AreByScript, IsByScript, AreOfScript}
 use Rattle.runner.proofs.AskLaws.{one, with_reply, entry_there, reply_at}
-use Rattle.runner.proofs.Losses.{losses-kept, losses-last, losses-same, losses-came}
-use Rattle.runner.proofs.Found.{found_history, stored_made, stored_found}
+use Rattle.runner.proofs.Losses.{losses-kept, losses-last, losses-same, losses-came, losses-found, each-absent}
+use Rattle.runner.proofs.Found.{found_world, found_history, opened_missing, stored_made, stored_found}
 
 both_false : (a b : Bool) → b ≡ false → (a && b) ≡ false
 both_false true b is = is
@@ -64,16 +68,37 @@ other_number a b lt = grind (arith, nat_tests, lt)
 other_call : (e : Entry) (who : Who) (end : ℕ) (event : Event) → e.number < who.number → is_same_call e (one who end event) ≡ false
 other_call e who end event lt = both_false (e.caller == who.caller) (e.number == who.number) (other_number e.number who.number lt)
 
+-- an entry of the opening is of no call of the script
+opening_apart : (e : Entry) (number end : ℕ) (events : List Event) → e.caller ≡ 254 → rest_of_call e (entries_of (record { caller = 0; number = number }) end events) ≡ []
+opening_apart e number end [] is = refl
+opening_apart e number end (event ∷ events) is =
+    ap (λ (n : ℕ). if (n == 0) && (e.number == number) then one (record { caller = 0; number = number }) end event ∷ rest_of_call e (entries_of (record { caller = 0; number = number }) end events) else []) is
+
+-- its entries end where it began
+pub opening_end : (first : ℕ) (events : List Event) → last_end_from first (entries_of opener first events) ≡ first
+opening_end first [] = refl
+opening_end first (event ∷ events) = call-ends first [] opener first event events
+
+-- nor does it count as one
+opening_number : (end : ℕ) (events : List Event) (n : ℕ) → fold (number_after 0) n (entries_of opener end events) ≡ n
+opening_number end [] n = refl
+opening_number end (event ∷ events) n = opening_number end events n
+
 -- the entries of a later call go on with no former one
-pub later_call : (e : Entry) (who : Who) (end : ℕ) (events : List Event) → e.number < who.number → rest_of_call e (entries_of who end events) ≡ []
+later_call : (e : Entry) (who : Who) (end : ℕ) (events : List Event) → e.number < who.number → rest_of_call e (entries_of who end events) ≡ []
 later_call e who end [] lt = refl
 later_call e who end (event ∷ events) lt = ap (λ (t : Bool). if t then one who end event ∷ rest_of_call e (entries_of who end events) else []) (other_call e who end event lt)
 
 -- the entries of a call of the script are the script's
 by_script_call : (number end : ℕ) (events : List Event) → AreByScript (number + 1) (entries_of (record { caller = 0; number = number }) end events)
-by_script_call number end [] = All-nil (λ e. (e.caller ≡ 0) × (e.number < number + 1))
+by_script_call number end [] = All-nil (λ e. IsOwnEntry (number + 1) e)
 by_script_call number end (event ∷ events) =
-    All-cons (λ e. (e.caller ≡ 0) × (e.number < number + 1)) (one (record { caller = 0; number = number }) end event) (entries_of (record { caller = 0; number = number }) end events) (refl, omega arith) (by_script_call number end events)
+    All-cons (λ e. IsOwnEntry (number + 1) e) (one (record { caller = 0; number = number }) end event) (entries_of (record { caller = 0; number = number }) end events) (inl (refl, omega arith)) (by_script_call number end events)
+
+-- a later number
+own_later : (n : ℕ) (e : Entry) → IsOwnEntry n e → IsOwnEntry (n + 1) e
+own_later n e (inl (script, lt)) = inl (script, omega (arith, lt))
+own_later n e (inr found) = inr found
 
 -- ---- the history of the array that runs goes on
 
@@ -113,8 +138,8 @@ module _ {size : ℕ} {line : Line} {place : ℕ} (hs : List History) (old new :
       let n = next_number 0 old.entries in
       subst (λ (l : List Entry). AreByScript (next_number 0 new.entries) l) (sym asked.is)
       (subst (λ (k : ℕ). AreByScript k (old.entries ++ entries_of who asked.end (asked.inner ++ asked.event ∷ []))) (sym number_more)
-      (All-append (λ e. (e.caller ≡ 0) × (e.number < n + 1)) old.entries (entries_of who asked.end (asked.inner ++ asked.event ∷ []))
-      (All-weaker (λ e. (e.caller ≡ 0) × (e.number < n)) (λ e. (e.caller ≡ 0) × (e.number < n + 1)) (λ e own. (own.0, omega (arith, own.1))) old.entries was)
+      (All-append (λ e. IsOwnEntry (n + 1) e) old.entries (entries_of who asked.end (asked.inner ++ asked.event ∷ []))
+      (All-weaker (λ e. IsOwnEntry n e) (λ e. IsOwnEntry (n + 1) e) (λ e own. own_later n e own) old.entries was)
       (by_script_call n asked.end (asked.inner ++ asked.event ∷ []))))
 
   pub grown_more : new.uuid ≡ old.uuid → new.given ≡ old.given → new.first ≡ old.first → IsByScript old → IsGrown old new
@@ -124,9 +149,13 @@ module _ {size : ℕ} {line : Line} {place : ℕ} (hs : List History) (old new :
     first = first;
     more = entries_of who asked.end (asked.inner ++ asked.event ∷ []);
     grown = asked.is;
-    later = All-weaker (λ e. (e.caller ≡ 0) × (e.number < next_number 0 old.entries)) (λ e. rest_of_call e (entries_of who asked.end (asked.inner ++ asked.event ∷ [])) ≡ [])
-        (λ e own. later_call e who asked.end (asked.inner ++ asked.event ∷ []) (own.1)) old.entries was;
+    later = All-weaker (λ e. IsOwnEntry (next_number 0 old.entries) e) (λ e. rest_of_call e (entries_of who asked.end (asked.inner ++ asked.event ∷ [])) ≡ [])
+        (λ e own. apart e own) old.entries was;
   }
+    where
+      apart : (e : Entry) → IsOwnEntry (next_number 0 old.entries) e → rest_of_call e (entries_of who asked.end (asked.inner ++ asked.event ∷ [])) ≡ []
+      apart e (inl (script, lt)) = later_call e who asked.end (asked.inner ++ asked.event ∷ []) lt
+      apart e (inr (found, number, absence)) = opening_apart e (next_number 0 old.entries) asked.end (asked.inner ++ asked.event ∷ []) found
 
   pub answered_last : IsAnsweredInside (hs ++ new ∷ []) (record { opened = length hs + 1; running = true; calls = next_number 0 old.entries; size = size }) (length hs) place line
   answered_last = record {
@@ -147,21 +176,26 @@ module _ {size : ℕ} {line : Line} {place : ℕ} (hs : List History) (old new :
   pub between_last : (low high : ℕ) → low ≤ asked.end → asked.end ≤ high → EndsBetween low high (hs ++ new ∷ []) (Inside (length hs) place)
   between_last low high above below = subst (λ (o : Option Entry). MatchOption o ⊥ (λ e. (low ≤ e.end) × (e.end ≤ high))) (sym entry_last) (above, below)
 
--- a read, a write and a flush end no epoch
-goes_read : (size : ℕ) (before : List Entry) (at count : ℕ) (event : Event) → PlainAnswersIn size before (AsksRead at count) event → is_end event ≡ false
+-- a read, a write, a flush and a fail end no epoch
+goes_read : (size : ℕ) (before : List Entry) (at count : ℕ) (event : Event) → OneShapeAnswers size before (AsksRead at count) event → is_end event ≡ false
 goes_read size before at count Stopped is = absurd is
 goes_read size before at count Halted is = absurd is
 goes_read size before at count event is = refl
 
-goes_write : (size : ℕ) (before : List Entry) (at : ℕ) (body : List (List ℕ)) (event : Event) → PlainAnswersIn size before (AsksWrite at body) event → is_end event ≡ false
+goes_write : (size : ℕ) (before : List Entry) (at : ℕ) (body : List (List ℕ)) (event : Event) → OneShapeAnswers size before (AsksWrite at body) event → is_end event ≡ false
 goes_write size before at body Stopped is = absurd is
 goes_write size before at body Halted is = absurd is
 goes_write size before at body event is = refl
 
-goes_flush : (size : ℕ) (before : List Entry) (event : Event) → PlainAnswersIn size before AsksFlush event → is_end event ≡ false
+goes_flush : (size : ℕ) (before : List Entry) (event : Event) → OneShapeAnswers size before AsksFlush event → is_end event ≡ false
 goes_flush size before Stopped is = absurd is
 goes_flush size before Halted is = absurd is
 goes_flush size before event is = refl
+
+goes_fail : (size : ℕ) (before : List Entry) (role : ℕ) (event : Event) → OneShapeAnswers size before (AsksFail role) event → is_end event ≡ false
+goes_fail size before role Stopped is = absurd is
+goes_fail size before role Halted is = absurd is
+goes_fail size before role event is = refl
 
 pub going_read : {size place : ℕ} {old new : List Entry} (at count : ℕ) (asked : IsAskedAt size (Read at count) old new place) → is_end asked.event ≡ false
 going_read {size = size} {old = old} at count asked = goes_read size (old ++ entries_of (script_who old) asked.end asked.inner) at count asked.event asked.fits.answers
@@ -171,6 +205,9 @@ going_write {size = size} {old = old} at count seed asked = goes_write size (old
 
 pub going_flush : {size place : ℕ} {old new : List Entry} (asked : IsAskedAt size Flush old new place) → is_end asked.event ≡ false
 going_flush {size = size} {old = old} asked = goes_flush size (old ++ entries_of (script_who old) asked.end asked.inner) asked.event asked.fits.answers
+
+pub going_fail : {size place : ℕ} {old new : List Entry} (role : ℕ) (asked : IsAskedAt size (Fail role) old new place) → is_end asked.event ≡ false
+going_fail {size = size} {old = old} role asked = goes_fail size (old ++ entries_of (script_who old) asked.end asked.inner) role asked.event asked.fits.answers
 
 -- ---- the array that runs was called
 
@@ -188,24 +225,6 @@ at_the_end setting old new asked first t longer ended =
   where
     last_end-snoc : (first : ℕ) (xs : List Entry) (e : Entry) → last_end_from first (xs ++ e ∷ []) ≡ e.end
     last_end-snoc first xs e = ap (λ (o : Option Entry). option_map_or (λ (x : Entry). x.end) o first) (last-snoc xs e)
-
--- the entries of a call that end within a legal history, behind the former ones
-pub by_legal : {size place : ℕ} {line : Line} (setting : Setting) (opening : Opening) (old new : List Entry) (asked : IsAskedAt size line old new place) → last_end_from opening.first old ≡ setting.began
-    → IsPlainLegal opening (length setting.tape) new → EndsWithin setting asked.end
-by_legal setting opening old new asked began legal = by_inner asked.inner asked.is
-  where
-    timed : (before xs : List Entry) (y : Entry) (ys : List Entry) → ArePlain opening (length setting.tape) before (xs ++ y ∷ ys) → IsTimedBetween opening.first (length setting.tape) (before ++ xs) y
-    timed before [] y ys plain = subst (λ (l : List Entry). IsTimedBetween opening.first (length setting.tape) l y) (sym (append-nil before)) plain.0.timed
-    timed before (x ∷ xs) y ys plain = subst (λ (l : List Entry). IsTimedBetween opening.first (length setting.tape) l y) (append_assoc before (x ∷ []) xs) (timed (before ++ x ∷ []) xs y ys plain.1)
-
-    by_first : (e : Entry) (more : List Entry) → e.end ≡ asked.end → new ≡ old ++ e ∷ more → EndsWithin setting asked.end
-    by_first e more same is =
-        let first = timed [] old e more (subst (λ (l : List Entry). ArePlain opening (length setting.tape) [] l) is legal) in
-        (omega (arith, first.rises, began, same), omega (arith, first.within, same))
-
-    by_inner : (inner : List Event) → new ≡ old ++ entries_of (script_who old) asked.end (inner ++ asked.event ∷ []) → EndsWithin setting asked.end
-    by_inner [] is = by_first (one (script_who old) asked.end asked.event) [] refl is
-    by_inner (x ∷ inner) is = by_first (one (script_who old) asked.end x) (entries_of (script_who old) asked.end (inner ++ asked.event ∷ [])) refl is
 
 module _ {B : Type 0} (setting : Setting) (old new : Parts B) (epochs : Vec Epoch) (own : RunsOwn (Running old epochs)) (lost : AreLossesSince setting old.entries (running_history new)) (uuid : new.uuid ≡ old.uuid) (given : new.given ≡ old.given)
     (first : new.first ≡ old.first) (shape : shape_of new.members.newest ≡ shape_of old.members.newest) (rows : new.members.newest.size ≡ old.members.newest.size) where
@@ -355,14 +374,14 @@ module _ {B : Type 0} (setting : Setting) (bank : B) (olds epochs : Vec Epoch) (
         ∙ ap (λ (n : ℕ). record { opened = length olds.items + 1; running = true; calls = calls; size = n }) sized
 
     no_entries : array.entries ≡ [] → IsByScript (running_history array)
-    no_entries none = subst (λ (l : List Entry). AreByScript (next_number 0 l) l) (sym none) (All-nil (λ e. (e.caller ≡ 0) × (e.number < 0)))
+    no_entries none = subst (λ (l : List Entry). AreByScript (next_number 0 l) l) (sym none) (All-nil (λ e. IsOwnEntry 0 e))
 
     pub turn_created : (line : CreateLine) → create_refusal setting.given setting.backup (spec_of line) ≡ None → IsCreated setting.tells setting.given setting.tape setting.backup (spec_of line) array
         → (setting.tells → used_slot (scope_of setting.given setting.backup array.given line.uuid) (held_at setting (length setting.tape)) line.shape.disks ≡ None)
         → IsTurn setting (Idle bank olds) (Running array epochs) (Create line) (IsOutside Created)
     turn_created line unrefused made free = record {
-      own = opened_own (no_entries made.begun.entries);
-      losses = opened_losses (losses-same setting [] (running_history array) made.begun.entries);
+      own = opened_own (no_entries made.quiet);
+      losses = opened_losses (losses-same setting [] (running_history array) made.quiet);
       grown = opened_grown;
       ends = longer;
       answer = (
@@ -381,51 +400,75 @@ module _ {B : Type 0} (setting : Setting) (bank : B) (olds epochs : Vec Epoch) (
           alike = λ t. subst OpensAlike (world_is made.begun.backup_is) (made.alike t);
         },
       );
-      course = opened_course 0 (data_disks line.shape * line.size) (ap (λ (l : List Entry). next_number 0 l) made.begun.entries)
+      course = opened_course 0 (data_disks line.shape * line.size) (ap (λ (l : List Entry). next_number 0 l) made.quiet)
           (ap (λ (s : Shape). data_disks s * array.members.newest.size) made.new.shape ∙ ap (λ (n : ℕ). data_disks line.shape * n) made.new.size);
     }
       where
         world_is : array.backup ≡ setting.backup → world_for setting.given setting.tape array ≡ history_world setting (running_history array)
         world_is is = ap (λ (b : Option ℕ). record { start = setting.given.start; tape = setting.tape; scope = record { uuid = array.uuid; given = array.given; backup = b; sizes = sizes setting.given }; first = array.first }) is
 
-    -- it was asked for its status
-    pub turn_found : (asked : Option (List ℕ)) (status : Status) (found : Parts B) → IsAssembled setting.tells setting.given setting.tape setting.backup asked setting.before setting.now found → IsStatusFor found status
-        → IsEntered setting.tells setting.tape (script_who found.entries) found.entries array.entries (Shown status ∷ []) → array.members ≡ found.members → array.uuid ≡ found.uuid → array.given ≡ found.given → array.first ≡ found.first
-        → IsTurn setting (Idle bank olds) (Running array epochs) (Assemble asked) (IsOutside (Assembled (length epochs.items) status))
-    turn_found asked status found is told entered members uuid given first = record {
-      own = opened_own (subst (λ (l : List Entry). AreByScript (next_number 0 l) l) (sym entries) (All-cons (λ e. (e.caller ≡ 0) × (e.number < 1)) first_entry [] (refl, omega arith) (All-nil (λ e. (e.caller ≡ 0) × (e.number < 1)))));
-      losses = opened_losses (record { more = first_entry ∷ []; grown = entries; failed = All-cons (λ e. IsLossSince setting (running_history array) e.event) first_entry [] tt (All-nil (λ e. IsLossSince setting (running_history array) e.event)) });
-      grown = opened_grown;
-      ends = longer;
-      answer = (
-        refl,
-        ap (λ (l : List Epoch). length l) same,
-        record {
-          history = running_history array;
-          there = opened_there;
-          named = subst (λ (u : List ℕ). IfSome asked (λ asked. u ≡ asked)) (sym uuid) is.named;
-          given = subst (λ (n : ℕ). AreGiven setting.given n setting.before setting.now) (sym given) is.given;
-          shown = record { end = entered.end; more = []; is = entries };
-          at_end = entered.at_end;
-          first = λ t. first ∙ is.begun.first t;
-          elected = λ t. uuid ∙ is.begun.uuid ∙ is.opened.array t ∙ ap (λ (n : ℕ). array_of setting.given setting.backup n asked (held_at setting (length setting.tape))) (sym given);
-          stored = λ t. subst (λ (w : World). IsStoredAs w status) (found_history setting found (running_history array) (sym is.begun.uuid ∙ sym uuid) (sym given) (sym (first ∙ is.begun.first t))) (stored_found setting.given setting.tape setting.backup asked status found is told t);
-        },
-      );
-      course = opened_course 1 status.length (ap (λ (l : List Entry). next_number 0 l) entries) (ap (λ (m : Members). list_size (places_of m)) members ∙ sym told.length);
-    }
-      where
-        first_entry : Entry
-        first_entry = record { caller = 0; number = 0; end = entered.end; event = Shown status }
+    -- it was found, and its opening told what was missing
+    module _ (found : Parts B) (asked : Option (List ℕ)) (is : IsAssembled setting.tells setting.given setting.tape setting.backup asked setting.before setting.now found) (uuid : array.uuid ≡ found.uuid) (given : array.given ≡ found.given) (first : array.first ≡ found.first) where
+      abbrev losses : List Event
+      losses = found_losses (reading_of found.members)
 
-        entries : array.entries ≡ first_entry ∷ []
-        entries = entered.is ∙ ap (λ (l : List Entry). l ++ entries_of (script_who l) entered.end (Shown status ∷ [])) is.begun.entries
+      found_entries : found.entries ≡ entries_of opener array.first losses
+      found_entries = is.begun.entries ∙ ap (λ (n : ℕ). entries_of opener n losses) (sym first)
 
-    -- memory was short for its status
-    pub no_turn_found : (asked : Option (List ℕ)) → array.entries ≡ [] → IsNoTurn setting (Idle bank olds) (Running array epochs) (Assemble asked)
-    no_turn_found asked none = record {
-      own = opened_own (no_entries none);
-      losses = opened_losses (losses-same setting [] (running_history array) none);
-      grown = opened_grown;
-      course = inr (inr (refl, (list_size (places_of array.members), opened_course 0 (list_size (places_of array.members)) (ap (λ (l : List Entry). next_number 0 l) none) refl)));
-    }
+      found_number : next_number 0 found.entries ≡ 0
+      found_number = ap (λ (l : List Entry). next_number 0 l) found_entries ∙ opening_number array.first losses 0
+
+      losses_own : (number : ℕ) → AreByScript number (entries_of opener array.first losses)
+      losses_own number = each-absent (λ e. IsOwnEntry number e) opener array.first (reading_of found.members) (shape_of found.members.newest).disks (λ role lt missing. inr (refl, refl, tt))
+
+      found_lost : (more : List Entry) → All (λ e. IsLossSince setting (running_history array) e.event) more → array.entries ≡ entries_of opener array.first losses ++ more → AreLossesSince setting [] (running_history array)
+      found_lost more others entries = losses-found setting (running_history array) (reading_of found.members) array.first more
+          (λ role lt missing t. subst (λ (w : World). MissingAtFirst w role) (same_world t) (opened_missing setting.given setting.tape setting.backup asked found is.begun is.opened t role lt missing)) others entries
+        where
+          same_world : (t : setting.tells) → found_world setting.given setting.tape setting.backup found ≡ history_world setting (running_history array)
+          same_world t = found_history setting found (running_history array) (sym is.begun.uuid ∙ sym uuid) (sym given) (sym (first ∙ is.begun.first t))
+
+      -- it was asked for its status
+      pub turn_found : (status : Status) → IsStatusFor found status → IsEntered setting.tells setting.tape (script_who found.entries) found.entries array.entries (Shown status ∷ []) → array.members ≡ found.members
+          → IsTurn setting (Idle bank olds) (Running array epochs) (Assemble asked) (IsOutside (Assembled (length epochs.items) status))
+      turn_found status told entered members = record {
+        own = opened_own (subst (λ (l : List Entry). AreByScript (next_number 0 l) l) (sym entries) (subst (λ (n : ℕ). AreByScript n (entries_of opener array.first losses ++ first_entry ∷ [])) (sym one_call)
+            (All-append (λ e. IsOwnEntry 1 e) (entries_of opener array.first losses) (first_entry ∷ []) (losses_own 1) (All-cons (λ e. IsOwnEntry 1 e) first_entry [] (inl (refl, omega arith)) (All-nil (λ e. IsOwnEntry 1 e))))));
+        losses = opened_losses (found_lost (first_entry ∷ []) (All-cons (λ e. IsLossSince setting (running_history array) e.event) first_entry [] tt (All-nil (λ e. IsLossSince setting (running_history array) e.event))) entries);
+        grown = opened_grown;
+        ends = longer;
+        answer = (
+          refl,
+          ap (λ (l : List Epoch). length l) same,
+          record {
+            history = running_history array;
+            there = opened_there;
+            named = subst (λ (u : List ℕ). IfSome asked (λ asked. u ≡ asked)) (sym uuid) is.named;
+            given = subst (λ (n : ℕ). AreGiven setting.given n setting.before setting.now) (sym given) is.given;
+            shown = record { losses = losses; end = entered.end; more = []; is = entries };
+            at_end = entered.at_end;
+            first = λ t. first ∙ is.begun.first t;
+            elected = λ t. uuid ∙ is.begun.uuid ∙ is.opened.array t ∙ ap (λ (n : ℕ). array_of setting.given setting.backup n asked (held_at setting (length setting.tape))) (sym given);
+            stored = λ t. subst (λ (w : World). IsStoredAs w status losses) (found_history setting found (running_history array) (sym is.begun.uuid ∙ sym uuid) (sym given) (sym (first ∙ is.begun.first t))) (stored_found setting.given setting.tape setting.backup asked status found is told t);
+          },
+        );
+        course = opened_course 1 status.length (ap (λ (l : List Entry). next_number 0 l) entries ∙ one_call) (ap (λ (m : Members). list_size (places_of m)) members ∙ sym told.length);
+      }
+        where
+          first_entry : Entry
+          first_entry = record { caller = 0; number = 0; end = entered.end; event = Shown status }
+
+          entries : array.entries ≡ entries_of opener array.first losses ++ first_entry ∷ []
+          entries = entered.is ∙ ap (λ (n : ℕ). found.entries ++ record { caller = 0; number = n; end = entered.end; event = Shown status } ∷ []) found_number ∙ ap (λ (l : List Entry). l ++ first_entry ∷ []) found_entries
+
+          one_call : next_number 0 (entries_of opener array.first losses ++ first_entry ∷ []) ≡ 1
+          one_call = fold-append (number_after 0) 0 (entries_of opener array.first losses) (first_entry ∷ [])
+
+      -- memory was short for its status
+      pub no_turn_found : array.entries ≡ found.entries → IsNoTurn setting (Idle bank olds) (Running array epochs) (Assemble asked)
+      no_turn_found kept = record {
+        own = opened_own (subst (λ (l : List Entry). AreByScript (next_number 0 array.entries) l) (sym (kept ∙ found_entries)) (losses_own (next_number 0 array.entries)));
+        losses = opened_losses (found_lost [] (All-nil (λ e. IsLossSince setting (running_history array) e.event)) (kept ∙ found_entries ∙ sym (append-nil (entries_of opener array.first losses))));
+        grown = opened_grown;
+        course = inr (inr (refl, (list_size (places_of array.members), opened_course 0 (list_size (places_of array.members)) (ap (λ (l : List Entry). next_number 0 l) kept ∙ found_number) refl)));
+      }

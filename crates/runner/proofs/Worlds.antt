@@ -5,7 +5,7 @@ use Rattle.std.proofs.lemmas.Bool.{cases_lt}
 use Rattle.std.proofs.lemmas.Bool.Decides.{nat_tests}
 use Rattle.std.proofs.Math.Seq.{take-append-add}
 use Rattle.std.specs.Option.{option_map_or}
-use Rattle.std.specs.Prelude.{IfSome, if◌then◌else◌, nat_le}
+use Rattle.std.specs.Prelude.{IfSome, MatchOption, if◌then◌else◌, nat_le, IsFalse}
 use Rattle.md_base.specs.Sectors.{Sector}
 use Rattle.bank.specs.declared.bank.Operation.{Operation}
 use Rattle.bank.specs.declared.bank.Operation.TheVariants.{Write, Flush}
@@ -13,23 +13,26 @@ use Rattle.bank.specs.Tape.{Contents, disk, IsImage, IsDrawn, AreFlushes}
 use Rattle.bank.specs.Stretches.{AreWritesWithin}
 use Rattle.bank.proofs.Laws.{contents-earlier}
 use Rattle.bank.proofs.Images.{drawn-image}
-use Rattle.superblocks.specs.Reading.{Reading, reading}
+use Rattle.superblocks.specs.Reading.{Reading, reading, role_count, role_state, is_whole}
 use Rattle.superblocks.specs.Found.{AreLikeNewest}
 use Rattle.md_base.specs.declared.status.Status.{Status}
 use Rattle.flat_history.specs.declared.events.Entry.{Entry}
+use Rattle.flat_history.specs.declared.events.Event.{Event}
 use Rattle.flat_history.specs.World.{World, contents_at, reading_at, opening_list}
 use Rattle.flat_history.specs.Stands.{verdict, stands}
 use Rattle.flat_history.specs.Flat.{last_of}
 use Rattle.flat_history.specs.Transfers.{last_end_from}
-use Rattle.flat_history.specs.Plain.{Opening, ArePlain}
 use Rattle.flat_history.specs.Legal.{last_end}
 use Rattle.flat_history.specs.CrashSafe.{IsSafeAt, IsSafeFor, IsCrashSafe, made_by}
 use Rattle.flat_history.specs.Epochs.{HasRoomForEvents, OpensAlike}
+use Rattle.flat_history.specs.Reopened.{OpensAccepted}
+use Rattle.flat_history.specs.Sound.{FillsRight, LeavesSound, StaysSound}
 use Rattle.flat_history.specs.Growing.{grown, EndBy}
 use Rattle.flat_history.proofs.GrowingLaws.{marks-stay-safe}
+use Rattle.flat_history.proofs.SoundLaws.{fit-before, leaves-later, leaves-flushed}
 use Rattle.flat_history.proofs.StretchLaws.{bounds-serve}
 use Rattle.array.specs.declared.spec.CreateSpec.{CreateSpec}
-use Rattle.runner.specs.Making.{IsStored, IsStoredNew, IsStoredAs, HeldAtFirst}
+use Rattle.runner.specs.Making.{IsStored, IsStoredNew, IsStoredAs, HeldAtFirst, MissingAtFirst}
 
 -- ---- the opening
 
@@ -66,17 +69,27 @@ module _ (world : World) (more : List Operation) (begun : world.first ≤ length
       by_reading None is = tt
       by_reading (Some r) is = let long = length-append world.tape more in omega (arith, is, long)
 
+  -- what was filled in is right over a longer tape only where it is over the former one
+  pub fills-before : (entries : List Entry) → FillsRight (grown world more) entries → FillsRight world entries
+  fills-before entries (inl none) = inl none
+  fills-before entries (inr fit) = inr (fit-before world more begun fit)
+
+  -- what was refused for nothing is so over a longer tape
+  pub accepted-later : OpensAccepted world → OpensAccepted (grown world more)
+  accepted-later was = ap (verdict world.scope) first-same ∙ was
+
   still-stored : {found : Reading} → IsStored world found → IsStored (grown world more) found
-  still-stored was = record { says = reading-same ∙ was.says; accepted = ap (verdict world.scope) first-same ∙ was.accepted; still = was.still; whole = was.whole }
+  still-stored was = record { says = reading-same ∙ was.says; accepted = accepted-later was.accepted; still = was.still }
 
   pub new-later : {spec : CreateSpec} → IsStoredNew world spec → IsStoredNew (grown world more) spec
-  new-later was = record { found = was.found; stored = still-stored was.stored; shape = was.shape; size = was.size; events = was.events; clean = was.clean; roles = was.roles; spares = was.spares }
+  new-later was = record { found = was.found; stored = still-stored was.stored; whole = was.whole; shape = was.shape; size = was.size; events = was.events; clean = was.clean; roles = was.roles; spares = was.spares }
 
-  pub stored-later : {status : Status} → IsStoredAs world status → IsStoredAs (grown world more) status
+  pub stored-later : {status : Status} {losses : List Event} → IsStoredAs world status losses → IsStoredAs (grown world more) status losses
   stored-later was = record {
     found = was.found;
     stored = still-stored was.stored;
     told = was.told;
+    lost = was.lost;
     position = was.position;
     sized = was.sized ∙ sym (ap (λ (l : List Sector). length l) list-same);
     visible = was.visible ∙ sym (ap (λ (l : List Sector). length l) list-same);
@@ -93,11 +106,14 @@ held-longer world more was = record {
   held = was.held;
 }
 
--- ---- where the entries end
+-- and so it is of what was missing there
+pub missing-longer : (world : World) (more : List Operation) {role : ℕ} → MissingAtFirst world role → MissingAtFirst (grown world more) role
+missing-longer world more {role = role} was = record {
+  begun = let long = length-append world.tape more in omega (arith, was.begun, long);
+  missing = subst (λ (o : Option Reading). MatchOption o ⊥ (λ r. (role < role_count r.newest) × IsFalse (is_whole (role_state r role)))) (sym (reading-same world more was.begun)) was.missing;
+}
 
-pub plain-ends : (opening : Opening) (ops : ℕ) (before entries : List Entry) → ArePlain opening ops before entries → EndBy ops entries
-plain-ends opening ops before [] plain = tt
-plain-ends opening ops before (e ∷ entries) plain = (plain.0.timed.within, plain-ends opening ops (before ++ e ∷ []) entries plain.1)
+-- ---- where the entries end
 
 -- the last end is that of the rest
 last-rest : (first : ℕ) (e : Entry) (entries : List Entry) → last_end_from first (e ∷ entries) ≡ last_end_from e.end entries
@@ -215,3 +231,25 @@ module _ (world : World) (more : List Operation) (entries : List Entry) (begun :
         (safe at begun (omega arith) (subst AreFlushes (sym range-whole) (flushes-front (drop (last_end world entries) world.tape) (take (mark - at) more) (subst AreFlushes (range-past mark (omega (arith, past))) only))))
     | inr within ↦ safe-still mark (omega (arith, within)) (safe mark low (omega (arith, within)) (subst AreFlushes (range-same mark (omega (arith, within))) only))
   ]
+
+  -- a mark behind it leaves no image but those of the former end
+  sound-past : (mark : ℕ) → at ≤ mark → mark ≤ length (world.tape ++ more) → AreFlushes (take (mark - at) more) → LeavesSound world at → LeavesSound (grown world more) mark
+  sound-past mark low high only sound =
+      let added = take (mark - at) more in
+      let rest = drop (mark - at) more in
+      let count : length added ≡ mark - at = length-take-le (mark - at) more (omega (arith, high, longer, low)) in
+      let whole : length (world.tape ++ added) ≡ mark = (let sum = length-append world.tape added in omega (arith, sum, count, low)) in
+      let here : LeavesSound (grown world added) mark = subst (λ (n : ℕ). LeavesSound (grown world added) n) whole (leaves-flushed world added only sound) in
+      subst (λ (l : List Operation). LeavesSound (record { start = world.start; tape = l; scope = world.scope; first = world.first }) mark)
+      (append_assoc world.tape added rest ∙ ap (λ (l : List Operation). world.tape ++ l) (take-append-drop (mark - at) more))
+      (leaves-later (grown world added) rest mark (omega (arith, whole)) here)
+
+  -- the epoch stays sound up to the longer tape's end
+  pub sound-longer : StaysSound world at entries → StaysSound (grown world more) (length (world.tape ++ more)) entries
+  sound-longer sound opens mark low high only =
+      let before = fit-before world more begun opens in
+      elim (cases_lt at mark) [
+        | inl past ↦ sound-past mark (omega (arith, past)) high (flushes-back (drop (last_end world entries) world.tape) (take (mark - at) more) (subst AreFlushes (range-past mark (omega (arith, past))) only))
+            (sound before at begun (omega arith) (subst AreFlushes (sym range-whole) (flushes-front (drop (last_end world entries) world.tape) (take (mark - at) more) (subst AreFlushes (range-past mark (omega (arith, past))) only))))
+        | inr within ↦ leaves-later world more mark (omega (arith, within)) (sound before mark low (omega (arith, within)) (subst AreFlushes (range-same mark (omega (arith, within))) only))
+      ]

@@ -5,10 +5,12 @@ use Rattle.bank.specs.Given.{Given}
 use Rattle.bank.specs.declared.bank.Operation.{Operation}
 use Rattle.flat_history.specs.declared.events.Epoch.{Epoch}
 use Rattle.flat_history.specs.Epochs.{world_of, IsEpochRight, HasRoomForEvents, OpensAlike}
-use Rattle.flat_history.specs.Plain.{IsPlainLegal}
+use Rattle.flat_history.specs.OneShape.{opening_in, IsOneShapeLegal}
 use Rattle.flat_history.specs.CrashSafe.{IsCrashSafe}
 use Rattle.flat_history.specs.Growing.{EndBy}
-use Rattle.array.specs.Kept.{opening_of, HasNoLoss, IsEndOf}
+use Rattle.flat_history.specs.Reopened.{OpensAccepted}
+use Rattle.flat_history.specs.Sound.{FillsRight, StaysSound}
+use Rattle.array.specs.Calls.{IsEndOf}
 use Rattle.array.specs.Parts.{Parts}
 use Rattle.runner.specs.declared.states.State.{State}
 use Rattle.runner.specs.declared.states.State.TheVariants.{Idle, Running}
@@ -16,27 +18,39 @@ use Rattle.runner.specs.Histories.{History, histories_of}
 use Rattle.runner.specs.Making.{world_at, AreHeldAtFirst}
 use Rattle.runner.specs.States.{running_history}
 
--- the epoch begins within the tape, and its history is legal
+-- The epoch begins, and each of its entries ends, within the tape, and what its opening found was refused for nothing. Its history is
+-- legal where no role is told lost in it, or where at the opening the sectors were whole and, if the array was clean, its rows good:
+-- else what was filled in for a missing role might be anything.
 pub record IsLegalEpoch (given : Given) (tape : List Operation) (backup : Option ℕ) (epoch : Epoch) : Type 0 where
   pub begun : epoch.first ≤ length tape
-  pub legal : IsPlainLegal (opening_of (world_of given tape backup epoch)) (length tape) epoch.entries.items
+  pub accepted : OpensAccepted (world_of given tape backup epoch)
+  pub ends : EndBy (length tape) epoch.entries.items
+  pub legal : FillsRight (world_of given tape backup epoch) epoch.entries.items
+      → IsOneShapeLegal (opening_in (world_of given tape backup epoch)) (length tape) epoch.entries.items
 
 abbrev pub AreLegal : Given → List Operation → Option ℕ → List Epoch → Type 0
 AreLegal given tape backup epochs = All (λ epoch. IsLegalEpoch given tape backup epoch) epochs
 
--- A fact of an epoch in which no role and no spare was lost, which had room for its events and opened with superblocks that are alike.
-abbrev pub IfSound : Given → List Operation → Option ℕ → Epoch → Type 0 → Type 0
-IfSound given tape backup epoch fact =
-    HasNoLoss epoch.entries.items → HasRoomForEvents (world_of given tape backup epoch) → OpensAlike (world_of given tape backup epoch) → fact
+-- A fact of an epoch in which no role is told lost, or which opened sound over whole sectors, so that what is filled in for a missing role
+-- is right, and which had room for its events and opened with superblocks that are alike.
+abbrev pub IfFilledRight : Given → List Operation → Option ℕ → Epoch → Type 0 → Type 0
+IfFilledRight given tape backup epoch fact =
+    FillsRight (world_of given tape backup epoch) epoch.entries.items → HasRoomForEvents (world_of given tape backup epoch)
+    → OpensAlike (world_of given tape backup epoch) → fact
 
--- such an epoch is right: it lies within the tape, is legal, safe at each of its marks, and no reshape of it ends wrong
+-- Such an epoch is right, also where members were lost in it: it lies within the tape, is legal, safe at each of its marks, stays sound,
+-- and no reshape of it ends wrong.
 abbrev pub AreRight : Given → List Operation → Option ℕ → List Epoch → Type 0
-AreRight given tape backup epochs = All (λ epoch. IfSound given tape backup epoch (IsEpochRight given tape backup epoch)) epochs
+AreRight given tape backup epochs = All (λ epoch. IfFilledRight given tape backup epoch (IsEpochRight given tape backup epoch)) epochs
 
--- such an epoch is safe at each mark up to the tape's end, as far as nothing but flushes was done behind it
+-- Such an epoch is safe at each mark up to the tape's end, and stays sound, as far as nothing but flushes was done behind it.
+abbrev pub IsSafeEpoch : Given → List Operation → Option ℕ → Epoch → Type 0
+IsSafeEpoch given tape backup epoch =
+    IfFilledRight given tape backup epoch
+    (IsCrashSafe (world_of given tape backup epoch) (length tape) epoch.entries.items × StaysSound (world_of given tape backup epoch) (length tape) epoch.entries.items)
+
 abbrev pub AreSafe : Given → List Operation → Option ℕ → List Epoch → Type 0
-AreSafe given tape backup epochs =
-    All (λ epoch. IfSound given tape backup epoch (IsCrashSafe (world_of given tape backup epoch) (length tape) epoch.entries.items)) epochs
+AreSafe given tape backup epochs = All (λ epoch. IsSafeEpoch given tape backup epoch) epochs
 
 -- the first mark of these histories, or the one behind them
 abbrev pub next_mark : ℕ → List History → ℕ
@@ -55,12 +69,13 @@ pub record AreFormer (given : Given) (tape : List Operation) (backup : Option �
   pub safe : AreSafe given tape backup epochs
   pub rising : AreRising mark (histories_of epochs)
 
--- and of the one that runs: it has the backup of the run, began behind those, its roles are where they were then, unless they were
--- lost, and the tape stands where its last entry ended
+-- and of the one that runs: it has the backup of the run, began behind those, what its opening found was refused for nothing, its roles
+-- are where they were then, unless they were lost, and the tape stands where its last entry ended
 pub record IsGoing {B : Type 0} (tells : Type 0) (given : Given) (tape : List Operation) (backup : Option ℕ) (array : Parts B) (epochs : List Epoch) : Type 0 where
   pub backup_is : array.backup ≡ backup
   pub former : tells → AreFormer given tape backup array.first epochs
   pub begun : tells → array.first ≤ length tape
+  pub accepted : tells → OpensAccepted (world_at given tape backup (running_history array))
   pub held : tells → AreHeldAtFirst (world_at given tape backup (running_history array)) array.members
   pub ended : IsEndOf tells array.first array.entries tape
 

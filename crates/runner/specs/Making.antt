@@ -1,5 +1,5 @@
 -- What the bank of a run is, and what an array on it was made or found as.
-use Rattle.std.specs.Prelude.{◌≡◌, ℕ, ◌+◌, ◌/◌, ◌<◌, ◌≤◌, if◌then◌else◌, List, [], ◌∷◌, length, Option, Some, None, IsTrue, IsFalse}
+use Rattle.std.specs.Prelude.{◌≡◌, ℕ, ◌+◌, ◌/◌, ◌<◌, ◌≤◌, if◌then◌else◌, List, [], ◌∷◌, ◌++◌, length, Option, Some, IsTrue, IsFalse}
 use Rattle.md_base.specs.declared.answers.Fault.TheVariants.{Refused as IsRefusedWith}
 use Rattle.md_base.specs.declared.answers.Refusal.{Refusal}
 use Rattle.md_base.specs.declared.status.Status.{Status}
@@ -12,11 +12,15 @@ use Rattle.superblocks.specs.declared.members.Members.{Members}
 use Rattle.superblocks.specs.Reading.{Reading, shape_of, is_clean, is_reshaping, is_whole, role_state, holder}
 use Rattle.row_io.specs.Rows.{reading_of}
 use Rattle.flat_history.specs.declared.events.Entry.{Entry}
+use Rattle.flat_history.specs.declared.events.Event.{Event}
 use Rattle.flat_history.specs.declared.events.Event.TheVariants.{Shown}
-use Rattle.flat_history.specs.World.{World, reading_at, contents_at, opening_list}
-use Rattle.flat_history.specs.Stands.{verdict}
+use Rattle.flat_history.specs.World.{World, reading_at, opening_list}
+use Rattle.flat_history.specs.Reopened.{OpensAccepted}
 use Rattle.flat_history.specs.Fits.{IsStatusOf}
+use Rattle.flat_history.specs.Legal.{IsAbsentAtFirst}
+use Rattle.flat_history.specs.Plain.{entries_of}
 use Rattle.array.specs.declared.spec.CreateSpec.{CreateSpec}
+use Rattle.array.specs.Adopting.{opener, found_losses}
 use Rattle.assemble.specs.Made.{HasCreateCause}
 use Rattle.assemble.specs.Running.{HasAssembleCause}
 use Rattle.runner.specs.Histories.{History}
@@ -61,6 +65,11 @@ pub record HeldAtFirst (world : World) (role slot : ℕ) : Type 0 where
   pub says : reading_at world world.first ≡ Some found
   pub held : holder (role_state found role) ≡ Some slot
 
+-- The role was missing at the opening, by the superblocks there.
+pub record MissingAtFirst (world : World) (role : ℕ) : Type 0 where
+  pub begun : world.first ≤ length world.tape
+  pub missing : IsAbsentAtFirst world role
+
 -- each slot that holds a role by these members held it at the opening
 abbrev pub AreHeldAtFirst : World → Members → Type 0
 AreHeldAtFirst world members = (role slot : ℕ) → holder (role_state (reading_of members) role) ≡ Some slot → HeldAtFirst world role slot
@@ -75,17 +84,18 @@ abbrev pub IsUnassembled : Setting → Option (List ℕ) → ℕ → Refusal →
 IsUnassembled setting asked mark refusal =
     HasAssembleCause setting.tells setting.given (held_at setting mark) setting.backup asked setting.before setting.now (IsRefusedWith refusal)
 
--- The superblocks at an opening say this of an array that is refused for nothing, without a reshape and with every role whole.
+-- The superblocks at an opening say this of an array that is refused for nothing, so that it can do without what is missing, and that
+-- is without a reshape.
 pub record IsStored (world : World) (found : Reading) : Type 0 where
   pub says : reading_at world world.first ≡ Some found
-  pub accepted : verdict world.scope (contents_at world world.first) ≡ None
+  pub accepted : OpensAccepted world
   pub still : IsFalse (is_reshaping found.newest)
-  pub whole : (role : ℕ) → role < (shape_of found.newest).disks → IsTrue (is_whole (role_state found role))
 
--- that it is new and as it was asked for: clean, with a role on each of the first slots
+-- that it is new and as it was asked for: clean, with a whole role on each of the first slots
 pub record IsStoredNew (world : World) (spec : CreateSpec) : Type 0 where
   pub found : Reading
   pub stored : IsStored world found
+  pub whole : (role : ℕ) → role < (shape_of found.newest).disks → IsTrue (is_whole (role_state found role))
   pub shape : shape_of found.newest ≡ spec.shape
   pub size : found.newest.size ≡ spec.size
   pub events : found.newest.events ≡ 1
@@ -93,19 +103,21 @@ pub record IsStoredNew (world : World) (spec : CreateSpec) : Type 0 where
   pub roles : found.roles ≡ tabulate spec.shape.disks (λ role. Whole role)
   pub spares : found.spares ≡ []
 
--- what this status tells; where it was found dirty, each stripe and the end of its resync are left
-pub record IsStoredAs (world : World) (status : Status) : Type 0 where
+-- what this status and these losses tell; where it was found dirty, each stripe and the end of its resync are left
+pub record IsStoredAs (world : World) (status : Status) (losses : List Event) : Type 0 where
   pub found : Reading
   pub stored : IsStored world found
   pub told : IsStatusOf status found
+  pub lost : losses ≡ found_losses found
   pub position : status.position ≡ 0
   pub sized : status.length ≡ length (opening_list world)
   pub visible : status.visible ≡ length (opening_list world)
   pub clean : status.clean ≡ is_clean found.newest
   pub left : status.left ≡ (if is_clean found.newest then 0 else found.newest.size / (shape_of found.newest).chunk + 1)
 
--- the history begins with this status, which the script's first call asked for
-pub record BeginsShown (entries : List Entry) (status : Status) : Type 0 where
+-- the history begins with the losses that the opening found, and then with this status, which the script's first call asked for
+pub record BeginsShown (history : History) (status : Status) : Type 0 where
+  pub losses : List Event
   pub end : ℕ
   pub more : List Entry
-  pub is : entries ≡ record { caller = 0; number = 0; end = end; event = Shown status } ∷ more
+  pub is : history.entries ≡ entries_of opener history.first losses ++ record { caller = 0; number = 0; end = end; event = Shown status } ∷ more

@@ -7,10 +7,10 @@ use Rattle.md_base.specs.Shapes.{data_disks, has_slot}
 use Rattle.array.specs.declared.spec.CreateSpec.{CreateSpec}
 use Rattle.script.specs.declared.lines.CreateLine.{CreateLine}
 use Rattle.flat_history.specs.declared.events.Entry.{Entry}
-use Rattle.flat_history.specs.declared.events.Request.TheVariants.{Read as AsksRead, Write as AsksWrite, Flush as AsksFlush}
+use Rattle.flat_history.specs.declared.events.Request.TheVariants.{Read as AsksRead, Write as AsksWrite, Flush as AsksFlush, Fail as AsksFail}
 use Rattle.flat_history.specs.Flat.{rest_of_call}
 use Rattle.flat_history.specs.Fits.{FitsStop, FitsHalt}
-use Rattle.flat_history.specs.Plain.{PlainFitsIn}
+use Rattle.flat_history.specs.OneShape.{OneShapeFits}
 use Rattle.flat_history.specs.World.{opening_list}
 use Rattle.flat_history.specs.Epochs.{OpensAlike}
 use Rattle.assemble.specs.Creating.{create_refusal}
@@ -18,7 +18,7 @@ use Rattle.assemble.specs.Opening.{AreGiven, array_of, scope_of}
 use Rattle.assemble.specs.Made.{used_slot}
 use Rattle.assemble.specs.Running.{OpensWithZeros}
 use Rattle.script.specs.declared.lines.Line.{Line}
-use Rattle.script.specs.declared.lines.Line.TheVariants.{Create, Read, Write, Flush, Stop, Halt, Assemble}
+use Rattle.script.specs.declared.lines.Line.TheVariants.{Create, Read, Write, Flush, Fail, Stop, Halt, Assemble}
 use Rattle.script.specs.declared.lines.Numbered.{Numbered}
 use Rattle.script.specs.declared.reply.Lane.TheVariants.{Script as InScript}
 use Rattle.script.specs.Seeds.{seeded}
@@ -36,9 +36,10 @@ spec_of line = record { uuid = line.uuid; shape = line.shape; size = line.size; 
 -- a reply's entry fits the line, over a list of so many sectors and by the entries before it
 abbrev pub FitsLine : ℕ → List Entry → Entry → Line → Type 0
 FitsLine size before e (Create spec) = ⊥
-FitsLine size before e (Read at count) = PlainFitsIn size before e (AsksRead at count)
-FitsLine size before e (Write at count seed) = PlainFitsIn size before e (AsksWrite at (seeded seed at count))
-FitsLine size before e Flush = PlainFitsIn size before e AsksFlush
+FitsLine size before e (Read at count) = OneShapeFits size before e (AsksRead at count)
+FitsLine size before e (Write at count seed) = OneShapeFits size before e (AsksWrite at (seeded seed at count))
+FitsLine size before e Flush = OneShapeFits size before e AsksFlush
+FitsLine size before e (Fail role) = OneShapeFits size before e (AsksFail role)
 FitsLine size before e Stop = FitsStop e.event
 FitsLine size before e Halt = FitsHalt e.event
 FitsLine size before e (Assemble uuid) = ⊥
@@ -66,6 +67,7 @@ size_made (Create line) = data_disks line.shape * line.size
 size_made (Read at count) = 0
 size_made (Write at count seed) = 0
 size_made Flush = 0
+size_made (Fail role) = 0
 size_made Stop = 0
 size_made Halt = 0
 size_made (Assemble uuid) = 0
@@ -119,28 +121,31 @@ IsMadeBy setting histories epoch end (Create line) = IsMadeAt setting histories 
 IsMadeBy setting histories epoch end (Read at count) = ⊥
 IsMadeBy setting histories epoch end (Write at count seed) = ⊥
 IsMadeBy setting histories epoch end Flush = ⊥
+IsMadeBy setting histories epoch end (Fail role) = ⊥
 IsMadeBy setting histories epoch end Stop = ⊥
 IsMadeBy setting histories epoch end Halt = ⊥
 IsMadeBy setting histories epoch end (Assemble uuid) = ⊥
 
 -- The next history is that of an array that was found: of the uuid that was asked for, or else of the first superblock in its given
--- slots. It begins where the reply was made, with the status that the reply tells and that stands in the superblocks there.
+-- slots. It begins where the reply was made, with the roles that are missing by the superblocks there, and with the status that the
+-- reply tells and that stands in them.
 pub record IsFoundAt (setting : Setting) (histories : List History) (epoch end : ℕ) (asked : Option (List ℕ)) (status : Status) : Type 0 where
   pub history : History
   pub there : slice_get histories epoch ≡ Some history
   pub named : IfSome asked (λ uuid. history.uuid ≡ uuid)
   pub given : AreGiven setting.given history.given setting.before setting.now
-  pub shown : BeginsShown history.entries status
+  pub shown : BeginsShown history status
   pub at_end : setting.tells → shown.end ≡ end
   pub first : setting.tells → history.first ≡ end
   pub elected : setting.tells → history.uuid ≡ array_of setting.given setting.backup history.given asked (held_at setting end)
-  pub stored : setting.tells → IsStoredAs (history_world setting history) status
+  pub stored : setting.tells → IsStoredAs (history_world setting history) status shown.losses
 
 abbrev pub IsFoundBy : Setting → List History → ℕ → ℕ → Line → Status → Type 0
 IsFoundBy setting histories epoch end (Create line) status = ⊥
 IsFoundBy setting histories epoch end (Read at count) status = ⊥
 IsFoundBy setting histories epoch end (Write at count seed) status = ⊥
 IsFoundBy setting histories epoch end Flush status = ⊥
+IsFoundBy setting histories epoch end (Fail role) status = ⊥
 IsFoundBy setting histories epoch end Stop status = ⊥
 IsFoundBy setting histories epoch end Halt status = ⊥
 IsFoundBy setting histories epoch end (Assemble uuid) status = IsFoundAt setting histories epoch end uuid status
@@ -153,6 +158,7 @@ IsRefusedOutside setting true end (Assemble uuid) refusal = refusal ≡ Running
 IsRefusedOutside setting true end (Read at count) refusal = ⊥
 IsRefusedOutside setting true end (Write at count seed) refusal = ⊥
 IsRefusedOutside setting true end Flush refusal = ⊥
+IsRefusedOutside setting true end (Fail role) refusal = ⊥
 IsRefusedOutside setting true end Stop refusal = ⊥
 IsRefusedOutside setting true end Halt refusal = ⊥
 IsRefusedOutside setting false end (Create line) refusal = IsUncreated setting (spec_of line) end refusal
@@ -160,6 +166,7 @@ IsRefusedOutside setting false end (Assemble uuid) refusal = IsUnassembled setti
 IsRefusedOutside setting false end (Read at count) refusal = refusal ≡ NotRunning
 IsRefusedOutside setting false end (Write at count seed) refusal = refusal ≡ NotRunning
 IsRefusedOutside setting false end Flush refusal = refusal ≡ NotRunning
+IsRefusedOutside setting false end (Fail role) refusal = refusal ≡ NotRunning
 IsRefusedOutside setting false end Stop refusal = refusal ≡ NotRunning
 IsRefusedOutside setting false end Halt refusal = refusal ≡ NotRunning
 

@@ -6,6 +6,8 @@ use Rattle.bank.specs.Given.{Given, IsFaulted}
 use Rattle.flat_history.specs.declared.events.Entry.{Entry}
 use Rattle.flat_history.specs.declared.events.Event.{Event}
 use Rattle.flat_history.specs.declared.events.Event.TheVariants.{Lost, SpareLost}
+use Rattle.flat_history.specs.declared.events.LostCause.{LostCause}
+use Rattle.flat_history.specs.declared.events.LostCause.TheVariants.{Absent, Recovering, Command, Fault}
 use Rattle.flat_history.specs.Flat.{rest_of_call, next_number}
 use Rattle.array.specs.Parts.{Parts}
 use Rattle.array.specs.Whole.{list_size}
@@ -17,7 +19,7 @@ use Rattle.runner.specs.declared.report.Answered.TheVariants.{Inside, Outside}
 use Rattle.runner.specs.declared.states.State.{State}
 use Rattle.runner.specs.declared.states.State.TheVariants.{Idle, Running}
 use Rattle.runner.specs.Histories.{History, histories_of, entry_at}
-use Rattle.runner.specs.Making.{Setting, history_world, HeldAtFirst}
+use Rattle.runner.specs.Making.{Setting, history_world, HeldAtFirst, MissingAtFirst}
 use Rattle.runner.specs.Replies.{Course, at_rest, begun, course_after, IsAnswer}
 
 -- the history of an array that runs
@@ -42,14 +44,23 @@ abbrev pub course_in : {B : Type 0} → State B → Course
 course_in (Idle bank epochs) = at_rest (length epochs.items)
 course_in (Running array epochs) = course_with (length epochs.items) array
 
--- the entries are of the script's calls, all before this number
+-- the event tells a role that was missing
+abbrev pub IsAbsence : Event → Type 0
+IsAbsence (Lost role Absent) = ⊤
+IsAbsence event = ⊥
+
+-- the entry is of a call of the script, before this number, or it tells what the opening found missing
+abbrev pub IsOwnEntry : ℕ → Entry → Type 0
+IsOwnEntry number e = ((e.caller ≡ 0) × (e.number < number)) ⊎ ((e.caller ≡ 254) × (e.number ≡ 0) × IsAbsence e.event)
+
+-- the entries are of the script's calls, all before this number, but for those of the opening
 abbrev pub AreByScript : ℕ → List Entry → Type 0
-AreByScript number entries = All (λ e. (e.caller ≡ 0) × (e.number < number)) entries
+AreByScript number entries = All (λ e. IsOwnEntry number e) entries
 
 abbrev pub IsByScript : History → Type 0
 IsByScript history = AreByScript (next_number 0 history.entries) history.entries
 
--- no history holds a call of another than the script
+-- no history holds a call of another than the script, but for that of its opening
 abbrev pub AreOfScript : List History → Type 0
 AreOfScript histories = All (λ history. IsByScript history) histories
 
@@ -83,10 +94,18 @@ AreGrown [] news = ⊤
 AreGrown (old ∷ olds) [] = ⊥
 AreGrown (old ∷ olds) (new ∷ news) = IsGrown old new × AreGrown olds news
 
--- an event that tells a loss does so only where a slot has failed since: the one that held the role at the opening, or the spare
-abbrev pub IsLossSince : Setting → History → Event → Type 0
-IsLossSince setting history (Lost role cause) =
+-- A role is told lost by a fault only where the slot that held it at the opening has failed since, by command only where a slot held it
+-- there, and as absent only where it was missing there. None is told as recovering.
+abbrev pub IsRoleLossSince : Setting → History → ℕ → LostCause → Type 0
+IsRoleLossSince setting history role Fault =
     (slot : ℕ) × IsFaulted slot setting.before setting.now × (setting.tells → HeldAtFirst (history_world setting history) role slot)
+IsRoleLossSince setting history role Command = setting.tells → (slot : ℕ) × HeldAtFirst (history_world setting history) role slot
+IsRoleLossSince setting history role Absent = setting.tells → MissingAtFirst (history_world setting history) role
+IsRoleLossSince setting history role Recovering = ⊥
+
+-- an event that tells a loss has its cause; a spare is told lost only where it has failed since
+abbrev pub IsLossSince : Setting → History → Event → Type 0
+IsLossSince setting history (Lost role cause) = IsRoleLossSince setting history role cause
 IsLossSince setting history (SpareLost slot) = IsFaulted slot setting.before setting.now
 IsLossSince setting history event = ⊤
 

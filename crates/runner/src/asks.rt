@@ -6,10 +6,10 @@ ghost use Rattle.bank.specs.Given.{NeverFalls};
 ghost use Rattle.md_base.specs.Sectors.{IsWhole};
 ghost use Rattle.array.specs.Whole.{list_size};
 ghost use Rattle.array.specs.Placed.{places_of, AreStillHeld};
-ghost use Rattle.array.specs.Kept.{IsSameArray, AreLossesOf, IsEndOf, world_for};
+ghost use Rattle.array.specs.Calls.{IsSameArray, AreLossesOf, IsEndOf, world_for};
 ghost use Rattle.array.specs.Moving.{Grows};
 ghost use Rattle.runner.specs.Asked.{IsAsked, script_who};
-ghost use Rattle.script.specs.declared.lines.Line.TheVariants.{Read as ReadLine, Write as WriteLine, Flush as FlushLine};
+ghost use Rattle.script.specs.declared.lines.Line.TheVariants.{Read as ReadLine, Write as WriteLine, Flush as FlushLine, Fail as FailLine};
 
 use array::Array;
 use bank::Bank;
@@ -122,6 +122,26 @@ pub fn ask_flush<B: Bank>(array: &mut Array<B>) -> Result<u64, NoMemory>
 {
     let who = script_call(array);
     let answer = array.flush(who);
+    if wants_memory(&answer) {
+        return Err(NoMemory {});
+    }
+    Ok(last_place(array))
+}
+
+/// Fails a role. Ok is the place of the reply entry.
+pub fn ask_fail<B: Bank>(array: &mut Array<B>, role: u32) -> Result<u64, NoMemory>
+    ensures asked { IsAsked (list_size (places_of array.old.members)) (FailLine role) array.old.entries array.new.entries result }
+    ensures ended { IfOk result (λ place. IsEndOf B.tells array.new.first array.new.entries (B.tape array.new.bank)) }
+    ensures unchanged { IfErr result (λ none. array.new ≡ array.old) }
+    ensures grows { Grows B.tells (B.tape array.old.bank) (B.tape array.new.bank) }
+    ensures held { AreStillHeld array.old.members array.new.members }
+    ensures losses { AreLossesOf array.old.members (B.faults_of array.old.bank) (B.faults_of array.new.bank) array.old.entries array.new.entries }
+    ensures never_falls { NeverFalls (B.faults_of array.old.bank) (B.faults_of array.new.bank) }
+    ensures given { B.given array.new.bank ≡ B.given array.old.bank }
+    ensures same { IsSameArray B.tells array.old array.new (world_for (B.given array.old.bank) (B.tape array.old.bank) array.old) (world_for (B.given array.new.bank) (B.tape array.new.bank) array.new) }
+{
+    let who = script_call(array);
+    let answer = array.fail(who, role);
     if wants_memory(&answer) {
         return Err(NoMemory {});
     }

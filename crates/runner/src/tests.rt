@@ -80,7 +80,7 @@ fn ran<R: Threads + Wait + Sync>(
 // and a flush) for the zeros; 3 * (a read, a write and a flush) for the superblocks.
 #[test]
 fn lines_are_answered_in_their_order(rt: HostRuntime) -> Result<(), Fail> {
-    let rows: [(&str, &[u64], u8, &[u8]); 7] = [
+    let rows: [(&str, &[u64], u8, &[u8]); 8] = [
         (
             "write 0 1 7\nread 0 2\n",
             &[],
@@ -89,12 +89,14 @@ fn lines_are_answered_in_their_order(rt: HostRuntime) -> Result<(), Fail> {
         ),
         ("read 79 1", &[], 0, b"created\nread 79 1: zero x1\n"),
         ("read 79 2\n", &[], 1, b"created\nrefused 1 PastEnd 80\n"),
-        // the first read of a row fails
+        // the first read of a row fails, and its sector is filled in
+        ("read 0 1\n", &[147], 0, b"created\nread 0 1: zero x1\n"),
+        // and so does the next one, by which it was to be filled in
         (
             "read 0 1\n",
-            &[147],
+            &[147, 148],
             1,
-            b"created\nrefused 2 TooManyMissing 1 0\n",
+            b"created\nrefused 2 TooManyMissing 2 1\n",
         ),
         // the first write of the second member fails
         (
@@ -103,12 +105,12 @@ fn lines_are_answered_in_their_order(rt: HostRuntime) -> Result<(), Fail> {
             1,
             b"refused 9 SlotFault 1\nrefused 28 NotRunning\nrefused 28 NotRunning\n",
         ),
-        // the superblock of the first member can't be read again
+        // the superblocks of the first two members can't be read again
         (
             "stop\nassemble\nassemble\n",
-            &[150],
+            &[150, 151],
             1,
-            b"created\nstopped\nrefused 24 MembersMissing 1 0\nrefused 24 MembersMissing 1 0\n",
+            b"created\nstopped\nrefused 24 MembersMissing 2 1\nrefused 24 MembersMissing 2 1\n",
         ),
         ("# nothing\n\n", &[], 0, b"created\n"),
     ];
@@ -131,7 +133,7 @@ fn lines_are_answered_in_their_order(rt: HostRuntime) -> Result<(), Fail> {
 // The lines of a script without that `create`, the status and the replies.
 #[test]
 fn arrays_come_and_go(rt: HostRuntime) -> Result<(), Fail> {
-    let rows: [(&str, u8, &[u8]); 7] = [
+    let rows: [(&str, u8, &[u8]); 11] = [
         // a dirty array is found with its resync to do, one step for each of five stripes and one for its end
         (
             "create 6ba7b810-9dad-11d1-80b4-00c04fd430c8 level=5 disks=3 chunk=8 size=40 offset=16\nwrite 0 1 7\nflush\nwrite 0 1 7\nhalt\nassemble\nread 0 1\n",
@@ -163,6 +165,29 @@ fn arrays_come_and_go(rt: HostRuntime) -> Result<(), Fail> {
             "create 6ba7b810-9dad-11d1-80b4-00c04fd430c8 level=5 disks=3 chunk=8 size=56 offset=16\n",
             1,
             b"refused 7 SlotTooSmall 64 72\n",
+        ),
+        // one role is failed after another, one more than the level can do without
+        (
+            "create 6ba7b810-9dad-11d1-80b4-00c04fd430c8 level=6 disks=5 chunk=8 size=16 offset=16\nwrite 0 1 4\nfail 1\nfail 2\nread 0 1\nfail 3\nread 0 1\nfail 9\n",
+            1,
+            b"created\nwrote 0 1\nfailed 1\nfailed 2\nread 0 1: seed 4 x1\nfailed 3\nrefused 2 TooManyMissing 3 2\nrefused 5 NoSuchRole 9\n",
+        ),
+        // an array that lacks a member is found where it is clean, and refused where it is dirty
+        (
+            "create 6ba7b810-9dad-11d1-80b4-00c04fd430c8 level=5 disks=3 chunk=8 size=40 offset=16\nwrite 0 1 7\nfail 0\nhalt\nassemble\n",
+            1,
+            b"created\nwrote 0 1\nfailed 0\nhalted\nrefused 25 DirtyDegraded 0\n",
+        ),
+        (
+            "create 6ba7b810-9dad-11d1-80b4-00c04fd430c8 level=5 disks=3 chunk=8 size=40 offset=16\nwrite 0 1 7\nfail 0\nflush\nhalt\nassemble\nread 0 1\n",
+            0,
+            b"created\nwrote 0 1\nfailed 0\nflushed\nhalted\nassembled level 5 disks 3 chunk 8 size 40 layout left-symmetric visible 80 left 0\nread 0 1: seed 7 x1\n",
+        ),
+        // it is found dirty where the missing role has parity alone
+        (
+            "create 6ba7b810-9dad-11d1-80b4-00c04fd430c8 level=5 disks=3 chunk=8 size=40 offset=16 layout=parity-last\nfail 2\nwrite 0 1 7\nflush\nwrite 0 1 7\nhalt\nassemble\nread 0 1\n",
+            0,
+            b"created\nfailed 2\nwrote 0 1\nflushed\nwrote 0 1\nhalted\nassembled level 5 disks 3 chunk 8 size 40 layout parity-last visible 80 left 6\nread 0 1: seed 7 x1\n",
         ),
         (
             "assemble\nread 0 1\nstop\n",

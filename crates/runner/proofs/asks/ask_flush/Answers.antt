@@ -2,7 +2,7 @@ use Rattle.std.proofs.Common.{List}
 use Rattle.flat_history.specs.declared.events.Entry.{Entry}
 use Rattle.flat_history.specs.declared.events.Event.TheVariants.{Flushed}
 use Rattle.flat_history.specs.declared.events.Request.TheVariants.{Flush as AsksFlush}
-use Rattle.flat_history.specs.Plain.{PlainFitsIn}
+use Rattle.flat_history.specs.OneShape.{OneShapeFits}
 use Rattle.array.specs.Whole.{list_size}
 use Rattle.array.specs.Placed.{places_of}
 use Rattle.script.specs.declared.lines.Line.TheVariants.{Flush as FlushLine}
@@ -24,7 +24,7 @@ returns-clause-asked g c =
     let size = list_size (places_of c.args.array.now.members) in
     let was = answered_reply size AsksFlush c.script_call-who.result c.args.array.now.entries c.flush-answer.new.self.entries Flushed c.flush-answer.result
     c.flush-answer.ensures.answered (c.wants_memory.ensures.no c.if-wants_memory.false) in
-    asked_at FlushLine c.last_place.result was.1 (λ (before : List Entry) (e : Entry) (fits : PlainFitsIn size before e AsksFlush). fits) c.script_call-who.ensures c.last_place.ensures
+    asked_at FlushLine c.last_place.result was.1 (λ (before : List Entry) (e : Entry) (fits : OneShapeFits size before e AsksFlush). fits) c.script_call-who.ensures c.last_place.ensures
 
 pub returns-then-wants_memory-clause-unchanged : goal.returns-then-wants_memory-clause-unchanged
 returns-then-wants_memory-clause-unchanged g c = on_no_memory c.flush-answer.result c.flush-answer.ensures.unchanged (c.wants_memory.ensures.yes c.if-wants_memory.true)

@@ -3,7 +3,7 @@ use Rattle.md_base.specs.Sectors.{sectors_of}
 use Rattle.flat_history.specs.declared.events.Entry.{Entry}
 use Rattle.flat_history.specs.declared.events.Event.TheVariants.{Read}
 use Rattle.flat_history.specs.declared.events.Request.TheVariants.{Read as AsksRead}
-use Rattle.flat_history.specs.Plain.{PlainFitsIn}
+use Rattle.flat_history.specs.OneShape.{OneShapeFits}
 use Rattle.array.specs.Whole.{list_size}
 use Rattle.array.specs.Placed.{places_of}
 use Rattle.script.specs.declared.lines.Line.TheVariants.{Read as ReadLine}
@@ -30,7 +30,7 @@ returns-clause-asked g c =
     let was = answered_reply size (AsksRead c.args.at (length c.as_mut_slice.result.now / 512)) c.script_call-who.result c.args.array.now.entries c.read-answer.new.self.entries (Read c.args.at (sectors_of c.read-answer.new.into)) c.read-answer.result
     c.read-answer.ensures.answered (c.wants_memory.ensures.no c.if-wants_memory.false) in
     asked_at (ReadLine c.args.at c.args.count) c.last_place.result was.1
-    (λ (before : List Entry) (e : Entry) (fits : PlainFitsIn size before e (AsksRead c.args.at (length c.as_mut_slice.result.now / 512))). subst (λ (n : ℕ). PlainFitsIn size before e (AsksRead c.args.at n)) count fits) c.script_call-who.ensures c.last_place.ensures
+    (λ (before : List Entry) (e : Entry) (fits : OneShapeFits size before e (AsksRead c.args.at (length c.as_mut_slice.result.now / 512))). subst (λ (n : ℕ). OneShapeFits size before e (AsksRead c.args.at n)) count fits) c.script_call-who.ensures c.last_place.ensures
 
 pub returns-then-wants_memory-clause-unchanged : goal.returns-then-wants_memory-clause-unchanged
 returns-then-wants_memory-clause-unchanged g c = on_no_memory c.read-answer.result c.read-answer.ensures.unchanged (c.wants_memory.ensures.yes c.if-wants_memory.true)

@@ -3,7 +3,7 @@ use Rattle.md_base.specs.Sectors.{Sector, sectors_of}
 use Rattle.flat_history.specs.declared.events.Entry.{Entry}
 use Rattle.flat_history.specs.declared.events.Event.TheVariants.{Wrote}
 use Rattle.flat_history.specs.declared.events.Request.TheVariants.{Write as AsksWrite}
-use Rattle.flat_history.specs.Plain.{PlainFitsIn}
+use Rattle.flat_history.specs.OneShape.{OneShapeFits}
 use Rattle.array.specs.Whole.{list_size}
 use Rattle.array.specs.Placed.{places_of}
 use Rattle.script.specs.declared.lines.Line.TheVariants.{Write as WriteLine}
@@ -34,7 +34,7 @@ returns-clause-asked g c =
     let was = answered_reply size (AsksWrite c.args.at (sectors_of c.as_bytes.result.now)) c.script_call-who.result c.args.array.now.entries c.write-answer.new.self.entries (Wrote c.args.at (sectors_of c.as_bytes.result.now)) c.write-answer.result
     c.write-answer.ensures.answered (c.wants_memory.ensures.no c.if-wants_memory.false) in
     asked_at (WriteLine c.args.at c.args.count c.args.seed) c.last_place.result was.1
-    (λ (before : List Entry) (e : Entry) (fits : PlainFitsIn size before e (AsksWrite c.args.at (sectors_of c.as_bytes.result.now))). subst (λ (b : List Sector). PlainFitsIn size before e (AsksWrite c.args.at b)) (c.as_bytes.ensures.sectors ∙ c.in-Ok.ensures) fits) c.script_call-who.ensures c.last_place.ensures
+    (λ (before : List Entry) (e : Entry) (fits : OneShapeFits size before e (AsksWrite c.args.at (sectors_of c.as_bytes.result.now))). subst (λ (b : List Sector). OneShapeFits size before e (AsksWrite c.args.at b)) (c.as_bytes.ensures.sectors ∙ c.in-Ok.ensures) fits) c.script_call-who.ensures c.last_place.ensures
 
 pub returns-then-wants_memory-clause-unchanged : goal.returns-then-wants_memory-clause-unchanged
 returns-then-wants_memory-clause-unchanged g c = on_no_memory c.write-answer.result c.write-answer.ensures.unchanged (c.wants_memory.ensures.yes c.if-wants_memory.true)

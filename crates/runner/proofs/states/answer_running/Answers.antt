@@ -1,7 +1,7 @@
 use Rattle.std.proofs.Common.{true, length, Result, refl, sym, subst}
 use Rattle.md_base.specs.declared.answers.NoMemory.{NoMemory}
 use Rattle.script.specs.declared.lines.Line.{Line}
-use Rattle.script.specs.declared.lines.Line.TheVariants.{Read, Write, Flush}
+use Rattle.script.specs.declared.lines.Line.TheVariants.{Read, Write, Flush, Fail}
 use Rattle.md_base.specs.declared.answers.Refusal.TheVariants.{Running as RefusedRunning}
 use Rattle.runner.specs.Making.{setting_of}
 use Rattle.runner.specs.Replies.{IsRefusedOutside}
@@ -13,7 +13,7 @@ use Rattle.runner.specs.Ended.{IsRunKept}
 use Rattle.std.proofs.Common.{arith}
 use Rattle.runner.proofs.Legal.{grows_longer, going_asked}
 use Rattle.runner.proofs.Losses.{losses-of, held-later}
-use Rattle.runner.proofs.Turns.{turn_of_ask, turn_refused, going_read, going_write, going_flush}
+use Rattle.runner.proofs.Turns.{turn_of_ask, turn_refused, going_read, going_write, going_flush, going_fail}
 use Rattle.runner.proofs.states.answer_running.Goals as goal
 
 pub returns-in-Read-clause-answered : goal.returns-in-Read-clause-answered
@@ -55,6 +55,19 @@ returns-in-Flush-clause-answered g c =
     (turn_of_ask (setting_of g.B.Bank.tells (g.B.Bank.given array.bank) (g.B.Bank.tape array.bank) (g.B.Bank.tape new.bank) c.args.backup (g.B.Bank.faults_of array.bank) (g.B.Bank.faults_of new.bank)) array new c.args.epochs c.requires.own (losses-of (setting_of g.B.Bank.tells (g.B.Bank.given array.bank) (g.B.Bank.tape array.bank) (g.B.Bank.tape new.bank) c.args.backup (g.B.Bank.faults_of array.bank) (g.B.Bank.faults_of new.bank)) (running_history new) (held-later (g.B.Bank.given array.bank) c.args.backup (running_history array) (running_history new) array.members did.grows (record { uuid = same.uuid; given = same.given; first = same.first }) c.requires.former.held) did.losses) same.uuid same.given same.first same.shape same.size
     Flush c.ask_flush-place.result (λ p asked. going_flush asked) (grows_longer did.grows) did.ended did.asked)))
 
+pub returns-in-Fail-clause-answered : goal.returns-in-Fail-clause-answered
+returns-in-Fail-clause-answered g c =
+    let array = c.args.array in
+    let new = c.ask_fail-place.new.array in
+    let did = c.ask_fail-place.ensures in
+    let same = did.same in
+    let on = c.goes_on-in-Fail in
+    subst (λ (l : Line). IsTurnOrNone (setting_of g.B.Bank.tells (g.B.Bank.given array.bank) (g.B.Bank.tape array.bank) (g.B.Bank.tape (bank_in on.result.0)) c.args.backup (g.B.Bank.faults_of array.bank) (g.B.Bank.faults_of (bank_in on.result.0))) (IsRunning array c.args.epochs) on.result.0 l on.result.1) (sym c.in-Fail.is)
+    (subst (λ (s : State g.row.B.Denot). IsTurnOrNone (setting_of g.B.Bank.tells (g.B.Bank.given array.bank) (g.B.Bank.tape array.bank) (g.B.Bank.tape (bank_in s)) c.args.backup (g.B.Bank.faults_of array.bank) (g.B.Bank.faults_of (bank_in s))) (IsRunning array c.args.epochs) s (Fail c.in-Fail.role) on.result.1) (sym on.ensures.state)
+    (subst (λ (r : Result Answered NoMemory). IsTurnOrNone (setting_of g.B.Bank.tells (g.B.Bank.given array.bank) (g.B.Bank.tape array.bank) (g.B.Bank.tape new.bank) c.args.backup (g.B.Bank.faults_of array.bank) (g.B.Bank.faults_of new.bank)) (IsRunning array c.args.epochs) (IsRunning new c.args.epochs) (Fail c.in-Fail.role) r) (sym on.ensures.answer)
+    (turn_of_ask (setting_of g.B.Bank.tells (g.B.Bank.given array.bank) (g.B.Bank.tape array.bank) (g.B.Bank.tape new.bank) c.args.backup (g.B.Bank.faults_of array.bank) (g.B.Bank.faults_of new.bank)) array new c.args.epochs c.requires.own (losses-of (setting_of g.B.Bank.tells (g.B.Bank.given array.bank) (g.B.Bank.tape array.bank) (g.B.Bank.tape new.bank) c.args.backup (g.B.Bank.faults_of array.bank) (g.B.Bank.faults_of new.bank)) (running_history new) (held-later (g.B.Bank.given array.bank) c.args.backup (running_history array) (running_history new) array.members did.grows (record { uuid = same.uuid; given = same.given; first = same.first }) c.requires.former.held) did.losses) same.uuid same.given same.first same.shape same.size
+    (Fail c.in-Fail.role) c.ask_fail-place.result (λ p asked. going_fail c.in-Fail.role asked) (grows_longer did.grows) did.ended did.asked)))
+
 pub returns-in-Create-clause-answered : goal.returns-in-Create-clause-answered
 returns-in-Create-clause-answered g c =
     let array = c.args.array in
@@ -92,3 +105,11 @@ returns-in-Flush-clause-former g c =
     let did = c.ask_flush-place.ensures in
     subst (λ (s : State g.row.B.Denot). IsRunKept g.B.Bank.tells (g.B.Bank.given array.bank) (g.B.Bank.tape (bank_in s)) c.args.backup s) (sym c.goes_on-in-Flush.ensures.state)
     (going_asked (g.B.Bank.given array.bank) (λ (b : g.row.B.Denot). g.B.Bank.tape b) c.args.backup array new c.args.epochs.items c.ask_flush-place.result did.grows did.same.first did.same.backup did.same.uuid did.same.given did.held did.ended did.unchanged c.requires.former)
+
+pub returns-in-Fail-clause-former : goal.returns-in-Fail-clause-former
+returns-in-Fail-clause-former g c =
+    let array = c.args.array in
+    let new = c.ask_fail-place.new.array in
+    let did = c.ask_fail-place.ensures in
+    subst (λ (s : State g.row.B.Denot). IsRunKept g.B.Bank.tells (g.B.Bank.given array.bank) (g.B.Bank.tape (bank_in s)) c.args.backup s) (sym c.goes_on-in-Fail.ensures.state)
+    (going_asked (g.B.Bank.given array.bank) (λ (b : g.row.B.Denot). g.B.Bank.tape b) c.args.backup array new c.args.epochs.items c.ask_fail-place.result did.grows did.same.first did.same.backup did.same.uuid did.same.given did.held did.ended did.unchanged c.requires.former)

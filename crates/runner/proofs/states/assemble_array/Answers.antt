@@ -1,4 +1,4 @@
-use Rattle.std.proofs.Common.{rules, List, ℕ, [], ◌∷◌, length, sym, ap, subst, ◌∙◌}
+use Rattle.std.proofs.Common.{rules, refl, List, ℕ, [], ◌∷◌, length, sym, ap, subst, arith, ◌∙◌}
 use Rattle.std.specs.Prelude.{IsTrue}
 use Rattle.bank.specs.Given.{NeverFalls}
 use Rattle.bank.specs.Tape.{contents}
@@ -8,7 +8,9 @@ use Rattle.md_base.specs.declared.answers.Who.{Who}
 use Rattle.flat_history.specs.declared.events.Entry.{Entry}
 use Rattle.flat_history.specs.declared.events.Event.TheVariants.{Shown}
 use Rattle.flat_history.specs.Transfers.{last_end_from}
-use Rattle.array.specs.Kept.{IsEntered, IsEndOf}
+use Rattle.row_io.specs.Rows.{reading_of}
+use Rattle.array.specs.Adopting.{found_losses}
+use Rattle.array.specs.Calls.{IsEntered, IsEndOf}
 use Rattle.array.specs.Parts.{Parts}
 use Rattle.assemble.specs.Running.{HasAssembleCause}
 use Rattle.script.specs.declared.lines.Line.TheVariants.{Assemble as AsksAssemble}
@@ -20,12 +22,12 @@ use Rattle.runner.specs.declared.report.Answered.TheVariants.{Outside as Answere
 use Rattle.runner.specs.declared.report.Outside.TheVariants.{Assembled}
 use Rattle.runner.specs.declared.states.State.TheVariants.{Idle as IsIdle, Running as IsRunning}
 use Rattle.runner.proofs.Causes.{flushes-grow, grows-none, assemble-refused, backup-known}
-use Rattle.runner.proofs.Legal.{grows_longer, idle_grown, going_begun}
+use Rattle.runner.proofs.Legal.{grows_longer, idle_grown, accepted-grown, going_begun}
 use Rattle.superblocks.specs.declared.members.Members.{Members}
 use Rattle.runner.specs.Making.{world_at, AreHeldAtFirst}
-use Rattle.runner.proofs.Found.{opened_held}
+use Rattle.runner.proofs.Found.{opened_accepted, opened_held}
 use Rattle.runner.proofs.Losses.{held-later}
-use Rattle.runner.proofs.Turns.{turn_found, turn_idle, no_turn_idle, no_turn_found}
+use Rattle.runner.proofs.Turns.{opening_end, turn_found, turn_idle, no_turn_idle, no_turn_found}
 use Rattle.runner.proofs.states.assemble_array.Goals as goal
 
 pub assemble-requires-clause-backup : goal.assemble-requires-clause-backup
@@ -46,8 +48,8 @@ returns-in-Ok-status-clause-answered g c =
     subst (λ (b : g.row.B.Denot). IsTurn (setting_of g.B.Bank.tells (g.B.Bank.given c.args.bank) (g.B.Bank.tape c.args.bank) (g.B.Bank.tape b) c.args.backup (g.B.Bank.faults_of c.args.bank) (g.B.Bank.faults_of b)) (IsIdle c.args.bank c.args.epochs) (IsRunning array c.has_room.new.epochs) (AsksAssemble c.args.uuid) (AnsweredOutside (Assembled c.next_epoch-epoch.result c.in-Ok-status.status))) (sym told.bank)
     (subst (λ (n : ℕ). IsTurn setting (IsIdle c.args.bank c.args.epochs) (IsRunning array c.has_room.new.epochs) (AsksAssemble c.args.uuid) (AnsweredOutside (Assembled n c.in-Ok-status.status))) (sym c.next_epoch-epoch.ensures)
     (turn_found setting c.args.bank c.args.epochs c.has_room.new.epochs c.has_room.ensures.same c.requires.own array
-    (c.has_room.ensures.room yes) (c.has_room.ensures.few yes) (grows_longer (flushes-grow did.tape)) c.args.uuid c.in-Ok-status.status found did.assembled told.told
-    (subst (λ (w : Who). IsEntered g.B.Bank.tells (g.B.Bank.tape found.bank) w found.entries array.entries (Shown c.in-Ok-status.status ∷ [])) c.script_call-who.ensures told.entered) told.members told.same.uuid told.same.given told.same.first))
+    (c.has_room.ensures.room yes) (c.has_room.ensures.few yes) (grows_longer (flushes-grow did.tape)) found c.args.uuid did.assembled told.same.uuid told.same.given told.same.first c.in-Ok-status.status told.told
+    (subst (λ (w : Who). IsEntered g.B.Bank.tells (g.B.Bank.tape found.bank) w found.entries array.entries (Shown c.in-Ok-status.status ∷ [])) c.script_call-who.ensures told.entered) told.members))
 
 pub returns-in-Err-status-clause-answered : goal.returns-in-Err-status-clause-answered
 returns-in-Err-status-clause-answered g c =
@@ -56,7 +58,7 @@ returns-in-Err-status-clause-answered g c =
     let did = c.in-Ok.ensures in
     subst (λ (a : Parts g.row.B.Denot). IsNoTurn (setting_of g.B.Bank.tells (g.B.Bank.given c.args.bank) (g.B.Bank.tape c.args.bank) (g.B.Bank.tape a.bank) c.args.backup (g.B.Bank.faults_of c.args.bank) (g.B.Bank.faults_of a.bank)) (IsIdle c.args.bank c.args.epochs) (IsRunning a c.has_room.new.epochs) (AsksAssemble c.args.uuid)) (sym c.in-Err-status.ensures.unchanged)
     (no_turn_found (setting_of g.B.Bank.tells (g.B.Bank.given c.args.bank) (g.B.Bank.tape c.args.bank) (g.B.Bank.tape found.bank) c.args.backup (g.B.Bank.faults_of c.args.bank) (g.B.Bank.faults_of found.bank)) c.args.bank c.args.epochs c.has_room.new.epochs c.has_room.ensures.same c.requires.own found
-    (c.has_room.ensures.room yes) (c.has_room.ensures.few yes) (grows_longer (flushes-grow did.tape)) c.args.uuid did.assembled.begun.entries)
+    (c.has_room.ensures.room yes) (c.has_room.ensures.few yes) (grows_longer (flushes-grow did.tape)) found c.args.uuid did.assembled refl refl refl refl)
 
 pub returns-in-Refused-clause-answered : goal.returns-in-Refused-clause-answered
 returns-in-Refused-clause-answered g c =
@@ -85,6 +87,8 @@ returns-in-Ok-status-clause-former g c =
     let array = c.status.new.self in
     subst (λ (b : g.row.B.Denot). IsGoing g.B.Bank.tells (g.B.Bank.given c.args.bank) (g.B.Bank.tape b) c.args.backup array c.has_room.new.epochs.items) (sym told.bank)
     (going_begun (g.B.Bank.given c.args.bank) c.args.backup c.args.epochs.items c.has_room.new.epochs.items array c.has_room.ensures.same (flushes-grow did.tape) (told.same.backup ∙ begun.backup_is) (λ t. told.same.first ∙ begun.first t)
+    (accepted-grown (g.B.Bank.given c.args.bank) c.args.backup (running_history c.in-Ok.array) (running_history array) (grows-none (g.B.Bank.tape c.in-Ok.array.bank)) (record { uuid = told.same.uuid; given = told.same.given; first = told.same.first })
+    (λ t. omega (arith, begun.first t)) (λ t. opened_accepted (g.B.Bank.given c.args.bank) (g.B.Bank.tape c.in-Ok.array.bank) c.args.backup c.args.uuid c.in-Ok.array begun did.assembled.opened t begun.uuid))
     (subst (λ (m : Members). g.B.Bank.tells → AreHeldAtFirst (world_at (g.B.Bank.given c.args.bank) (g.B.Bank.tape c.in-Ok.array.bank) c.args.backup (running_history array)) m) (sym told.members)
     (held-later (g.B.Bank.given c.args.bank) c.args.backup (running_history c.in-Ok.array) (running_history array) c.in-Ok.array.members (grows-none (g.B.Bank.tape c.in-Ok.array.bank)) (record { uuid = told.same.uuid; given = told.same.given; first = told.same.first })
     (λ t. opened_held (g.B.Bank.given c.args.bank) (g.B.Bank.tape c.in-Ok.array.bank) c.args.backup c.args.uuid c.in-Ok.array begun did.assembled.opened t begun.uuid)))
@@ -96,8 +100,9 @@ returns-in-Err-status-clause-former g c =
     let begun = did.assembled.begun in
     subst (λ (a : Parts g.row.B.Denot). IsGoing g.B.Bank.tells (g.B.Bank.given c.args.bank) (g.B.Bank.tape a.bank) c.args.backup a c.has_room.new.epochs.items) (sym c.in-Err-status.ensures.unchanged)
     (going_begun (g.B.Bank.given c.args.bank) c.args.backup c.args.epochs.items c.has_room.new.epochs.items c.in-Ok.array c.has_room.ensures.same (flushes-grow did.tape) begun.backup_is begun.first
+    (λ t. opened_accepted (g.B.Bank.given c.args.bank) (g.B.Bank.tape c.in-Ok.array.bank) c.args.backup c.args.uuid c.in-Ok.array begun did.assembled.opened t begun.uuid)
     (λ t. opened_held (g.B.Bank.given c.args.bank) (g.B.Bank.tape c.in-Ok.array.bank) c.args.backup c.args.uuid c.in-Ok.array begun did.assembled.opened t begun.uuid)
-    (λ t. ap (λ (l : List Entry). last_end_from c.in-Ok.array.first l) begun.entries ∙ begun.first t) c.requires.former)
+    (λ t. ap (λ (l : List Entry). last_end_from c.in-Ok.array.first l) begun.entries ∙ opening_end c.in-Ok.array.first (found_losses (reading_of c.in-Ok.array.members)) ∙ begun.first t) c.requires.former)
 
 pub returns-in-Refused-clause-former : goal.returns-in-Refused-clause-former
 returns-in-Refused-clause-former g c = idle_grown (g.B.Bank.given c.args.bank) c.args.backup c.args.epochs.items c.has_room.new.epochs.items c.has_room.ensures.same (flushes-grow c.in-Err.ensures.left_tape) c.requires.former

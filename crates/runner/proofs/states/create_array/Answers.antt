@@ -14,7 +14,7 @@ use Rattle.runner.specs.declared.report.Answered.{Answered}
 use Rattle.runner.specs.declared.states.State.TheVariants.{Idle as IsIdle}
 use Rattle.runner.proofs.Causes.{below-grows, below-present, grows-none, create-refused, used-same}
 use Rattle.runner.proofs.Legal.{grows_longer, idle_grown, going_begun}
-use Rattle.runner.proofs.Found.{opened_held}
+use Rattle.runner.proofs.Found.{opened_accepted, opened_held}
 use Rattle.runner.proofs.Turns.{turn_created, turn_idle, no_turn_idle}
 use Rattle.runner.proofs.states.create_array.Goals as goal
 
@@ -58,8 +58,9 @@ returns-in-Ok-clause-former g c =
     let did = c.in-Ok.ensures in
     let begun = did.created.begun in
     going_begun (g.B.Bank.given c.args.bank) c.args.backup c.args.epochs.items c.has_room.new.epochs.items c.in-Ok.array c.has_room.ensures.same (below-grows did.tape) begun.backup_is begun.first
+    (λ t. opened_accepted (g.B.Bank.given c.args.bank) (g.B.Bank.tape c.in-Ok.array.bank) c.args.backup (Some c.args.line.uuid) c.in-Ok.array begun did.created.opened t begun.uuid)
     (λ t. opened_held (g.B.Bank.given c.args.bank) (g.B.Bank.tape c.in-Ok.array.bank) c.args.backup (Some c.args.line.uuid) c.in-Ok.array begun did.created.opened t begun.uuid)
-    (λ t. ap (λ (l : List Entry). last_end_from c.in-Ok.array.first l) begun.entries ∙ begun.first t) c.requires.former
+    (λ t. ap (λ (l : List Entry). last_end_from c.in-Ok.array.first l) did.created.quiet ∙ begun.first t) c.requires.former
 
 pub returns-in-Refused-clause-former : goal.returns-in-Refused-clause-former
 returns-in-Refused-clause-former g c = idle_grown (g.B.Bank.given c.args.bank) c.args.backup c.args.epochs.items c.has_room.new.epochs.items c.has_room.ensures.same (below-grows c.in-Err.ensures.left_tape) c.requires.former

@@ -39,4 +39,4 @@ returns-clause-former g c =
     let room = c.requires.own.room in
     let items : c.push_reserved.new.self.items ≡ c.args.epochs.items ++ epoch ∷ [] = search rules in
     former_halted g.B.Bank.tells (λ (b : g.row.B.Denot). g.B.Bank.given b) (λ (b : g.row.B.Denot). g.B.Bank.tape b) c.args.backup array c.halt-bank.result.0 epoch c.args.epochs.items c.push_reserved.new.self.items items did.bank did.uuid did.given did.first
-    (halt_grew c.script_call-who.result did.entered) did.legal did.last did.right c.requires.former
+    did.ends did.legal did.last did.right c.requires.former

@@ -1,27 +1,27 @@
-use Rattle.std.proofs.Common.{rules, ◌≡◌, ◌-◌, [], ◌∷◌, ◌++◌, ℕ, Option, length, sym, ◌∙◌, ap, subst, arith}
+use Rattle.std.proofs.Common.{rules, ◌≡◌, ◌-◌, [], ◌∷◌, ◌++◌, ℕ, Option, length, sym, ap, subst, arith}
 use Rattle.md_base.specs.declared.answers.Fault.{Fault}
 use Rattle.flat_history.specs.declared.events.Epoch.{Epoch}
 use Rattle.flat_history.specs.declared.events.Event.{Event}
 use Rattle.runner.specs.Histories.{history_of, is_end}
 use Rattle.array.specs.Whole.{list_size}
 use Rattle.array.specs.Placed.{places_of}
-use Rattle.array.specs.Kept.{IsUnsettled, IsFaultFor}
+use Rattle.array.specs.Lacking.{AreTooMany}
+use Rattle.flat_history.specs.Sound.{FillsRight}
+use Rattle.array.specs.Calls.{IsUnsettled, IsFaultFor}
 use Rattle.script.specs.declared.lines.Line.TheVariants.{Stop as AsksStop}
 use Rattle.runner.specs.Making.{setting_of}
 use Rattle.runner.specs.States.{running_history, IsTurn}
 use Rattle.runner.specs.declared.report.Answered.{Answered}
 use Rattle.runner.specs.declared.states.State.TheVariants.{Idle as IsIdle, Running as IsRunning}
 use Rattle.runner.proofs.AskLaws.{asked_stop, asked_unstopped, behind_grew}
-use Rattle.flat_history.specs.Plain.{IsPlainLegal}
+use Rattle.flat_history.specs.OneShape.{opening_in, IsOneShapeLegal}
 use Rattle.flat_history.specs.Epochs.{world_of}
-use Rattle.array.specs.Kept.{opening_of}
 use Rattle.bank.specs.Given.{Given}
-use Rattle.flat_history.specs.Transfers.{last_end_from}
 use Rattle.flat_history.specs.Epochs.{IsEpochRight}
-use Rattle.runner.specs.Ended.{IfSound}
+use Rattle.runner.specs.Ended.{IfFilledRight}
 use Rattle.runner.proofs.Legal.{grows_longer, going_grown, former_more, legal_epoch}
 use Rattle.runner.proofs.Losses.{losses-of, held-later}
-use Rattle.runner.proofs.Turns.{turn_ended, turn_asked, no_turn, at_the_end, by_legal}
+use Rattle.runner.proofs.Turns.{turn_ended, turn_asked, no_turn, at_the_end}
 use Rattle.runner.proofs.states.stop_array.Goals as goal
 
 pub overflow_sub-len : goal.overflow_sub-len
@@ -39,8 +39,7 @@ returns-in-Ok-clause-answered g c =
     let asked = asked_stop (list_size (places_of array.members)) (c.len.result - 1) c.script_call-who.result c.script_call-who.ensures did.stopped (omega (arith, grew, c.len.ensures)) in
     subst (λ (what : Answered). IsTurn setting (IsRunning array c.args.epochs) (IsIdle c.in-Ok.ended.0 c.push_reserved.new.self) AsksStop what) (sym c.inside-what.ensures)
     (turn_ended setting array epoch c.in-Ok.ended.0 c.args.epochs c.push_reserved.new.self items c.requires.own (losses-of setting (history_of epoch) (held-later (g.B.Bank.given array.bank) c.args.backup (running_history array) (history_of epoch) array.members did.grows (record { uuid = did.uuid; given = did.slots; first = did.first }) c.requires.former.held) did.losses) did.uuid did.slots did.first AsksStop (c.len.result - 1) asked.0
-    (λ t. by_legal setting (opening_of (world_of (g.B.Bank.given c.in-Ok.ended.0) (g.B.Bank.tape c.in-Ok.ended.0) array.backup epoch)) array.entries epoch.entries.items asked.0
-    (ap (λ (n : ℕ). last_end_from n array.entries) did.first ∙ c.requires.former.ended t) (did.legal t)) (ap (λ (e : Event). is_end e) (asked.1)))
+    (λ t. at_the_end setting array.entries epoch.entries.items asked.0 epoch.first t (grows_longer did.grows t) did.ended) (ap (λ (e : Event). is_end e) (asked.1)))
 
 pub last_place-requires : goal.last_place-requires
 last_place-requires g c =
@@ -66,7 +65,7 @@ returns-in-Refused-clause-answered g c =
     let size = list_size (places_of array.members) in
     let asked = asked_unstopped size c.last_place.result size array.members left.members c.script_call-who.result _ c.script_call-who.ensures
     (subst (λ (f : Fault). IsUnsettled c.script_call-who.result array.entries left.entries f) c.in-Refused.is did.refused)
-    (subst (λ (f : Fault). IsFaultFor size 0 array.members left.members f) c.in-Refused.is did.caused) c.last_place.ensures in
+    (subst (λ (f : Fault). IsFaultFor size 0 AreTooMany array.members left.members f) c.in-Refused.is did.caused) c.last_place.ensures in
     subst (λ (what : Answered). IsTurn setting (IsRunning array c.args.epochs) (IsRunning left c.args.epochs) AsksStop what) (sym c.inside-what-in-Refused.ensures)
     (turn_asked setting array left c.args.epochs c.requires.own (losses-of setting (running_history left) (held-later (g.B.Bank.given array.bank) c.args.backup (running_history array) (running_history left) array.members did.left_grows (record { uuid = same.uuid; given = same.given; first = same.first }) c.requires.former.held) did.left_losses) same.uuid same.given same.first same.shape same.size AsksStop c.last_place.result asked.0 (λ t. at_the_end setting array.entries left.entries asked.0 left.first t (grows_longer did.left_grows t) did.left_ended) (ap (λ (e : Event). is_end e) (asked.1)))
 
@@ -81,12 +80,12 @@ returns-in-Ok-clause-former g c =
     let tape = g.B.Bank.tape c.in-Ok.ended.0 in
     let backup = c.requires.former.backup_is in
     former_more given c.args.backup array c.args.epochs.items c.push_reserved.new.self.items epoch items did.grows did.first c.requires.former
-    (λ told. legal_epoch given tape c.args.backup epoch (behind_grew c.script_call-who.result did.stopped)
-    (subst (λ (b : Option ℕ). IsPlainLegal (opening_of (world_of given tape b epoch)) (length tape) epoch.entries.items) backup
-    (subst (λ (known : Given). IsPlainLegal (opening_of (world_of known tape array.backup epoch)) (length tape) epoch.entries.items) did.given (did.legal told))))
+    (legal_epoch given c.args.backup array c.args.epochs.items epoch did.grows (record { uuid = did.uuid; given = did.slots; first = did.first }) c.requires.former did.ends
+    (λ told. subst (λ (b : Option ℕ). FillsRight (world_of given tape b epoch) epoch.entries.items → IsOneShapeLegal (opening_in (world_of given tape b epoch)) (length tape) epoch.entries.items) backup
+    (subst (λ (known : Given). FillsRight (world_of known tape array.backup epoch) epoch.entries.items → IsOneShapeLegal (opening_in (world_of known tape array.backup epoch)) (length tape) epoch.entries.items) did.given (did.legal told))))
     did.last
-    (λ told. subst (λ (b : Option ℕ). IfSound given tape b epoch (IsEpochRight given tape b epoch)) backup
-    (subst (λ (known : Given). IfSound known tape array.backup epoch (IsEpochRight known tape array.backup epoch)) did.given (did.right told)))
+    (λ told. subst (λ (b : Option ℕ). IfFilledRight given tape b epoch (IsEpochRight given tape b epoch)) backup
+    (subst (λ (known : Given). IfFilledRight known tape array.backup epoch (IsEpochRight known tape array.backup epoch)) did.given (did.right told)))
 
 pub returns-in-NoMemory-clause-former : goal.returns-in-NoMemory-clause-former
 returns-in-NoMemory-clause-former g c =
