@@ -1,4 +1,4 @@
--- Where no entry is a step or gives a role back, the entries alone say what is gone and what is unclean.
+-- Where no entry gives a role back, or takes one without a loss, the entries alone say what is gone and what is unclean.
 use Rattle.std.proofs.Common.{◌≡◌, ℕ, zero, suc, ◌+◌, ◌-◌, ◌≤◌, Bool, true, false, not, ◌&&◌, ◌||◌, List, [], ◌∷◌, ◌++◌, length, take, drop, slice_range, fold, refl, sym, ap, ap₂, ◌∙◌, arith, Option}
 use Rattle.std.specs.List.{list_any, list_all}
 use Rattle.std.proofs.lemmas.List.Folds.{list_any-append}
@@ -8,9 +8,10 @@ use Rattle.md_base.proofs.Counted.{count_below-same}
 use Rattle.superblocks.specs.Reading.{Reading}
 use Rattle.flat_history.specs.declared.events.Event.{Event}
 use Rattle.flat_history.specs.declared.events.Event.TheVariants.{Lost, Rebuilt, Step}
+use Rattle.flat_history.specs.declared.events.StepKind.TheVariants.{Begun, TakenOver}
 use Rattle.flat_history.specs.declared.events.Entry.{Entry}
 use Rattle.flat_history.specs.World.{World, reading_at}
-use Rattle.flat_history.specs.Losses.{was_dirty, takes, gives_back, gone_surely, gone_perhaps, is_gone, is_gone_after, gone_count, unsettles, settles, is_resync_end, is_unsynced, unsettled_surely, unsettled_perhaps, is_unclean}
+use Rattle.flat_history.specs.Losses.{takes, gives_back, gone_surely, gone_perhaps, is_gone, is_gone_after, gone_count, unsettles, settles, is_unsynced, unsettled_surely, unsettled_perhaps, is_unclean}
 use Rattle.flat_history.specs.Legal.{level_after, level_at}
 use Rattle.flat_history.specs.Plain.{loses_role, lost_count}
 use Rattle.flat_history.proofs.LegalLaws.{both}
@@ -67,12 +68,12 @@ is_lost-both xs ys role = list_any-append (λ e. loses_role role e.event) xs ys
 
 takes-lost : (found : Option Reading) (role : ℕ) (event : Event) → keeps_losses event ≡ true → takes found role event ≡ loses_role role event
 takes-lost found role (Lost lost cause) keeps = refl
-takes-lost found role (Step kind left) keeps = absurd (cc)
+takes-lost found role (Step TakenOver left) keeps = absurd (cc)
 takes-lost found role event keeps = refl
 
 gives-none : (found : Option Reading) (role : ℕ) (event : Event) → keeps_losses event ≡ true → gives_back found role event ≡ false
 gives-none found role (Rebuilt rebuilt) keeps = absurd (cc)
-gives-none found role (Step kind left) keeps = absurd (cc)
+gives-none found role (Step Begun left) keeps = absurd (cc)
 gives-none found role event keeps = refl
 
 or-assoc : (a b c : Bool) → ((a || b) || c) ≡ (a || (b || c))
@@ -123,20 +124,6 @@ count-lost world xs k j keep le = count_below-same 32 (is_gone world xs k j) (is
 
 -- ---- unclean
 
-not-resynced : (event : Event) → keeps_losses event ≡ true → is_resync_end event ≡ false
-not-resynced (Step kind left) keeps = absurd (cc)
-not-resynced event keeps = refl
-
-none-resynced : (xs : List Entry) → KeepLosses xs → list_any (λ e. is_resync_end e.event) xs ≡ false
-none-resynced [] keep = refl
-none-resynced (x ∷ xs) keep =
-    let parts : (keeps_losses x.event ≡ true) × KeepLosses xs = keep-parts x xs keep in
-    ap (λ b. b || list_any (λ e. is_resync_end e.event) xs) (not-resynced x.event parts.0) ∙ none-resynced xs parts.1
-
--- what was opened dirty stays unsynced
-pub unsynced-dirty : (world : World) (xs : List Entry) → KeepLosses xs → is_unsynced world xs ≡ was_dirty world
-unsynced-dirty world xs keep = ap (λ b. was_dirty world && not b) (none-resynced xs keep) ∙ and-true (was_dirty world)
-
 surely-unsettled : (was : Bool) (xs : List Entry) → fold unsettled_surely was xs ≡ (was && not (list_any (λ e. settles e.event) xs) || is_unsettled xs)
 surely-unsettled was [] = no-more was
   where
@@ -161,10 +148,10 @@ perhaps-unsettled was [] = or-false was
 perhaps-unsettled was (x ∷ xs) =
     perhaps-unsettled (unsettled_perhaps was x) xs ∙ or-assoc was (unsettles x.event) (list_any (λ e. unsettles e.event) xs)
 
-unclean-written : (world : World) (xs : List Entry) (k j : ℕ) → KeepLosses xs → is_unclean world xs k j ≡ (was_dirty world || is_written xs k j)
+unclean-written : (world : World) (xs : List Entry) (k j : ℕ) → is_unclean world xs k j ≡ (is_unsynced world (take k xs) || is_written xs k j)
 unfolding is_unclean
-unclean-written world xs k j keep =
-    ap₂ (λ a b. a || b) (unsynced-dirty world (take k xs) (keep-take k xs keep))
+unclean-written world xs k j =
+    ap (λ b. is_unsynced world (take k xs) || b)
     (perhaps-unsettled (fold unsettled_surely false (take k xs)) (slice_range xs k j)
     ∙ ap (λ b. b || list_any (λ e. unsettles e.event) (slice_range xs k j)) (surely-unsettled false (take k xs)))
 
@@ -172,13 +159,13 @@ pub losses-gone : LossesAreGone
 losses-gone world entries k j keep le = record {
   gone = λ role. gone-lost world role entries k j keep le;
   count = count-lost world entries k j keep le;
-  unclean = unclean-written world entries k j keep;
+  unclean = unclean-written world entries k j;
 }
 
 -- ---- the level
 
 level-stays : (level : ℕ) (event : Event) → keeps_losses event ≡ true → level_after level event ≡ level
-level-stays level (Step kind left) keeps = absurd (cc)
+level-stays level (Step TakenOver left) keeps = absurd (cc)
 level-stays level event keeps = refl
 
 level-kept : (level : ℕ) (xs : List Entry) → KeepLosses xs → fold (λ level e. level_after level e.event) level xs ≡ level

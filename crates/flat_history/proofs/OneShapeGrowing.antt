@@ -121,23 +121,26 @@ call-one_shape opening ops before who end (event ∷ events) enters numbered ris
 )
 
 -- the next number begins another call
-begins-from : (entries : List Entry) (start : ℕ) (who : Who) (end : ℕ) (event : Event) (events : List Event)
-    → who.number ≡ fold (number_after who.caller) start entries → BeginAnother (last_of entries) (entries_of who end (event ∷ events))
-begins-from [] start who end event events number = tt
-begins-from (e ∷ []) start who end event events number = other e.caller e.number who.caller who.number start number
+begins-from : (entries : List Entry) (start : ℕ) (next : Entry) (added : List Entry)
+    → next.number ≡ fold (number_after next.caller) start entries → BeginAnother (last_of entries) (next ∷ added)
+begins-from [] start next added number = tt
+begins-from (e ∷ []) start next added number = other e.caller e.number next.caller next.number start number
   where
     other : (c n caller n' start : ℕ) → n' ≡ (cond (c == caller) (n + 1) start) → ((c == caller) && (n == n')) ≡ false
     other c n caller n' start is = grind (arith, nat_tests, is)
-begins-from (e ∷ x ∷ entries) start who end event events number = begins-from (x ∷ entries) (number_after who.caller start e) who end event events number
+begins-from (e ∷ x ∷ entries) start next added number = begins-from (x ∷ entries) (number_after next.caller start e) next added number
 
-none-another : (last : Option Entry) → BeginAnother last []
+pub next-begins : (entries : List Entry) (next : Entry) (added : List Entry) → next.number ≡ next_number next.caller entries → BeginAnother (last_of entries) (next ∷ added)
+next-begins entries next added number = begins-from entries 0 next added number
+
+pub none-another : (last : Option Entry) → BeginAnother last []
 none-another (Some last) = tt
 none-another last = tt
 
 pub call-begins : (entries : List Entry) (who : Who) (end : ℕ) (events : List Event) → who.number ≡ next_number who.caller entries
     → BeginAnother (last_of entries) (entries_of who end events)
 call-begins entries who end [] number = none-another (last_of entries)
-call-begins entries who end (event ∷ events) number = begins-from entries 0 who end event events number
+call-begins entries who end (event ∷ events) number = next-begins entries (one who end event) (entries_of who end events) number
 
 -- where a call ended, the history ended
 pub call-ends : (first : ℕ) (entries : List Entry) (who : Who) (end : ℕ) (event : Event) (events : List Event) → last_end_from first (entries ++ entries_of who end (event ∷ events)) ≡ end

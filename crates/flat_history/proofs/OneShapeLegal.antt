@@ -1,7 +1,7 @@
 -- A history of an array that keeps its shape is legal over a bank that was found so.
-use Rattle.std.proofs.Common.{◌≡◌, ℕ, ◌<◌, ◌≤◌, Bool, true, false, ◌&&◌, cond, nat_lt, List, [], ◌∷◌, ◌++◌, length, take, refl, sym, ap, ap₂, ◌∙◌, subst, arith, Option, Some, None, unwrap_or, MatchOption}
-use Rattle.std.specs.Prelude.{fold, min, not, IsFalse}
-use Rattle.std.specs.List.{list_all}
+use Rattle.std.proofs.Common.{◌≡◌, ℕ, ◌+◌, ◌<◌, ◌≤◌, Bool, true, false, ◌&&◌, cond, nat_lt, List, [], ◌∷◌, ◌++◌, length, take, refl, sym, ap, ap₂, ◌∙◌, subst, arith, Option, Some, None, unwrap_or, MatchOption}
+use Rattle.std.specs.Prelude.{fold, min, not, IfSome, IsFalse}
+use Rattle.std.specs.List.{list_any, list_all}
 use Rattle.std.proofs.lemmas.List.{length-take-le, take-take}
 use Rattle.std.proofs.lemmas.Bool.{ltb-true}
 use Rattle.std.specs.Bool.{OnTrue}
@@ -16,18 +16,21 @@ use Rattle.bank.specs.declared.bank.Operation.{Operation}
 use Rattle.superblocks.specs.Reading.{Reading, reading, is_clean, is_whole, role_state, role_count}
 use Rattle.flat_history.specs.declared.events.Entry.{Entry}
 use Rattle.flat_history.specs.declared.events.Event.{Event}
-use Rattle.flat_history.specs.declared.events.Event.TheVariants.{Read, Wrote, Torn, Flushed, Lost, SpareLost, Failed, Shown, Stopped, Halted, Refused}
+use Rattle.flat_history.specs.declared.events.Event.TheVariants.{Read, Wrote, Torn, Flushed, Lost, SpareLost, Failed, Step, Stepped, Shown, Stopped, Halted, Refused}
 use Rattle.flat_history.specs.declared.events.LostCause.{LostCause}
 use Rattle.flat_history.specs.declared.events.LostCause.TheVariants.{Absent, Recovering, Command, Fault}
+use Rattle.flat_history.specs.declared.events.StepKind.{StepKind}
+use Rattle.flat_history.specs.declared.events.StepKind.TheVariants.{ResyncStripe, ResyncEnded}
 use Rattle.flat_history.specs.World.{World, until, contents_at, reading_at, opening_list}
 use Rattle.flat_history.specs.Stands.{stands}
 use Rattle.flat_history.specs.Flat.{is_same_call, rest_of_call, last_of, length_after, length_of, limit_after, limit_of, visible_of}
 use Rattle.flat_history.specs.Transfers.{last_end_from, IsReadOver, EndsWithinOver, IsTornOver}
-use Rattle.flat_history.specs.Legal.{call_end, IsLost, IsRefusedRight, IsLegalEvent, AreLegal}
-use Rattle.flat_history.specs.Reshaped.{AreReshaped, is_done, behind, comes_with_finish, comes_with_step, IsFinishedRight, ArePlansDone, open_plans}
+use Rattle.flat_history.specs.Legal.{call_end, known_left, IsLost, IsStep, IsRefusedRight, IsLegalEvent, AreLegal}
+use Rattle.flat_history.specs.Losses.{is_resync_end, is_unsynced}
+use Rattle.flat_history.specs.Reshaped.{AreReshaped, is_done, is_planned, behind, comes_with_finish, comes_with_step, plans_after, IsFinishedRight, ArePlansDone, open_plans}
 use Rattle.flat_history.specs.Growing.{grown}
-use Rattle.flat_history.specs.OneShape.{ShapeOpening, IsFoundAs, opening_in, keeps_losses, KeepLosses, IsOneShapeLost, IsOneShapeRefusal, IsOneShapeEvent, AreOneShape, IsOneShapeLegal, OneShapeHistoriesAreLegal}
-use Rattle.flat_history.proofs.OneShapeGone.{keep-both, after-lost, after-count, unsynced-dirty, same-level}
+use Rattle.flat_history.specs.OneShape.{ShapeOpening, IsFoundAs, opening_in, is_resyncing, IsResyncStep, keeps_shape, keeps_losses, KeepLosses, IsOneShapeLost, IsOneShapeRefusal, IsOneShapeEvent, AreOneShape, IsOneShapeLegal, OneShapeHistoriesAreLegal}
+use Rattle.flat_history.proofs.OneShapeGone.{keep-both, after-lost, after-count, same-level}
 
 -- ---- where the entries of a call end
 
@@ -131,6 +134,12 @@ found-in world = record {
 
 -- ---- the entries
 
+-- the steps of a resync neither begin a reshape nor take a level over
+resync-keeps : (kind : StepKind) → IsResyncStep kind → keeps_shape kind ≡ true
+resync-keeps ResyncStripe is = refl
+resync-keeps ResyncEnded is = refl
+resync-keeps kind is = absurd is
+
 -- no event of such a history gives a role back
 pub event-keeps : (opening : ShapeOpening) (before : List Entry) (e : Entry) (rest : List Entry) (event : Event)
     → IsOneShapeEvent opening before e rest event → keeps_losses event ≡ true
@@ -141,6 +150,8 @@ event-keeps opening before e rest Flushed is = refl
 event-keeps opening before e rest (Lost role cause) is = refl
 event-keeps opening before e rest (SpareLost slot) is = refl
 event-keeps opening before e rest (Failed role) is = refl
+event-keeps opening before e rest (Step kind left) is = resync-keeps kind is.0
+event-keeps opening before e rest (Stepped done left ended) is = refl
 event-keeps opening before e rest (Shown status) is = refl
 event-keeps opening before e rest Stopped is = refl
 event-keeps opening before e rest Halted is = refl
@@ -152,6 +163,17 @@ entries-keep opening ops before [] are = refl
 entries-keep opening ops before (x ∷ xs) are =
     ap (λ b. b && list_all (λ e. keeps_losses e.event) xs) (event-keeps opening before x (rest_of_call x xs) x.event are.0.event)
     ∙ entries-keep opening ops (before ++ x ∷ []) xs are.1
+
+-- the opening says what is unsynced
+pub unsynced-resyncing : (world : World) (opening : ShapeOpening) (before : List Entry) → IsFoundAs world opening → is_unsynced world before ≡ is_resyncing opening before
+unsynced-resyncing world opening before found = ap (λ b. b && not (list_any (λ e. is_resync_end e.event) before)) (sym found.dirty)
+
+-- a step of a resync is no free one
+legal_step : (world : World) (before : List Entry) (e : Entry) (rest : List Entry) (kind : StepKind) (left : ℕ)
+    → IsResyncStep kind → IfSome (known_left before e rest) (λ n. left + 1 ≡ n) → IsStep world before e rest kind left
+legal_step world before e rest ResyncStripe left is lowers = lowers
+legal_step world before e rest ResyncEnded left is lowers = lowers
+legal_step world before e rest kind left is lowers = absurd is
 
 module _ (world : World) (opening : ShapeOpening) (found : IsFoundAs world opening) (before : List Entry) (keep : KeepLosses before) where
   legal_loss : (e : Entry) (rest : List Entry) (role : ℕ) (cause : LostCause) → IsOneShapeLost opening before e rest role cause → IsLost world before e rest role cause
@@ -167,8 +189,12 @@ module _ (world : World) (opening : ShapeOpening) (found : IsFoundAs world openi
     gone = let same = after-count world before keep in omega (arith, same, is.lost);
     tolerated = is.tolerated ∙ found.tolerance ∙ ap tolerance_of (sym (same-level world before keep));
   }
-  legal_refusal (NotResynced role) is = (after-lost world role before keep ∙ is.0, unsynced-dirty world before keep ∙ sym found.dirty ∙ is.1)
+  legal_refusal (NotResynced role) is = (after-lost world role before keep ∙ is.0, unsynced-resyncing world opening before found ∙ is.1)
   legal_refusal refusal is = tt
+
+  legal_end : (ended : Option Refusal) → IfSome ended (IsOneShapeRefusal opening before) → IfSome ended (IsRefusedRight world before)
+  legal_end None is = tt
+  legal_end (Some refusal) is = legal_refusal refusal is
 
   legal_event : (e : Entry) (rest : List Entry) (event : Event) → IsOneShapeEvent opening before e rest event → IsLegalEvent world before e rest event
   legal_event e rest (Read at body) is = subst (λ l. IsReadOver l before at body) found.list is
@@ -178,6 +204,8 @@ module _ (world : World) (opening : ShapeOpening) (found : IsFoundAs world openi
   legal_event e rest (Lost role cause) is = legal_loss e rest role cause is
   legal_event e rest (SpareLost slot) is = tt
   legal_event e rest (Failed role) is = is
+  legal_event e rest (Step kind left) is = legal_step world before e rest kind left is.0 is.1
+  legal_event e rest (Stepped done left ended) is = (is.0, legal_end ended is.1)
   legal_event e rest (Shown status) is = is
   legal_event e rest Stopped is = tt
   legal_event e rest Halted is = tt
@@ -217,6 +245,8 @@ length-stays opening before e rest n Flushed is = refl
 length-stays opening before e rest n (Lost role cause) is = refl
 length-stays opening before e rest n (SpareLost slot) is = refl
 length-stays opening before e rest n (Failed role) is = refl
+length-stays opening before e rest n (Step kind left) is = refl
+length-stays opening before e rest n (Stepped done left ended) is = refl
 length-stays opening before e rest n (Shown status) is = refl
 length-stays opening before e rest n Stopped is = refl
 length-stays opening before e rest n Halted is = refl
@@ -232,6 +262,8 @@ limit-stays opening before e rest limit Flushed is = refl
 limit-stays opening before e rest limit (Lost role cause) is = refl
 limit-stays opening before e rest limit (SpareLost slot) is = refl
 limit-stays opening before e rest limit (Failed role) is = refl
+limit-stays opening before e rest limit (Step kind left) is = refl
+limit-stays opening before e rest limit (Stepped done left ended) is = refl
 limit-stays opening before e rest limit (Shown status) is = refl
 limit-stays opening before e rest limit Stopped is = refl
 limit-stays opening before e rest limit Halted is = refl
@@ -257,8 +289,15 @@ visible-all opening ops n xs are =
 
 -- ---- no reshape
 
+-- a step of a resync is no finish
+step-finishes : (world : World) (before : List Entry) (e : Entry) (behind : List Entry) (kind : StepKind) (left : ℕ)
+    → IsResyncStep kind → IsFinishedRight world before e behind (Step kind left)
+step-finishes world before e behind ResyncStripe left is = tt
+step-finishes world before e behind ResyncEnded left is = tt
+step-finishes world before e behind kind left is = absurd is
+
 not_finished : (world : World) (opening : ShapeOpening) (before : List Entry) (e : Entry) (rest behind : List Entry) (event : Event)
-    → IsOneShapeEvent opening before e rest event → IsFinishedRight world before e behind event × (is_done event ≡ false)
+    → IsOneShapeEvent opening before e rest event → IsFinishedRight world before e behind event × (is_planned event ≡ false)
 not_finished world opening before e rest behind (Read at body) is = (tt, refl)
 not_finished world opening before e rest behind (Wrote at body) is = (tt, refl)
 not_finished world opening before e rest behind (Torn at body) is = (tt, refl)
@@ -266,30 +305,45 @@ not_finished world opening before e rest behind Flushed is = (tt, refl)
 not_finished world opening before e rest behind (Lost role cause) is = (tt, refl)
 not_finished world opening before e rest behind (SpareLost slot) is = (tt, refl)
 not_finished world opening before e rest behind (Failed role) is = (tt, refl)
+not_finished world opening before e rest behind (Step kind left) is = (step-finishes world before e behind kind left is.0, refl)
+not_finished world opening before e rest behind (Stepped done left ended) is = (tt, refl)
 not_finished world opening before e rest behind (Shown status) is = (tt, refl)
 not_finished world opening before e rest behind Stopped is = (tt, refl)
 not_finished world opening before e rest behind Halted is = (tt, refl)
 not_finished world opening before e rest behind (Refused refusal) is = (tt, refl)
 not_finished world opening before e rest behind event is = absurd is
 
-on_false : (b : Bool) (P : Type 0) → b ≡ false → OnTrue b P
-on_false true P e = absurd (cc)
-on_false false P e = tt
+-- no plan is made
+plans-none : (before : List Entry) (e : Entry) → open_plans before ≡ [] → is_planned e.event ≡ false → open_plans (before ++ e ∷ []) ≡ []
+plans-none before e none unplanned = fold-snoc [] before ∙ ap (λ (plans : List Entry). plans_after plans e) none ∙ by (is_done e.event) (is_planned e.event) unplanned
+  where
+    fold-snoc : (plans before : List Entry) → fold plans_after plans (before ++ e ∷ []) ≡ plans_after (fold plans_after plans before) e
+    fold-snoc plans [] = refl
+    fold-snoc plans (x ∷ before) = fold-snoc (plans_after plans x) before
 
-reshaped_entries : (world : World) (opening : ShapeOpening) (ops : ℕ) (before xs : List Entry) → AreOneShape opening ops before xs → AreReshaped world before xs
-reshaped_entries world opening ops before [] are = tt
-reshaped_entries world opening ops before (e ∷ xs) are =
-    let none : IsFinishedRight (until e.end world) before e (behind comes_with_finish e xs) e.event × (is_done e.event ≡ false) =
+    by : (done planned : Bool) → planned ≡ false → cond done [] (cond planned (e ∷ []) []) ≡ []
+    by true planned is = refl
+    by false true is = absurd (cc)
+    by false false is = refl
+
+plans-done : (world : World) (before : List Entry) (e : Entry) (rest : List Entry) (b : Bool) → open_plans before ≡ [] → OnTrue b (ArePlansDone world before e rest (open_plans before))
+plans-done world before e rest true none = subst (λ (plans : List Entry). ArePlansDone world before e rest plans) (sym none) tt
+plans-done world before e rest false none = tt
+
+reshaped_entries : (world : World) (opening : ShapeOpening) (ops : ℕ) (before xs : List Entry) → open_plans before ≡ [] → AreOneShape opening ops before xs → AreReshaped world before xs
+reshaped_entries world opening ops before [] unplanned are = tt
+reshaped_entries world opening ops before (e ∷ xs) unplanned are =
+    let none : IsFinishedRight (until e.end world) before e (behind comes_with_finish e xs) e.event × (is_planned e.event ≡ false) =
     not_finished (until e.end world) opening before e (rest_of_call e xs) (behind comes_with_finish e xs) e.event are.0.event in (
       record {
         finished = none.0;
-        plans = on_false (is_done e.event) (ArePlansDone (until e.end world) before e (behind comes_with_step e xs) (open_plans before)) none.1;
+        plans = plans-done (until e.end world) before e (behind comes_with_step e xs) (is_done e.event) unplanned;
       },
-      reshaped_entries world opening ops (before ++ e ∷ []) xs are.1,
+      reshaped_entries world opening ops (before ++ e ∷ []) xs (plans-none before e unplanned none.1) are.1,
     )
 
 pub one_shape-legal : OneShapeHistoriesAreLegal
 one_shape-legal world opening entries found are = (
   legal_entries world opening [] entries found (rw (← found.first) (omega arith)) refl are,
-  reshaped_entries world opening (length world.tape) [] entries are,
+  reshaped_entries world opening (length world.tape) [] entries refl are,
 )

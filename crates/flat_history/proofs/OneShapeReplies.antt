@@ -1,24 +1,27 @@
 -- Replies of an array that keeps its shape fit their requests.
-use Rattle.std.proofs.Common.{◌≡◌, ℕ, ◌+◌, Bool, true, false, nat_lt, List, length, refl, sym, ap, ◌∙◌, subst, MatchBool, Option, Some, None, nat_le}
-use Rattle.std.specs.Prelude.{IfSome, ⊤}
+use Rattle.std.proofs.Common.{◌≡◌, ℕ, ◌+◌, inl, inr, arith, Bool, true, false, nat_lt, List, [], ◌∷◌, ◌++◌, length, refl, sym, ap, ◌∙◌, subst, MatchBool, Option, Some, None, nat_le}
+use Rattle.std.specs.Prelude.{fold, IfSome, IsFalse, ⊤}
 use Rattle.md_base.specs.declared.places.Shape.{Shape}
 use Rattle.md_base.specs.Shapes.{tolerance}
 use Rattle.md_base.specs.Search.{count_below}
 use Rattle.md_base.proofs.Counted.{count_below-same}
-use Rattle.superblocks.specs.Reading.{Reading}
-use Rattle.flat_history.specs.Losses.{is_gone_after}
+use Rattle.superblocks.specs.Reading.{Reading, is_reshaping}
+use Rattle.flat_history.specs.Losses.{is_gone_after, is_unsynced}
 use Rattle.md_base.specs.declared.answers.Refusal.{Refusal}
-use Rattle.md_base.specs.declared.answers.Refusal.TheVariants.{TooManyMissing, BackupFault, NoSuchRole}
+use Rattle.md_base.specs.declared.answers.Refusal.TheVariants.{TooManyMissing, NotResynced, BackupFault, NoSuchRole, Nothing}
 use Rattle.flat_history.specs.declared.events.Entry.{Entry}
 use Rattle.flat_history.specs.declared.events.Event.{Event}
-use Rattle.flat_history.specs.declared.events.Event.TheVariants.{Read, Wrote, Flushed, Failed, Refused}
+use Rattle.flat_history.specs.declared.events.Event.TheVariants.{Read, Wrote, Torn, Flushed, Lost, SpareLost, Failed, Step, Stepped, Shown, Stopped, Halted, Refused}
+use Rattle.flat_history.specs.declared.events.StepKind.TheVariants.{ResyncStripe, ResyncEnded}
+use Rattle.md_base.specs.declared.answers.BusyKind.TheVariants.{Reshape, Resync, Rebuild, Plan}
 use Rattle.flat_history.specs.declared.events.Request.{Request}
-use Rattle.flat_history.specs.declared.events.Request.TheVariants.{Read as AsksRead, Write as AsksWrite, Flush as AsksFlush, Fail as AsksFail}
+use Rattle.flat_history.specs.declared.events.Request.TheVariants.{Read as AsksRead, Write as AsksWrite, Flush as AsksFlush, Fail as AsksFail, Steps as AsksSteps}
 use Rattle.flat_history.specs.World.{World, until, reading_at, opening_list}
-use Rattle.flat_history.specs.Flat.{visible_of}
+use Rattle.flat_history.specs.Flat.{rest_of_call, visible_of}
 use Rattle.flat_history.specs.Transfers.{IsRefusedAt, IsPastEnd}
-use Rattle.flat_history.specs.Fits.{is_tolerable, is_asked, WhereAsked, IsNoRole, IsReadRefused, IsWriteRefused, Answers}
-use Rattle.flat_history.specs.OneShape.{is_lost, KeepLosses, OneShapeAnswers, OneShapeRepliesFit}
+use Rattle.flat_history.specs.Legal.{call_before}
+use Rattle.flat_history.specs.Fits.{is_tolerable, is_asked, WhereAsked, phases_after, phases_left, is_rebuildable, IsIdle, IsNoRole, DidSteps, EndsSteps, IsReadRefused, IsWriteRefused, Answers}
+use Rattle.flat_history.specs.OneShape.{ShapeOpening, IsOneShapeEvent, AreOneShape, IsOneShapeLegal, is_lost, KeepLosses, DidOneShapeSteps, EndsResync, OneShapeAnswers, OneShapeRepliesFit}
 use Rattle.flat_history.proofs.OneShapeGone.{after-lost}
 use Rattle.flat_history.proofs.OneShapeLegal.{list-until}
 
@@ -40,21 +43,39 @@ module _ (world : World) (size : ℕ) (before : List Entry) (e : Entry) (same : 
       → IsRefusedAt (visible_of (length (opening_list world)) before) to Listed refusal
   over-bank to Listed refusal is = subst (λ n. IsRefusedAt (visible_of n before) to Listed refusal) same is
 
+  did-steps : (most done left : ℕ) (ended : Option Refusal) → DidOneShapeSteps (call_before before e) most done left ended → DidSteps world before (call_before before e) most done left ended
+  did-steps most done left ended did = record {
+    at_most = did.at_most;
+    all_done = elim did.all_done [ inl all ↦ inl all | inr (inl none) ↦ inr (inl none) | inr (inr refused) ↦ inr (inr (inl refused)) ];
+    some_done = did.some_done;
+    counted = omega (arith, did.counted);
+    not_more = omega (arith, did.counted);
+  }
+
+  ended-steps : (ended : Option Refusal) → IfSome ended EndsResync → IfSome ended (EndsSteps world before e.end)
+  ended-steps None is = tt
+  ended-steps (Some (TooManyMissing count tolerance)) is = tt
+  ended-steps (Some (NotResynced role)) is = tt
+  ended-steps (Some refusal) is = absurd is
+
   answers-fit : (request : Request) (event : Event) → ((role : ℕ) → event ≡ Refused (NoSuchRole role) → WhereAsked world before e.end (IsNoRole role))
-      → OneShapeAnswers size before request event → Answers world before e request event
-  answers-fit (AsksRead at count) (Read a body) none is = is
-  answers-fit (AsksRead at count) (Refused refusal) none is = over-bank (at + count) IsReadRefused refusal is
-  answers-fit (AsksWrite at body) (Wrote a b) none is = is
-  answers-fit (AsksWrite at body) (Refused refusal) none is = over-bank (at + length body) IsWriteRefused refusal (refused-write (visible_of size before) (at + length body) refusal is)
-  answers-fit AsksFlush Flushed none is = tt
-  answers-fit AsksFlush (Refused (TooManyMissing count tolerance)) none is = tt
-  answers-fit (AsksFail role) (Failed failed) none is = is
-  answers-fit (AsksFail role) (Refused (NoSuchRole asked)) none is = (is, subst (λ r. WhereAsked world before e.end (IsNoRole r)) is (none asked refl))
-  answers-fit request event none is = absurd is
+      → (event ≡ Refused Nothing → WhereAsked world before e.end (IsIdle world before))
+      → OneShapeAnswers size before (call_before before e) request event → Answers world before e request event
+  answers-fit (AsksRead at count) (Read a body) none idle is = is
+  answers-fit (AsksRead at count) (Refused refusal) none idle is = over-bank (at + count) IsReadRefused refusal is
+  answers-fit (AsksWrite at body) (Wrote a b) none idle is = is
+  answers-fit (AsksWrite at body) (Refused refusal) none idle is = over-bank (at + length body) IsWriteRefused refusal (refused-write (visible_of size before) (at + length body) refusal is)
+  answers-fit AsksFlush Flushed none idle is = tt
+  answers-fit AsksFlush (Refused (TooManyMissing count tolerance)) none idle is = tt
+  answers-fit (AsksFail role) (Failed failed) none idle is = is
+  answers-fit (AsksFail role) (Refused (NoSuchRole asked)) none idle is = (is, subst (λ r. WhereAsked world before e.end (IsNoRole r)) is (none asked refl))
+  answers-fit (AsksSteps most) (Stepped done left ended) none idle is = (did-steps most done left ended is.0, ended-steps ended is.1)
+  answers-fit (AsksSteps most) (Refused Nothing) none idle is = idle refl
+  answers-fit request event none idle is = absurd is
 
 pub one_shape-fit : OneShapeRepliesFit
-one_shape-fit world size before e request same late none fits = record {
-  answers = answers-fit (until e.end world) size before e (same ∙ ap length (sym (list-until world e.end late))) request e.event none fits.answers;
+one_shape-fit world size before e request same late none idle fits = record {
+  answers = answers-fit (until e.end world) size before e (same ∙ ap length (sym (list-until world e.end late))) request e.event none idle fits.answers;
   torn = fits.torn;
 }
 
@@ -78,3 +99,47 @@ pub tolerable-lost : (world : World) (before : List Entry) (shape : Shape) → K
     → is_tolerable world before shape ≡ nat_le (count_below shape.disks (is_lost before)) (tolerance shape)
 tolerable-lost world before shape keep =
     ap (λ n. nat_le n (tolerance shape)) (count_below-same shape.disks (is_gone_after world before) (is_lost before) (λ role. after-lost world role before keep))
+
+-- ---- what is pending
+
+-- no event of such a history plans a phase, or ends one
+phases-stay : (world : World) (opening : ShapeOpening) (before : List Entry) (e : Entry) (rest : List Entry) (n : ℕ) (event : Event)
+    → IsOneShapeEvent opening before e rest event → phases_after world n e event ≡ n
+phases-stay world opening before e rest n (Read at body) is = refl
+phases-stay world opening before e rest n (Wrote at body) is = refl
+phases-stay world opening before e rest n (Torn at body) is = refl
+phases-stay world opening before e rest n Flushed is = refl
+phases-stay world opening before e rest n (Lost role cause) is = refl
+phases-stay world opening before e rest n (SpareLost slot) is = refl
+phases-stay world opening before e rest n (Failed role) is = refl
+phases-stay world opening before e rest n (Step ResyncStripe left) is = refl
+phases-stay world opening before e rest n (Step ResyncEnded left) is = refl
+phases-stay world opening before e rest n (Step kind left) is = absurd is.0
+phases-stay world opening before e rest n (Stepped done left ended) is = refl
+phases-stay world opening before e rest n (Shown status) is = refl
+phases-stay world opening before e rest n Stopped is = refl
+phases-stay world opening before e rest n Halted is = refl
+phases-stay world opening before e rest n (Refused refusal) is = refl
+phases-stay world opening before e rest n event is = absurd is
+
+phases-from : (world : World) (opening : ShapeOpening) (ops n : ℕ) (before xs : List Entry) → AreOneShape opening ops before xs
+    → fold (λ n e. phases_after world n e e.event) n xs ≡ n
+phases-from world opening ops n before [] are = refl
+phases-from world opening ops n before (x ∷ xs) are =
+    ap (λ m. fold (λ n e. phases_after world n e e.event) m xs) (phases-stay world opening before x (rest_of_call x xs) n x.event are.0.event)
+    ∙ phases-from world opening ops n (before ++ x ∷ []) xs are.1
+
+-- nothing is pending in what is synced, where the superblocks tell of no reshape and of no role to rebuild
+pub idle-right : (world : World) (opening : ShapeOpening) (ops end : ℕ) (before : List Entry) → IsOneShapeLegal opening ops before → IsFalse (is_unsynced world before)
+    → ((r : Reading) → reading_at world end ≡ Some r → is_asked world before r ≡ true → IsFalse (is_reshaping r.newest) × IsFalse (is_rebuildable r))
+    → WhereAsked world before end (IsIdle world before)
+idle-right world opening ops end before are synced none = where-asked world before end (IsIdle world before) (λ r is asked. idle r (none r is asked))
+  where
+    clash : (b : Bool) → b ≡ false → b ≡ true → ⊥
+    clash b off on = absurd (cc)
+
+    idle : (r : Reading) → IsFalse (is_reshaping r.newest) × IsFalse (is_rebuildable r) → IsIdle world before r
+    idle r none Reshape is = clash (is_reshaping r.newest) none.0 is
+    idle r none Resync is = clash (is_unsynced world before) synced is
+    idle r none Rebuild is = clash (is_rebuildable r) none.1 is
+    idle r none Plan is = let phases : phases_left world before ≡ 0 = phases-from world opening ops 0 [] before are in absurd (omega (arith, phases, is))

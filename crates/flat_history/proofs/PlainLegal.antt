@@ -1,15 +1,12 @@
 -- A plain history without losses is legal.
-use Rattle.std.proofs.Common.{rules, ◌≡◌, ℕ, zero, suc, ◌+◌, ◌<◌, ◌≤◌, inl, inr, Bool, true, false, not, ◌&&◌, ◌||◌, ◌==◌, cond, List, [], ◌∷◌, ◌++◌, length, take, refl, sym, ap, ◌∙◌, subst, arith, Option, Some, None, unwrap_or, MatchOption, MatchBool, append_assoc, append-nil, zero-le}
-use Rattle.std.specs.Prelude.{fold, IsTrue, IsFalse, ⊤}
+use Rattle.std.proofs.Common.{rules, ◌≡◌, ℕ, zero, suc, ◌≤◌, Bool, true, false, not, ◌&&◌, ◌||◌, ◌==◌, cond, List, [], ◌∷◌, ◌++◌, length, take, refl, sym, ap, ◌∙◌, subst, arith, Option, Some, unwrap_or, MatchOption, MatchBool}
+use Rattle.std.specs.Prelude.{⊤}
 use Rattle.std.specs.Option.{option_map_or}
 use Rattle.std.specs.List.{list_any, list_all}
-use Rattle.md_base.specs.Sectors.{Sector}
 use Rattle.md_base.specs.Search.{count_below}
 use Rattle.md_base.proofs.Counted.{count_below-same}
-use Rattle.md_base.specs.declared.answers.Refusal.{Refusal}
 use Rattle.md_base.specs.declared.answers.Refusal.TheVariants.{PastEnd, TooManyMissing}
 use Rattle.bank.specs.declared.bank.Operation.{Operation}
-use Rattle.bank.proofs.Laws.{contents-earlier}
 use Rattle.flat_history.specs.declared.events.Entry.{Entry}
 use Rattle.flat_history.specs.declared.events.Event.{Event}
 use Rattle.flat_history.specs.declared.events.Event.TheVariants.{Read, Wrote, Torn, Flushed, Lost, SpareLost, Shown, Stopped, Halted, Refused}
@@ -19,8 +16,8 @@ use Rattle.flat_history.specs.Stands.{stands}
 use Rattle.flat_history.specs.Flat.{is_same_call, rest_of_call, last_of, visible_of}
 use Rattle.flat_history.specs.Transfers.{last_end_from, IsTooMany, IsTornOver}
 use Rattle.flat_history.specs.Legal.{is_loss, call_end, IsLegalEvent, IsLegalEntry, AreLegal, IsLegal}
-use Rattle.flat_history.specs.Reshaped.{AreReshaped, IsReshaped, IsReshapedBy, is_done, behind, comes_with_finish, comes_with_step, IsFinishedRight, ArePlansDone, open_plans}
-use Rattle.flat_history.specs.Plain.{Opening, loses_role, lost_count, IsPlainRefusal, IsPlainEvent, IsPlainEntry, ArePlain, IsPlainLegal, is_no_loss, PlainHistoriesAreLegal}
+use Rattle.flat_history.specs.Reshaped.{AreReshaped, is_done, behind, comes_with_finish, comes_with_step, IsFinishedRight, ArePlansDone, open_plans}
+use Rattle.flat_history.specs.Plain.{Opening, loses_role, lost_count, IsPlainEvent, ArePlain, is_no_loss, PlainHistoriesAreLegal}
 
 both : (a b : Bool) → (a && b) ≡ true → (a ≡ true) × (b ≡ true)
 both true b e = (refl, e)

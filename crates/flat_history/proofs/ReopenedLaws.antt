@@ -1,6 +1,6 @@
 -- What was flushed or stopped is found again.
 use Rattle.std.proofs.Common.{◌≡◌, ℕ, ◌<◌, ◌≤◌, ◌⊎◌, inl, inr, List, [], ◌∷◌, length, take, fold, refl, sym, ap, ◌∙◌, subst, arith, take_all, Some, None}
-use Rattle.std.specs.Prelude.{slice_index_or}
+use Rattle.std.specs.Prelude.{slice_index_or, IfSome}
 use Rattle.std.proofs.lemmas.List.Sums.{fold-append}
 use Rattle.std.proofs.lemmas.Bool.{le-leb}
 use Rattle.md_base.specs.Sectors.{Sector}
@@ -9,12 +9,14 @@ use Rattle.bank.proofs.Images.{drawn-image, disk-some}
 use Rattle.flat_history.specs.declared.events.Event.{Event}
 use Rattle.flat_history.specs.declared.events.Event.TheVariants.{Flushed, Stopped}
 use Rattle.flat_history.specs.declared.events.Entry.{Entry}
-use Rattle.flat_history.specs.World.{World, contents_at, opening_list}
+use Rattle.flat_history.specs.World.{World, contents_at, opening_list, reading_at}
 use Rattle.flat_history.specs.Stands.{stands, verdict}
 use Rattle.flat_history.specs.Flat.{values_of, values_after, first_values}
 use Rattle.flat_history.specs.CrashSafe.{made_by, last_resized, MayBeJudgedBy, StandsFor, IsJudged, IsRefusedRightly}
 use Rattle.flat_history.specs.Growing.{EndBy}
-use Rattle.flat_history.specs.Reopened.{OpensAccepted, IsReopened, EndsSettled, OpensWith, SettledListsAreFound}
+use Rattle.flat_history.specs.Opened.{IsSound, OpensSound}
+use Rattle.superblocks.specs.Reading.{reading}
+use Rattle.flat_history.specs.Reopened.{OpensAccepted, IsReopened, EndsSettled, OpensWith, SettledListsAreFound, SoundArraysAreFound}
 
 -- the contents at a mark are an image there
 contents-image : (world : World) (mark : ℕ) → mark ≤ length world.tape → IsImage world.start world.tape mark (contents_at world mark)
@@ -104,3 +106,14 @@ settled-found world next entries last resized safe by_last again accepted settle
     let at = safe next.first again.later by_last again.flushes in
     opens-with world next entries again.start again.tape again.scope settled
     (judged-all world entries next.first c resized again.made (accepted-before world next entries again accepted) (at c image))
+
+-- what the former one's contents there are, the next one opens with
+opens-sound : (world next : World) → next.start ≡ world.start → next.tape ≡ world.tape → next.scope ≡ world.scope
+    → IfSome (reading world.scope (contents_at world next.first)) (IsSound world.scope (contents_at world next.first)) → OpensSound next
+unfolding reading_at
+opens-sound world next start tape scope sound = rw scope (rw start (rw tape sound))
+
+pub sound-found : SoundArraysAreFound
+sound-found world next entries last fit stays by_last again accepted =
+    opens-sound world next again.start again.tape again.scope
+    (stays fit next.first again.later by_last again.flushes (contents_at world next.first) (contents-image world next.first again.within) (accepted-before world next entries again accepted))

@@ -1,16 +1,15 @@
 -- Marks that leave sound images go on to, as the tape grows.
-use Rattle.std.proofs.Common.{◌≡◌, ℕ, ◌<◌, ◌≤◌, ◌==◌, inl, inr, Bool, true, false, not, cond, List, [], ◌∷◌, ◌++◌, length, take, None, sym, ◌∙◌, ap, subst, arith}
+use Rattle.std.proofs.Common.{◌≡◌, ℕ, ◌<◌, ◌≤◌, ◌==◌, inl, inr, Bool, true, false, cond, List, [], ◌∷◌, ◌++◌, length, take, None, subst, arith}
 use Rattle.std.specs.Prelude.{IfSome}
-use Rattle.std.specs.Option.{option_map_or}
 use Rattle.std.proofs.lemmas.Bool.{cases_lt}
 use Rattle.md_base.specs.Sectors.{Sector}
 use Rattle.bank.specs.declared.bank.Operation.{Operation}
 use Rattle.bank.specs.declared.bank.Operation.TheVariants.{Write, Flush}
-use Rattle.bank.specs.Tape.{Contents, IsImage, IsDrawn, IsIn, disk, choices, AreFlushes}
+use Rattle.bank.specs.Tape.{Contents, IsDrawn, IsIn, disk, choices, AreFlushes}
 use Rattle.bank.proofs.Laws.{contents-earlier, disk-append}
 use Rattle.bank.proofs.Images.{image-drawn, image-earlier, image-now, now-image}
 use Rattle.parity.specs.Rows.{IsSector}
-use Rattle.superblocks.specs.Reading.{reading, is_clean}
+use Rattle.superblocks.specs.Reading.{reading}
 use Rattle.flat_history.specs.declared.events.Entry.{Entry}
 use Rattle.flat_history.specs.World.{World, contents_at, reading_at}
 use Rattle.flat_history.specs.Stands.{verdict}

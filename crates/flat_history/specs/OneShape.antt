@@ -1,28 +1,31 @@
 -- What a history must be for an array that keeps its shape and may lose members, over what its opening found: no bank occurs
 -- here. In each definition `before` are the entries before the entry, and `rest` are those behind it that are of the same call.
-use Rattle.std.specs.Prelude.{◌≡◌, ℕ, ◌+◌, ◌<◌, ◌≤◌, Bool, true, false, not, ◌&&◌, ◌||◌, ◌==◌, nat_lt, List, [], ◌∷◌, ◌++◌, length, take, slice_range, MatchOption, MatchBool, IsTrue, ⊤}
+use Rattle.std.specs.Prelude.{◌≡◌, ◌⊎◌, ℕ, ◌+◌, ◌<◌, ◌≤◌, Bool, true, false, not, ◌&&◌, ◌||◌, ◌==◌, nat_lt, List, [], ◌∷◌, ◌++◌, length, take, slice_range, count_by, Option, MatchOption, MatchBool, IfSome, IsSome, IsTrue, ⊤}
 use Rattle.std.specs.Option.{option_map_or}
-use Rattle.std.specs.List.{list_any, list_all}
+use Rattle.std.specs.List.{list_any, list_all, All}
 use Rattle.md_base.specs.Sectors.{Sector}
 use Rattle.md_base.specs.Shapes.{tolerance_of}
 use Rattle.md_base.specs.declared.answers.Refusal.{Refusal}
-use Rattle.md_base.specs.declared.answers.Refusal.TheVariants.{PastEnd, TooManyMissing, NotResynced, NoSuchRole}
+use Rattle.md_base.specs.declared.answers.Refusal.TheVariants.{PastEnd, TooManyMissing, NotResynced, NoSuchRole, Nothing}
+use Rattle.md_base.specs.declared.answers.Who.{Who}
 use Rattle.superblocks.specs.Reading.{is_whole, role_state, role_count}
 use Rattle.flat_history.specs.declared.events.Event.{Event}
-use Rattle.flat_history.specs.declared.events.Event.TheVariants.{Read, Wrote, Torn, Flushed, Lost, SpareLost, Rebuilt, Failed, Step, Shown, Stopped, Halted, Refused}
+use Rattle.flat_history.specs.declared.events.Event.TheVariants.{Read, Wrote, Torn, Flushed, Lost, SpareLost, Rebuilt, Failed, Step, Stepped, Shown, Stopped, Halted, Refused}
 use Rattle.flat_history.specs.declared.events.LostCause.{LostCause}
 use Rattle.flat_history.specs.declared.events.LostCause.TheVariants.{Absent, Recovering, Command, Fault}
+use Rattle.flat_history.specs.declared.events.StepKind.{StepKind}
+use Rattle.flat_history.specs.declared.events.StepKind.TheVariants.{ResyncStripe, ResyncEnded, Begun, TakenOver}
 use Rattle.flat_history.specs.declared.events.Entry.{Entry}
 use Rattle.flat_history.specs.declared.events.Request.{Request}
-use Rattle.flat_history.specs.declared.events.Request.TheVariants.{Read as AsksRead, Write as AsksWrite, Flush as AsksFlush, Fail as AsksFail}
-use Rattle.flat_history.specs.Flat.{rest_of_call, last_of, visible_of}
+use Rattle.flat_history.specs.declared.events.Request.TheVariants.{Read as AsksRead, Write as AsksWrite, Flush as AsksFlush, Fail as AsksFail, Steps as AsksSteps}
+use Rattle.flat_history.specs.Flat.{rest_of_call, last_of, next_number, visible_of}
 use Rattle.flat_history.specs.Transfers.{IsTimedBetween, IsReadOver, EndsWithinOver, IsTornOver, IsRefusedAt}
 use Rattle.flat_history.specs.World.{World, until, reading_at, opening_list}
-use Rattle.flat_history.specs.Losses.{was_dirty, is_gone, gone_count, unsettles, settles, is_unclean}
-use Rattle.flat_history.specs.Legal.{IsNumbered, IsInnerOrLast, IsOfOpening, IsAbsentAtFirst, IsFailed, IsFailedByCall, call_before, KeepsLeft, level_at, IsLegal}
+use Rattle.flat_history.specs.Losses.{was_dirty, is_gone, gone_count, unsettles, settles, is_resync_end, is_unsynced, is_unclean}
+use Rattle.flat_history.specs.Legal.{IsNumbered, IsInnerOrLast, IsOfOpening, IsAbsentAtFirst, IsFailed, IsFailedByCall, call_before, known_left, KeepsLeft, level_at, IsLegal}
 use Rattle.flat_history.specs.Reshaped.{IsReshaped}
 use Rattle.flat_history.specs.Growing.{BeginAnother}
-use Rattle.flat_history.specs.Fits.{Fits, WhereAsked, IsNoRole, AreTornOf, IsReadRefused}
+use Rattle.flat_history.specs.Fits.{Fits, WhereAsked, IsIdle, IsNoRole, AreTornOf, IsReadRefused, is_step_event}
 use Rattle.flat_history.specs.Plain.{loses_role, lost_count}
 
 -- ---- the opening
@@ -86,11 +89,31 @@ pub record AreTooManyLost (opening : ShapeOpening) (before : List Entry) (count 
   pub lost : count ≤ lost_count before
   pub tolerated : tolerance ≡ opening.tolerance
 
+-- opened dirty, and no resync has ended in these entries
+abbrev pub is_resyncing : ShapeOpening → List Entry → Bool
+is_resyncing opening before = opening.dirty && not (list_any (λ e. is_resync_end e.event) before)
+
 abbrev pub IsOneShapeRefusal : ShapeOpening → List Entry → Refusal → Type 0
 IsOneShapeRefusal opening before (PastEnd visible) = visible ≡ visible_of (length opening.list) before
 IsOneShapeRefusal opening before (TooManyMissing count tolerance) = AreTooManyLost opening before count tolerance
-IsOneShapeRefusal opening before (NotResynced role) = IsTrue (is_lost before role) × IsTrue opening.dirty
+IsOneShapeRefusal opening before (NotResynced role) = IsTrue (is_lost before role) × IsTrue (is_resyncing opening before)
 IsOneShapeRefusal opening before refusal = ⊤
+
+-- ---- steps
+
+-- the steps of a resync
+abbrev pub IsResyncStep : StepKind → Type 0
+IsResyncStep ResyncStripe = ⊤
+IsResyncStep ResyncEnded = ⊤
+IsResyncStep kind = ⊥
+
+-- a step lowers the steps that are left by one
+abbrev pub IsOneShapeStep : List Entry → Entry → List Entry → StepKind → ℕ → Type 0
+IsOneShapeStep before e rest kind left = IsResyncStep kind × IfSome (known_left before e rest) (λ n. left + 1 ≡ n)
+
+-- a request for steps tells how many are left, and what refused one
+abbrev pub IsOneShapeStepped : ShapeOpening → List Entry → Entry → List Entry → ℕ → Option Refusal → Type 0
+IsOneShapeStepped opening before e rest left ended = KeepsLeft before e rest left × IfSome ended (IsOneShapeRefusal opening before)
 
 -- ---- an entry, and a history
 
@@ -103,6 +126,8 @@ IsOneShapeEvent opening before e rest Flushed = ⊤
 IsOneShapeEvent opening before e rest (Lost role cause) = IsOneShapeLost opening before e rest role cause
 IsOneShapeEvent opening before e rest (SpareLost slot) = ⊤
 IsOneShapeEvent opening before e rest (Failed role) = IsFailedByCall before e role
+IsOneShapeEvent opening before e rest (Step kind left) = IsOneShapeStep before e rest kind left
+IsOneShapeEvent opening before e rest (Stepped done left ended) = IsOneShapeStepped opening before e rest left ended
 IsOneShapeEvent opening before e rest (Shown status) = KeepsLeft before e rest status.left
 IsOneShapeEvent opening before e rest Stopped = ⊤
 IsOneShapeEvent opening before e rest Halted = ⊤
@@ -137,11 +162,49 @@ OneShapeHistoriesGrow = (opening : ShapeOpening) (ops more : ℕ) (entries added
     → BeginAnother (last_of entries) added → IsOneShapeLegal opening ops entries → AreOneShape opening more entries added
     → IsOneShapeLegal opening more (entries ++ added)
 
+-- ---- a call that goes on
+
+-- what may stand in a call of steps before its last entry
+abbrev pub GoesOnBehind : Event → Type 0
+GoesOnBehind (Step kind left) = ⊤
+GoesOnBehind (Lost role Fault) = ⊤
+GoesOnBehind (SpareLost slot) = ⊤
+GoesOnBehind (Refused refusal) = ⊤
+GoesOnBehind event = ⊥
+
+-- the entry is of this call
+abbrev pub IsOfCall : Who → Entry → Type 0
+IsOfCall who e = (e.caller ≡ who.caller) × (e.number ≡ who.number)
+
+-- The call begins here, or it goes on: each of its entries so far may stand before others.
+pub record IsCallOpen (entries : List Entry) (who : Who) : Type 0 where
+  pub before : List Entry
+  pub call : List Entry
+  pub is : entries ≡ before ++ call
+  pub own : All (λ e. IsOfCall who e × GoesOnBehind e.event) call
+  pub number : who.number ≡ next_number who.caller before
+
+-- An entry of such a call is numbered rightly.
+abbrev pub OpenCallsAreNumbered : Type 0
+OpenCallsAreNumbered = (entries : List Entry) (who : Who) (e : Entry) → IsCallOpen entries who → IsOfCall who e → IsNumbered entries e
+
+-- A history with more entries of such a call behind it is legal where the history is, and they are.
+abbrev pub OneShapeHistoriesGoOn : Type 0
+OneShapeHistoriesGoOn = (opening : ShapeOpening) (ops more : ℕ) (entries added : List Entry) (who : Who) → ops ≤ more
+    → IsCallOpen entries who → All (λ e. IsOfCall who e) added → IsOneShapeLegal opening ops entries → AreOneShape opening more entries added
+    → IsOneShapeLegal opening more (entries ++ added)
+
 -- ---- what is gone, and what is unclean, by the entries alone
 
--- the event is no step, and gives no role back
+-- neither a reshape begins nor a level is taken over
+abbrev pub keeps_shape : StepKind → Bool
+keeps_shape Begun = false
+keeps_shape TakenOver = false
+keeps_shape kind = true
+
+-- the event gives no role back, and takes none without a loss
 abbrev pub keeps_losses : Event → Bool
-keeps_losses (Step kind left) = false
+keeps_losses (Step kind left) = keeps_shape kind
 keeps_losses (Rebuilt role) = false
 keeps_losses event = true
 
@@ -157,11 +220,11 @@ is_unsettled (e ∷ entries) = unsettles e.event && not (list_any (λ e. settles
 abbrev pub is_written : List Entry → ℕ → ℕ → Bool
 is_written entries k j = is_unsettled (take k entries) || list_any (λ e. unsettles e.event) (slice_range entries k j)
 
--- gone are the roles that the first j entries lose, and unclean is what was opened dirty or is written
+-- gone are the roles that the first j entries lose, and unclean is what is not resynced in the first k, or written
 pub record AreLossesGone (world : World) (entries : List Entry) (k j : ℕ) : Type 0 where
   pub gone : (role : ℕ) → is_gone world entries k j role ≡ is_lost (take j entries) role
   pub count : gone_count world entries k j ≡ lost_count (take j entries)
-  pub unclean : is_unclean world entries k j ≡ (was_dirty world || is_written entries k j)
+  pub unclean : is_unclean world entries k j ≡ (is_unsynced world (take k entries) || is_written entries k j)
 
 -- Where nothing gives a role back, what is lost stays gone.
 abbrev pub LossesAreGone : Type 0
@@ -169,28 +232,47 @@ LossesAreGone = (world : World) (entries : List Entry) (k j : ℕ) → KeepLosse
 
 -- ---- replies
 
--- the reply's event answers the request, over a list of so many sectors at the opening
-abbrev pub OneShapeAnswers : ℕ → List Entry → Request → Event → Type 0
-OneShapeAnswers size before (AsksRead at count) (Read a body) = (a ≡ at) × (length body ≡ count)
-OneShapeAnswers size before (AsksRead at count) (Refused refusal) = IsRefusedAt (visible_of size before) (at + count) IsReadRefused refusal
-OneShapeAnswers size before (AsksWrite at body) (Wrote a b) = (a ≡ at) × (b ≡ body)
-OneShapeAnswers size before (AsksWrite at body) (Refused refusal) = IsRefusedAt (visible_of size before) (at + length body) IsReadRefused refusal
-OneShapeAnswers size before AsksFlush Flushed = ⊤
-OneShapeAnswers size before AsksFlush (Refused (TooManyMissing count tolerance)) = ⊤
-OneShapeAnswers size before (AsksFail role) (Failed failed) = failed ≡ role
-OneShapeAnswers size before (AsksFail role) (Refused (NoSuchRole asked)) = asked ≡ role
-OneShapeAnswers size before request event = ⊥
+-- A request for at most so many steps did those that its call enters; it ends where so many are done, none is left, or one is refused.
+pub record DidOneShapeSteps (call : List Entry) (most done left : ℕ) (ended : Option Refusal) : Type 0 where
+  pub at_most : done ≤ most
+  pub all_done : (done ≡ most) ⊎ (left ≡ 0) ⊎ IsSome ended
+  pub some_done : (1 ≤ done) ⊎ IsSome ended
+  pub counted : done ≡ count_by (λ e. is_step_event e.event) call
+
+-- what refuses a step of a resync
+abbrev pub EndsResync : Refusal → Type 0
+EndsResync (TooManyMissing count tolerance) = ⊤
+EndsResync (NotResynced role) = ⊤
+EndsResync refusal = ⊥
+
+-- the reply's event answers the request, over a list of so many sectors at the opening, behind these entries of its call
+abbrev pub OneShapeAnswers : ℕ → List Entry → List Entry → Request → Event → Type 0
+OneShapeAnswers size before call (AsksRead at count) (Read a body) = (a ≡ at) × (length body ≡ count)
+OneShapeAnswers size before call (AsksRead at count) (Refused refusal) = IsRefusedAt (visible_of size before) (at + count) IsReadRefused refusal
+OneShapeAnswers size before call (AsksWrite at body) (Wrote a b) = (a ≡ at) × (b ≡ body)
+OneShapeAnswers size before call (AsksWrite at body) (Refused refusal) = IsRefusedAt (visible_of size before) (at + length body) IsReadRefused refusal
+OneShapeAnswers size before call AsksFlush Flushed = ⊤
+OneShapeAnswers size before call AsksFlush (Refused (TooManyMissing count tolerance)) = ⊤
+OneShapeAnswers size before call (AsksFail role) (Failed failed) = failed ≡ role
+OneShapeAnswers size before call (AsksFail role) (Refused (NoSuchRole asked)) = asked ≡ role
+OneShapeAnswers size before call (AsksSteps most) (Stepped done left ended) = DidOneShapeSteps call most done left ended × IfSome ended EndsResync
+OneShapeAnswers size before call (AsksSteps most) (Refused Nothing) = ⊤
+OneShapeAnswers size before call request event = ⊥
 
 -- the reply fits its request, by the entries before it
 pub record OneShapeFits (size : ℕ) (before : List Entry) (e : Entry) (request : Request) : Type 0 where
-  pub answers : OneShapeAnswers size before request e.event
+  pub answers : OneShapeAnswers size before (call_before before e) request e.event
   pub torn : AreTornOf request (call_before before e)
 
 -- where the entry says that there is no such role, the superblocks have none that is whole
 abbrev pub IsNoneRight : World → List Entry → Entry → Type 0
 IsNoneRight world before e = (role : ℕ) → e.event ≡ Refused (NoSuchRole role) → WhereAsked (until e.end world) before e.end (IsNoRole role)
 
+-- where the entry says that nothing is left to do, nothing is pending
+abbrev pub IsIdleRight : World → List Entry → Entry → Type 0
+IsIdleRight world before e = e.event ≡ Refused Nothing → WhereAsked (until e.end world) before e.end (IsIdle (until e.end world) before)
+
 -- Such a reply fits its request over a bank with a list of that size at the opening.
 abbrev pub OneShapeRepliesFit : Type 0
 OneShapeRepliesFit = (world : World) (size : ℕ) (before : List Entry) (e : Entry) (request : Request) → size ≡ length (opening_list world)
-    → world.first ≤ e.end → IsNoneRight world before e → OneShapeFits size before e request → Fits world before e request
+    → world.first ≤ e.end → IsNoneRight world before e → IsIdleRight world before e → OneShapeFits size before e request → Fits world before e request

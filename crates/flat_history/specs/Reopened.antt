@@ -1,4 +1,4 @@
--- The list that an epoch leaves is the one that the next epoch opens with.
+-- What an epoch leaves is what the next epoch opens with.
 use Rattle.std.specs.Prelude.{◌≡◌, ◌⊎◌, ℕ, ◌<◌, ◌≤◌, List, [], ◌∷◌, ◌++◌, length, slice_index_or, None}
 use Rattle.md_base.specs.Sectors.{Sector}
 use Rattle.bank.specs.Tape.{OnlyFlushesBetween}
@@ -10,6 +10,8 @@ use Rattle.flat_history.specs.Flat.{length_of, now}
 use Rattle.flat_history.specs.Legal.{last_end}
 use Rattle.flat_history.specs.CrashSafe.{last_resized, IsCrashSafe}
 use Rattle.flat_history.specs.Growing.{EndBy}
+use Rattle.flat_history.specs.Opened.{OpensSound}
+use Rattle.flat_history.specs.Sound.{OpensFit, StaysSound}
 
 -- what the opening found is refused for nothing
 abbrev pub OpensAccepted : World → Type 0
@@ -42,3 +44,8 @@ pub record OpensWith (next : World) (list : List Sector) (entries : List Entry) 
 abbrev pub SettledListsAreFound : Type 0
 SettledListsAreFound = (world next : World) (entries : List Entry) (last : ℕ) → last_resized entries ≡ None → IsCrashSafe world last entries
     → next.first ≤ last → IsReopened world entries next → OpensAccepted next → EndsSettled entries → OpensWith next (opening_list world) entries
+
+-- What was opened fit, and stays sound, is found sound by a next epoch that opens accepted.
+abbrev pub SoundArraysAreFound : Type 0
+SoundArraysAreFound = (world next : World) (entries : List Entry) (last : ℕ) → OpensFit world → StaysSound world last entries
+    → next.first ≤ last → IsReopened world entries next → OpensAccepted next → OpensSound next
