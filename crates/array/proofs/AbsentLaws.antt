@@ -16,6 +16,7 @@ use Rattle.flat_history.specs.declared.events.LostCause.{LostCause}
 use Rattle.flat_history.specs.declared.events.LostCause.TheVariants.{Absent}
 use Rattle.flat_history.specs.Flat.{now, length_after, limit_after, values_after}
 use Rattle.flat_history.specs.Legal.{left_after}
+use Rattle.flat_history.specs.Losses.{is_resync_end}
 use Rattle.flat_history.specs.Transfers.{last_end_from}
 use Rattle.flat_history.specs.Plain.{loses_role, entries_of}
 use Rattle.flat_history.specs.OneShape.{ShapeOpening, IsOneShapeLegal, KeepLosses}
@@ -135,6 +136,12 @@ pub absents-keep : (who : Who) (end : ℕ) (xs : List Event) → AreAbsent xs �
 absents-keep who end [] are = refl
 absents-keep who end (Lost role Absent ∷ xs) are = absents-keep who end xs are
 absents-keep who end (event ∷ xs) are = absurd are
+
+-- and no resync ends
+pub absents-ended : (who : Who) (end : ℕ) (xs : List Event) → AreAbsent xs → list_any (λ e. is_resync_end e.event) (entries_of who end xs) ≡ false
+absents-ended who end [] are = refl
+absents-ended who end (Lost role Absent ∷ xs) are = absents-ended who end xs are
+absents-ended who end (event ∷ xs) are = absurd are
 
 -- ---- what they tell
 

@@ -1,31 +1,32 @@
 -- What an array keeps that was taken over.
-use Rattle.std.proofs.Common.{◌≡◌, inl, inr, ℕ, ◌+◌, ◌<◌, ◌≤◌, ◌||◌, Bool, true, false, not, Option, None, List, [], ◌∷◌, length, take_all, refl, sym, ◌∙◌, ap, subst, arith}
-use Rattle.std.specs.Prelude.{IfSome}
+use Rattle.std.proofs.Common.{◌≡◌, inl, inr, ℕ, ◌+◌, ◌<◌, ◌≤◌, ◌*◌, ◌&&◌, ◌||◌, Bool, true, false, not, Option, Some, None, List, [], ◌∷◌, length, refl, sym, ◌∙◌, ap, subst, arith}
+use Rattle.std.specs.Prelude.{if◌then◌else◌, IfSome, IsSome, is_some}
 use Rattle.md_base.specs.Sectors.{Sector}
 use Rattle.bank.specs.Given.{Given}
-use Rattle.bank.specs.Tape.{IsIn, disk}
+use Rattle.bank.specs.Tape.{Contents, IsIn, disk}
 use Rattle.bank.specs.declared.bank.Operation.{Operation}
 use Rattle.superblocks.specs.declared.members.Members.{Members}
-use Rattle.superblocks.specs.Reading.{Scope, shape_of, is_clean, holder, role_state, data_offset_of}
+use Rattle.superblocks.specs.Reading.{Scope, shape_of, is_clean, data_offset_of}
 use Rattle.row_io.specs.Rows.{reading_of, present}
 use Rattle.flat_history.specs.declared.events.Entry.{Entry}
 use Rattle.flat_history.specs.CrashSafe.{IsSafeAt}
-use Rattle.flat_history.specs.Sound.{OpensFit, FillsRight, LeavesSound}
+use Rattle.flat_history.specs.Sound.{OpensFit, FillsRight}
 use Rattle.flat_history.specs.Flat.{now, values_of}
 use Rattle.flat_history.specs.World.{World, opening_list, reading_at}
 use Rattle.flat_history.specs.Plain.{entries_of}
 use Rattle.flat_history.specs.declared.events.Event.{Event}
 use Rattle.flat_history.specs.Growing.{EndBy}
 use Rattle.flat_history.specs.OneShape.{opening_in, is_unsettled, IsOneShapeLegal}
-use Rattle.array.specs.Status.{left_of}
+use Rattle.array.specs.Status.{stripes_of, left_of}
+use Rattle.flat_history.specs.Losses.{was_dirty, is_unsynced}
 use Rattle.flat_history.specs.Epochs.{OpensAlike}
 use Rattle.array.specs.Whole.{list_size}
 use Rattle.array.specs.Placed.{places_of}
 use Rattle.array.specs.Views.{AreHeldAllowed, IsViewRight, AreViewsRight}
 use Rattle.array.specs.Steady.{IsSafeOver}
-use Rattle.array.specs.Lacking.{ListStands, RowsStand}
-use Rattle.array.specs.Kept.{world_in, ledger_now, IsReady, IsKept, IsRecorded, IsSafe, AreTold}
-use Rattle.flat_history.specs.Opened.{OpensGood}
+use Rattle.array.specs.Lacking.{ListStands, RowsStand, RowsStandBelow, mended_rows}
+use Rattle.array.specs.Kept.{world_in, ledger_now, IsReady, IsKept, IsRecorded, IsSafe, AreTold, AreSectorsWhole}
+use Rattle.flat_history.specs.Opened.{OpensWhole}
 use Rattle.array.specs.Adopting.{opener, found_losses, IsAdoptable}
 use Rattle.layout.specs.Layout.{place}
 use Rattle.layout.proofs.Places.{place-role_below, place-row_below}
@@ -36,9 +37,39 @@ use Rattle.array.proofs.NowLaws.{values-more}
 use Rattle.array.proofs.RecordLaws.{ends-at}
 use Rattle.array.proofs.SafeLaws.{safe-last}
 use Rattle.array.proofs.Since.{since-none}
-use Rattle.array.proofs.SoundViews.{views-are-sound}
+use Rattle.array.proofs.SoundViews.{throughout-opening}
 use Rattle.array.proofs.Steady.{safe-is-seen, flushed-is-settled}
-use Rattle.array.proofs.AbsentLaws.{AreAbsent, absents-legal, absents-are, absents-length, absents-limit, absents-left, absents-values, absents-now, absents-end, absents-keep, absents-told}
+use Rattle.array.proofs.AbsentLaws.{AreAbsent, absents-legal, absents-are, absents-length, absents-limit, absents-left, absents-values, absents-now, absents-end, absents-keep, absents-ended, absents-told}
+
+-- ---- the resync of an array that opened dirty
+
+-- it has mended no stripe yet
+abbrev pub resync_of : Bool → Option ℕ
+resync_of clean = if clean then None else Some 0
+
+pending-at : (clean : Bool) → is_some (resync_of clean) ≡ not clean
+pending-at true = refl
+pending-at false = refl
+
+progress-at : (clean : Bool) (stripes : ℕ) → IfSome (resync_of clean) (λ mended. mended ≤ stripes)
+progress-at true stripes = tt
+progress-at false stripes = omega arith
+
+dirty-at : (clean : Bool) → IsSome (resync_of clean) → clean ≡ false
+dirty-at true is = absurd (cc)
+dirty-at false is = refl
+
+unclean-at : (clean unsettled : Bool) → clean ≡ false → (is_some (resync_of clean) || unsettled) ≡ true
+unclean-at true unsettled is = absurd (cc)
+unclean-at false unsettled is = refl
+
+-- the mended rows stand, if those of a clean array do
+good-at : (clean : Bool) (m : Members) (c : Contents) (list : ℕ → Sector) → (clean ≡ true → RowsStand m c list) → RowsStandBelow (mended_rows (resync_of clean) m) m c list
+good-at true m c list stands row mended below = stands refl row below
+good-at false m c list stands row mended below = absurd (none (shape_of m.newest).chunk row mended)
+  where
+    none : (chunk row : ℕ) → row < 0 * chunk → ⊥
+    none chunk row lt = omega (arith, lt)
 
 -- ---- the opening is safe
 
@@ -82,12 +113,22 @@ module _ {tells : Type 0} {given : Given} {tape : List Operation} {scope : Scope
       alone v w (inl same) = same
       alone v w (inr none) = absurd none
 
+  -- it is unsynced where it is dirty
+  pub found-unsynced : is_unsynced world entries ≡ not (is_clean members.newest)
+  found-unsynced =
+      ap (λ (b : Bool). was_dirty world && not b) (absents-ended opener (length tape) (found_losses (reading_of members)) (absents-are (reading_of members) (shape_of members.newest).disks))
+      ∙ and_true (was_dirty world) ∙ is.dirty t
+    where
+      and_true : (b : Bool) → (b && true) ≡ b
+      and_true true = refl
+      and_true false = refl
+
   found-right : IsViewRight (OpensFit world) given size (ledger_now world entries) members (disk given.start tape)
   found-right = record {
     placed = is.placed;
     sized = refl;
     gone = λ role lt missing. absents-told (reading_of members) opener (length tape) (shape_of members.newest).disks role lt missing;
-    unclean = λ dirty. ap (λ (b : Bool). b || is_unsettled entries) (is.dirty t ∙ ap not dirty);
+    unclean = λ dirty. ap (λ (b : Bool). b || is_unsettled entries) (found-unsynced ∙ ap not dirty);
     held = found-held;
     settled = λ clean does fit.
         flushed-is-settled given members tape (values_of list entries) (now list []) is.placed (is.flushed t)
@@ -109,11 +150,7 @@ module _ {tells : Type 0} {given : Given} {tape : List Operation} {scope : Scope
         (safe-last world given size entries refl is.sizes_are (ends-at opener (length tape) (found_losses (reading_of members)))
         (absents-length opener (length tape) (length list) (found_losses (reading_of members)) (absents-are (reading_of members) (shape_of members.newest).disks) ∙ is.opened t)
         (absents-keep opener (length tape) (found_losses (reading_of members)) (absents-are (reading_of members) (shape_of members.newest).disks)) fills (found-seen alike));
-    sound = λ fit mark low high.
-        let at : mark ≡ length tape = omega (arith, low, high) in
-        subst (λ (n : ℕ). LeavesSound world n) (sym at)
-        (views-are-sound world given (length tape) size (ledger_now world entries) (disk given.start tape) (omega arith)
-        (λ s k v may. subst (λ (l : List Operation). IsIn (disk given.start l s k) v) (take_all (length tape) tape (omega arith)) may) (found-seen alike) fit);
+    sound = throughout-opening world given size (ledger_now world entries) members refl refl (found-safe alike);
     now = found-safe alike;
     counted = λ live. let newest = is.newest t in record { found = newest.0; is = newest.1; events = let few = newest.2 in omega (arith, few) };
   }
@@ -121,7 +158,7 @@ module _ {tells : Type 0} {given : Given} {tape : List Operation} {scope : Scope
 -- ---- what is kept
 
 kept-adopted : {tells : Type 0} {given : Given} {tape : List Operation} {scope : Scope} {members : Members} (first : ℕ) → IsAdoptable tells given tape scope members → (tells → first ≡ length tape)
-    → IsKept tells given tape scope first (entries_of opener first (found_losses (reading_of members))) members (not (is_clean members.newest))
+    → IsKept tells given tape scope first (entries_of opener first (found_losses (reading_of members))) members (resync_of (is_clean members.newest))
 kept-adopted {tells = tells} {given = given} {tape = tape} {scope = scope} {members = members} first is first_is = record {
   slots = is.slots;
   spares = is.spares;
@@ -130,30 +167,35 @@ kept-adopted {tells = tells} {given = given} {tape = tape} {scope = scope} {memb
   told = told;
   sized = absents-length opener first (list_size (places_of members)) losses are;
   unlimited = absents-limit opener first None losses are;
-  left = subst (λ (o : Option ℕ). IfSome o (λ n. n ≡ left_of (not (is_clean members.newest)) members)) (sym (absents-left opener first losses are)) tt;
-  recorded = λ t. subst (λ (n : ℕ). IsRecorded (world_in given tape scope n) (list_size (places_of members)) (not (is_clean members.newest)) members (entries_of opener first losses)) (sym (first_is t)) (record {
+  left = subst (λ (o : Option ℕ). IfSome o (λ n. n ≡ left_of resync members)) (sym (absents-left opener first losses are)) tt;
+  progress = progress-at (is_clean members.newest) (stripes_of members);
+  recorded = λ t. subst (λ (n : ℕ). IsRecorded (world_in given tape scope n) (list_size (places_of members)) resync members (entries_of opener first losses)) (sym (first_is t)) (record {
     begun = omega arith;
     opened = is.opened t;
     tolerated = is.tolerated t;
-    dirty = is.dirty t;
+    dirty = subst (λ (n : ℕ). is_unsynced (world_in given tape scope (length tape)) (entries_of opener n losses) ≡ is_some resync) (sym (first_is t)) (found-unsynced is t ∙ sym (pending-at (is_clean members.newest)));
     legal = λ fills. subst (λ (n : ℕ). IsOneShapeLegal (opening_in (world_in given tape scope (length tape))) (length tape) (entries_of opener n losses)) (sym (first_is t))
         (absents-legal (opening_in (world_in given tape scope (length tape))) (reading_of members) disks (length tape) (omega arith) (is.absent t));
     ends = subst (λ (n : ℕ). EndBy (length tape) (entries_of opener n losses)) (sym (first_is t)) (ends-at opener (length tape) losses);
     ended = absents-end (length tape) opener first losses (sym (first_is t)) ∙ first_is t;
   });
   holds = λ t does. subst (λ (l : ℕ → Sector). ListStands members (present given tape) l) (sym (list t)) (is.holds t);
-  good = λ t does opens. subst (λ (l : ℕ → Sector). RowsStand members (present given tape) l) (sym (list t)) (is.good t (subst (λ (n : ℕ). OpensGood (world_in given tape scope n)) (first_is t) opens));
+  whole = λ t opens. subst (λ (l : ℕ → Sector). AreSectorsWhole (list_size (places_of members)) l) (sym (list t)) (is.whole t (subst (λ (n : ℕ). OpensWhole (world_in given tape scope n)) (first_is t) opens));
+  good = λ t does opens. subst (λ (l : ℕ → Sector). RowsStandBelow (mended_rows resync members) members (present given tape) l) (sym (list t))
+      (good-at (is_clean members.newest) members (present given tape) (now (opening_list (world_in given tape scope (length tape))) [])
+      (λ clean.
+      let fit = subst (λ (n : ℕ). OpensFit (world_in given tape scope n)) (first_is t) opens in
+      is.good t (record { clean = is.dirty t ∙ ap not clean; sound = fit.0; whole = fit.1 })));
   sizes_are = is.sizes_are;
-  dirty = λ is. flip (is_clean members.newest) is;
-  unclean = λ dirty. ap (λ (b : Bool). not b || is_unsettled (entries_of opener first losses)) dirty;
+  dirty = λ does is. dirty-at (is_clean members.newest) is;
+  unclean = λ dirty. unclean-at (is_clean members.newest) (is_unsettled (entries_of opener first losses)) dirty;
   safe = λ t fills room alike.
       subst (λ (n : ℕ). FillsRight (world_in given tape scope n) (entries_of opener n losses) → OpensAlike (world_in given tape scope n)
       → IsSafe (world_in given tape scope n) given (list_size (places_of members)) members (entries_of opener n losses)) (sym (first_is t)) (safe-adopted is t) fills alike;
 }
   where
-    flip : (b : Bool) → not b ≡ true → b ≡ false
-    flip true e = absurd (cc)
-    flip false e = refl
+    resync : Option ℕ
+    resync = resync_of (is_clean members.newest)
 
     disks : ℕ
     disks = (shape_of members.newest).disks
@@ -171,8 +213,8 @@ kept-adopted {tells = tells} {given = given} {tape = tape} {scope = scope} {memb
     list t = absents-now (opening_list (world_in given tape scope first)) opener first losses are ∙ ap (λ (n : ℕ). now (opening_list (world_in given tape scope n)) []) (first_is t)
 
 pub ready_adopted : {tells : Type 0} {given : Given} {tape : List Operation} {scope : Scope} {first : ℕ} {entries : List Entry} {members : Members} {room rows buffer : ℕ} → IsAdoptable tells given tape scope members
-    → entries ≡ entries_of opener first (found_losses (reading_of members)) → (tells → first ≡ length tape) → 1 ≤ room → 128 ≤ rows → 1048576 ≤ buffer
-    → IsReady tells given tape scope first entries members (not (is_clean members.newest)) room rows buffer
+    → entries ≡ entries_of opener first (found_losses (reading_of members)) → (tells → first ≡ length tape) → 0 < room → 128 ≤ rows → 1048576 ≤ buffer
+    → IsReady tells given tape scope first entries members (resync_of (is_clean members.newest)) 0 room rows buffer
 ready_adopted {tells = tells} {given = given} {tape = tape} {scope = scope} {first = first} {members = members} {room = room} {rows = rows} {buffer = buffer} is entries_are first_is room_left rows_fit buffer_fits =
-    subst (λ (l : List Entry). IsReady tells given tape scope first l members (not (is_clean members.newest)) room rows buffer) (sym entries_are)
+    subst (λ (l : List Entry). IsReady tells given tape scope first l members (resync_of (is_clean members.newest)) 0 room rows buffer) (sym entries_are)
     (record { kept = kept-adopted first is first_is; room_left = room_left; rows_fit = rows_fit; buffer_fits = buffer_fits })

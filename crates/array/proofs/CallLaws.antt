@@ -18,6 +18,7 @@ use Rattle.flat_history.specs.declared.events.Request.{Request}
 use Rattle.flat_history.specs.declared.events.Request.TheVariants.{Write as AsksWrite}
 use Rattle.flat_history.specs.Flat.{length_after, limit_after, values_after}
 use Rattle.flat_history.specs.Transfers.{last_end_from}
+use Rattle.flat_history.specs.Losses.{is_resync_end}
 use Rattle.flat_history.specs.Fits.{IsTornOf, AreTornOf}
 use Rattle.flat_history.specs.Plain.{loses_role, entries_of}
 use Rattle.array.specs.Losing.{role_loss, role_losses, spare_loss, spare_losses, losses_of}
@@ -79,6 +80,14 @@ values-losses who end [] tail are x values = refl
 values-losses who end (Lost role Fault ∷ xs) tail are x values = values-losses who end xs tail are x values
 values-losses who end (SpareLost slot ∷ xs) tail are x values = values-losses who end xs tail are x values
 values-losses who end (event ∷ xs) tail are x values = absurd are
+
+-- nor do they end a resync
+pub ends-losses : (who : Who) (end : ℕ) (xs tail : List Event) → AreLossEvents xs
+    → list_any (λ e. is_resync_end e.event) (entries_of who end (xs ++ tail)) ≡ list_any (λ e. is_resync_end e.event) (entries_of who end tail)
+ends-losses who end [] tail are = refl
+ends-losses who end (Lost role Fault ∷ xs) tail are = ends-losses who end xs tail are
+ends-losses who end (SpareLost slot ∷ xs) tail are = ends-losses who end xs tail are
+ends-losses who end (event ∷ xs) tail are = absurd are
 
 -- ---- where a call ended
 

@@ -6,9 +6,8 @@ use Rattle.sb1.specs.declared.sb.Sb.{Sb}
 use Rattle.sb1.specs.Superblock.{superblock_in}
 use Rattle.bank.specs.declared.bank.Operation.{Operation}
 use Rattle.bank.specs.declared.bank.Operation.TheVariants.{Write, Flush}
-use Rattle.bank.specs.Tape.{Contents, IsIn, Kept, EachMark, disk, run, value_after}
+use Rattle.bank.specs.Tape.{Contents, IsIn, EachMark, disk, run, value_after}
 use Rattle.bank.proofs.Images.{disk-some}
-use Rattle.bank.proofs.Laws.{kept_in}
 use Rattle.bank.proofs.Marks.{Along, each_mark-along}
 use Rattle.superblocks.specs.declared.members.Members.{Members}
 use Rattle.superblocks.specs.Reading.{Scope, is_seen, of_array}
@@ -160,13 +159,3 @@ pub held-marks : (tells : Type 0) (scope : Scope) (members : Members) (start : C
 held-marks tells scope members start tape ops elsewhere h =
     each_mark-along tells start tape ops (IsHeldBy scope members)
     (held-along scope members (disk start tape) ops (λ s k. (value_after s k (start s k) tape, disk-some start tape s k)) elsewhere h)
-
--- where the superblocks' sectors were flushed at most
-pub held-kept : (scope : Scope) (members : Members) (start : Contents) (before after : List Operation) → ((s : ℕ) → Kept (disk start before s 8) (disk start after s 8))
-    → ((s : ℕ) → Kept (disk start before s 9) (disk start after s 9)) → IsHeldBy scope members (disk start before) → IsHeldBy scope members (disk start after)
-held-kept scope members start before after eighth ninth h =
-    held-fewer scope (disk start before) (disk start after) (λ s k. (value_after s k (start s k) before, disk-some start before s k))
-    (record {
-      eighth = λ s v seen is. kept_in (disk start before s 8) (disk start after s 8) v (eighth s) is;
-      ninth = λ s v seen is. kept_in (disk start before s 9) (disk start after s 9) v (ninth s) is;
-    }) members h

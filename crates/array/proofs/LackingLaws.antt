@@ -1,5 +1,6 @@
 -- Losses that add up over the parts of a call, and what a mark leaves of holders' sectors.
-use Rattle.std.proofs.Common.{◌≡◌, ◌⊎◌, inl, inr, ℕ, ◌<◌, ◌&&◌, ◌||◌, ◌==◌, nat_lt, max, bit_or, Bool, true, false, not, cond, List, [], ◌∷◌, get_or, Option, Some, None, refl, sym, ◌∙◌, ap, ap₂, subst, arith}
+use Rattle.std.proofs.Common.{◌≡◌, ◌⊎◌, inl, inr, ℕ, ◌<◌, ◌&&◌, ◌==◌, nat_lt, max, bit_or, Bool, true, false, not, cond, List, [], ◌∷◌, get_or, Option, Some, None, refl, sym, ◌∙◌, ap, ap₂, subst, arith}
+use Rattle.std.proofs.lemmas.Bool.{cases_lt}
 use Rattle.std.proofs.lemmas.Bool.Decides.{nat_tests}
 use Rattle.std.specs.Option.{option_map_or}
 use Rattle.md_base.specs.Sectors.{Sector}
@@ -15,18 +16,14 @@ use Rattle.superblocks.specs.declared.members.Members.{Members}
 use Rattle.superblocks.specs.Reading.{Reading, shape_of, role_state, holder, is_whole}
 use Rattle.superblocks.proofs.SlotSets.{none_there}
 use Rattle.row_io.specs.Rows.{reading_of, present, is_missing, role_without}
-use Rattle.array.specs.Placed.{places_of, AreStillHeld, AreWhole, IsPlaced, AreLost, AreLess}
+use Rattle.array.specs.Placed.{AreStillHeld, AreWhole, IsPlaced, AreLost, AreLess}
 use Rattle.array.specs.Marking.{IsMarked}
 use Rattle.array.specs.Flushing.{AreMembersFlushed}
 use Rattle.array.specs.Moving.{IsMoved, AreFailed}
-use Rattle.array.specs.Safety.{AreNone, IsRightAt, IsStretch}
-use Rattle.list_io.proofs.LossLaws.{slot_of_both}
-use Rattle.superblocks.specs.Reading.{Scope}
 use Rattle.row_io.proofs.Losses.{state_kept}
 use Rattle.std.proofs.lemmas.Nat.Bits.{bit_at_or}
 use Rattle.array.proofs.MemberLaws.{less-without}
-use Rattle.array.proofs.SafetyLaws.{stretch-none}
-use Rattle.array.specs.Lacking.{HaveFailedSince, AreLostSince, AreHoldersFlushed, AreTooMany, refused_by}
+use Rattle.array.specs.Lacking.{HaveFailedSince, AreLostSince, AreHoldersFlushed, AreTooMany, DoesWithout, lacking, refused_by, too_many}
 use Rattle.std.specs.Prelude.{MatchOption, ⊤, Result, Ok, Err}
 use Rattle.md_base.specs.Shapes.{tolerance}
 use Rattle.md_base.specs.declared.answers.Refusal.{Refusal}
@@ -194,28 +191,7 @@ either-is a b e = by (a == 1) (b == 1) refl refl
 pub in-either : (s t slot : ℕ) → has_slot (bit_or s t) slot ≡ true → (has_slot s slot ≡ true) ⊎ (has_slot t slot ≡ true)
 in-either s t slot has = either-is _ _ (sym (ap (λ (n : ℕ). n == 1) (bit_at_or s t slot)) ∙ has)
 
-pub none-right : (s t : ℕ) → AreNone (bit_or s t) → AreNone t
-none-right s t none slot lt = by (has_slot t slot) (has_slot s slot) (sym (slot_of_both s t slot) ∙ none slot lt)
-  where
-    by : (b a : Bool) → (a || b) ≡ false → b ≡ false
-    by false a e = refl
-    by true true e = absurd (cc)
-    by true false e = absurd (cc)
-
-pub none-left : (s t : ℕ) → AreNone (bit_or s t) → AreNone s
-none-left s t none slot lt = by (has_slot s slot) (has_slot t slot) (sym (slot_of_both s t slot) ∙ none slot lt)
-  where
-    by : (a b : Bool) → (a || b) ≡ false → a ≡ false
-    by false b e = refl
-    by true b e = absurd (cc)
-
 -- ---- nothing was done
-
-pub stretch-still : (given : Given) (scope : Scope) (values : ℕ → List Sector) (m m' : Members) (tape tape' : List Operation) → m' ≡ m → tape' ≡ tape → IsRightAt given scope values m tape
-    → IsStretch scope (places_of m) values given.start tape tape' m m'
-stretch-still given scope values m m' tape tape' is same at =
-    subst (λ (x : Members). IsStretch scope (places_of m) values given.start tape tape' m x) (sym is)
-    (subst (λ (l : List Operation). IsStretch scope (places_of m) values given.start tape l m m) (sym same) (stretch-none given scope values m tape at))
 
 -- ---- refusals
 
@@ -225,6 +201,13 @@ pub too-many-answer : {T : Type 0} (m : Members) (shape : Shape) (answer : Resul
 too-many-answer m shape (Ok done) same is = tt
 too-many-answer m shape (Err TooManyMissing) same is = record { above = subst (λ (s : Shape). tolerance s < missing_count (reading_of m) s) same is; told = refl }
 too-many-answer m shape (Err (NotResynced role)) same is = absurd (is.3)
+
+-- where nothing tells that too many are missing, the array does without those that are
+pub does-without : (m : Members) → ((refusal : Refusal) → AreTooMany m refusal → ⊥) → DoesWithout m
+does-without m never = elim (cases_lt (tolerance (shape_of m.newest)) (lacking m)) [
+  | inl above ↦ absurd (never (too_many m) (record { above = above; told = refl }))
+  | inr few ↦ few
+]
 
 pub never-too-many : {P : Type 0} (given : Given) (m : Members) (refusal : Refusal) → IsPlaced given m → AreWhole m → AreTooMany m refusal → P
 never-too-many given m refusal placed whole many = absurd (not-whole given m placed (let above = many.above in omega (arith, above)) whole)

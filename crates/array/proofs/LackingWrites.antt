@@ -1,5 +1,5 @@
 -- Rows that are written while members are lost.
-use Rattle.std.proofs.Common.{◌≡◌, ◌⊎◌, inl, inr, ℕ, ◌+◌, ◌-◌, ◌/◌, ◌<◌, ◌≤◌, ◌==◌, ◌&&◌, nat_lt, nat_le, Bool, true, false, if◌then◌else◌, List, [], append-nil, length, take, take_all, slice_index, Option, Some, None, unwrap_or, refl, sym, ◌∙◌, ap, ap₂, subst, arith, eq-eqb, eqb-true}
+use Rattle.std.proofs.Common.{◌≡◌, ◌⊎◌, inl, inr, ℕ, ◌+◌, ◌-◌, ◌/◌, ◌<◌, ◌≤◌, ◌==◌, ◌&&◌, nat_lt, nat_le, Bool, true, false, if◌then◌else◌, List, [], append-nil, length, slice_index, Option, Some, None, unwrap_or, refl, sym, ◌∙◌, ap, ap₂, subst, arith, eq-eqb, eqb-true}
 use Rattle.std.proofs.lemmas.Bool.Decides.{nat_tests}
 use Rattle.std.proofs.lemmas.Bool.{cases_lt}
 use Rattle.md_base.specs.Search.{least_below}
@@ -10,8 +10,7 @@ use Rattle.md_base.specs.declared.status.Role.{Role}
 use Rattle.md_base.specs.declared.status.Role.TheVariants.{Whole, Missing}
 use Rattle.bank.specs.Given.{Given}
 use Rattle.bank.specs.declared.bank.Operation.{Operation}
-use Rattle.bank.specs.Tape.{Contents, EachMark, IsIn, disk, value_after}
-use Rattle.bank.proofs.Images.{disk-some}
+use Rattle.bank.specs.Tape.{Contents, EachMark, disk}
 use Rattle.layout.specs.Layout.{place}
 use Rattle.layout.proofs.Places.{place-role_below}
 use Rattle.layout.proofs.Limits.{limited}
@@ -20,7 +19,7 @@ use Rattle.std.specs.Prelude.{IsTrue}
 use Rattle.parity.specs.Rows.{sector_of}
 use Rattle.superblocks.specs.declared.members.Members.{Members}
 use Rattle.superblocks.specs.Reading.{Reading, shape_of, role_state, holder, rows_held, data_offset_of}
-use Rattle.row_io.specs.Rows.{reading_of, held_slot, present}
+use Rattle.row_io.specs.Rows.{reading_of, held_slot}
 use Rattle.list_io.specs.Calls.{HasRows, AreLost as IsListLost}
 use Rattle.list_io.specs.Buffers.{buffered, AreDistinct, AreStanding}
 use Rattle.list_io.specs.Writing.{IsWritten, AreDataFrom}
@@ -199,21 +198,6 @@ list-with-is list first from = record {
 
 -- ---- marks where nothing was done before, or behind
 
-pub marks-until : {tells : Type 0} {start : Contents} {P : (ℕ → ℕ → List Sector) → Type 0} (old mid new : List Operation) → (tells → new ≡ mid) → EachMark tells start old mid P → EachMark tells start old new P
-marks-until {start = start} {P = P} old mid new same marks = record {
-  longer = λ told. subst (λ (l : List Operation). length old ≤ length l) (sym (same told)) (marks.longer told);
-  earlier = λ told. subst (λ (l : List Operation). take (length old) l ≡ old) (sym (same told)) (marks.earlier told);
-  each = λ told. subst (λ (l : List Operation). (m : ℕ) → length old ≤ m → m ≤ length l → P (disk start (take m l))) (sym (same told)) (marks.each told);
-}
-
-pub marks-since : {tells : Type 0} {start : Contents} (P : (ℕ → ℕ → List Sector) → (ℕ → ℕ → List Sector) → Type 0) (old mid new : List Operation) → (tells → mid ≡ old)
-    → EachMark tells start mid new (P (disk start mid)) → EachMark tells start old new (P (disk start old))
-marks-since {start = start} P old mid new same marks = record {
-  longer = λ told. subst (λ (l : List Operation). length l ≤ length new) (same told) (marks.longer told);
-  earlier = λ told. subst (λ (l : List Operation). take (length l) new ≡ l) (same told) (marks.earlier told);
-  each = λ told. subst (λ (l : List Operation). (m : ℕ) → length l ≤ m → m ≤ length new → P (disk start l) (disk start (take m new))) (same told) (marks.each told);
-}
-
 pub marks-here : {P : (ℕ → ℕ → List Sector) → Type 0} (tells : Type 0) (start : Contents) (tape : List Operation) → P (disk start tape) → EachMark tells start tape tape P
 marks-here {P = P} tells start tape here = subst (λ (l : List Operation). EachMark tells start tape l P) (append-nil tape) (each_mark-along tells start tape [] P here)
 
@@ -225,11 +209,3 @@ lost-of given shape old new lost before after placed did = are_lost given shape 
 pub ok-of : {T Q : Type 0} (m : Members) (answer : Result T Unavailable) → is_some (refused_by m answer) ≡ false → OnOk answer Q → Q
 ok-of m (Ok done) none q = q
 ok-of m (Err cause) none q = absurd (cc)
-
--- what stands at a sector is what a stop may leave there
-pub disk-now : (given : Given) (tape : List Operation) (s k : ℕ) → IsIn (disk given.start tape s k) (present given tape s k)
-disk-now given tape s k =
-    subst (λ (v : Sector). IsIn (disk given.start tape s k) v) (ap (λ (l : List Operation). value_after s k (given.start s k) l) (sym (take_all (length tape) tape (le_refl (length tape))))) (disk-some given.start tape s k)
-  where
-    le_refl : (n : ℕ) → n ≤ n
-    le_refl n = omega arith

@@ -1,6 +1,6 @@
 -- What a call tells, as the ledger by which its marks are judged.
-use Rattle.std.proofs.Common.{◌≡◌, ℕ, zero, suc, ◌+◌, ◌-◌, ◌/◌, ◌<◌, ◌≤◌, ◌⊎◌, inl, inr, Bool, true, false, not, cond, ◌&&◌, ◌||◌, ◌==◌, List, [], ◌∷◌, ◌++◌, length, take, drop, refl, sym, ◌∙◌, ap, ap₂, subst, arith, length-append, append_assoc, append-nil, slice_range}
-use Rattle.std.specs.Prelude.{fold, slice_index_or, IsTrue}
+use Rattle.std.proofs.Common.{◌≡◌, ℕ, zero, suc, ◌+◌, ◌-◌, ◌/◌, ◌<◌, ◌≤◌, ◌⊎◌, inl, inr, Bool, true, false, not, cond, ◌&&◌, ◌||◌, List, [], ◌∷◌, ◌++◌, length, take, drop, refl, sym, ◌∙◌, ap, ap₂, subst, arith, length-append, append_assoc, slice_range}
+use Rattle.std.specs.Prelude.{fold, slice_index_or}
 use Rattle.std.specs.List.{list_any, list_all}
 use Rattle.std.proofs.Math.Seq.{take-append_seam, drop-append_seam, take-length}
 use Rattle.std.proofs.lemmas.Bool.{cases_lt}
@@ -11,22 +11,18 @@ use Rattle.md_base.proofs.SectorLaws.{length-sectors_of}
 use Rattle.md_base.specs.declared.answers.Who.{Who}
 use Rattle.bank.specs.Given.{Given}
 use Rattle.bank.specs.Tape.{IsIn}
-use Rattle.parity.specs.Rows.{sector_of}
 use Rattle.superblocks.specs.declared.members.Members.{Members}
 use Rattle.superblocks.specs.Reading.{Scope}
-use Rattle.row_io.specs.Rows.{members_without}
 use Rattle.list_io.specs.Writing.{IsWritten}
 use Rattle.flat_history.specs.declared.events.Entry.{Entry}
 use Rattle.flat_history.specs.declared.events.Event.{Event}
-use Rattle.flat_history.specs.declared.events.Event.TheVariants.{Wrote, Torn, Flushed, Stopped, Lost, SpareLost, Rebuilt, Step, Resized}
+use Rattle.flat_history.specs.declared.events.Event.TheVariants.{Wrote, Torn, Flushed, Stopped, Lost, SpareLost, Resized}
 use Rattle.flat_history.specs.declared.events.LostCause.TheVariants.{Fault}
 use Rattle.flat_history.specs.Flat.{values_after, values_of, first_values, now, covers, sector_at, behind}
-use Rattle.flat_history.specs.Losses.{was_dirty, settles, unsettles}
+use Rattle.flat_history.specs.Losses.{was_dirty, is_resync_end, is_unsynced, settles, unsettles}
 use Rattle.flat_history.specs.Plain.{entries_of, loses_role}
 use Rattle.flat_history.specs.World.{World, opening_list}
 use Rattle.flat_history.specs.OneShape.{ShapeOpening, IsOneShapeEvent, AreOneShape, is_lost, is_unsettled, is_written, keeps_losses, KeepLosses}
-use Rattle.array.specs.Whole.{list_size}
-use Rattle.array.specs.Placed.{places_of}
 use Rattle.array.specs.Kept.{ledger_now}
 use Rattle.array.specs.Views.{Ledger, ledger_of}
 use Rattle.array.specs.Steady.{IsSafeNow, IsMoreTold, settled_ledger}
@@ -44,7 +40,7 @@ abbrev pub told_by : World → List Entry → List Entry → Ledger
 told_by world entries more = record {
   values = values_of (opening_list world) (entries ++ more);
   gone = is_lost (entries ++ more);
-  unclean = was_dirty world || (is_unsettled entries || list_any (λ e. unsettles e.event) more);
+  unclean = is_unsynced world entries || (is_unsettled entries || list_any (λ e. unsettles e.event) more);
 }
 
 -- it judges a mark at which the call's entries aren't made yet
@@ -53,7 +49,7 @@ told-ledger world entries more rest =
     λ i. record {
       values = values_of (opening_list world) (first i);
       gone = is_lost (first i);
-      unclean = was_dirty world || (is_unsettled (take-append_seam entries (more ++ rest) i) || list_any (λ e. unsettles e.event) (range i));
+      unclean = is_unsynced world (take-append_seam entries (more ++ rest) i) || (is_unsettled (take-append_seam entries (more ++ rest) i) || list_any (λ e. unsettles e.event) (range i));
     }
   where
     first : take (length (entries ++ more)) (entries ++ (more ++ rest)) ≡ entries ++ more
@@ -71,7 +67,7 @@ now-ledger world entries =
     λ i. record {
       values = values_of (opening_list world) (take-length entries i);
       gone = is_lost (take-length entries i);
-      unclean = was_dirty world || unwritten i;
+      unclean = is_unsynced world (take-length entries i) || unwritten i;
     }
   where
     none : (n : ℕ) (l : List Entry) → n ≡ 0 → list_any (λ e. unsettles e.event) (take n l) ≡ false
@@ -188,6 +184,33 @@ unsettles-behind who end xs ys is =
     ap (λ (l : List Entry). list_any (λ e. unsettles e.event) l) (entries-both who end xs ys) ∙ list_any-append (λ e. unsettles e.event) (entries_of who end xs) (entries_of who end ys)
     ∙ or_right (list_any (λ e. unsettles e.event) (entries_of who end xs)) (list_any (λ e. unsettles e.event) (entries_of who end ys)) is
 
+-- ---- whether a resync has ended
+
+pub ends-nothing : (event : Event) → settles event ≡ false → is_resync_end event ≡ false
+ends-nothing Flushed none = refl
+ends-nothing Stopped none = refl
+ends-nothing event none = none
+
+-- what settles nothing ends no resync
+pub none-ends : (more : List Entry) → list_any (λ e. settles e.event) more ≡ false → list_any (λ e. is_resync_end e.event) more ≡ false
+none-ends [] none = refl
+none-ends (e ∷ more) none =
+    let parts = neither (settles e.event) (list_any (λ e. settles e.event) more) none in
+    ap₂ (λ (a b : Bool). a || b) (ends-nothing e.event parts.0) (none-ends more parts.1)
+
+-- where none of them ends it, it is pending as before
+pub pending-more : (dirty : Bool) (entries more : List Entry) → list_any (λ e. is_resync_end e.event) more ≡ false
+    → (dirty && not (list_any (λ e. is_resync_end e.event) (entries ++ more))) ≡ (dirty && not (list_any (λ e. is_resync_end e.event) entries))
+pending-more dirty entries more none =
+    ap (λ (b : Bool). dirty && not b) (list_any-append (λ e. is_resync_end e.event) entries more ∙ or_none (list_any (λ e. is_resync_end e.event) entries) (list_any (λ e. is_resync_end e.event) more) none)
+  where
+    or_none : (a b : Bool) → b ≡ false → (a || b) ≡ a
+    or_none true b e = refl
+    or_none false b e = e
+
+unsynced-more : (world : World) (entries more : List Entry) → list_any (λ e. is_resync_end e.event) more ≡ false → is_unsynced world (entries ++ more) ≡ is_unsynced world entries
+unsynced-more world entries more none = pending-more (was_dirty world) entries more none
+
 -- ---- more that is told
 
 lost-still : (entries more : List Entry) (role : ℕ) → is_lost entries role ≡ true → is_lost (entries ++ more) role ≡ true
@@ -203,7 +226,7 @@ module _ (world : World) (size : ℕ) (entries more : List Entry) (adds : OnlyAd
   told-more = record {
     values = λ x lt v may. subst (λ (l : List Sector). IsIn l v) (sym (values-more (opening_list world) entries more x)) (adds.values x (values_of (opening_list world) entries x) v may);
     gone = λ role is. lost-still entries more role is;
-    unclean = λ is. by (was_dirty world) (is_unsettled entries) is;
+    unclean = λ is. by (is_unsynced world entries) (is_unsettled entries) is;
   }
     where
       by : (a b : Bool) → (a || b) ≡ true → (a || (b || list_any (λ e. unsettles e.event) more)) ≡ true
@@ -215,11 +238,11 @@ module _ (world : World) (size : ℕ) (entries more : List Entry) (adds : OnlyAd
   told-now = record {
     values = λ x lt v may. may;
     gone = λ role is. is;
-    unclean = λ is. ap (λ (b : Bool). was_dirty world || b) (unsettled-more entries more adds.settles) ∙ is;
+    unclean = λ is. ap₂ (λ (a b : Bool). a || b) (unsynced-more world entries more (none-ends more adds.settles)) (unsettled-more entries more adds.settles) ∙ is;
   }
 
   -- what was unclean before the call is told so
-  pub told-unclean : (unsynced : Bool) → was_dirty world ≡ unsynced → (unsynced || is_unsettled entries) ≡ true → (told_by world entries more).unclean ≡ true
+  pub told-unclean : (unsynced : Bool) → is_unsynced world entries ≡ unsynced → (unsynced || is_unsettled entries) ≡ true → (told_by world entries more).unclean ≡ true
   told-unclean unsynced same is = told-more.unclean (ap (λ (b : Bool). b || is_unsettled entries) same ∙ is)
 
 -- what is told of an array is told if more is
@@ -273,17 +296,6 @@ pub newest-allowed : (opening : ShapeOpening) (ops : ℕ) (list : List Sector) (
 unfolding values_of
 newest-allowed opening ops list entries legal x lt = entries-newest opening ops [] entries legal x (first_values list x) (first-newest list x lt)
 
--- no event of such a history gives a role back
-event-keeps : (opening : ShapeOpening) (before : List Entry) (e : Entry) (rest : List Entry) (event : Event) → IsOneShapeEvent opening before e rest event → keeps_losses event ≡ true
-event-keeps opening before e rest (Step kind left) is = absurd is
-event-keeps opening before e rest (Rebuilt role) is = absurd is
-event-keeps opening before e rest event is = refl
-
-pub legal-keeps : (opening : ShapeOpening) (ops : ℕ) (before entries : List Entry) → AreOneShape opening ops before entries → KeepLosses entries
-legal-keeps opening ops before [] legal = refl
-legal-keeps opening ops before (e ∷ entries) legal =
-    ap₂ (λ (a b : Bool). a && b) (event-keeps opening before e _ e.event legal.0.event) (legal-keeps opening ops (before ++ e ∷ []) entries legal.1)
-
 -- ---- the values of a write
 
 covered : (at : ℕ) (body : List Sector) (x : ℕ) → at ≤ x → x < at + length body → covers at body x ≡ true
@@ -319,17 +331,12 @@ torn-in at body x values has is = subst (λ (b : Bool). IsIn (cond b (behind (se
 
 -- ---- what is settled
 
--- A flush or a stop behind the call's losses leaves each sector its newest value alone.
-pub settled-now : (world : World) (size : ℕ) (unsynced : Bool) (entries more rest : List Entry) → was_dirty world ≡ unsynced
-    → ((x : ℕ) → values_of (opening_list world) (entries ++ (more ++ rest)) x ≡ take 1 (values_of (opening_list world) entries x))
-    → ((x : ℕ) → x < size → IsIn (values_of (opening_list world) entries x) (now (opening_list world) entries x))
+-- A flush or a stop behind the call's losses leaves each sector its newest value, and so does the end of a resync.
+pub settled-now : (world : World) (size : ℕ) (unsynced : Bool) (entries more rest : List Entry) → is_unsynced world (entries ++ (more ++ rest)) ≡ unsynced
+    → ((x : ℕ) → x < size → IsIn (values_of (opening_list world) (entries ++ (more ++ rest)) x) (now (opening_list world) entries x))
     → IsMoreTold size (settled_ledger unsynced (now (opening_list world) entries) (told_by world entries more)) (ledger_now world (entries ++ (more ++ rest)))
-settled-now world size unsynced entries more rest dirty durable allowed = record {
-  values = λ x lt v only. subst (λ (l : List Sector). IsIn l v) (sym (durable x)) (newest (values_of (opening_list world) entries x) v (allowed x lt) only);
+settled-now world size unsynced entries more rest dirty newest = record {
+  values = λ x lt v only. elim only [ inl same ↦ subst (λ (w : Sector). IsIn (values_of (opening_list world) (entries ++ (more ++ rest)) x) w) (sym same) (newest x lt) | inr none ↦ absurd none ];
   gone = λ role is. subst (λ (l : List Entry). is_lost l role ≡ true) (append_assoc entries more rest) (lost-still (entries ++ more) rest role is);
-  unclean = λ is. or_left (was_dirty world) (is_unsettled (entries ++ (more ++ rest))) (dirty ∙ is);
+  unclean = λ is. or_left (is_unsynced world (entries ++ (more ++ rest))) (is_unsettled (entries ++ (more ++ rest))) (dirty ∙ is);
 }
-  where
-    newest : (values : List Sector) (v : Sector) → HasNewest values → IsIn (slice_index_or values 0 [] ∷ []) v → IsIn (take 1 values) v
-    newest [] v has only = absurd has
-    newest (w ∷ values) v has only = only

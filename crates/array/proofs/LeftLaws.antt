@@ -22,7 +22,8 @@ left-behind steps who end (Lost role Fault ∷ xs) tail are tell left is = left-
 left-behind steps who end (SpareLost slot ∷ xs) tail are tell left is = left-behind steps who end xs tail are tell None tt
 left-behind steps who end (event ∷ xs) tail are tell left is = absurd are
 
-fold-left : (left : Option ℕ) (entries added : List Entry) → fold (λ left e. left_after left e.event) left (entries ++ added) ≡ fold (λ left e. left_after left e.event) (fold (λ left e. left_after left e.event) left entries) added
+-- one call behind others
+pub fold-left : (left : Option ℕ) (entries added : List Entry) → fold (λ left e. left_after left e.event) left (entries ++ added) ≡ fold (λ left e. left_after left e.event) (fold (λ left e. left_after left e.event) left entries) added
 fold-left left [] added = refl
 fold-left left (e ∷ entries) added = fold-left (left_after left e.event) entries added
 

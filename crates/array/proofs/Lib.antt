@@ -1,5 +1,4 @@
 pub mod WholeLaws
-pub mod RightLaws
 pub mod PlainLaws
 pub mod MarkLaws
 pub mod PlacedLaws
@@ -17,16 +16,14 @@ pub mod LossLaws
 pub mod ReadyLaws
 pub mod MarkedLaws
 pub mod ReadWhole
-pub mod MarkedRight
 pub mod HeldKept
-pub mod MarksRight
-pub mod SafetyLaws
-pub mod LostLaws
 pub mod SafeLaws
 pub mod LackingLaws
 pub mod LackingWrites
 pub mod LackingLists
 pub mod DegradedLaws
+pub mod Stripes
+pub mod ReadParts
 pub mod ReadLaws
 pub mod WriteLaws
 pub mod SettledLaws
@@ -60,3 +57,8 @@ pub mod LedgerLaws
 pub mod MadeLaws
 pub mod Risen
 pub mod SafeStretch
+pub mod MendedParts
+pub mod StepLaws
+pub mod AnswerLaws
+pub mod MendLaws
+pub mod EndLaws

@@ -1,7 +1,6 @@
 -- The entries of a call that ends at one moment: how many were made by a mark, and how the opening's list stays.
 use Rattle.std.proofs.Common.{◌≡◌, ℕ, suc, ◌+◌, ◌<◌, ◌≤◌, Bool, true, false, cond, List, [], ◌∷◌, ◌++◌, length, refl, ap, ◌∙◌, arith, leb}
 use Rattle.std.proofs.lemmas.Bool.{lt-leb, le-leb}
-use Rattle.md_base.specs.Sectors.{Sector}
 use Rattle.md_base.specs.declared.answers.Who.{Who}
 use Rattle.bank.specs.declared.bank.Operation.{Operation}
 use Rattle.bank.proofs.Laws.{contents-earlier}

@@ -1,5 +1,5 @@
 -- What a mark leaves of an array whose roles are whole.
-use Rattle.std.proofs.Common.{◌≡◌, ◌≢◌, inl, inr, ℕ, ◌+◌, ◌<◌, ◌≤◌, Bool, true, false, List, [], ◌∷◌, ◌++◌, length, take, drop, take_all, refl, sym, ◌∙◌, ap, arith}
+use Rattle.std.proofs.Common.{◌≡◌, inl, inr, ℕ, ◌≤◌, Bool, true, false, List, [], ◌∷◌, ◌++◌, length, take, drop, take_all, refl, sym, ◌∙◌, ap, arith}
 use Rattle.std.proofs.lemmas.List.{take-append-drop}
 use Rattle.std.specs.Prelude.{slice_index_or}
 use Rattle.md_base.specs.Sectors.{Sector}
@@ -9,13 +9,11 @@ use Rattle.bank.specs.Tape.{Contents, Kept, EachMark, disk, value_after}
 use Rattle.bank.specs.declared.bank.Operation.{Operation}
 use Rattle.bank.proofs.Laws.{choices-present}
 use Rattle.superblocks.specs.declared.members.Members.{Members}
-use Rattle.superblocks.specs.Reading.{shape_of}
 use Rattle.superblocks.specs.Updating.{AreLosses}
 use Rattle.row_io.specs.Rows.{present}
-use Rattle.array.specs.Placed.{places_of, AreWhole, IsPlaced, AreUnlost, AreLess}
+use Rattle.array.specs.Placed.{AreUnlost, AreLess}
 use Rattle.array.specs.Marking.{IsMarked, AreOthersPresent}
-use Rattle.array.specs.Moving.{AreRowsKept, Grows, AreFailed}
-use Rattle.array.proofs.MemberLaws.{holder-is}
+use Rattle.array.specs.Moving.{Grows, AreFailed}
 
 -- ---- the tape
 
@@ -45,14 +43,6 @@ others-present {given = given} {before = before} {after = after} marked told s k
     first : (tape : List Operation) → take 1 (disk given.start tape s k) ≡ present given tape s k ∷ []
     first tape = choices-present s k (given.start s k) [] tape
         ∙ ap (λ (l : List Operation). value_after s k (given.start s k) l ∷ []) (sym (take_all (length tape) tape (le_refl (length tape))))
-
--- the rows lie behind the superblocks
-pub behind-superblocks : (given : Given) (m : Members) → IsPlaced given m → AreWhole m → (role row : ℕ) → role < (shape_of m.newest).disks → (places_of m).offset role + row ≢ 8
-behind-superblocks given m placed whole role row lt e =
-    absurd (let at = placed.behind role ((places_of m).slot role) (holder-is given m placed whole role lt) in omega (arith, e, at))
-
-pub rows-others : (given : Given) (m : Members) (before after : Contents) → IsPlaced given m → AreWhole m → AreOthersPresent before after → AreRowsKept (places_of m) before after
-rows-others given m before after placed whole others role row lt = others ((places_of m).slot role) ((places_of m).offset role + row) (behind-superblocks given m placed whole role row lt)
 
 -- ---- the members
 

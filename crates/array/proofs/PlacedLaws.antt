@@ -118,16 +118,6 @@ pub kept-roles : (lost : ℕ) (roles : List Role) → ((role slot : ℕ) → hol
 kept-roles lost [] kept = refl
 kept-roles lost (state ∷ roles) kept = ap₂ (λ (r : Role) (l : List Role). r ∷ l) (kept-state lost state (kept 0)) (kept-roles lost roles (λ role. kept (suc role)))
 
--- where no slot was lost since, none of the roles lost its slot
-pub less-none : (old new : Members) → AreUnlost old → AreLess old.lost old new → AreLess 0 old new
-less-none old new unlost less = record {
-  still = less.still;
-  shape = less.shape;
-  size = less.size;
-  roles = less.roles ∙ kept-roles old.lost old.roles unlost ∙ sym (none-lost old.roles);
-  offsets = less.offsets;
-}
-
 -- a slot that still holds its role isn't among those that were lost
 gone-state : (lost : ℕ) (state : Role) (slot : ℕ) → holder (role_without lost state) ≡ Some slot → has_slot lost slot ≡ false
 gone-state lost (Whole s) slot is = by (has_slot lost s) refl is

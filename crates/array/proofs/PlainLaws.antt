@@ -1,5 +1,5 @@
 -- How a legal history grows by a call.
-use Rattle.std.proofs.Common.{◌≡◌, ℕ, ◌+◌, ◌≤◌, ◌==◌, ◌&&◌, Bool, true, false, cond, Option, Some, List, [], ◌∷◌, ◌++◌, unwrap_or, refl, sym, ◌∙◌, ap, arith, append_assoc}
+use Rattle.std.proofs.Common.{◌≡◌, ℕ, ◌+◌, ◌==◌, ◌&&◌, Bool, true, false, cond, Option, Some, List, [], ◌∷◌, ◌++◌, unwrap_or, refl, sym, ◌∙◌, ap, arith, append_assoc}
 use Rattle.std.proofs.lemmas.Bool.Decides.{nat_tests}
 use Rattle.std.specs.Prelude.{fold}
 use Rattle.std.specs.Option.{option_map_or}
@@ -9,26 +9,11 @@ use Rattle.flat_history.specs.declared.events.Event.{Event}
 use Rattle.flat_history.specs.Flat.{is_same_call, rest_of_call, last_of, number_after}
 use Rattle.flat_history.specs.Transfers.{last_end_from}
 use Rattle.flat_history.specs.Growing.{BeginAnother}
-use Rattle.flat_history.specs.Plain.{Opening, ArePlain, entries_of}
+use Rattle.flat_history.specs.Plain.{entries_of}
 
 -- one entry of a call
 abbrev pub one : Who → ℕ → Event → Entry
 one who end event = record { caller = who.caller; number = who.number; end = end; event = event }
-
--- ---- more operations, and another call
-
-pub plain-later : (opening : Opening) (ops more : ℕ) (before entries : List Entry) → ops ≤ more → ArePlain opening ops before entries → ArePlain opening more before entries
-plain-later opening ops more before [] le plain = tt
-plain-later opening ops more before (e ∷ entries) le plain = (
-  record {
-    numbered = plain.0.numbered;
-    timed = record { rises = plain.0.timed.rises; within = omega (arith, plain.0.timed.within, le) };
-    inner = plain.0.inner;
-    caller = plain.0.caller;
-    event = plain.0.event;
-  },
-  plain-later opening ops more (before ++ e ∷ []) entries le plain.1,
-)
 
 -- ---- one call
 

@@ -13,20 +13,16 @@ use Rattle.md_base.specs.Shapes.{tolerance, is_multiple}
 use Rattle.md_base.proofs.Least.{least_below-none}
 use Rattle.sb1.specs.declared.sb.Sb.{Sb}
 use Rattle.bank.specs.Tape.{Contents, IsIn}
-use Rattle.superblocks.specs.declared.members.Members.{Members}
 use Rattle.superblocks.specs.Reading.{Scope, Reading, reading, is_seen, is_clean, is_reshaping, is_whole, shape_of, target_of, final_shape, shapes_in_force, role_count, list_length, role_state, holder, own_of}
 use Rattle.superblocks.specs.Verdict.{members_missing, dirty_degraded, off_unit, unit_of, missing_count, too_many, is_missing, holds_data, first_of_all}
 use Rattle.superblocks.specs.Reads.{IsReadAs, roles_refusal}
-use Rattle.superblocks.specs.Held.{AreDrawn, said_by}
+use Rattle.superblocks.specs.Held.{AreDrawn}
 use Rattle.superblocks.specs.Crash.{EachReadsEither}
-use Rattle.superblocks.specs.Said.{AreSaid}
 use Rattle.superblocks.proofs.ReadAlike.{shape-same}
-use Rattle.superblocks.proofs.SaidSlots.{read-own, role-said, role-known}
-use Rattle.row_io.specs.Rows.{reading_of}
+use Rattle.superblocks.proofs.SaidSlots.{read-own}
 use Rattle.flat_history.specs.Stands.{has_room, reach_of}
 use Rattle.flat_history.proofs.SameLaws.{HaveSameMembers, read-same}
-use Rattle.array.specs.Whole.{Places, IsReadWhole, AreDrawnSuperblocks, AreReadWhole}
-use Rattle.array.specs.Placed.{places_of}
+use Rattle.array.specs.Whole.{Places, IsReadWhole, AreDrawnSuperblocks}
 
 -- a reading says every role whole at these places
 pub record IsSaidWhole (p : Places) (q : Reading) : Type 0 where
@@ -156,21 +152,4 @@ module _ (scope : Scope) (d : ℕ → ℕ → List Sector) (some : IsSomewhere d
       let read = ⊎_elim (λ (a : IsReadAs scope lost q filled). whole-read scope lost p q filled w a) (λ b. whole-read scope lost p r filled w' b) (each filled filled-drawn) in
       (read.0, sym (read-same scope filled c filled-same) ∙ read.1, read.2)
 
-pub read-either : (scope : Scope) (lost : ℕ) (p : Places) (q r : Reading) (d : ℕ → ℕ → List Sector) → IsSaidWhole p q → IsSaidWhole p r → EachReadsEither scope lost q r d → IsSomewhere d
-    → AreReadWhole scope p d
-read-either scope lost p q r d w w' each some c drawn = read-filled scope d some c drawn lost p q r w w' each
-
 -- ---- members that say what is known
-
-pub said-whole : (scope : Scope) (known : ℕ) (m : Members) → AreSaid scope known m → is_reshaping m.newest ≡ false
-    → ((role : ℕ) → role < (shape_of m.newest).disks → role_state (reading_of m) role ≡ Whole ((places_of m).slot role))
-    → IsSaidWhole (places_of m) (said_by scope known m.own m.newest)
-said-whole scope known m said still state = record {
-  still = still;
-  shape = refl;
-  size = refl;
-  whole = λ role lt. sym (role-said scope known m said role) ∙ state role lt;
-  own = λ role lt.
-      let k = role-known scope known m said role ((places_of m).slot role) (ap holder (state role lt)) in
-      (k.1, k.3, sym (ap (λ (o : Option Sb). option_map_or (λ sb. sb.data_offset) o 0) k.2));
-}

@@ -1,24 +1,22 @@
 -- What an array keeps, after a call.
-use Rattle.std.proofs.Common.{◌≡◌, ◌⊎◌, ℕ, ◌+◌, ◌/◌, ◌<◌, ◌≤◌, inl, inr, Bool, false, not, Option, None, List, [], ◌∷◌, ◌++◌, length, take, refl, sym, ◌∙◌, ap, subst, arith}
-use Rattle.std.specs.Prelude.{fold, slice_index_or, IfSome}
-use Rattle.std.specs.Option.{option_map_or}
+use Rattle.std.proofs.Common.{◌≡◌, ◌⊎◌, ℕ, ◌+◌, ◌*◌, ◌/◌, ◌<◌, ◌≤◌, inl, inr, false, Option, None, List, [], ◌∷◌, ◌++◌, length, take, refl, sym, ◌∙◌, ap, subst, arith}
+use Rattle.std.specs.Prelude.{fold, slice_index_or}
 use Rattle.md_base.specs.Sectors.{Sector, sectors_of}
 use Rattle.md_base.specs.declared.answers.Who.{Who}
 use Rattle.md_base.proofs.SectorLaws.{length-sectors_of}
 use Rattle.parity.specs.Rows.{IsSector}
 use Rattle.bank.specs.Given.{Given}
-use Rattle.bank.specs.Tape.{Contents}
+use Rattle.bank.specs.Tape.{Contents, IsIn}
 use Rattle.bank.specs.declared.bank.Operation.{Operation}
 use Rattle.bank.proofs.Laws.{contents-earlier}
 use Rattle.superblocks.specs.declared.members.Members.{Members}
-use Rattle.superblocks.specs.Reading.{Scope, reading, is_clean}
+use Rattle.superblocks.specs.Reading.{Scope}
 use Rattle.flat_history.specs.declared.events.Entry.{Entry}
 use Rattle.flat_history.specs.declared.events.Epoch.{Epoch}
 use Rattle.flat_history.specs.declared.events.Event.{Event}
 use Rattle.flat_history.specs.declared.events.Event.TheVariants.{Flushed, Stopped}
 use Rattle.flat_history.specs.Flat.{now, values_after, visible_of}
-use Rattle.flat_history.specs.World.{World, opening_list, contents_at, reading_at}
-use Rattle.flat_history.specs.Opened.{IsSound}
+use Rattle.flat_history.specs.World.{World, opening_list, contents_at}
 use Rattle.flat_history.specs.Growing.{grown}
 use Rattle.flat_history.specs.Transfers.{IsReadOver}
 use Rattle.flat_history.specs.Plain.{entries_of}
@@ -32,24 +30,21 @@ use Rattle.array.specs.Rows.{row_sector}
 use Rattle.array.specs.Placed.{AreWhole}
 use Rattle.array.specs.Moving.{Grows}
 use Rattle.array.specs.Kept.{scope_in, world_in, IsReady, IsKept}
-use Rattle.flat_history.specs.Opened.{OpensGood}
-use Rattle.flat_history.specs.Sound.{FillsRight}
+use Rattle.flat_history.specs.Losses.{is_resync_end}
+use Rattle.flat_history.specs.Opened.{OpensWhole}
+use Rattle.flat_history.specs.Sound.{OpensFit, FillsRight}
 use Rattle.array.specs.Calls.{IsSettling}
 use Rattle.array.proofs.MadeLaws.{opening-grown}
 use Rattle.array.proofs.NowLaws.{sectors_of-at}
 use Rattle.array.proofs.CallLaws.{AreLossEvents, length-losses, limit-losses, values-losses}
 use Rattle.array.proofs.LeftLaws.{TellLeft}
+use Rattle.array.proofs.LedgerLaws.{HasNewest}
 use Rattle.array.proofs.RecordLaws.{AreSilent, whole-told}
 
 -- ---- the opening stays what it was
 
-pub opens-back : (world : World) (ops : List Operation) → world.first ≤ length world.tape → OpensGood (grown world ops) → OpensGood world
-unfolding reading_at
-opens-back world ops within good = record {
-  clean = ap (λ (c : Contents). option_map_or (λ r. not (is_clean r.newest)) (reading world.scope c) false) (sym same) ∙ good.clean;
-  sound = subst (λ (c : Contents). IfSome (reading world.scope c) (IsSound world.scope c)) same good.sound;
-  whole = subst (λ (c : Contents). (slot k : ℕ) → k < world.scope.sizes.sectors slot → IsSector (c slot k)) same good.whole;
-}
+pub whole-back : (world : World) (ops : List Operation) → world.first ≤ length world.tape → OpensWhole (grown world ops) → OpensWhole world
+whole-back world ops within whole = subst (λ (c : Contents). (slot k : ℕ) → k < world.scope.sizes.sectors slot → IsSector (c slot k)) same whole
   where
     same : contents_at (grown world ops) world.first ≡ contents_at world world.first
     same = λ i slot at. contents-earlier world.start world.tape ops world.first slot at within i
@@ -79,6 +74,14 @@ flushed-still : (values : List Sector) → slice_index_or (take 1 values) 0 [] �
 flushed-still [] = refl
 flushed-still (v ∷ values) = refl
 
+-- the newest value of each sector stays allowed
+abbrev pub KeepsNewest : Who → ℕ → Event → Type 0
+KeepsNewest who end event = (x : ℕ) (values : List Sector) → HasNewest values → IsIn (fold (λ values e. values_after x values e.event) values (entries_of who end (event ∷ []))) (slice_index_or values 0 [])
+
+first-stays : (values : List Sector) → HasNewest values → IsIn (take 1 values) (slice_index_or values 0 [])
+first-stays [] has = absurd has
+first-stays (w ∷ values) has = inl refl
+
 -- a flush or a stop
 pub record Settles (event : Event) : Type 0 where
   pub silent : (who : Who) (end : ℕ) → AreSilent who end (event ∷ [])
@@ -86,13 +89,14 @@ pub record Settles (event : Event) : Type 0 where
   pub still : (who : Who) (end : ℕ) → AreStill who end (event ∷ [])
   pub call : (opening : ShapeOpening) (before : List Entry) (who : Who) (end : ℕ) → IsOneShapeCall opening before who end (event ∷ [])
   pub keep : (who : Who) (end : ℕ) → KeepLosses (entries_of who end (event ∷ []))
-  pub durable : (who : Who) (end x : ℕ) (values : List Sector) → fold (λ values e. values_after x values e.event) values (entries_of who end (event ∷ [])) ≡ take 1 values
+  pub ends : is_resync_end event ≡ false
+  pub newest : (who : Who) (end : ℕ) → KeepsNewest who end event
 
 pub flush-settles : Settles Flushed
-flush-settles = record { silent = λ who end. record { length = λ n. refl; limit = refl }; left = λ steps who end left is. is; still = λ who end x values. flushed-still values; call = λ opening before who end. (tt, tt, tt); keep = λ who end. refl; durable = λ who end x values. refl }
+flush-settles = record { silent = λ who end. record { length = λ n. refl; limit = refl }; left = λ steps who end left is. is; still = λ who end x values. flushed-still values; call = λ opening before who end. (tt, tt, tt); keep = λ who end. refl; ends = refl; newest = λ who end x values has. first-stays values has }
 
 pub stop-settles : Settles Stopped
-stop-settles = record { silent = λ who end. record { length = λ n. refl; limit = refl }; left = λ steps who end left is. is; still = λ who end x values. flushed-still values; call = λ opening before who end. (tt, tt, tt); keep = λ who end. refl; durable = λ who end x values. refl }
+stop-settles = record { silent = λ who end. record { length = λ n. refl; limit = refl }; left = λ steps who end left is. is; still = λ who end x values. flushed-still values; call = λ opening before who end. (tt, tt, tt); keep = λ who end. refl; ends = refl; newest = λ who end x values has. first-stays values has }
 
 pub settles-of : (event : Event) → IsSettling event → Settles event
 settles-of event (inl is) = subst Settles (sym is) flush-settles
@@ -102,15 +106,15 @@ settles-of event (inr is) = subst Settles (sym is) stop-settles
 
 -- the same after the call's last step in memory
 pub ready : {tells : Type 0} {given given' : Given} {tape' : List Operation} {scope scope' : Scope} {first first' : ℕ} {entries mid entries' : List Entry} {members' : Members}
-    {unsynced : Bool} {room rows buffer : ℕ} (added : List Entry) → IsKept tells given tape' scope first (entries ++ added) members' unsynced
-    → given' ≡ given → scope' ≡ scope → first' ≡ first → mid ≡ entries → entries' ≡ mid ++ added → 1 ≤ room → 128 ≤ rows → 1048576 ≤ buffer
-    → IsReady tells given' tape' scope' first' entries' members' unsynced room rows buffer
+    {resync : Option ℕ} {steps room rows buffer : ℕ} (added : List Entry) → IsKept tells given tape' scope first (entries ++ added) members' resync
+    → given' ≡ given → scope' ≡ scope → first' ≡ first → mid ≡ entries → entries' ≡ mid ++ added → 50 * steps < room → 128 ≤ rows → 1048576 ≤ buffer
+    → IsReady tells given' tape' scope' first' entries' members' resync steps room rows buffer
 ready {tells = tells} {given = given} {given' = given'} {tape' = tape'} {scope = scope} {scope' = scope'} {first = first} {first' = first'} {entries = entries} {mid = mid} {members' = members'}
-    {unsynced = unsynced} {room = room} {rows = rows} {buffer = buffer} added kept same scope_is first_is mid_is is room_left rows_fit buffer_fits =
-    subst (λ (l : List Entry). IsReady tells given' tape' scope' first' l members' unsynced room rows buffer) (sym (is ∙ ap (λ (l : List Entry). l ++ added) mid_is))
-    (subst (λ (n : ℕ). IsReady tells given' tape' scope' n (entries ++ added) members' unsynced room rows buffer) (sym first_is)
-    (subst (λ (s : Scope). IsReady tells given' tape' s first (entries ++ added) members' unsynced room rows buffer) (sym scope_is)
-    (subst (λ (g : Given). IsReady tells g tape' scope first (entries ++ added) members' unsynced room rows buffer) (sym same)
+    {resync = resync} {steps = steps} {room = room} {rows = rows} {buffer = buffer} added kept same scope_is first_is mid_is is room_left rows_fit buffer_fits =
+    subst (λ (l : List Entry). IsReady tells given' tape' scope' first' l members' resync steps room rows buffer) (sym (is ∙ ap (λ (l : List Entry). l ++ added) mid_is))
+    (subst (λ (n : ℕ). IsReady tells given' tape' scope' n (entries ++ added) members' resync steps room rows buffer) (sym first_is)
+    (subst (λ (s : Scope). IsReady tells given' tape' s first (entries ++ added) members' resync steps room rows buffer) (sym scope_is)
+    (subst (λ (g : Given). IsReady tells g tape' scope first (entries ++ added) members' resync steps room rows buffer) (sym same)
     (record { kept = kept; room_left = room_left; rows_fit = rows_fit; buffer_fits = buffer_fits }))))
 
 -- the same slots of the same bank are looked at
@@ -136,20 +140,20 @@ read_is world size entries at bytes opened all within holds = record {
 -- ---- an epoch that is handed out
 
 -- the history is legal, where what was filled in is right by it
-pub kept-legal : {tells : Type 0} {given : Given} {tape : List Operation} {scope : Scope} {first : ℕ} {entries : List Entry} {members : Members} {unsynced : Bool} → IsKept tells given tape scope first entries members unsynced
+pub kept-legal : {tells : Type 0} {given : Given} {tape : List Operation} {scope : Scope} {first : ℕ} {entries : List Entry} {members : Members} {resync : Option ℕ} → IsKept tells given tape scope first entries members resync
     → tells → FillsRight (world_in given tape scope first) entries → IsOneShapeLegal (opening_in (world_in given tape scope first)) (length tape) entries
-kept-legal {given = given} {tape = tape} {scope = scope} {first = first} {entries = entries} {members = members} {unsynced = unsynced} was t fills = (was.recorded t).legal (λ synced. right synced fills)
+kept-legal {given = given} {tape = tape} {scope = scope} {first = first} {entries = entries} {members = members} was t fills = (was.recorded t).legal (λ mended. right fills)
   where
-    right : unsynced ≡ false → FillsRight (world_in given tape scope first) entries → AreWhole members ⊎ OpensGood (world_in given tape scope first)
-    right synced (inl none) = inl (whole-told members entries was.told none)
-    right synced (inr sound) = inr (record { clean = (was.recorded t).dirty ∙ synced; sound = sound.0; whole = sound.1 })
+    right : FillsRight (world_in given tape scope first) entries → AreWhole members ⊎ OpensFit (world_in given tape scope first)
+    right (inl none) = inl (whole-told members entries was.told none)
+    right (inr fit) = inr fit
 
-pub epoch-right : {tells : Type 0} {entries : List Entry} {unsynced : Bool} (given : Given) (tape : List Operation) (backup : Option ℕ) (epoch : Epoch) (members : Members)
-    → IsKept tells given tape (scope_in given epoch.uuid epoch.given backup) epoch.first entries members unsynced → epoch.entries.items ≡ entries → tells → epoch.last ≡ length tape
+pub epoch-right : {tells : Type 0} {entries : List Entry} {resync : Option ℕ} (given : Given) (tape : List Operation) (backup : Option ℕ) (epoch : Epoch) (members : Members)
+    → IsKept tells given tape (scope_in given epoch.uuid epoch.given backup) epoch.first entries members resync → epoch.entries.items ≡ entries → tells → epoch.last ≡ length tape
     → FillsRight (world_of given tape backup epoch) epoch.entries.items → HasRoomForEvents (world_of given tape backup epoch) → OpensAlike (world_of given tape backup epoch) → IsEpochRight given tape backup epoch
-epoch-right {tells = tells} {unsynced = unsynced} given tape backup epoch members was is t last fills room alike =
-    let kept : IsKept tells given tape (scope_in given epoch.uuid epoch.given backup) epoch.first epoch.entries.items members unsynced =
-    subst (λ (l : List Entry). IsKept tells given tape (scope_in given epoch.uuid epoch.given backup) epoch.first l members unsynced) (sym is) was in
+epoch-right {tells = tells} {resync = resync} given tape backup epoch members was is t last fills room alike =
+    let kept : IsKept tells given tape (scope_in given epoch.uuid epoch.given backup) epoch.first epoch.entries.items members resync =
+    subst (λ (l : List Entry). IsKept tells given tape (scope_in given epoch.uuid epoch.given backup) epoch.first l members resync) (sym is) was in
     let recorded = kept.recorded t in
     let world = world_of given tape backup epoch in
     let legal = one_shape-legal world (opening_in world) epoch.entries.items (found-in world) (kept-legal kept t fills) in

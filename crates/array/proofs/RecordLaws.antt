@@ -1,20 +1,18 @@
 -- What is kept of the history after a call, by what the call entered.
-use Rattle.std.proofs.Common.{◌≡◌, ℕ, zero, suc, ◌+◌, ◌<◌, ◌≤◌, ◌&&◌, ◌||◌, Bool, true, false, not, cond, Option, None, List, [], ◌∷◌, ◌++◌, refl, sym, ◌∙◌, ap, arith}
+use Rattle.std.proofs.Common.{◌≡◌, ℕ, zero, suc, ◌+◌, ◌<◌, ◌≤◌, ◌||◌, Bool, true, false, cond, Option, None, List, [], ◌∷◌, ◌++◌, refl, sym, ◌∙◌, ap, arith}
 use Rattle.std.proofs.lemmas.Bool.Decides.{nat_tests}
 use Rattle.std.proofs.lemmas.List.Folds.{list_any-append}
 use Rattle.std.specs.Prelude.{fold, IsTrue}
-use Rattle.std.specs.List.{list_any, list_all}
+use Rattle.std.specs.List.{list_any}
 use Rattle.md_base.specs.Search.{count_below}
 use Rattle.md_base.specs.declared.answers.Who.{Who}
 use Rattle.superblocks.specs.declared.members.Members.{Members}
 use Rattle.row_io.specs.Rows.{reading_of, is_missing}
 use Rattle.flat_history.specs.declared.events.Entry.{Entry}
 use Rattle.flat_history.specs.declared.events.Event.{Event}
-use Rattle.flat_history.specs.declared.events.Event.TheVariants.{Lost}
 use Rattle.flat_history.specs.Flat.{length_after, limit_after}
-use Rattle.flat_history.specs.Legal.{is_loss}
 use Rattle.flat_history.specs.Growing.{EndBy}
-use Rattle.flat_history.specs.Plain.{loses_role, is_no_loss, entries_of}
+use Rattle.flat_history.specs.Plain.{loses_role, entries_of}
 use Rattle.array.specs.Placed.{AreWhole}
 use Rattle.array.specs.Kept.{AreTold}
 use Rattle.flat_history.specs.Sound.{LosesNoRole}

@@ -79,14 +79,14 @@ torn_before request e (z ∷ zs) tail none torn = by (is_same_call e z) (torn_be
 -- ---- a reply
 
 pub replied : (size : ℕ) (request : Request) (who : Who) (old new : List Entry) (end : ℕ) (inner : List Event) (event : Event)
-    → new ≡ old ++ entries_of who end (inner ++ event ∷ []) → who.number ≡ next_number who.caller old → OneShapeAnswers size (old ++ entries_of who end inner) request event
+    → new ≡ old ++ entries_of who end (inner ++ event ∷ []) → who.number ≡ next_number who.caller old → ((call : List Entry) → OneShapeAnswers size (old ++ entries_of who end inner) call request event)
     → AreTornOf request (entries_of who end inner) → IsReplied size request who old new event
 replied size request who old new end inner event is number answers torn = record {
   inner = inner;
   end = end;
   is = is;
   fits = record {
-    answers = answers;
+    answers = answers _;
     torn = subst (λ (l : List Entry). AreTornOf request (rest_of_call (one who end event) l)) (sym (reverse-append old (entries_of who end inner)))
         (torn_before request (one who end event) (reverse (entries_of who end inner)) (reverse old) (none_before old who end event number) (torn-reverse request (entries_of who end inner) torn));
   };
@@ -101,9 +101,9 @@ IsOfMissing refusal = IsReadRefused refusal × ¬ IsPastEnd refusal
 pub too-many-of : (m : Members) (refusal : Refusal) → AreTooMany m refusal → IsOfMissing refusal
 too-many-of m refusal many = subst IsOfMissing (sym many.told) (tt, λ p. p)
 
-pub unread-of : (synced : Bool) (at count : ℕ) (m : Members) (refusal : Refusal) → IsUnread synced at count m refusal → IsOfMissing refusal
-unread-of synced at count m refusal (inl many) = too-many-of m refusal many
-unread-of synced at count m refusal (inr found) = subst IsOfMissing (sym found.1) (tt, λ p. p)
+pub unread-of : (mended at count : ℕ) (m : Members) (refusal : Refusal) → IsUnread mended at count m refusal → IsOfMissing refusal
+unread-of mended at count m refusal (inl many) = too-many-of m refusal many
+unread-of mended at count m refusal (inr found) = subst IsOfMissing (sym found.1) (tt, λ p. p)
 
 pub unwritten-of : (synced : Bool) (m : Members) (refusal : Refusal) → IsUnwritten synced m refusal → IsOfMissing refusal
 unwritten-of synced m refusal (inl many) = too-many-of m refusal many
@@ -135,19 +135,19 @@ missing_at visible to refusal le of = match_false (nat_lt visible to) (IsPastEnd
 
 -- what a call that transfers up to `to` may be refused with; no call but one of these is refused past the end
 pub record IsRefusable (request : Request) (to : ℕ) : Type 0 where
-  pub past : (size told : ℕ) (before : List Entry) → visible_of size before ≡ size → size < to → OneShapeAnswers size before request (Refused (PastEnd told))
-  pub missing : (size : ℕ) (refusal : Refusal) (before : List Entry) → visible_of size before ≡ size → to ≤ size → IsOfMissing refusal → OneShapeAnswers size before request (Refused refusal)
+  pub past : (size told : ℕ) (before : List Entry) → visible_of size before ≡ size → size < to → (call : List Entry) → OneShapeAnswers size before call request (Refused (PastEnd told))
+  pub missing : (size : ℕ) (refusal : Refusal) (before : List Entry) → visible_of size before ≡ size → to ≤ size → IsOfMissing refusal → (call : List Entry) → OneShapeAnswers size before call request (Refused refusal)
 
 pub read_kind : (at count : ℕ) → IsRefusable (AsksRead at count) (at + count)
 read_kind at count = record {
-  past = λ size told before all lt. past_at (visible_of size before) (at + count) told (rw all lt);
-  missing = λ size refusal before all le of. missing_at (visible_of size before) (at + count) refusal (rw all le) of;
+  past = λ size told before all lt call. past_at (visible_of size before) (at + count) told (rw all lt);
+  missing = λ size refusal before all le of call. missing_at (visible_of size before) (at + count) refusal (rw all le) of;
 }
 
 pub write_kind : (at : ℕ) (body : List Sector) → IsRefusable (AsksWrite at body) (at + length body)
 write_kind at body = record {
-  past = λ size told before all lt. past_at (visible_of size before) (at + length body) told (rw all lt);
-  missing = λ size refusal before all le of. missing_at (visible_of size before) (at + length body) refusal (rw all le) of;
+  past = λ size told before all lt call. past_at (visible_of size before) (at + length body) told (rw all lt);
+  missing = λ size refusal before all le of call. missing_at (visible_of size before) (at + length body) refusal (rw all le) of;
 }
 
 module _ (size : ℕ) (old : List Entry) (sized : length_of size old ≡ size) (unlimited : limit_of old ≡ None) where
@@ -204,14 +204,14 @@ module _ (size : ℕ) (old : List Entry) (sized : length_of size old ≡ size) (
 
 -- ---- flushes
 
-flush-refused : (size visible : ℕ) (m m' : Members) (before : List Entry) (refusal : Refusal) → IsRefusedFor visible 0 AreTooMany m m' refusal → OneShapeAnswers size before AsksFlush (Refused refusal)
-flush-refused size visible m m' before (PastEnd told) why = absurd (omega (arith, why.1))
-flush-refused size visible m m' before refusal why = subst (λ (r : Refusal). OneShapeAnswers size before AsksFlush (Refused r)) (sym why.1.told) tt
+flush-refused : (size visible : ℕ) (m m' : Members) (before : List Entry) (refusal : Refusal) → IsRefusedFor visible 0 AreTooMany m m' refusal → (call : List Entry) → OneShapeAnswers size before call AsksFlush (Refused refusal)
+flush-refused size visible m m' before (PastEnd told) why call = absurd (omega (arith, why.1))
+flush-refused size visible m m' before refusal why call = subst (λ (r : Refusal). OneShapeAnswers size before call AsksFlush (Refused r)) (sym why.1.told) tt
 
 pub flush_answer : {T : Type 0} (size visible : ℕ) (who : Who) (old new : List Entry) (m m' : Members) (result : Result T Fault) → who.number ≡ next_number who.caller old → IsSettled who old new Flushed result
     → IsCausedBy visible 0 AreTooMany m m' result → IsAnswered size AsksFlush who old new Flushed result
 flush_answer size visible who old new m m' (Ok x) number settled caused =
-    replied size AsksFlush who old new settled.end (losses_of settled.roles settled.spares) Flushed settled.is number tt (torn-losses AsksFlush who settled.end (losses_of settled.roles settled.spares) (losses-are settled.roles settled.spares))
+    replied size AsksFlush who old new settled.end (losses_of settled.roles settled.spares) Flushed settled.is number (λ call. tt) (torn-losses AsksFlush who settled.end (losses_of settled.roles settled.spares) (losses-are settled.roles settled.spares))
 flush_answer size visible who old new m m' (Err (IsRefusedWith refusal)) number settled caused =
     replied size AsksFlush who old new settled.end (losses_of settled.roles settled.spares) (Refused refusal) settled.is number
     (flush-refused size visible m m' (old ++ entries_of who settled.end (losses_of settled.roles settled.spares)) refusal caused)
@@ -223,9 +223,9 @@ flush_answer size visible who old new m m' (Err NoMemory) number settled caused 
 pub fail_reply : (size : ℕ) (who : Who) (old new : List Entry) (end role roles spares : ℕ) → new ≡ old ++ entries_of who end ((Lost role Command ∷ losses_of roles spares) ++ Failed role ∷ [])
     → who.number ≡ next_number who.caller old → IsReplied size (AsksFail role) who old new (Failed role)
 fail_reply size who old new end role roles spares is number =
-    replied size (AsksFail role) who old new end (Lost role Command ∷ losses_of roles spares) (Failed role) is number refl
+    replied size (AsksFail role) who old new end (Lost role Command ∷ losses_of roles spares) (Failed role) is number (λ call. refl)
     (tt, torn-losses (AsksFail role) who end (losses_of roles spares) (losses-are roles spares))
 
 pub no_role_reply : (size : ℕ) (who : Who) (old new : List Entry) (end role : ℕ) → new ≡ old ++ entries_of who end (Refused (NoSuchRole role) ∷ []) → who.number ≡ next_number who.caller old
     → IsReplied size (AsksFail role) who old new (Refused (NoSuchRole role))
-no_role_reply size who old new end role is number = replied size (AsksFail role) who old new end [] (Refused (NoSuchRole role)) is number refl tt
+no_role_reply size who old new end role is number = replied size (AsksFail role) who old new end [] (Refused (NoSuchRole role)) is number (λ call. refl) tt

@@ -1,8 +1,9 @@
 -- A call whose marks are seen right leaves an array safe.
-use Rattle.std.proofs.Common.{◌≡◌, inl, inr, ℕ, ◌+◌, ◌-◌, ◌<◌, ◌≤◌, ◌||◌, Bool, List, [], ◌∷◌, ◌++◌, length, take, take_all, drop, Option, Some, None, refl, sym, ◌∙◌, ap, subst, arith, length-append, append_assoc}
+use Rattle.std.proofs.Common.{◌≡◌, inl, inr, ℕ, ◌+◌, ◌-◌, ◌<◌, ◌≤◌, ◌&&◌, ◌||◌, Bool, not, List, [], ◌∷◌, ◌++◌, length, take, take_all, Option, Some, None, refl, sym, ◌∙◌, ap, subst, arith, length-append, append_assoc}
 use Rattle.std.specs.Prelude.{◌^◌, IfSome, ⊤}
 use Rattle.std.proofs.Math.Seq.{take-append_seam, drop-append_seam, take-length}
 use Rattle.std.proofs.lemmas.Bool.{cases_lt}
+use Rattle.std.specs.List.{list_any}
 use Rattle.md_base.specs.Sectors.{Sector}
 use Rattle.md_base.specs.declared.answers.Who.{Who}
 use Rattle.bank.specs.declared.bank.Operation.{Operation}
@@ -16,8 +17,8 @@ use Rattle.superblocks.specs.Found.{AreLikeNewest}
 use Rattle.flat_history.specs.declared.events.Entry.{Entry}
 use Rattle.flat_history.specs.declared.events.Event.{Event}
 use Rattle.flat_history.specs.Flat.{length_of, values_of}
-use Rattle.flat_history.specs.Losses.{was_dirty}
-use Rattle.flat_history.specs.World.{World, opening_list, contents_at, reading_at, may_hold}
+use Rattle.flat_history.specs.Losses.{was_dirty, is_resync_end, is_unsynced}
+use Rattle.flat_history.specs.World.{World, opening_list, contents_at, reading_at}
 use Rattle.flat_history.specs.Opened.{IsSound}
 use Rattle.flat_history.specs.Sound.{OpensFit, FillsRight}
 use Rattle.flat_history.specs.CrashSafe.{made_by, may_be_made, first_call_len, IsSafeAt}
@@ -91,18 +92,21 @@ module _ (world : World) (ops : List Operation) (within : world.first ≤ length
   dirty-grown : was_dirty (grown world ops) ≡ was_dirty world
   dirty-grown = ap (λ (o : ShapeOpening). o.dirty) (shape-grown world ops within)
 
+  unsynced-grown : (entries : List Entry) → is_unsynced (grown world ops) entries ≡ is_unsynced world entries
+  unsynced-grown entries = ap (λ (b : Bool). b && not (list_any (λ e. is_resync_end e.event) entries)) dirty-grown
+
   ledger-grown : (entries : List Entry) (k j : ℕ) → ledger_of (grown world ops) entries k j ≡ ledger_of world entries k j
   ledger-grown entries k j = λ i. record {
     values = values_of (opening-grown world ops within i) (take j entries);
     gone = is_lost (take j entries);
-    unclean = dirty-grown i || is_written entries k j;
+    unclean = unsynced-grown (take k entries) i || is_written entries k j;
   }
 
   now-grown : (entries : List Entry) → ledger_now (grown world ops) entries ≡ ledger_now world entries
   now-grown entries = λ i. record {
     values = values_of (opening-grown world ops within i) entries;
     gone = is_lost entries;
-    unclean = dirty-grown i || is_unsettled entries;
+    unclean = unsynced-grown entries i || is_unsettled entries;
   }
 
 -- ---- the mark at which each entry is made
@@ -141,7 +145,7 @@ pub record IsBegun (world : World) (size : ℕ) (entries : List Entry) : Type 0 
   pub opened : length (opening_list world) ≡ size
   pub ends : EndBy (length world.tape) entries
 
-pub begun-of : {size : ℕ} {unsynced : Bool} {members : Members} {entries : List Entry} (world : World) → IsRecorded world size unsynced members entries → IsBegun world size entries
+pub begun-of : {size : ℕ} {resync : Option ℕ} {members : Members} {entries : List Entry} (world : World) → IsRecorded world size resync members entries → IsBegun world size entries
 begun-of world was = record { begun = was.begun; opened = was.opened; ends = was.ends }
 
 -- The call enters some events that are told while it runs, and others behind them that stand only for its end.

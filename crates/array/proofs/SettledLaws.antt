@@ -1,9 +1,8 @@
 -- What a flush or a stop leaves, and that it leaves an array safe.
-use Rattle.std.proofs.Common.{◌≡◌, ◌≢◌, ◌⊎◌, inl, inr, ℕ, ◌+◌, ◌<◌, ◌||◌, Bool, true, false, not, Option, Some, None, get_or, List, length, take, [], ◌∷◌, ◌++◌, refl, sym, ◌∙◌, ap, subst, arith, append-nil}
+use Rattle.std.proofs.Common.{◌≡◌, ◌≢◌, ◌⊎◌, inl, inr, ℕ, ◌<◌, ◌≤◌, ◌||◌, Bool, true, false, not, Option, Some, None, get_or, List, length, [], ◌∷◌, ◌++◌, refl, sym, ◌∙◌, ap, subst, arith, append-nil}
 use Rattle.std.proofs.lemmas.Bool.{cases_lt}
 use Rattle.std.proofs.lemmas.List.{get_or_past}
 use Rattle.md_base.specs.Sectors.{Sector}
-use Rattle.md_base.specs.Shapes.{tolerance}
 use Rattle.md_base.specs.declared.places.Shape.{Shape}
 use Rattle.md_base.specs.declared.status.Role.{Role}
 use Rattle.md_base.specs.declared.status.Role.TheVariants.{Whole, Missing}
@@ -17,32 +16,33 @@ use Rattle.row_io.specs.Rows.{reading_of, present, is_missing}
 use Rattle.flat_history.specs.declared.events.Entry.{Entry}
 use Rattle.flat_history.specs.declared.events.Event.{Event}
 use Rattle.flat_history.specs.World.{World, opening_list}
-use Rattle.flat_history.specs.Losses.{unsettles}
-use Rattle.flat_history.specs.OneShape.{is_unsettled}
+use Rattle.flat_history.specs.Losses.{was_dirty, is_resync_end, is_unsynced, unsettles}
+use Rattle.flat_history.specs.OneShape.{is_unsettled, KeepLosses, IsCallOpen}
 use Rattle.flat_history.specs.Sound.{OpensFit, FillsRight}
 use Rattle.flat_history.specs.declared.events.Event.TheVariants.{Refused}
-use Rattle.bank.specs.Tape.{disk}
+use Rattle.bank.specs.Tape.{IsIn, disk}
 use Rattle.std.specs.List.{list_any}
+use Rattle.std.specs.Prelude.{IsSome, is_some}
 use Rattle.array.specs.Whole.{list_size}
-use Rattle.flat_history.specs.Flat.{next_number, now, values_of}
+use Rattle.flat_history.specs.Flat.{now, values_of}
 use Rattle.flat_history.specs.Plain.{entries_of}
-use Rattle.array.specs.Placed.{places_of, AreWhole, IsPlaced}
+use Rattle.array.specs.Placed.{places_of, IsPlaced}
 use Rattle.array.specs.Losing.{losses_of}
 use Rattle.array.specs.Moving.{Grows, IsMoved}
 use Rattle.array.specs.Safety.{HasRoomLeft, IsRisen}
 use Rattle.array.specs.Views.{Ledger}
 use Rattle.array.specs.Steady.{IsSafeOver, KeepsSafe, AreGoneTold, IsUncleanTold, AreWritesAllowed, settled_ledger}
-use Rattle.array.specs.Lacking.{lacking, too_many, AreTooMany, DoesWithout, ListStands, RowsStand, AreLostSince, AreHoldersFlushed}
+use Rattle.array.specs.Lacking.{AreTooMany, DoesWithout, ListStands, RowsStand, AreLostSince, AreHoldersFlushed, mended_rows}
 use Rattle.array.specs.Kept.{world_in, ledger_now, AreTold, IsKept}
 use Rattle.array.specs.Calls.{AreLeftFlushed}
 use Rattle.array.proofs.NowLaws.{values-more}
 use Rattle.array.proofs.CallLaws.{losses-are, length-losses, limit-losses, values-losses}
 use Rattle.array.proofs.LosingLaws.{entries-both}
-use Rattle.array.proofs.LedgerLaws.{told_by, OnlyAdd, add-none, add-one, add-losses, keep-losses, told-more, told-unclean, more-safe, settled-now, unsettles-behind}
+use Rattle.array.proofs.LedgerLaws.{told_by, HasNewest, pending-more, OnlyAdd, add-none, add-one, add-losses, keep-losses, told-more, told-unclean, more-safe, settled-now, unsettles-behind}
 use Rattle.array.proofs.PlainLaws.{one}
 use Rattle.array.proofs.RecordLaws.{AreSilent}
-use Rattle.array.proofs.ReadyLaws.{Settles, silent-behind}
-use Rattle.array.proofs.DegradedLaws.{LeavesSafe, newest-old, rows-old, safe-by, leaves-unsettled, told-behind, told-alone}
+use Rattle.array.proofs.ReadyLaws.{Settles, KeepsNewest, silent-behind}
+use Rattle.array.proofs.DegradedLaws.{LeavesSafe, without-before, newest-old, safe-by, leaves-unsettled, told-behind, told-alone, none-ended}
 
 -- ---- what was told
 
@@ -63,12 +63,10 @@ left-flushed given old new entries tape was moved told flushed role slot k held 
     at true is (inl none) = absurd (let e = sym (told role (subst (λ (s : Shape). role < s.disks) (sym moved.shape) below) is) ∙ kept in cc)
     at false is (inl none) = absurd (let e = sym is ∙ ap (λ (s : Role). not (is_whole s)) none in cc)
 
--- no refusal speaks of too many that are missing
-pub without-few : (m : Members) → ((refusal : Refusal) → AreTooMany m refusal → ⊥) → DoesWithout m
-without-few m never = elim (cases_lt (tolerance (shape_of m.newest)) (lacking m)) [
-  | inl above ↦ absurd (never (too_many m) (record { above = above; told = refl }))
-  | inr few ↦ few
-]
+-- where no resync is pending, every row is mended
+pub all-mended : (m : Members) (resync : Option ℕ) (unsynced : Bool) → unsynced ≡ is_some resync → unsynced ≡ false → m.newest.size ≤ mended_rows resync m
+all-mended m None unsynced same synced = omega arith
+all-mended m (Some mended) unsynced same synced = absurd (let no = sym same ∙ synced in cc)
 
 -- ---- a call
 
@@ -76,59 +74,70 @@ without-few m never = elim (cases_lt (tolerance (shape_of m.newest)) (lacking m)
 losses-alone : (P : List Event → Type 0) (roles spares : ℕ) → P (losses_of roles spares ++ []) → P (losses_of roles spares)
 losses-alone P roles spares = subst P (append-nil (losses_of roles spares))
 
-module _ {tells : Type 0} {given : Given} {tape tape' : List Operation} {scope : Scope} {first : ℕ} {entries : List Entry} {members members' : Members} {unsynced : Bool}
-    (who : Who) (end : ℕ) (was : IsKept tells given tape scope first entries members unsynced)
-    (number : who.number ≡ next_number who.caller entries) (caller : who.caller ≢ 254) (at_end : tells → end ≡ length tape')
+module _ {tells : Type 0} {given : Given} {tape tape' : List Operation} {scope : Scope} {first : ℕ} {entries : List Entry} {members members' : Members} {resync : Option ℕ}
+    (who : Who) (end : ℕ) (was : IsKept tells given tape scope first entries members resync)
+    (opens : IsCallOpen entries who) (caller : who.caller ≢ 254) (at_end : tells → end ≡ length tape')
     (moved : IsMoved given members members') (grows : Grows tells tape tape')
     (roles spares : ℕ) (before after : ℕ → ℕ) (since : AreLostSince members members' roles spares before after)
-    (rise : IsRisen tells members members' tape tape') (stays : unsynced ≡ true → is_clean members'.newest ≡ is_clean members.newest)
+    (rise : IsRisen tells members members' tape tape') (unsynced : Bool) (all : unsynced ≡ false → members.newest.size ≤ mended_rows resync members)
     (safe : tells → (world : World) → (size : ℕ) → (told : Ledger) → HasRoomLeft members tape tape' → AreGoneTold told members' → IsUncleanTold told members → (list : ℕ → Sector)
     → (DoesWithout members → ListStands members (present given tape) list) → (unsynced ≡ false → DoesWithout members → OpensFit world → RowsStand members (present given tape) list)
     → AreWritesAllowed members told.values list → IsSafeOver world given size told members tape → KeepsSafe world given size told members' tape tape') where
   abbrev losses : List Event
   losses = losses_of roles spares
 
-  dirty-still : unsynced ≡ true → is_clean members'.newest ≡ false
-  dirty-still is = stays is ∙ was.dirty is
+  -- the rows stand as the list, where all of them are mended and the epoch opened fit
+  rows-old : (t : tells) → unsynced ≡ false → DoesWithout members → OpensFit (world_in given tape scope first) → RowsStand members (present given tape) (now (opening_list (world_in given tape scope first)) entries)
+  rows-old t synced does fit row below = was.good t does fit row (let most = all synced in omega (arith, below, most)) below
 
   -- what is told while it runs, and the list among it
   newest-told : (events : List Event) (added : List Entry) → OnlyAdd (entries_of who end events) → (t : tells) → FillsRight (world_in given tape scope first) (entries ++ added)
       → AreWritesAllowed members (values_of (opening_list (world_in given tape scope first)) (entries ++ entries_of who end events)) (now (opening_list (world_in given tape scope first)) entries)
   newest-told events added adds t fills x lt =
-      (told-more (world_in given tape scope first) (list_size (places_of members)) entries (entries_of who end events) adds).values x lt _ (newest-old who end was number caller at_end moved grows added t fills x lt)
+      (told-more (world_in given tape scope first) (list_size (places_of members)) entries (entries_of who end events) adds).values x lt _ (newest-old who end was opens caller at_end moved grows added t fills x lt)
 
   unclean-told : (events : List Event) → OnlyAdd (entries_of who end events) → (t : tells) → IsUncleanTold (told_by (world_in given tape scope first) entries (entries_of who end events)) members
-  unclean-told events adds t is = told-unclean (world_in given tape scope first) (list_size (places_of members)) entries (entries_of who end events) adds unsynced (was.recorded t).dirty (was.unclean is)
+  unclean-told events adds t is = told-unclean (world_in given tape scope first) (list_size (places_of members)) entries (entries_of who end events) adds (is_some resync) (was.recorded t).dirty (was.unclean is)
 
   -- one that was refused behind the losses, since too many are missing
-  pub leaves-refused : (refusal : Refusal) → AreTooMany members' refusal → LeavesSafe tells given tape' scope first (entries ++ entries_of who end (losses_of roles spares ++ Refused refusal ∷ [])) members' unsynced
+  pub leaves-refused : (refusal : Refusal) → AreTooMany members' refusal → LeavesSafe tells given tape' scope first (entries ++ entries_of who end (losses_of roles spares ++ Refused refusal ∷ [])) members' (is_some resync)
   leaves-refused refusal many =
-      leaves-unsettled who end was number caller at_end moved grows (losses ++ Refused refusal ∷ [])
+      leaves-unsettled who end was opens caller at_end moved grows (losses ++ Refused refusal ∷ [])
       (silent-behind who end losses (Refused refusal) (losses-are roles spares) (record { length = λ n. refl; limit = refl })) adds rise
       (λ t fills room began. safe t (world_in given tape scope first) (list_size (places_of members)) (told_by (world_in given tape scope first) entries (entries_of who end (losses ++ Refused refusal ∷ []))) room
-      (told-behind who end was number caller at_end moved grows roles spares before after since (Refused refusal ∷ [])) (unclean-told (losses ++ Refused refusal ∷ []) adds t)
-      (now (opening_list (world_in given tape scope first)) entries) (was.holds t) (λ synced does fit. rows-old who end was number caller at_end moved grows t does synced fit)
+      (told-behind who end was opens caller at_end moved grows roles spares before after since (Refused refusal ∷ [])) (unclean-told (losses ++ Refused refusal ∷ []) adds t)
+      (now (opening_list (world_in given tape scope first)) entries) (was.holds t) (rows-old t)
       (newest-told (losses ++ Refused refusal ∷ []) (entries_of who end (losses ++ Refused refusal ∷ [])) adds t fills) began)
-      dirty-still (λ synced. unsettles-behind who end losses (Refused refusal ∷ []) (subst (λ (r : Refusal). list_any (λ e. unsettles e.event) (entries_of who end (Refused r ∷ [])) ≡ true) (sym many.told) refl))
+      (λ does. absurd (let above = many.above in omega (arith, does, above))) (λ synced. unsettles-behind who end losses (Refused refusal ∷ []) (subst (λ (r : Refusal). list_any (λ e. unsettles e.event) (entries_of who end (Refused r ∷ [])) ≡ true) (sym many.told) refl))
     where
       adds : OnlyAdd (entries_of who end (losses ++ Refused refusal ∷ []))
       adds = add-losses who end losses (Refused refusal ∷ []) (losses-are roles spares) (add-one (one who end (Refused refusal)) [] (λ x values v may. may) refl refl add-none)
 
-  -- a flush or a stop behind the losses
-  pub leaves-settled : (event : Event) → Settles event → (unsynced ≡ false → is_clean members'.newest ≡ true)
-      → (tells → (world : World) → (size : ℕ) → (told : Ledger) → HasRoomLeft members tape tape' → AreGoneTold told members' → IsUncleanTold told members → (unsynced ≡ true → is_clean members.newest ≡ false) → (list : ℕ → Sector)
+  -- an event that ends no resync leaves the array as unsynced as it was
+  pub unsynced-as : (event : Event) → is_resync_end event ≡ false → tells → is_unsynced (world_in given tape scope first) (entries ++ entries_of who end (losses_of roles spares ++ event ∷ [])) ≡ is_some resync
+  unsynced-as event other t =
+      pending-more (was_dirty (world_in given tape scope first)) entries (entries_of who end (losses ++ event ∷ []))
+      (none-ended who end was opens caller at_end moved grows roles spares before after since (event ∷ []) (ap (λ (b : Bool). b || false) other))
+      ∙ (was.recorded t).dirty
+
+  -- An event behind the losses that leaves each sector its newest value: a flush, a stop, or the end of a resync.
+  pub leaves-settled : (event : Event) → AreSilent who end (event ∷ []) → KeepLosses (entries_of who end (event ∷ [])) → KeepsNewest who end event
+      → (tells → is_unsynced (world_in given tape scope first) (entries ++ entries_of who end (losses_of roles spares ++ event ∷ [])) ≡ unsynced)
+      → (unsynced ≡ true → IsSome resync) → (unsynced ≡ true → is_clean members'.newest ≡ is_clean members.newest) → (unsynced ≡ false → is_clean members'.newest ≡ true)
+      → (tells → (world : World) → (size : ℕ) → (told : Ledger) → HasRoomLeft members tape tape' → AreGoneTold told members' → IsUncleanTold told members
+      → (DoesWithout members → unsynced ≡ true → is_clean members.newest ≡ false) → (list : ℕ → Sector)
       → (DoesWithout members → ListStands members (present given tape) list) → (unsynced ≡ false → DoesWithout members → OpensFit world → RowsStand members (present given tape) list)
       → AreWritesAllowed members told.values list → IsSafeOver world given size told members tape
       → IsSafeOver world given size (settled_ledger unsynced list told) members' tape')
       → LeavesSafe tells given tape' scope first (entries ++ entries_of who end (losses_of roles spares ++ event ∷ [])) members' unsynced
-  leaves-settled event settles clean settled = record {
-    dirty = dirty-still;
+  leaves-settled event silent keep newest unsynced_is pending stays clean settled = record {
+    dirty = λ does is. stays is ∙ was.dirty (without-before given members members' was.placed moved does) (pending is);
     unclean = λ is. by unsynced clean is;
-    safe = safe-by who end was number caller at_end moved grows losses (event ∷ [])
+    safe = safe-by who end was opens caller at_end moved grows losses (event ∷ [])
         (losses-alone (AreSilent who end) roles spares (record { length = λ n. length-losses who end losses [] (losses-are roles spares) n; limit = limit-losses who end losses [] (losses-are roles spares) None }))
-        (silent-behind who end losses event (losses-are roles spares) (settles.silent who end)) adds (keep-losses who end losses (event ∷ []) (losses-are roles spares) (settles.keep who end)) rise
+        (silent-behind who end losses event (losses-are roles spares) silent) adds (keep-losses who end losses (event ∷ []) (losses-are roles spares) keep) rise
         (λ t fills room began. safe t (world_in given tape scope first) (list_size (places_of members)) (told_by (world_in given tape scope first) entries (entries_of who end losses)) room gone (unclean-told losses adds t)
-        (now (opening_list (world_in given tape scope first)) entries) (was.holds t) (λ synced does fit. rows-old who end was number caller at_end moved grows t does synced fit)
+        (now (opening_list (world_in given tape scope first)) entries) (was.holds t) (rows-old t)
         (newest-told losses (entries_of who end (losses ++ event ∷ [])) adds t fills) began)
         (λ t fills room began.
         let world = world_in given tape scope first in
@@ -137,10 +146,11 @@ module _ {tells : Type 0} {given : Given} {tape tape' : List Operation} {scope :
         let list = now (opening_list world) entries in
         subst (λ (l : List Entry). IsSafeOver world given size (ledger_now world (entries ++ l)) members' tape') (sym (entries-both who end losses (event ∷ [])))
         (more-safe (OpensFit world) scope given size (settled_ledger unsynced list told) (ledger_now world (entries ++ (entries_of who end losses ++ entries_of who end (event ∷ [])))) members' (disk given.start tape')
-        (settled-now world size unsynced entries (entries_of who end losses) (entries_of who end (event ∷ [])) (was.recorded t).dirty
-        (λ x. subst (λ (l : List Entry). values_of (opening_list world) (entries ++ l) x ≡ take 1 (values_of (opening_list world) entries x)) (entries-both who end losses (event ∷ [])) (durable x))
-        (newest-old who end was number caller at_end moved grows (entries_of who end (losses ++ event ∷ [])) t fills))
-        (settled t world size told room gone (unclean-told losses adds t) was.dirty list (was.holds t) (λ synced does fit. rows-old who end was number caller at_end moved grows t does synced fit)
+        (settled-now world size unsynced entries (entries_of who end losses) (entries_of who end (event ∷ []))
+        (subst (λ (l : List Entry). is_unsynced world (entries ++ l) ≡ unsynced) (entries-both who end losses (event ∷ [])) (unsynced_is t))
+        (λ x lt. subst (λ (l : List Entry). IsIn (values_of (opening_list world) (entries ++ l) x) (list x)) (entries-both who end losses (event ∷ []))
+        (newest-stays x (newest-old who end was opens caller at_end moved grows (entries_of who end (losses ++ event ∷ [])) t fills x lt))))
+        (settled t world size told room gone (unclean-told losses adds t) (λ does is. was.dirty does (pending is)) list (was.holds t) (rows-old t)
         (newest-told losses (entries_of who end (losses ++ event ∷ [])) adds t fills) began)));
   }
     where
@@ -148,13 +158,27 @@ module _ {tells : Type 0} {given : Given} {tape tape' : List Operation} {scope :
       adds = losses-alone (λ (l : List Event). OnlyAdd (entries_of who end l)) roles spares (add-losses who end losses [] (losses-are roles spares) add-none)
 
       gone : AreTold members' (entries ++ entries_of who end losses)
-      gone = told-alone who end was number caller at_end moved grows roles spares before after since
+      gone = told-alone who end was opens caller at_end moved grows roles spares before after since
 
       by : (a : Bool) → (a ≡ false → is_clean members'.newest ≡ true) → is_clean members'.newest ≡ false → (a || is_unsettled (entries ++ entries_of who end (losses ++ event ∷ []))) ≡ true
       by true marked is = refl
       by false marked is = absurd (let no = sym (marked refl) ∙ is in cc)
 
-      durable : (x : ℕ) → values_of (opening_list (world_in given tape scope first)) (entries ++ entries_of who end (losses ++ event ∷ [])) x ≡ take 1 (values_of (opening_list (world_in given tape scope first)) entries x)
-      durable x = values-more (opening_list (world_in given tape scope first)) entries (entries_of who end (losses ++ event ∷ [])) x
-          ∙ values-losses who end losses (event ∷ []) (losses-are roles spares) x (values_of (opening_list (world_in given tape scope first)) entries x)
-          ∙ settles.durable who end x (values_of (opening_list (world_in given tape scope first)) entries x)
+      newest-stays : (x : ℕ) → HasNewest (values_of (opening_list (world_in given tape scope first)) entries x)
+          → IsIn (values_of (opening_list (world_in given tape scope first)) (entries ++ entries_of who end (losses ++ event ∷ [])) x) (now (opening_list (world_in given tape scope first)) entries x)
+      newest-stays x has = subst (λ (l : List Sector). IsIn l (now (opening_list (world_in given tape scope first)) entries x))
+          (sym (values-more (opening_list (world_in given tape scope first)) entries (entries_of who end (losses ++ event ∷ [])) x
+          ∙ values-losses who end losses (event ∷ []) (losses-are roles spares) x (values_of (opening_list (world_in given tape scope first)) entries x)))
+          (newest x (values_of (opening_list (world_in given tape scope first)) entries x) has)
+
+  -- a flush or a stop, which leaves the resync as it is
+  pub leaves-flushed : (event : Event) → Settles event → unsynced ≡ is_some resync → (unsynced ≡ true → is_clean members'.newest ≡ is_clean members.newest) → (unsynced ≡ false → is_clean members'.newest ≡ true)
+      → (tells → (world : World) → (size : ℕ) → (told : Ledger) → HasRoomLeft members tape tape' → AreGoneTold told members' → IsUncleanTold told members
+      → (DoesWithout members → unsynced ≡ true → is_clean members.newest ≡ false) → (list : ℕ → Sector)
+      → (DoesWithout members → ListStands members (present given tape) list) → (unsynced ≡ false → DoesWithout members → OpensFit world → RowsStand members (present given tape) list)
+      → AreWritesAllowed members told.values list → IsSafeOver world given size told members tape
+      → IsSafeOver world given size (settled_ledger unsynced list told) members' tape')
+      → LeavesSafe tells given tape' scope first (entries ++ entries_of who end (losses_of roles spares ++ event ∷ [])) members' (is_some resync)
+  leaves-flushed event settles same stays clean settled =
+      subst (LeavesSafe tells given tape' scope first (entries ++ entries_of who end (losses_of roles spares ++ event ∷ [])) members') same
+      (leaves-settled event (settles.silent who end) (settles.keep who end) (settles.newest who end) (λ t. unsynced-as event settles.ends t ∙ sym same) (λ is. sym same ∙ is) stays clean settled)

@@ -4,19 +4,13 @@ use Rattle.md_base.specs.Sectors.{Sector}
 use Rattle.md_base.specs.Shapes.{has_slot}
 use Rattle.md_base.specs.declared.status.Role.{Role}
 use Rattle.md_base.specs.declared.status.Role.TheVariants.{Whole, Recovering, Missing}
-use Rattle.bank.specs.declared.bank.Operation.{Operation}
-use Rattle.bank.specs.Given.{Given}
-use Rattle.bank.specs.Tape.{disk}
 use Rattle.superblocks.specs.declared.members.Members.{Members}
-use Rattle.superblocks.specs.Reading.{Scope, is_reshaping}
+use Rattle.superblocks.specs.Reading.{Scope}
 use Rattle.superblocks.proofs.SlotSets.{same_set, none_there}
 use Rattle.row_io.specs.Rows.{role_without, members_without}
-use Rattle.array.specs.Placed.{IsPlaced}
 use Rattle.array.specs.Held.{IsHeldBy}
 use Rattle.array.proofs.PlacedLaws.{none-lost}
-use Rattle.array.specs.Readings.{AreReadAmong}
 use Rattle.array.specs.Rounds.{IsHeldSince}
-use Rattle.array.proofs.ReadOf.{still-read}
 use Rattle.array.proofs.Without.{in-both}
 
 -- where none was lost, they are held as the members say
@@ -64,8 +58,3 @@ since-more scope former members lost d h = record {
     all-roles : (roles : List Role) → map (role_without lost) (map (role_without h.gone) roles) ≡ map (role_without (bit_or h.gone lost)) roles
     all-roles [] = refl
     all-roles (state ∷ roles) = ap₂ (λ (r : Role) (l : List Role). r ∷ l) (all-state state) (all-roles roles)
-
--- and each image is read as they said before the losses
-pub since-read : (scope : Scope) (given : Given) (former members : Members) (tape : List Operation) → IsPlaced given members → IsHeldSince scope former members (disk given.start tape)
-    → AreReadAmong scope (λ m. m ≡ former) (disk given.start tape)
-since-read scope given former members tape placed h = still-read scope given former tape (ap (λ (m : Members). is_reshaping m.newest) (sym h.since) ∙ placed.still) h.held

@@ -33,13 +33,13 @@ module _ (scope : Scope) (p : Places) (fit : AreFit p) (c : Contents) (r : Readi
   min-same : (n : ℕ) → min n n ≡ n
   min-same n = grind (arith, nat_tests)
 
-  length-is : list_length r.newest ≡ list_size p
+  pub length-is : list_length r.newest ≡ list_size p
   length-is =
       ap (λ (s : Shape). min (data_disks (shape_of r.newest)) (data_disks s) * r.newest.size) final-is
       ∙ ap (λ (n : ℕ). n * r.newest.size) (min-same (data_disks (shape_of r.newest)))
       ∙ ap₂ (λ (s : Shape) (n : ℕ). data_disks s * n) whole.shape whole.size
 
-  shape-is : (x : ℕ) → shape_for r.newest x ≡ p.shape
+  pub shape-is : (x : ℕ) → shape_for r.newest x ≡ p.shape
   shape-is x = by (is_reshaping r.newest) refl whole.still ∙ whole.shape
     where
       by : (b : Bool) → is_reshaping r.newest ≡ b → b ≡ false → shape_for r.newest x ≡ shape_of r.newest
@@ -56,7 +56,7 @@ module _ (scope : Scope) (p : Places) (fit : AreFit p) (c : Contents) (r : Readi
       none (Some slot) = refl
       none None = refl
 
-  held-is : (role row : ℕ) → role < p.shape.disks → row < p.size → held_sector c r role row ≡ Some (in_row p c row role)
+  pub held-is : (role row : ℕ) → role < p.shape.disks → row < p.size → held_sector c r role row ≡ Some (in_row p c row role)
   held-is role row below short =
       ap (λ (state : Role). cond (ltb row (rows_held r state)) (option_map (λ slot. c slot (data_offset_of r slot + row)) (holder state)) None) (whole.whole role below)
       ∙ ap₂ (λ (n o : ℕ). cond (ltb row n) (Some (c (p.slot role) (o + row))) None) whole.size (whole.offset role below)

@@ -1,5 +1,5 @@
 -- An array that is taken over from its superblocks.
-use Rattle.std.specs.Prelude.{◌≡◌, ℕ, zero, suc, ◌<◌, ◌≤◌, true, not, List, [], ◌∷◌, ◌++◌, length, if◌then◌else◌, Option, Some, IsTrue}
+use Rattle.std.specs.Prelude.{◌≡◌, ℕ, zero, suc, ◌<◌, ◌≤◌, true, not, List, [], ◌∷◌, ◌++◌, length, if◌then◌else◌, Option, Some, None, IsTrue}
 use Rattle.md_base.specs.Shapes.{tolerance}
 use Rattle.md_base.specs.declared.answers.Who.{Who}
 use Rattle.bank.specs.declared.bank.Operation.{Operation}
@@ -11,7 +11,7 @@ use Rattle.row_io.specs.Rows.{reading_of, present, is_missing}
 use Rattle.flat_history.specs.declared.events.Event.{Event}
 use Rattle.flat_history.specs.declared.events.Event.TheVariants.{Lost}
 use Rattle.flat_history.specs.declared.events.LostCause.TheVariants.{Absent}
-use Rattle.flat_history.specs.World.{World, opening_list}
+use Rattle.flat_history.specs.World.{opening_list}
 use Rattle.flat_history.specs.Flat.{now}
 use Rattle.flat_history.specs.Losses.{was_dirty}
 use Rattle.flat_history.specs.Epochs.{OpensAlike}
@@ -21,8 +21,8 @@ use Rattle.array.specs.Held.{IsHeldBy}
 use Rattle.array.specs.Whole.{list_size}
 use Rattle.array.specs.Placed.{places_of, IsPlaced, AreUnlost}
 use Rattle.array.specs.Lacking.{ListStands, RowsStand, AreHoldersFlushed}
-use Rattle.array.specs.Kept.{world_in}
-use Rattle.flat_history.specs.Opened.{OpensGood}
+use Rattle.array.specs.Kept.{world_in, AreSectorsWhole}
+use Rattle.flat_history.specs.Opened.{OpensGood, OpensWhole}
 use Rattle.array.specs.Parts.{Parts}
 
 -- the caller of what an opening enters
@@ -55,6 +55,7 @@ pub record IsAdoptable (tells : Type 0) (given : Given) (tape : List Operation) 
   pub absent : tells → (role : ℕ) → role < (shape_of members.newest).disks → is_missing (reading_of members) role ≡ true
       → IsTrue (is_absent_at_first (world_in given tape scope (length tape)) role)
   pub holds : tells → ListStands members (present given tape) (now (opening_list (world_in given tape scope (length tape))) [])
+  pub whole : tells → OpensWhole (world_in given tape scope (length tape)) → AreSectorsWhole (list_size (places_of members)) (now (opening_list (world_in given tape scope (length tape))) [])
   pub good : tells → OpensGood (world_in given tape scope (length tape)) → RowsStand members (present given tape) (now (opening_list (world_in given tape scope (length tape))) [])
   pub flushed : tells → AreHoldersFlushed (reading_of members) given tape
   pub next : tells → OpensAlike (world_in given tape scope (length tape)) → IsHeldBy scope members (disk given.start tape)
@@ -70,4 +71,4 @@ pub record IsAdopted {B : Type 0} (tells : Type 0) (bank : B) (tape : List Opera
   pub entries : made.entries ≡ entries_of opener made.first (found_losses (reading_of members))
   pub backup_is : made.backup ≡ backup
   pub members_are : made.members ≡ members
-  pub unsynced : made.unsynced ≡ not (is_clean members.newest)
+  pub resync : made.resync ≡ (if is_clean members.newest then None else Some 0)

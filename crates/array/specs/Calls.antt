@@ -1,12 +1,12 @@
 -- What a call of an array answers, why it is refused, and what it enters.
-use Rattle.std.specs.Prelude.{◌≡◌, ◌⊎◌, ℕ, ◌<◌, ◌≤◌, ◌++◌, Bool, true, false, List, [], ◌∷◌, length, drop, Option, Some, None, Result, Ok, Err, ⊤}
+use Rattle.std.specs.Prelude.{◌≡◌, ◌⊎◌, ℕ, ◌+◌, ◌<◌, ◌≤◌, ◌++◌, Bool, true, false, List, [], ◌∷◌, length, drop, Option, option_map, Some, None, IsSome, MatchOption, Result, Ok, Err, ⊤}
 use Rattle.std.specs.List.{list_any, All}
 use Rattle.md_base.specs.Shapes.{tolerance}
 use Rattle.md_base.specs.declared.answers.Who.{Who}
 use Rattle.md_base.specs.declared.answers.Fault.{Fault}
 use Rattle.md_base.specs.declared.answers.Fault.TheVariants.{Refused as IsRefusedWith, NoMemory}
 use Rattle.md_base.specs.declared.answers.Refusal.{Refusal}
-use Rattle.md_base.specs.declared.answers.Refusal.TheVariants.{PastEnd, TooManyMissing, NotResynced, NoSuchRole}
+use Rattle.md_base.specs.declared.answers.Refusal.TheVariants.{PastEnd, TooManyMissing, NotResynced, NoSuchRole, Nothing}
 use Rattle.bank.specs.declared.bank.Operation.{Operation}
 use Rattle.bank.specs.Given.{Given, IsFaulted}
 use Rattle.bank.specs.Tape.{disk}
@@ -15,17 +15,19 @@ use Rattle.superblocks.specs.Reading.{shape_of, role_state, holder}
 use Rattle.row_io.specs.Rows.{reading_of, present, is_missing}
 use Rattle.flat_history.specs.declared.events.Entry.{Entry}
 use Rattle.flat_history.specs.declared.events.Event.{Event}
-use Rattle.flat_history.specs.declared.events.Event.TheVariants.{Torn, Flushed, Lost, SpareLost, Stopped, Refused}
+use Rattle.flat_history.specs.declared.events.Event.TheVariants.{Torn, Flushed, Lost, SpareLost, Stepped, Stopped, Refused}
 use Rattle.flat_history.specs.declared.events.LostCause.{LostCause}
 use Rattle.flat_history.specs.declared.events.LostCause.TheVariants.{Command, Fault as ByFault}
 use Rattle.flat_history.specs.declared.events.Request.{Request}
 use Rattle.flat_history.specs.World.{World, opening_list}
 use Rattle.flat_history.specs.Transfers.{last_end_from}
+use Rattle.flat_history.specs.Flat.{last_of}
 use Rattle.flat_history.specs.Plain.{entries_of}
 use Rattle.flat_history.specs.OneShape.{is_lost, OneShapeFits}
 use Rattle.array.specs.Losing.{losses_of}
 use Rattle.array.specs.Lacking.{lacking}
 use Rattle.array.specs.Parts.{Parts}
+use Rattle.array.specs.Status.{stripes_of, left_of}
 use Rattle.array.specs.Kept.{scope_in, world_in}
 
 -- ---- what a call enters
@@ -85,12 +87,12 @@ IsEndOf tells first entries tape = tells → last_end_from first entries ≡ len
 -- ---- why it is refused
 
 -- what stands behind a refusal
-abbrev pub IsRefusedHere : ℕ → Bool → Members → Refusal → Type 0
-IsRefusedHere visible unsynced members (PastEnd told) = told ≡ visible
-IsRefusedHere visible unsynced members (TooManyMissing count most) = (most < count) × (count ≡ lacking members) × (most ≡ tolerance (shape_of members.newest))
-IsRefusedHere visible unsynced members (NotResynced role) = (unsynced ≡ true) × (role < (shape_of members.newest).disks) × (is_missing (reading_of members) role ≡ true)
-IsRefusedHere visible unsynced members (NoSuchRole role) = ⊤
-IsRefusedHere visible unsynced members refusal = ⊥
+abbrev pub IsRefusedHere : ℕ → Option ℕ → Members → Refusal → Type 0
+IsRefusedHere visible resync members (PastEnd told) = told ≡ visible
+IsRefusedHere visible resync members (TooManyMissing count most) = (most < count) × (count ≡ lacking members) × (most ≡ tolerance (shape_of members.newest))
+IsRefusedHere visible resync members (NotResynced role) = IsSome resync × (role < (shape_of members.newest).disks) × (is_missing (reading_of members) role ≡ true)
+IsRefusedHere visible resync members (NoSuchRole role) = ⊤
+IsRefusedHere visible resync members refusal = ⊥
 
 -- A refusal's cause: the call ends past the visible size; or else what its kind gives for the members that it leaves.
 abbrev pub IsRefusedFor : ℕ → ℕ → (Members → Refusal → Type 0) → Members → Members → Refusal → Type 0
@@ -128,6 +130,32 @@ abbrev pub OnNoMemory : {T : Type 0} → Result T Fault → Type 0 → Type 0
 OnNoMemory (Err NoMemory) fact = fact
 OnNoMemory result fact = ⊤
 
+-- ---- steps
+
+-- a resync is pending, and has a stripe to mend
+abbrev pub HasStripeLeft : Option ℕ → Members → Type 0
+HasStripeLeft resync members = MatchOption resync ⊥ (λ mended. mended < stripes_of members)
+
+-- a resync is pending, and has mended every stripe
+abbrev pub IsAllMended : Option ℕ → Members → Type 0
+IsAllMended resync members = resync ≡ Some (stripes_of members)
+
+-- the resync after the step that mends its next stripe
+abbrev pub one_more : Option ℕ → Option ℕ
+one_more resync = option_map (λ mended. mended + 1) resync
+
+-- a reply to a request for steps: nothing was left to do; or so many steps are left, and the last entry is the refusal that ended it
+abbrev pub IsStepsReply : Option ℕ → Members → List Entry → Event → Type 0
+IsStepsReply resync members entries (Refused Nothing) = left_of resync members ≡ 0
+IsStepsReply resync members entries (Stepped done left ended) = (left ≡ left_of resync members)
+    × MatchOption ended ⊤ (λ refusal. MatchOption (last_of entries) ⊥ (λ e. e.event ≡ Refused refusal))
+IsStepsReply resync members entries event = ⊥
+
+-- one value where a step was done, and another where it was refused
+abbrev pub by_answer : {T : Type 0} {A : Type 0} → Result T Fault → A → A → A
+by_answer (Ok x) done refused = done
+by_answer (Err fault) done refused = refused
+
 -- ---- what it lost
 
 -- a lost role had a slot, which has failed since, unless it was taken out by command
@@ -164,7 +192,6 @@ pub record IsSameArray {B : Type 0} (tells : Type 0) (old new : Parts B) (before
   pub given : new.given ≡ old.given
   pub first : new.first ≡ old.first
   pub backup : new.backup ≡ old.backup
-  pub unsynced : new.unsynced ≡ old.unsynced
   pub shape : shape_of new.members.newest ≡ shape_of old.members.newest
   pub size : new.members.newest.size ≡ old.members.newest.size
   pub list : tells → opening_list after ≡ opening_list before

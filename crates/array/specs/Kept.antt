@@ -1,7 +1,9 @@
 -- What an array keeps that may lack members, over plain data.
-use Rattle.std.specs.Prelude.{◌≡◌, ◌⊎◌, ℕ, ◌+◌, ◌<◌, ◌≤◌, ◌||◌, Bool, true, false, List, length, Option, Some, None, IsTrue, IfSome}
+use Rattle.std.specs.Prelude.{◌≡◌, ◌⊎◌, ℕ, ◌+◌, ◌*◌, ◌<◌, ◌≤◌, ◌||◌, true, false, List, length, Option, Some, None, is_some, IsTrue, IsSome, IfSome}
 use Rattle.std.specs.List.{list_any}
 use Rattle.md_base.specs.Shapes.{tolerance}
+use Rattle.md_base.specs.Sectors.{Sector}
+use Rattle.parity.specs.Rows.{IsSector}
 use Rattle.bank.specs.declared.bank.Operation.{Operation}
 use Rattle.bank.specs.Given.{Given, sizes}
 use Rattle.superblocks.specs.declared.members.Members.{Members}
@@ -12,8 +14,8 @@ use Rattle.flat_history.specs.World.{World, opening_list, reading_at}
 use Rattle.flat_history.specs.Flat.{now, values_of, length_of, limit_of}
 use Rattle.flat_history.specs.Legal.{told_left}
 use Rattle.flat_history.specs.Transfers.{last_end_from}
-use Rattle.flat_history.specs.Losses.{was_dirty}
-use Rattle.flat_history.specs.Opened.{OpensGood}
+use Rattle.flat_history.specs.Losses.{is_unsynced}
+use Rattle.flat_history.specs.Opened.{OpensWhole}
 use Rattle.flat_history.specs.Sound.{FillsRight, OpensFit, LeavesSoundThroughout}
 use Rattle.flat_history.specs.Epochs.{HasRoomForEvents, OpensAlike}
 use Rattle.flat_history.specs.Growing.{EndBy, IsSafeThroughout}
@@ -24,8 +26,8 @@ use Rattle.array.specs.Views.{Ledger}
 use Rattle.array.specs.Steady.{IsSafeOver}
 use Rattle.array.specs.Placed.{places_of, AreWhole, IsPlaced, AreUnlost}
 use Rattle.array.specs.Safety.{HasLiveSlot}
-use Rattle.array.specs.Status.{left_of}
-use Rattle.array.specs.Lacking.{DoesWithout, ListStands, RowsStand}
+use Rattle.array.specs.Status.{stripes_of, left_of}
+use Rattle.array.specs.Lacking.{DoesWithout, ListStands, RowsStandBelow, mended_rows}
 
 -- these slots of a bank, looked at for an array
 abbrev pub scope_in : Given → List ℕ → ℕ → Option ℕ → Scope
@@ -40,18 +42,22 @@ abbrev pub AreTold : Members → List Entry → Type 0
 AreTold members entries = (role : ℕ) → role < (shape_of members.newest).disks → is_missing (reading_of members) role ≡ true
     → IsTrue (list_any (λ e. loses_role role e.event) entries)
 
--- What was filled in is right: none is missing, or the array opened clean with its rows good. In an array that was opened dirty
+-- What was filled in is right: none is missing, or the epoch opened sound, in whole sectors. Before a pending resync has mended a stripe
 -- nothing is filled in.
-abbrev pub AreFillsRight : World → Bool → Members → Type 0
-AreFillsRight world unsynced members = unsynced ≡ false → AreWhole members ⊎ OpensGood world
+abbrev pub AreFillsRight : World → Option ℕ → Members → Type 0
+AreFillsRight world resync members = (resync ≡ Some 0 → ⊥) → AreWhole members ⊎ OpensFit world
+
+-- each of the first so many sectors of a list is whole
+abbrev pub AreSectorsWhole : ℕ → (ℕ → Sector) → Type 0
+AreSectorsWhole size list = (x : ℕ) → x < size → IsSector (list x)
 
 -- what is kept of the history over a bank that tells its contents
-pub record IsRecorded (world : World) (size : ℕ) (unsynced : Bool) (members : Members) (entries : List Entry) : Type 0 where
+pub record IsRecorded (world : World) (size : ℕ) (resync : Option ℕ) (members : Members) (entries : List Entry) : Type 0 where
   pub begun : world.first ≤ length world.tape
   pub opened : length (opening_list world) ≡ size
   pub tolerated : (opening_in world).tolerance ≡ tolerance (shape_of members.newest)
-  pub dirty : was_dirty world ≡ unsynced
-  pub legal : AreFillsRight world unsynced members → IsOneShapeLegal (opening_in world) (length world.tape) entries
+  pub dirty : is_unsynced world entries ≡ is_some resync
+  pub legal : AreFillsRight world resync members → IsOneShapeLegal (opening_in world) (length world.tape) entries
   pub ends : EndBy (length world.tape) entries
   pub ended : last_end_from world.first entries ≡ length world.tape
 
@@ -66,7 +72,7 @@ abbrev pub ledger_now : World → List Entry → Ledger
 ledger_now world entries = record {
   values = values_of (opening_list world) entries;
   gone = is_lost entries;
-  unclean = was_dirty world || is_unsettled entries;
+  unclean = is_unsynced world entries || is_unsettled entries;
 }
 
 -- Every mark so far is safe and leaves sound images, what a stop may leave now is right, and the next update may start; as long as a live
@@ -79,7 +85,7 @@ pub record IsSafe (world : World) (given : Given) (size : ℕ) (members : Member
 
 -- The list stands on the members that are there, as long as they suffice, and each that is missing was told.
 pub record IsKept (tells : Type 0) (given : Given) (tape : List Operation) (scope : Scope) (first : ℕ) (entries : List Entry)
-    (members : Members) (unsynced : Bool) : Type 0 where
+    (members : Members) (resync : Option ℕ) : Type 0 where
   pub slots : given.slots ≤ 32
   pub spares : length members.spares ≤ 32
   pub placed : IsPlaced given members
@@ -87,20 +93,22 @@ pub record IsKept (tells : Type 0) (given : Given) (tape : List Operation) (scop
   pub told : AreTold members entries
   pub sized : length_of (list_size (places_of members)) entries ≡ list_size (places_of members)
   pub unlimited : limit_of entries ≡ None
-  pub left : IfSome (told_left entries) (λ n. n ≡ left_of unsynced members)
-  pub recorded : tells → IsRecorded (world_in given tape scope first) (list_size (places_of members)) unsynced members entries
+  pub left : IfSome (told_left entries) (λ n. n ≡ left_of resync members)
+  pub progress : IfSome resync (λ mended. mended ≤ stripes_of members)
+  pub recorded : tells → IsRecorded (world_in given tape scope first) (list_size (places_of members)) resync members entries
   pub holds : tells → DoesWithout members → ListStands members (present given tape) (now (opening_list (world_in given tape scope first)) entries)
-  pub good : tells → DoesWithout members → OpensGood (world_in given tape scope first) → RowsStand members (present given tape) (now (opening_list (world_in given tape scope first)) entries)
+  pub whole : tells → OpensWhole (world_in given tape scope first) → AreSectorsWhole (list_size (places_of members)) (now (opening_list (world_in given tape scope first)) entries)
+  pub good : tells → DoesWithout members → OpensFit (world_in given tape scope first) → RowsStandBelow (mended_rows resync members) members (present given tape) (now (opening_list (world_in given tape scope first)) entries)
   pub sizes_are : scope.sizes ≡ sizes given
-  pub dirty : unsynced ≡ true → is_clean members.newest ≡ false
-  pub unclean : is_clean members.newest ≡ false → (unsynced || is_unsettled entries) ≡ true
+  pub dirty : DoesWithout members → IsSome resync → is_clean members.newest ≡ false
+  pub unclean : is_clean members.newest ≡ false → (is_some resync || is_unsettled entries) ≡ true
   pub safe : tells → FillsRight (world_in given tape scope first) entries → HasRoomForEvents (world_in given tape scope first) → OpensAlike (world_in given tape scope first)
       → IsSafe (world_in given tape scope first) given (list_size (places_of members)) members entries
 
--- what an array keeps besides: room for the entry of its end, and buffers for the rows of one call
+-- what an array keeps besides: room for the entries of so many steps and of its end, and buffers for the rows of one call
 pub record IsReady (tells : Type 0) (given : Given) (tape : List Operation) (scope : Scope) (first : ℕ) (entries : List Entry)
-    (members : Members) (unsynced : Bool) (room rows buffer : ℕ) : Type 0 where
-  pub kept : IsKept tells given tape scope first entries members unsynced
-  pub room_left : 1 ≤ room
+    (members : Members) (resync : Option ℕ) (steps room rows buffer : ℕ) : Type 0 where
+  pub kept : IsKept tells given tape scope first entries members resync
+  pub room_left : 50 * steps < room
   pub rows_fit : 128 ≤ rows
   pub buffer_fits : 1048576 ≤ buffer

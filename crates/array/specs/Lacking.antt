@@ -1,10 +1,11 @@
 -- An array that lacks members: what a call lost, why it is refused, and how the list stands on the members that are there.
-use Rattle.std.specs.Prelude.{◌≡◌, ◌≢◌, ◌⊎◌, ℕ, ◌+◌, ◌<◌, ◌≤◌, Bool, true, false, List, [], ◌∷◌, length, slice_index, Contains, Option, Some, None, Result, Ok, Err}
+use Rattle.std.specs.Prelude.{◌≡◌, ◌≢◌, ◌⊎◌, ℕ, ◌+◌, ◌*◌, ◌<◌, ◌≤◌, nat_le, Bool, true, false, List, [], ◌∷◌, length, slice_index, Contains, Option, Some, None, Result, Ok, Err}
 use Rattle.md_base.specs.declared.answers.Refusal.{Refusal}
 use Rattle.md_base.specs.declared.answers.Refusal.TheVariants.{TooManyMissing as TooMany, NotResynced as Unsynced}
 use Rattle.md_base.specs.declared.places.Shape.{Shape}
 use Rattle.md_base.specs.Sectors.{Sector}
-use Rattle.md_base.specs.Shapes.{has_slot, tolerance}
+use Rattle.md_base.specs.Shapes.{has_slot, tolerance, data_disks}
+use Rattle.layout.specs.Layout.{place}
 use Rattle.bank.specs.declared.bank.Operation.{Operation}
 use Rattle.bank.specs.Given.{Given, IsFaulted}
 use Rattle.bank.specs.Tape.{Contents, disk}
@@ -14,7 +15,6 @@ use Rattle.superblocks.specs.Reading.{Reading, shape_of, role_state, holder, dat
 use Rattle.row_io.specs.Rows.{reading_of, present, is_missing, missing_count, IsTolerated}
 use Rattle.list_io.specs.declared.outcome.Unavailable.{Unavailable}
 use Rattle.list_io.specs.declared.outcome.Unavailable.TheVariants.{TooManyMissing, NotResynced}
-use Rattle.list_io.specs.Calls.{IsAsked}
 use Rattle.list_io.specs.Full.{DataStands, RowStands}
 use Rattle.list_io.specs.Buffers.{buffered, AreStanding, HasData}
 use Rattle.list_io.specs.Writing.{IsWritten, AreDataFrom, IsFull, IsPutting, AreSuperblocksKept}
@@ -48,14 +48,33 @@ abbrev pub refused_by : {T : Type 0} → Members → Result T Unavailable → Op
 refused_by members (Ok done) = None
 refused_by members (Err cause) = Some (refusal_for members cause)
 
--- a role that has data is missing in an array that isn't synced, and this refusal tells so
+-- ---- a resync
+
+-- the rows whose parity is to be relied on: those of the stripes that a pending resync has mended, or else all
+abbrev pub mended_rows : Option ℕ → Members → ℕ
+mended_rows None members = members.newest.size
+mended_rows (Some mended) members = mended * (shape_of members.newest).chunk
+
+-- the row is of this stripe
+abbrev pub IsOfStripe : Shape → ℕ → ℕ → Type 0
+IsOfStripe shape stripe row = (stripe * shape.chunk ≤ row) × (row < (stripe + 1) * shape.chunk)
+
+-- the sectors of the list below this one have their places in the first so many rows
+abbrev pub are_mended : Shape → ℕ → ℕ → Bool
+are_mended shape mended to = nat_le to (data_disks shape * mended)
+
+-- one of so many sectors from this one on has its place on the role, behind these rows
+abbrev pub IsAskedBeyond : Shape → ℕ → ℕ → ℕ → ℕ → Type 0
+IsAskedBeyond shape mended first count role = (x : ℕ) × (first ≤ x) × (x < first + count) × ((place shape x).role ≡ role) × (mended ≤ (place shape x).row)
+
+-- a role that has data is missing where parity isn't to be relied on, and this refusal tells so
 abbrev pub IsNotResynced : Bool → Members → Refusal → Type 0
 IsNotResynced synced members refusal = (role : ℕ) × (refusal ≡ Unsynced role) × (synced ≡ false) × (is_missing (reading_of members) role ≡ true) × HasData (shape_of members.newest) role
 
--- why a read of so many sectors from this one on isn't done: too many are missing, or, in an array that isn't synced, one of theirs is
-abbrev pub IsUnread : Bool → ℕ → ℕ → Members → Refusal → Type 0
-IsUnread synced first count members refusal = AreTooMany members refusal
-    ⊎ ((role : ℕ) × (refusal ≡ Unsynced role) × (synced ≡ false) × (is_missing (reading_of members) role ≡ true) × IsAsked (shape_of members.newest) first count role)
+-- why a read of so many sectors from this one on isn't done: too many are missing, or one of theirs is, behind the mended rows
+abbrev pub IsUnread : ℕ → ℕ → ℕ → Members → Refusal → Type 0
+IsUnread mended first count members refusal = AreTooMany members refusal
+    ⊎ ((role : ℕ) × (refusal ≡ Unsynced role) × (is_missing (reading_of members) role ≡ true) × IsAskedBeyond (shape_of members.newest) mended first count role)
 
 -- why a write isn't done
 abbrev pub IsUnwritten : Bool → Members → Refusal → Type 0
@@ -84,6 +103,14 @@ ListStands members c list = (row : ℕ) → row < members.newest.size → DataSt
 abbrev pub RowsStand : Members → Contents → (ℕ → Sector) → Type 0
 RowsStand members c list = (row : ℕ) → row < members.newest.size → RowStands (reading_of members) c (shape_of members.newest) list row
 
+-- so it is of the rows among these
+abbrev pub RowsStandAmong : (ℕ → Type 0) → Members → Contents → (ℕ → Sector) → Type 0
+RowsStandAmong among members c list = (row : ℕ) → among row → row < members.newest.size → RowStands (reading_of members) c (shape_of members.newest) list row
+
+-- and of those below this one
+abbrev pub RowsStandBelow : ℕ → Members → Contents → (ℕ → Sector) → Type 0
+RowsStandBelow mended members c list = RowsStandAmong (λ row. row < mended) members c list
+
 -- a stop leaves what the holders of roles have as it is, but for their superblocks, and nothing else
 abbrev pub AreHoldersFlushed : Reading → Given → List Operation → Type 0
 AreHoldersFlushed r given tape = (role slot k : ℕ) → holder (role_state r role) ≡ Some slot → k ≢ 8 → disk given.start tape slot k ≡ present given tape slot k ∷ []
@@ -108,7 +135,7 @@ AreBytes bytes = (at : ℕ) → slice_index bytes at < 256
 -- where data roles stood as the list, and, in a synced array, parity did so too.
 pub record AreRowsRead (shape : Shape) (synced : Bool) (old new : Members) (c : Contents) (rows buffer : List ℕ) : Type 0 where
   pub held : (i : ℕ) → i < length rows → AreStanding (reading_of new) c shape (slice_index rows i) (buffered buffer i)
-  pub listed : (list : ℕ → Sector) → ListStands old c list → (synced ≡ true → RowsStand old c list) → AreDataFrom 0 shape list rows buffer
+  pub listed : (list : ℕ → Sector) → ListStands old c list → (synced ≡ true → RowsStandAmong (Contains rows) old c list) → AreDataFrom 0 shape list rows buffer
 
 -- What a stretch of a write leaves: of these rows those from one up to the next are written, each other row is as it was, and those behind can be
 -- written.

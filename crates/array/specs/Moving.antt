@@ -1,22 +1,12 @@
 -- What device calls leave of an array.
-use Rattle.std.specs.Prelude.{◌≡◌, ℕ, ◌<◌, ◌≤◌, true, List, [], ◌∷◌, ◌++◌, length, Some}
+use Rattle.std.specs.Prelude.{◌≡◌, ℕ, ◌≤◌, true, List, ◌++◌, length, Some}
 use Rattle.md_base.specs.Shapes.{has_slot}
 use Rattle.bank.specs.declared.bank.Operation.{Operation}
 use Rattle.bank.specs.Given.{Given, IsFaulted}
-use Rattle.bank.specs.Tape.{Contents, disk}
 use Rattle.superblocks.specs.declared.members.Members.{Members}
 use Rattle.superblocks.specs.Reading.{shape_of, role_state, holder, data_offset_of}
-use Rattle.row_io.specs.Rows.{reading_of, present}
-use Rattle.array.specs.Whole.{Places, in_row}
+use Rattle.row_io.specs.Rows.{reading_of}
 use Rattle.array.specs.Placed.{places_of, AreWhole, IsPlaced, AreUnlost, AreStillHeld, AreLess}
-
--- the rows are as they were
-abbrev pub AreRowsKept : Places → Contents → Contents → Type 0
-AreRowsKept p before after = (role row : ℕ) → role < p.shape.disks → in_row p after row role ≡ in_row p before row role
-
--- a stop leaves the rows as they are, and nothing else
-abbrev pub AreRowsFlushed : Places → Given → List Operation → Type 0
-AreRowsFlushed p given tape = (role row : ℕ) → role < p.shape.disks → in_row p (disk given.start tape) row role ≡ in_row p (present given tape) row role ∷ []
 
 -- more was done
 pub record Grows (tells : Type 0) (before after : List Operation) : Type 0 where

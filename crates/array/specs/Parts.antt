@@ -1,10 +1,10 @@
 -- What contracts see of an array.
-use Rattle.std.specs.Prelude.{ℕ, Bool, List, Option}
+use Rattle.std.specs.Prelude.{ℕ, List, Option}
 use Rattle.flat_history.specs.declared.events.Entry.{Entry}
 use Rattle.superblocks.specs.declared.members.Members.{Members}
 
--- its bank; the uuid, slots, opening mark, last mark and entries of its epoch; the backup slot; what its members say; and whether it
--- was opened dirty, so that its parity is not to be relied on
+-- its bank; the uuid, slots, opening mark, last mark and entries of its epoch; the backup slot; what its members say; where a resync is
+-- pending, how many stripes it has mended; and how many steps there is room for
 pub record Parts (B : Type 0) : Type 0 where
   pub bank : B
   pub uuid : List ℕ
@@ -14,4 +14,5 @@ pub record Parts (B : Type 0) : Type 0 where
   pub entries : List Entry
   pub backup : Option ℕ
   pub members : Members
-  pub unsynced : Bool
+  pub resync : Option ℕ
+  pub steps : ℕ

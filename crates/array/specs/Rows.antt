@@ -15,10 +15,6 @@ row_sector bytes role = take 512 (drop (512 * role) bytes)
 abbrev pub IsGoodRow : Places → Contents → ℕ → Type 0
 IsGoodRow p c row = AreEquationsMet (row_roles p.shape row) (tabulate p.shape.disks (λ role. Some (in_row p c row role)))
 
--- each sector of the list stands at its place
-abbrev pub HoldsList : Places → Contents → (ℕ → Sector) → Type 0
-HoldsList p c list = (x : ℕ) → x < list_size p → placed p c x ≡ list x
-
 abbrev pub AreGoodRows : Places → Contents → Type 0
 AreGoodRows p c = (row : ℕ) → row < p.size → IsGoodRow p c row
 

@@ -118,6 +118,6 @@ AreGoneTold told members = (role : ℕ) → role < (shape_of members.newest).dis
 abbrev pub IsUncleanTold : Ledger → Members → Type 0
 IsUncleanTold told members = is_clean members.newest ≡ false → told.unclean ≡ true
 
--- this list alone is told, where all is settled but in an array that was opened dirty
+-- this list alone is told, where all is settled but in an array whose resync is pending
 abbrev pub settled_ledger : Bool → (ℕ → Sector) → Ledger → Ledger
 settled_ledger unsynced list told = record { values = λ x. list x ∷ []; gone = told.gone; unclean = unsynced }

@@ -11,7 +11,7 @@ use Rattle.list_io.specs.Full.{RowStands}
 use Rattle.flat_history.specs.declared.events.Entry.{Entry}
 use Rattle.flat_history.specs.World.{World, opening_list, may_hold}
 use Rattle.flat_history.specs.Flat.{values_of, length_of}
-use Rattle.flat_history.specs.Losses.{was_dirty}
+use Rattle.flat_history.specs.Losses.{is_unsynced}
 use Rattle.flat_history.specs.CrashSafe.{made_by, may_be_made, IsSafeAt}
 use Rattle.flat_history.specs.OneShape.{is_lost, is_written, KeepLosses}
 use Rattle.array.specs.Whole.{AreDrawnSuperblocks, list_size}
@@ -32,7 +32,7 @@ abbrev pub ledger_of : World → List Entry → ℕ → ℕ → Ledger
 ledger_of world entries k j = record {
   values = values_of (opening_list world) (take j entries);
   gone = is_lost (take j entries);
-  unclean = was_dirty world || is_written entries k j;
+  unclean = is_unsynced world (take k entries) || is_written entries k j;
 }
 
 -- each sector of the list whose role a slot holds may have only allowed values there

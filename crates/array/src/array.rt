@@ -1,7 +1,7 @@
 //! An array that is read and written, and keeps its history.
 
-ghost use Rattle.std.specs.Prelude.{◌≡◌, ◌*◌, ◌^◌, ◌<◌, ◌≤◌, ℕ, length, Option, Some, None, IsTrue};
-ghost use Rattle.md_base.specs.Shapes.{is_valid_shape, data_disks};
+ghost use Rattle.std.specs.Prelude.{◌≡◌, ◌^◌, ◌<◌, ◌≤◌, ℕ, length, Option, Some, None, IsTrue};
+ghost use Rattle.md_base.specs.Shapes.{is_valid_shape};
 ghost use Rattle.superblocks.specs.Reading.{shape_of};
 ghost use Rattle.flat_history.specs.Flat.{next_number};
 ghost use Rattle.array.specs.Whole.{list_size};
@@ -15,14 +15,15 @@ mod ending;
 mod failing;
 mod reading;
 mod settling;
+mod stepping;
 mod writing;
 
 use crate::refusing::too_many;
-use crate::roles::shape_in;
+use crate::roles::{list_length, shape_in};
 pub use adopting::Opened;
 use bank::Bank;
 use flat_history::Epoch;
-use md_base::{Refusal, Shape};
+use md_base::Refusal;
 use std::alloc::Global;
 use std::marker::Model;
 use superblocks::Members;
@@ -36,7 +37,8 @@ pub struct Array<B: Bank> {
     epoch: Epoch,
     backup: Option<u32>,
     members: Members,
-    unsynced: bool,
+    resync: Option<u64>,
+    steps: u64,
     rows: Vec<u64>,
     buffer: Vec<u8>,
 }
@@ -57,22 +59,12 @@ impl<B: Bank> Model for Array<B> {
       entries = a.epoch.entries.items;
       backup = a.backup;
       members = a.members;
-      unsynced = a.unsynced;
+      resync = a.resync;
+      steps = a.steps;
     } };
 
     ghost invariant = { λ a. IsReady B.tells (B.given a.bank) (B.tape a.bank) (scope_in (B.given a.bank) a.epoch.uuid a.epoch.given a.backup)
-        a.epoch.first a.epoch.entries.items a.members a.unsynced a.epoch.entries.room (vec_capacity a.rows) (length a.buffer.items) };
-}
-
-// The sectors of the flat list: so many data disks times the rows of each.
-#[tactic(auto, using(layout::proofs::Limits::limited))]
-fn list_length(shape: &Shape, size: u64) -> u64
-    requires shape { IsTrue (is_valid_shape shape.now) }
-    requires size { size ≤ 2 ^ 48 }
-    ensures { result ≡ data_disks shape.now * size }
-{
-    let parities = if shape.level == 6 { 2 } else { 1 };
-    (shape.disks - parities) as u64 * size
+        a.epoch.first a.epoch.entries.items a.members a.resync a.steps a.epoch.entries.room (vec_capacity a.rows) (length a.buffer.items) };
 }
 
 // The refusal of a call that ends at `to`, by the visible size and how many roles are missing.

@@ -2,6 +2,7 @@
 
 ghost use Rattle.std.specs.Prelude.{◌≡◌, ◌++◌, [], ◌∷◌, ◌+◌, ◌<◌, ◌≤◌, ℕ, length};
 ghost use Rattle.flat_history.specs.Flat.{next_number};
+ghost use Rattle.flat_history.specs.OneShape.{IsCallOpen};
 ghost use Rattle.flat_history.specs.Plain.{entries_of};
 ghost use Rattle.array.specs.Losing.{losses_of, failure_events};
 ghost use Rattle.flat_history.specs.declared.events.Event.TheVariants.{Refused as Refuses};
@@ -13,6 +14,14 @@ use md_base::{Refusal, Sectors, Who};
 /// The caller's next number, which is at most the number of entries.
 pub fn check_number(entries: &Entries, who: Who)
     requires { who.number ≡ next_number who.caller entries.now.items }
+    ensures { who.number ≤ length entries.now.items }
+{
+    let _ = entries.next_number(who.caller);
+}
+
+/// The number of a call that is open is at most the number of entries.
+pub fn check_open(entries: &Entries, who: Who)
+    requires { IsCallOpen entries.now.items who }
     ensures { who.number ≤ length entries.now.items }
 {
     let _ = entries.next_number(who.caller);

@@ -1,16 +1,18 @@
 //! Reads of an array that may lack members.
 
-ghost use Rattle.std.specs.Prelude.{◌≡◌, ◌⊎◌, ◌+◌, ◌*◌, ◌/◌, ◌^◌, ◌<◌, ◌≤◌, ℕ, true, false, length, None, MatchOption, ⊤};
+ghost use Rattle.std.specs.Prelude.{◌≡◌, ◌⊎◌, ◌+◌, ◌*◌, ◌/◌, ◌^◌, ◌<◌, ◌≤◌, ℕ, false, length, None, OnOk, MatchOption, IsTrue, ⊤};
 ghost use Rattle.bank.specs.Given.{NeverFalls};
 ghost use Rattle.md_base.specs.Sectors.{Sector, IsWhole};
+ghost use Rattle.md_base.specs.Shapes.{is_multiple};
 ghost use Rattle.parity.specs.Rows.{sector_of};
 ghost use Rattle.superblocks.specs.Reading.{shape_of, is_clean};
-ghost use Rattle.row_io.specs.Rows.{present};
+ghost use Rattle.row_io.specs.Rows.{reading_of, present};
+ghost use Rattle.list_io.specs.Calls.{AreLost, IsAnswer};
 ghost use Rattle.array.specs.Whole.{list_size};
 ghost use Rattle.array.specs.Placed.{places_of, AreWhole, IsPlaced, AreUnlost};
 ghost use Rattle.array.specs.Marking.{AreOthersPresent};
 ghost use Rattle.array.specs.Moving.{Grows, IsMoved};
-ghost use Rattle.array.specs.Lacking.{HaveFailedSince, IsUnread, ListStands, RowsStand};
+ghost use Rattle.array.specs.Lacking.{HaveFailedSince, IsAskedBeyond, IsUnread, ListStands, RowsStandBelow};
 ghost use Rattle.flat_history.specs.World.{World};
 ghost use Rattle.array.specs.Safety.{HasRoomLeft, IsRisen};
 ghost use Rattle.array.specs.Views.{Ledger};
@@ -18,8 +20,9 @@ ghost use Rattle.array.specs.Steady.{IsSafeOver, KeepsSafe, AreGoneTold, IsUncle
 
 use crate::naming::name_missing;
 use crate::refusing::refused_by;
+use crate::roles::list_length;
 use bank::Bank;
-use list_io::read_list;
+use list_io::{Outcome, read_list};
 use md_base::{Refusal, Shape};
 use superblocks::Members;
 
@@ -30,8 +33,48 @@ pub struct Fetched {
     pub refusal: Option<Refusal>,
 }
 
-/// Fills `into` with sectors of the list, from `first` on: each from the slot that holds it, or, in a synced array, filled
-/// in from its row; and names the members that are missing.
+// Reads sectors of the list, from `first` on: each from the slot that holds it, or, in one of the mended rows, filled in.
+fn read_parts<B: Bank>(
+    members: &mut Members,
+    bank: &mut B,
+    shape: &Shape,
+    first: u64,
+    into: &mut [u8],
+    scratch: &mut [u8],
+    mended: u64,
+) -> Outcome
+    requires placed { IsPlaced (B.given bank.old) members.old }
+    requires shape { shape.now ≡ shape_of members.old.newest }
+    requires into { IsWhole into.old }
+    requires within { first + length into.old / 512 ≤ list_size (places_of members.old) }
+    requires short { first + length into.old / 512 ≤ 2 ^ 53 }
+    requires scratch { 8192 ≤ length scratch.old }
+    requires mended { mended ≤ members.old.newest.size }
+    requires stripes { IsTrue (is_multiple mended shape.now.chunk) }
+    ensures lost { AreLost shape.now members.old members.new result.lost (B.faults_of bank.old) (B.faults_of bank.new) }
+    ensures answer { IsAnswer shape.now false (reading_of members.new) (IsAskedBeyond shape.now mended first (length into.old / 512)) result.answer }
+    ensures sectors { OnOk result.answer (B.tells → (list : ℕ → Sector) → ListStands members.old (present (B.given bank.old) (B.tape bank.old)) list
+        → AreWhole members.new ⊎ RowsStandBelow mended members.old (present (B.given bank.old) (B.tape bank.old)) list
+        → (i : ℕ) → i < length into.old / 512 → sector_of into.new i ≡ list (first + i)) }
+    ensures tape { B.tells → B.tape bank.new ≡ B.tape bank.old }
+    ensures given { B.given bank.new ≡ B.given bank.old }
+{
+    let reach = list_length(shape, mended).saturating_sub(first);
+    let split = reach.min((into.len() / 512) as u64);
+    let (below, beyond) = into.split_at_mut(512 * split as usize);
+    let read = read_list(members, bank, shape, first, below, scratch, true);
+    if read.answer.is_err() {
+        return read;
+    }
+    let rest = read_list(members, bank, shape, first + split, beyond, scratch, false);
+    Outcome {
+        lost: read.lost | rest.lost,
+        answer: rest.answer,
+    }
+}
+
+/// Fills `into` with sectors of the list, from `first` on: each from the slot that holds it, or, in one of the mended rows,
+/// filled in from its row; and names the members that are missing.
 pub fn fetch<B: Bank>(
     members: &mut Members,
     bank: &mut B,
@@ -39,7 +82,7 @@ pub fn fetch<B: Bank>(
     first: u64,
     into: &mut [u8],
     scratch: &mut [u8],
-    synced: bool,
+    mended: u64,
 ) -> Fetched
     requires slots { (B.given bank.old).slots ≤ 32 }
     requires placed { IsPlaced (B.given bank.old) members.old }
@@ -49,13 +92,15 @@ pub fn fetch<B: Bank>(
     requires within { first + length into.old / 512 ≤ list_size (places_of members.old) }
     requires short { first + length into.old / 512 ≤ 2 ^ 53 }
     requires scratch { 8192 ≤ length scratch.old }
+    requires mended { mended ≤ members.old.newest.size }
+    requires stripes { IsTrue (is_multiple mended shape.now.chunk) }
     ensures moved { IsMoved (B.given bank.old) members.old members.new }
     ensures failed { HaveFailedSince members.old members.new result.spares (B.faults_of bank.old) (B.faults_of bank.new) }
-    ensures refused { MatchOption result.refusal ⊤ (IsUnread synced first (length into.old / 512) members.new) }
+    ensures refused { MatchOption result.refusal ⊤ (IsUnread mended first (length into.old / 512) members.new) }
     ensures grows { Grows B.tells (B.tape bank.old) (B.tape bank.new) }
     ensures others { B.tells → AreOthersPresent (present (B.given bank.old) (B.tape bank.old)) (present (B.given bank.old) (B.tape bank.new)) }
     ensures holds { result.refusal ≡ None → B.tells → (list : ℕ → Sector) → ListStands members.old (present (B.given bank.old) (B.tape bank.old)) list
-        → (synced ≡ true → AreWhole members.new ⊎ RowsStand members.old (present (B.given bank.old) (B.tape bank.old)) list)
+        → AreWhole members.new ⊎ RowsStandBelow mended members.old (present (B.given bank.old) (B.tape bank.old)) list
         → (i : ℕ) → i < length into.old / 512 → sector_of into.new i ≡ list (first + i) }
     ensures clean { is_clean members.new.newest ≡ is_clean members.old.newest }
     ensures kept { AreWhole members.new → members.new ≡ members.old }
@@ -67,7 +112,7 @@ pub fn fetch<B: Bank>(
     ensures given { B.given bank.new ≡ B.given bank.old }
     ensures counts { NeverFalls (B.faults_of bank.old) (B.faults_of bank.new) }
 {
-    let read = read_list(members, bank, shape, first, into, scratch, synced);
+    let read = read_parts(members, bank, shape, first, into, scratch, mended);
     let refusal = refused_by(read.answer, members);
     if refusal.is_some() {
         return Fetched { spares: 0, refusal };

@@ -1,18 +1,12 @@
 //! Laws of an array's superblocks, and of what a stop leaves of it.
 
-ghost use Rattle.array.specs.Held.{MarksAreRight, HeldStays};
+ghost use Rattle.array.specs.Held.{HeldStays};
 ghost use Rattle.array.specs.Readings.{HeldIsRead};
 ghost use Rattle.array.specs.Refusals.{RefusedForMissing};
 ghost use Rattle.array.specs.Rounds.{MarkIsRead, MarkIsHeld};
 ghost use Rattle.array.specs.Views.{ViewsAreSafe, ViewsAreSound};
 ghost use Rattle.array.specs.Steady.{SafeIsSeen, LosingStaysSafe, FlushesStaySafe, FlushedIsSettled, WritesStaySafe, MarkStaysSafe};
 ghost use Rattle.std.specs.Prelude.{⊤};
-
-/// At each mark of the clean mark's update, in which no slot is lost, the array is read whole, and then the next update
-/// may start.
-pub fn marks_are_right()
-    ensures { MarksAreRight }
-{}
 
 /// What is written elsewhere than in the superblocks leaves them held.
 pub fn held_stays()

@@ -8,6 +8,7 @@ mod flushes;
 pub mod laws;
 mod losses;
 mod marks;
+mod mending;
 mod naming;
 mod putting;
 mod refusing;

@@ -9,7 +9,7 @@ ghost use Rattle.row_io.specs.Rows.{reading_of, is_missing, present};
 ghost use Rattle.array.specs.Placed.{places_of, AreWhole, IsPlaced, AreUnlost};
 ghost use Rattle.array.specs.Marking.{AreOthersPresent};
 ghost use Rattle.array.specs.Moving.{Grows, IsMoved};
-ghost use Rattle.array.specs.Safety.{HasMarkRoom, HasLiveSlot, HasRoomLeft, IsRightAt, IsStretch, IsRisen, AreNone};
+ghost use Rattle.array.specs.Safety.{HasMarkRoom, HasLiveSlot, HasRoomLeft, IsRisen};
 ghost use Rattle.array.specs.Lacking.{HaveFailedSince, AreHoldersFlushed, IsNamed};
 ghost use Rattle.bank.specs.Tape.{disk};
 ghost use Rattle.flat_history.specs.World.{World};
@@ -75,10 +75,6 @@ pub fn mark_members<B: Bank>(members: &mut Members, bank: &mut B, clean: bool) -
     ensures others { B.tells → AreOthersPresent (present (B.given bank.old) (B.tape bank.old)) (present (B.given bank.old) (B.tape bank.new)) }
     ensures flushed { B.tells → AreHoldersFlushed (reading_of members.old) (B.given bank.old) (B.tape bank.old) → AreHoldersFlushed (reading_of members.old) (B.given bank.old) (B.tape bank.new) }
     ensures clean { is_clean members.new.newest ≡ clean }
-    ensures none { AreWhole members.new → AreNone result → members.new.lost ≡ members.old.lost }
-    ensures right { AreWhole members.old → B.tells → (scope : Scope) → (values : ℕ → List Sector) → IsRightAt (B.given bank.old) scope values members.old (B.tape bank.old)
-        → HasMarkRoom members.old (B.tape bank.old) (B.tape bank.new) → members.new.lost ≡ members.old.lost
-        → IsStretch scope (places_of members.old) values (B.given bank.old).start (B.tape bank.old) (B.tape bank.new) members.old members.new }
     ensures rise { IsRisen B.tells members.old members.new (B.tape bank.old) (B.tape bank.new) }
     ensures safe { B.tells → (world : World) → (size : ℕ) → (told : Ledger) → HasRoomLeft members.old (B.tape bank.old) (B.tape bank.new)
         → IsMarkable (OpensFit world) clean told members.old members.new (disk (B.given bank.old).start (B.tape bank.old)) → IsSafeOver world (B.given bank.old) size told members.old (B.tape bank.old)
@@ -135,10 +131,6 @@ pub fn raise<B: Bank>(members: &mut Members, bank: &mut B) -> u32
     ensures grows { Grows B.tells (B.tape bank.old) (B.tape bank.new) }
     ensures others { B.tells → AreOthersPresent (present (B.given bank.old) (B.tape bank.old)) (present (B.given bank.old) (B.tape bank.new)) }
     ensures dirty { is_clean members.new.newest ≡ false }
-    ensures none { AreWhole members.new → AreNone result → members.new.lost ≡ members.old.lost }
-    ensures right { AreWhole members.old → B.tells → (scope : Scope) → (values : ℕ → List Sector) → IsRightAt (B.given bank.old) scope values members.old (B.tape bank.old)
-        → HasMarkRoom members.old (B.tape bank.old) (B.tape bank.new) → members.new.lost ≡ members.old.lost
-        → IsStretch scope (places_of members.old) values (B.given bank.old).start (B.tape bank.old) (B.tape bank.new) members.old members.new }
     ensures rise { IsRisen B.tells members.old members.new (B.tape bank.old) (B.tape bank.new) }
     ensures safe { B.tells → (world : World) → (size : ℕ) → (told : Ledger) → HasRoomLeft members.old (B.tape bank.old) (B.tape bank.new)
         → AreGoneTold told members.new → told.unclean ≡ true → IsSafeOver world (B.given bank.old) size told members.old (B.tape bank.old)

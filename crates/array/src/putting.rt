@@ -6,14 +6,15 @@ ghost use Rattle.bank.specs.Tape.{EachMark, disk};
 ghost use Rattle.md_base.specs.Sectors.{Sector, IsWhole};
 ghost use Rattle.superblocks.specs.Reading.{Scope, shape_of, is_clean};
 ghost use Rattle.row_io.specs.Rows.{reading_of, present};
-ghost use Rattle.list_io.specs.Buffers.{buffered, AreDistinct, AreStanding, AreTouched};
+ghost use Rattle.list_io.specs.Buffers.{buffered, AreDistinct, AreStanding, AreTouched, IsTouched};
+ghost use Rattle.list_io.specs.Full.{AreWholeIn, RowStands};
 ghost use Rattle.list_io.specs.Writing.{IsWritten, AreDataFrom};
 ghost use Rattle.array.specs.Placed.{places_of, AreWhole, IsPlaced, AreUnlost};
 ghost use Rattle.array.specs.Moving.{Grows, IsMoved};
 ghost use Rattle.array.specs.Whole.{list_size};
 ghost use Rattle.array.specs.Marking.{AreOthersPresent};
-ghost use Rattle.array.specs.Safety.{HasMarkRoom, HasRoomLeft, IsRightAt, IsStretch, IsRisen, AreMore, AreNone};
-ghost use Rattle.array.specs.Lacking.{HaveFailedSince, AreTooMany, IsUnwritten, ListStands, RowsStand, AreBytes, AreRowsRead, AreRowsWritten, IsListPut};
+ghost use Rattle.array.specs.Safety.{HasMarkRoom, HasRoomLeft, IsRisen};
+ghost use Rattle.array.specs.Lacking.{HaveFailedSince, AreTooMany, IsUnwritten, ListStands, RowsStandAmong, AreBytes, AreRowsRead, AreRowsWritten, IsListPut};
 ghost use Rattle.flat_history.specs.World.{World};
 ghost use Rattle.array.specs.Views.{Ledger};
 ghost use Rattle.array.specs.Steady.{IsSafeOver, KeepsSafe, AreGoneTold, AreWritesAllowed};
@@ -82,9 +83,6 @@ fn write_stretch<B: Bank>(
     ensures further { result.refusal ≡ None → start < length rows.now → start < result.next }
     ensures clean { is_clean members.new.newest ≡ is_clean members.old.newest }
     ensures kept { AreWhole members.new → members.new ≡ members.old }
-    ensures all { AreWhole members.new → result.next ≡ length rows.now }
-    ensures marks { AreWhole members.new → (list list' : ℕ → Sector) → IsWritten list list' first from.now → (B.tells → AreDataFrom start shape.now list rows.now buffer.old.items)
-        → EachMark B.tells (B.given bank.old).start (B.tape bank.old) (B.tape bank.new) (IsListPut members.old list' rows.now (disk (B.given bank.old).start (B.tape bank.old))) }
     ensures rise { IsRisen B.tells members.old members.new (B.tape bank.old) (B.tape bank.new) }
     ensures safe { B.tells → (world : World) → (size : ℕ) → (told : Ledger) → is_clean members.old.newest ≡ false → (list list' : ℕ → Sector) → IsWritten list list' first from.now
         → (B.tells → AreDataFrom start shape.now list rows.now buffer.old.items) → AreWritesAllowed members.old told.values list' → IsSafeOver world (B.given bank.old) size told members.old (B.tape bank.old)
@@ -134,9 +132,6 @@ fn put_stretch<B: Bank>(
     ensures further { result.refusal ≡ None → start < length rows.now → start < result.next }
     ensures clean { is_clean members.new.newest ≡ is_clean members.old.newest }
     ensures kept { AreWhole members.new → members.new ≡ members.old }
-    ensures all { AreWhole members.new → result.next ≡ length rows.now }
-    ensures marks { AreWhole members.new → (list list' : ℕ → Sector) → IsWritten list list' first from.now → (B.tells → AreDataFrom start shape.now list rows.now buffer.old.items)
-        → EachMark B.tells (B.given bank.old).start (B.tape bank.old) (B.tape bank.new) (IsListPut members.old list' rows.now (disk (B.given bank.old).start (B.tape bank.old))) }
     ensures rise { IsRisen B.tells members.old members.new (B.tape bank.old) (B.tape bank.new) }
     ensures safe { B.tells → (world : World) → (size : ℕ) → (told : Ledger) → HasRoomLeft members.old (B.tape bank.old) (B.tape bank.new)
         → AreGoneTold told members.new → told.unclean ≡ true → is_clean members.old.newest ≡ false → (list list' : ℕ → Sector) → IsWritten list list' first from.now
@@ -196,8 +191,6 @@ fn put_rows<B: Bank>(
     ensures done { result.refusal ≡ None → result.next ≡ length rows.now }
     ensures clean { is_clean members.new.newest ≡ is_clean members.old.newest }
     ensures kept { AreWhole members.new → members.new ≡ members.old }
-    ensures marks { AreWhole members.new → result.refusal ≡ None → (list list' : ℕ → Sector) → IsWritten list list' first from.now → (B.tells → AreDataFrom 0 shape.now list rows.now buffer.old.items)
-        → EachMark B.tells (B.given bank.old).start (B.tape bank.old) (B.tape bank.new) (IsListPut members.old list' rows.now (disk (B.given bank.old).start (B.tape bank.old))) }
     ensures rise { IsRisen B.tells members.old members.new (B.tape bank.old) (B.tape bank.new) }
     ensures safe { B.tells → (world : World) → (size : ℕ) → (told : Ledger) → HasRoomLeft members.old (B.tape bank.old) (B.tape bank.new)
         → AreGoneTold told members.new → told.unclean ≡ true → is_clean members.old.newest ≡ false → (list list' : ℕ → Sector) → IsWritten list list' first from.now
@@ -257,9 +250,6 @@ fn prepare<B: Bank>(
     ensures read { result.refusal ≡ None → B.tells → AreRowsRead shape.now synced members.old members.new (present (B.given bank.old) (B.tape bank.old)) rows.new.items buffer.new.items }
     ensures dirty { result.refusal ≡ None → is_clean members.new.newest ≡ false }
     ensures stays { is_clean members.old.newest ≡ false → is_clean members.new.newest ≡ false }
-    ensures right { AreWhole members.new → AreNone result.spares → B.tells → (scope : Scope) → (values : ℕ → List Sector) → IsRightAt (B.given bank.old) scope values members.old (B.tape bank.old)
-        → HasMarkRoom members.old (B.tape bank.old) (B.tape bank.new)
-        → IsStretch scope (places_of members.old) values (B.given bank.old).start (B.tape bank.old) (B.tape bank.new) members.old members.new }
     ensures touched { AreTouched shape.now first count rows.new.items }
     ensures below { (row : ℕ) → Contains rows.new.items row → row < members.new.newest.size }
     ensures few { length rows.new.items ≤ count }
@@ -295,14 +285,16 @@ pub struct Outcome {
     pub refusal: Option<Refusal>,
 }
 
-/// Puts the sectors of `from` into the list from `first` on: the rows that they touch are read, the array is marked dirty
-/// where it is clean, those that are missing are named, and the rows are written. It ends where more are missing than the
-/// array can do without, or, in an array that isn't synced, one that has data.
+/// Puts the sectors of `from` into the list from `first` on, where so many sectors have their places in the rows that are
+/// written: these rows are read, the array is marked dirty where it is clean, those that are missing are named, and the
+/// rows are written with their parity. It ends where more are missing than the array can do without, or, where the parity
+/// of the rows isn't to be relied on, one that has data.
 pub fn put<B: Bank>(
     members: &mut Members,
     bank: &mut B,
     shape: &Shape,
     first: u64,
+    count: u64,
     from: &[u8],
     rows: &mut Vec<u64>,
     buffer: &mut Vec<u8>,
@@ -313,9 +305,10 @@ pub fn put<B: Bank>(
     requires unlost { AreUnlost members.old }
     requires shape { shape.now ≡ shape_of members.old.newest }
     requires from { IsWhole from.now }
-    requires few { length from.now / 512 ≤ 128 }
-    requires within { first + length from.now / 512 ≤ list_size (places_of members.old) }
-    requires short { first + length from.now / 512 < 2 ^ 53 }
+    requires few { count ≤ 128 }
+    requires from_few { length from.now / 512 ≤ count }
+    requires within { first + count ≤ list_size (places_of members.old) }
+    requires short { first + count < 2 ^ 53 }
     requires rows { 128 ≤ vec_capacity rows.old }
     requires buffer { 1048576 ≤ length buffer.old.items }
     ensures moved { IsMoved (B.given bank.old) members.old members.new }
@@ -326,17 +319,18 @@ pub fn put<B: Bank>(
     ensures put { result.refusal ≡ None → B.tells → (list list' : ℕ → Sector) → IsWritten list list' first from.now
         → ListStands members.old (present (B.given bank.old) (B.tape bank.old)) list → ListStands members.new (present (B.given bank.old) (B.tape bank.new)) list' }
     ensures good { result.refusal ≡ None → B.tells → (list list' : ℕ → Sector) → IsWritten list list' first from.now → AreBytes from.now
-        → RowsStand members.old (present (B.given bank.old) (B.tape bank.old)) list → RowsStand members.new (present (B.given bank.old) (B.tape bank.new)) list' }
+        → ListStands members.old (present (B.given bank.old) (B.tape bank.old)) list
+        → (synced ≡ true → AreWhole members.new ⊎ RowsStandAmong (IsTouched shape.now first count) members.old (present (B.given bank.old) (B.tape bank.old)) list)
+        → (row : ℕ) → row < members.old.newest.size → AreWholeIn shape.now list row
+        → IsTouched shape.now first count row ⊎ RowStands (reading_of members.old) (present (B.given bank.old) (B.tape bank.old)) shape.now list row
+        → RowStands (reading_of members.new) (present (B.given bank.old) (B.tape bank.new)) shape.now list' row }
     ensures dirty { result.refusal ≡ None → is_clean members.new.newest ≡ false }
     ensures stays { is_clean members.old.newest ≡ false → is_clean members.new.newest ≡ false }
     ensures untouched { result.begun ≡ false → B.tells → AreOthersPresent (present (B.given bank.old) (B.tape bank.old)) (present (B.given bank.old) (B.tape bank.new)) }
-    ensures right { AreWhole members.new → AreNone result.spares → B.tells → (scope : Scope) → (values more : ℕ → List Sector) → IsRightAt (B.given bank.old) scope values members.old (B.tape bank.old)
-        → HasMarkRoom members.old (B.tape bank.old) (B.tape bank.new) → AreMore (places_of members.old) first from.now values more
-        → IsStretch scope (places_of members.old) more (B.given bank.old).start (B.tape bank.old) (B.tape bank.new) members.old members.new }
     ensures rise { IsRisen B.tells members.old members.new (B.tape bank.old) (B.tape bank.new) }
     ensures safe { B.tells → (world : World) → (size : ℕ) → (told : Ledger) → HasRoomLeft members.old (B.tape bank.old) (B.tape bank.new)
         → AreGoneTold told members.new → told.unclean ≡ true → (list list' : ℕ → Sector) → IsWritten list list' first from.now
-        → ListStands members.old (present (B.given bank.old) (B.tape bank.old)) list → (synced ≡ true → AreWhole members.new ⊎ RowsStand members.old (present (B.given bank.old) (B.tape bank.old)) list)
+        → ListStands members.old (present (B.given bank.old) (B.tape bank.old)) list → (synced ≡ true → AreWhole members.new ⊎ RowsStandAmong (IsTouched shape.now first count) members.old (present (B.given bank.old) (B.tape bank.old)) list)
         → (result.begun ≡ true → AreWritesAllowed members.old told.values list') → IsSafeOver world (B.given bank.old) size told members.old (B.tape bank.old)
         → KeepsSafe world (B.given bank.old) size told members.new (B.tape bank.old) (B.tape bank.new) }
     ensures given { B.given bank.new ≡ B.given bank.old }
@@ -344,16 +338,7 @@ pub fn put<B: Bank>(
     ensures rows { vec_capacity rows.old ≤ vec_capacity rows.new }
     ensures buffer { length buffer.new.items ≡ length buffer.old.items }
 {
-    let begun = prepare(
-        members,
-        bank,
-        shape,
-        first,
-        (from.len() / 512) as u64,
-        rows,
-        buffer,
-        synced,
-    );
+    let begun = prepare(members, bank, shape, first, count, rows, buffer, synced);
     if begun.refusal.is_some() {
         return Outcome {
             begun: false,

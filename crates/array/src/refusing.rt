@@ -4,8 +4,7 @@ ghost use Rattle.std.specs.Prelude.{◌≡◌, ◌+◌, ◌^◌, ◌<◌, ◌≤
 ghost use Rattle.md_base.specs.Shapes.{is_valid_shape};
 ghost use Rattle.superblocks.specs.Reading.{shape_of};
 ghost use Rattle.row_io.specs.Rows.{reading_of, is_missing};
-ghost use Rattle.list_io.specs.Calls.{IsAsked};
-ghost use Rattle.array.specs.Lacking.{DoesWithout, AreTooMany, refusal_for, refused_by};
+ghost use Rattle.array.specs.Lacking.{DoesWithout, AreTooMany, IsAskedBeyond, refusal_for, refused_by};
 
 use crate::roles::shape_in;
 use layout::place;
@@ -57,18 +56,24 @@ pub fn refused_by(answer: Result<(), Unavailable>, members: &Members) -> Option<
     }
 }
 
-/// The first role of so many sectors of the list from `first` on that is missing.
-pub fn missing_place(members: &Members, shape: &Shape, first: u64, count: u64) -> Option<u32>
+/// The first role of so many sectors of the list from `first` on that is missing, of those behind the mended rows.
+pub fn missing_place(
+    members: &Members,
+    shape: &Shape,
+    first: u64,
+    count: u64,
+    mended: u64,
+) -> Option<u32>
     requires shape { IsTrue (is_valid_shape shape.now) }
     requires disks { shape.now.disks ≤ length members.now.roles }
     requires short { first + count < 2 ^ 53 }
-    ensures { MatchOption result ((role : ℕ) → IsAsked shape.now first count role → is_missing (reading_of members.now) role ≡ false)
-        (λ role. (is_missing (reading_of members.now) role ≡ true) × IsAsked shape.now first count role) }
+    ensures { MatchOption result ((role : ℕ) → IsAskedBeyond shape.now mended first count role → is_missing (reading_of members.now) role ≡ false)
+        (λ role. (is_missing (reading_of members.now) role ≡ true) × IsAskedBeyond shape.now mended first count role) }
 {
     for x in first..first + count {
-        let role = place(shape, x).role;
-        if is_missing(members, role) {
-            return Some(role);
+        let at = place(shape, x);
+        if at.row >= mended && is_missing(members, at.role) {
+            return Some(at.role);
         }
     }
     None

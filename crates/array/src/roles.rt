@@ -1,7 +1,7 @@
 //! The shape of an array, and the roles that it misses.
 
-ghost use Rattle.std.specs.Prelude.{◌≡◌, ◌≤◌, ◌&&◌, ℕ, nat_lt, length, IsTrue};
-ghost use Rattle.md_base.specs.Shapes.{has_slot, is_valid_shape};
+ghost use Rattle.std.specs.Prelude.{◌≡◌, ◌*◌, ◌^◌, ◌≤◌, ◌&&◌, ℕ, nat_lt, length, IsTrue};
+ghost use Rattle.md_base.specs.Shapes.{has_slot, is_valid_shape, data_disks};
 ghost use Rattle.superblocks.specs.Reading.{shape_of};
 ghost use Rattle.row_io.specs.Rows.{reading_of, is_missing};
 
@@ -17,6 +17,17 @@ pub fn shape_in(members: &Members) -> Shape
     ensures { result ≡ shape_of members.now.newest }
 {
     shape_of(&members.newest)
+}
+
+/// The sectors of the flat list over so many rows of each data disk.
+#[tactic(auto, using(layout::proofs::Limits::limited))]
+pub fn list_length(shape: &Shape, size: u64) -> u64
+    requires shape { IsTrue (is_valid_shape shape.now) }
+    requires size { size ≤ 2 ^ 48 }
+    ensures { result ≡ data_disks shape.now * size }
+{
+    let parities = if shape.level == 6 { 2 } else { 1 };
+    (shape.disks - parities) as u64 * size
 }
 
 /// The roles that are missing, of so many.

@@ -10,7 +10,7 @@ ghost use Rattle.array.specs.Placed.{places_of, AreWhole, IsPlaced, AreUnlost};
 ghost use Rattle.array.specs.Marking.{AreOthersPresent};
 ghost use Rattle.array.specs.Flushing.{OnlyFlushesAdded};
 ghost use Rattle.array.specs.Moving.{Grows, IsMoved};
-ghost use Rattle.array.specs.Safety.{HasMarkRoom, HasLiveSlot, HasRoomLeft, IsRightAt, IsStretch, IsRisen, AreNone};
+ghost use Rattle.array.specs.Safety.{HasMarkRoom, HasLiveSlot, HasRoomLeft, IsRisen};
 ghost use Rattle.array.specs.Lacking.{DoesWithout, HaveFailedSince, AreHoldersFlushed, AreTooMany, ListStands, RowsStand};
 ghost use Rattle.flat_history.specs.World.{World};
 ghost use Rattle.flat_history.specs.Sound.{OpensFit};
@@ -45,7 +45,6 @@ fn flush_naming<B: Bank>(members: &mut Members, bank: &mut B) -> u32
     ensures flushed { B.tells → AreHoldersFlushed (reading_of members.new) (B.given bank.old) (B.tape bank.new) }
     ensures clean { is_clean members.new.newest ≡ is_clean members.old.newest }
     ensures kept { AreWhole members.new → members.new ≡ members.old }
-    ensures added { AreWhole members.new → B.tells → OnlyFlushesAdded (B.tape bank.old) (B.tape bank.new) }
     ensures rise { IsRisen B.tells members.old members.new (B.tape bank.old) (B.tape bank.new) }
     ensures safe { B.tells → (world : World) → (size : ℕ) → (told : Ledger) → HasRoomLeft members.old (B.tape bank.old) (B.tape bank.new)
         → AreGoneTold told members.new → IsUncleanTold told members.old → IsSafeOver world (B.given bank.old) size told members.old (B.tape bank.old)
@@ -75,7 +74,7 @@ fn unmarked(members: &Members) -> Option<Refusal>
     None
 }
 
-/// Flushes the members, names those that are missing, and marks a dirty array clean, but for one that was opened dirty. It
+/// Flushes the members, names those that are missing, and marks a dirty array clean, but for one whose resync is pending. It
 /// ends before the mark where more are missing than the array can do without, and is refused too where the mark is left on
 /// no member.
 pub fn settle<B: Bank>(members: &mut Members, bank: &mut B, unsynced: bool) -> Settled
@@ -90,9 +89,6 @@ pub fn settle<B: Bank>(members: &mut Members, bank: &mut B, unsynced: bool) -> S
     ensures flushed { B.tells → AreHoldersFlushed (reading_of members.new) (B.given bank.old) (B.tape bank.new) }
     ensures clean { result.refusal ≡ None → unsynced ≡ false → is_clean members.new.newest ≡ true }
     ensures stays { unsynced ≡ true → is_clean members.new.newest ≡ is_clean members.old.newest }
-    ensures right { AreWhole members.new → AreNone result.spares → B.tells → (scope : Scope) → (values : ℕ → List Sector) → IsRightAt (B.given bank.old) scope values members.old (B.tape bank.old)
-        → HasMarkRoom members.old (B.tape bank.old) (B.tape bank.new)
-        → IsStretch scope (places_of members.old) values (B.given bank.old).start (B.tape bank.old) (B.tape bank.new) members.old members.new }
     ensures rise { IsRisen B.tells members.old members.new (B.tape bank.old) (B.tape bank.new) }
     ensures safe { B.tells → (world : World) → (size : ℕ) → (told : Ledger) → HasRoomLeft members.old (B.tape bank.old) (B.tape bank.new)
         → AreGoneTold told members.new → IsUncleanTold told members.old → (list : ℕ → Sector) → (DoesWithout members.old → ListStands members.old (present (B.given bank.old) (B.tape bank.old)) list)
@@ -100,7 +96,7 @@ pub fn settle<B: Bank>(members: &mut Members, bank: &mut B, unsynced: bool) -> S
         → AreWritesAllowed members.old told.values list → IsSafeOver world (B.given bank.old) size told members.old (B.tape bank.old)
         → KeepsSafe world (B.given bank.old) size told members.new (B.tape bank.old) (B.tape bank.new) }
     ensures settled { result.refusal ≡ None → B.tells → (world : World) → (size : ℕ) → (told : Ledger) → HasRoomLeft members.old (B.tape bank.old) (B.tape bank.new)
-        → AreGoneTold told members.new → IsUncleanTold told members.old → (unsynced ≡ true → is_clean members.old.newest ≡ false) → (list : ℕ → Sector) → (DoesWithout members.old → ListStands members.old (present (B.given bank.old) (B.tape bank.old)) list)
+        → AreGoneTold told members.new → IsUncleanTold told members.old → (DoesWithout members.old → unsynced ≡ true → is_clean members.old.newest ≡ false) → (list : ℕ → Sector) → (DoesWithout members.old → ListStands members.old (present (B.given bank.old) (B.tape bank.old)) list)
         → (unsynced ≡ false → DoesWithout members.old → OpensFit world → RowsStand members.old (present (B.given bank.old) (B.tape bank.old)) list)
         → AreWritesAllowed members.old told.values list → IsSafeOver world (B.given bank.old) size told members.old (B.tape bank.old)
         → IsSafeOver world (B.given bank.old) size (settled_ledger unsynced list told) members.new (B.tape bank.new) }

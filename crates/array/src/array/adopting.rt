@@ -122,14 +122,19 @@ impl<B: Bank> Array<B> {
         };
         let disks = shape_in(&members).disks;
         enter_all_absent(&mut epoch, &members, first, disks);
-        let unsynced = !is_clean(&members.newest);
+        let resync = if is_clean(&members.newest) {
+            None
+        } else {
+            Some(0)
+        };
         Ok(Array {
             alloc,
             bank,
             epoch,
             backup,
             members,
-            unsynced,
+            resync,
+            steps: 0,
             rows: room.rows,
             buffer: room.buffer,
         })

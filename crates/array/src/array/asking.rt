@@ -1,16 +1,17 @@
 //! What an array tells of itself.
 
-ghost use Rattle.std.specs.Prelude.{◌≡◌, ◌≢◌, ◌^◌, ◌≤◌, [], ◌∷◌, length, IfOk, IfErr, IsTrue};
+ghost use Rattle.std.specs.Prelude.{◌≡◌, ◌≢◌, ◌^◌, ◌≤◌, [], ◌∷◌, length, IfOk, IfErr, IfSome, IsTrue};
 ghost use Rattle.md_base.specs.Shapes.{is_valid_shape};
 ghost use Rattle.superblocks.specs.Reading.{shape_of};
 ghost use Rattle.flat_history.specs.Flat.{next_number};
 ghost use Rattle.flat_history.specs.declared.events.Event.TheVariants.{Shown};
 ghost use Rattle.array.specs.Calls.{world_for, IsEntered, IsSameArray, IsEndOf};
-ghost use Rattle.array.specs.Status.{left_of, IsStatusFor};
+ghost use Rattle.array.specs.Status.{stripes_of, left_of, IsStatusFor};
 
-use crate::array::{Array, list_length};
+use crate::array::Array;
 use crate::calls::{check_number, enter};
-use crate::roles::shape_in;
+use crate::mending::stripes;
+use crate::roles::{list_length, shape_in};
 use bank::Bank;
 use flat_history::Event;
 use md_base::{NoMemory, RoleList, SlotList, Status, Who};
@@ -48,20 +49,42 @@ fn copy_slots(alloc: Global, slots: &SlotList) -> Result<SlotList, NoMemory>
     Ok(copy)
 }
 
-// The steps that are left: where the array was opened dirty, each stripe and the end of its resync.
-fn steps_left(members: &Members, unsynced: bool) -> u64
+// The steps that are left: each stripe that a pending resync hasn't mended, and its end.
+pub(crate) fn steps_left(members: &Members, resync: Option<u64>) -> u64
     requires shape { IsTrue (is_valid_shape (shape_of members.now.newest)) }
     requires size { members.now.newest.size ≤ 2 ^ 48 }
-    ensures { result ≡ left_of unsynced members.now }
+    requires progress { IfSome resync (λ mended. mended ≤ stripes_of members.now) }
+    ensures { result ≡ left_of resync members.now }
 {
-    if !unsynced {
-        return 0;
+    match resync {
+        Some(mended) => stripes(members) - mended + 1,
+        None => 0,
     }
-    let chunk = shape_in(members).chunk as u64;
-    members.newest.size / chunk + 1
 }
 
 impl<B: Bank> Array<B> {
+    /// How many background steps are left.
+    pub fn left(&self) -> u64
+        ensures { result ≡ left_of self.now.resync self.now.members }
+    {
+        steps_left(&self.members, self.resync)
+    }
+
+    /// How many stripes the pending resync has mended; None where none is pending.
+    pub fn resync(&self) -> Option<u64>
+        ensures resync { result ≡ self.now.resync }
+        ensures progress { IfSome result (λ mended. mended ≤ stripes_of self.now.members) }
+    {
+        self.resync
+    }
+
+    /// How many stripes there are.
+    pub fn stripes(&self) -> u64
+        ensures { result ≡ stripes_of self.now.members }
+    {
+        stripes(&self.members)
+    }
+
     // What the array tells of itself, in memory of its own.
     fn told(&self) -> Result<Status, NoMemory>
         ensures { IfOk result (λ status. IsStatusFor self.now status) }
@@ -85,7 +108,7 @@ impl<B: Bank> Array<B> {
             visible: sectors,
             clean: is_clean(&self.members.newest),
             events: self.members.newest.events,
-            left: steps_left(&self.members, self.unsynced),
+            left: steps_left(&self.members, self.resync),
             roles,
             spares,
         })
@@ -100,6 +123,7 @@ impl<B: Bank> Array<B> {
         ensures unchanged { IfErr result (λ none. self.new ≡ self.old) }
         ensures bank { self.new.bank ≡ self.old.bank }
         ensures members { self.new.members ≡ self.old.members }
+        ensures resync { self.new.resync ≡ self.old.resync }
         ensures ended { IsEndOf B.tells self.new.first self.new.entries (B.tape self.new.bank) }
         ensures same { IsSameArray B.tells self.old self.new (world_for (B.given self.old.bank) (B.tape self.old.bank) self.old) (world_for (B.given self.new.bank) (B.tape self.new.bank) self.new) }
     {
@@ -115,6 +139,7 @@ impl<B: Bank> Array<B> {
             Ok(()) => {}
             Err(none) => return Err(none),
         }
+        self.steps = 0;
         check_number(&self.epoch.entries, who);
         let end = self.bank.ops();
         enter(&mut self.epoch, who, end, Event::Shown { status: shown });

@@ -56,6 +56,7 @@ impl<B: Bank> Array<B> {
         ensures caused { IsFailedFor role self.old.members self.new.members result }
         ensures held { AreStillHeld self.old.members self.new.members }
         ensures losses { AreLossesOf self.old.members (B.faults_of self.old.bank) (B.faults_of self.new.bank) self.old.entries self.new.entries }
+        ensures resync { self.new.resync ≡ self.old.resync }
         ensures ended { IsEndOf B.tells self.new.first self.new.entries (B.tape self.new.bank) }
         ensures never_falls { NeverFalls (B.faults_of self.old.bank) (B.faults_of self.new.bank) }
         ensures given { B.given self.new.bank ≡ B.given self.old.bank }
@@ -65,6 +66,7 @@ impl<B: Bank> Array<B> {
             Ok(()) => {}
             Err(_) => return Err(Fault::NoMemory),
         }
+        self.steps = 0;
         check_number(&self.epoch.entries, who);
         let Some(slot) = whole_slot(&self.members, role) else {
             let refusal = Refusal::NoSuchRole(role);

@@ -1,6 +1,6 @@
 //! Reads of an array.
 
-ghost use Rattle.std.specs.Prelude.{◌≡◌, ◌≢◌, ◌+◌, ◌/◌, ◌^◌, ◌<◌, ◌≤◌, not, length, OnOk, OnErr, IfOk, IfErr};
+ghost use Rattle.std.specs.Prelude.{◌≡◌, ◌≢◌, ◌+◌, ◌/◌, ◌^◌, ◌<◌, ◌≤◌, length, OnOk, OnErr, IfOk, IfErr};
 ghost use Rattle.bank.specs.Given.{NeverFalls};
 ghost use Rattle.bank.specs.Tape.{AreSectors};
 ghost use Rattle.md_base.specs.Sectors.{IsWhole, sectors_of};
@@ -14,16 +14,17 @@ ghost use Rattle.array.specs.Whole.{list_size};
 ghost use Rattle.array.specs.Placed.{places_of, AreWhole, AreStillHeld};
 ghost use Rattle.array.specs.Marking.{AreOthersPresent};
 ghost use Rattle.array.specs.Moving.{Grows};
-ghost use Rattle.array.specs.Lacking.{HaveFailedSince, IsUnread};
+ghost use Rattle.array.specs.Lacking.{HaveFailedSince, IsUnread, mended_rows};
 ghost use Rattle.array.specs.Kept.{AreFillsRight};
 ghost use Rattle.array.specs.Calls.{world_for, IsAnswered, IsCausedBy, IsRefusalOf, IsSameArray, AreLossesOf, IsEndOf, OnNoMemory};
 
-use crate::array::{Array, list_length, refusal_of};
+use crate::array::{Array, refusal_of};
 use crate::calls::{check_number, enter, enter_behind};
 use crate::fetching::fetch;
+use crate::mending::mended_rows;
 use crate::naming::newly_missing;
 use crate::refusing::missing_place;
-use crate::roles::{missing_roles, shape_in};
+use crate::roles::{list_length, missing_roles, shape_in};
 use bank::Bank;
 use flat_history::Event;
 use md_base::{Fault, Refusal, Sectors, Who};
@@ -44,39 +45,41 @@ impl<B: Bank> Array<B> {
     // Why so many sectors from one on aren't read, before any is.
     fn unread(&self, at: u64, count: u64) -> Option<Refusal>
         requires short { at + count < 2 ^ 63 }
-        ensures { IsRefusalOf (list_size (places_of self.now.members)) (at + count) (IsUnread (not self.now.unsynced) at count) self.now.members result }
+        ensures { IsRefusalOf (list_size (places_of self.now.members)) (at + count) (IsUnread (mended_rows self.now.resync self.now.members) at count) self.now.members result }
     {
         let shape = shape_in(&self.members);
         let visible = list_length(&shape, self.members.newest.size);
         let refusal = refusal_of(&self.members, visible, at + count);
-        if refusal.is_some() | !self.unsynced {
+        if refusal.is_some() | self.resync.is_none() {
             return refusal;
         }
-        match missing_place(&self.members, &shape, at, count) {
+        let mended = mended_rows(&self.members, self.resync);
+        match missing_place(&self.members, &shape, at, count, mended) {
             Some(role) => Some(Refusal::NotResynced(role)),
             None => None,
         }
     }
 
     /// Fills `into`, of whole sectors, with those of the list from `at` on; what a missing member held is filled in from the
-    /// others. Refusals: `PastEnd`, `TooManyMissing`, and `NotResynced` in an array that was opened dirty.
+    /// others. Refusals: `PastEnd`, `TooManyMissing`, and `NotResynced` where a resync is pending.
     pub fn read(&mut self, who: Who, at: u64, into: &mut [u8]) -> Result<(), Fault>
         requires next { who.number ≡ next_number who.caller self.old.entries }
         requires caller { who.caller ≢ 254 }
         requires whole { IsWhole into.old }
         requires short { at + length into.old / 512 < 2 ^ 63 }
         ensures answered { IsAnswered (list_size (places_of self.old.members)) (AsksRead at (length into.old / 512)) who self.old.entries self.new.entries (Read at (sectors_of into.new)) result }
-        ensures holds { OnOk result (B.tells → AreFillsRight (world_for (B.given self.old.bank) (B.tape self.old.bank) self.old) self.old.unsynced self.new.members
+        ensures holds { OnOk result (B.tells → AreFillsRight (world_for (B.given self.old.bank) (B.tape self.old.bank) self.old) self.old.resync self.new.members
             → AreSectors (now (opening_list (world_for (B.given self.old.bank) (B.tape self.old.bank) self.old)) self.old.entries) at into.new) }
         ensures unread { OnErr result (into.new ≡ into.old) }
         ensures unchanged { OnNoMemory result (self.new ≡ self.old) }
         ensures grows { Grows B.tells (B.tape self.old.bank) (B.tape self.new.bank) }
         ensures tape { AreWhole self.new.members → B.tells → B.tape self.new.bank ≡ B.tape self.old.bank }
         ensures others { B.tells → AreOthersPresent (present (B.given self.old.bank) (B.tape self.old.bank)) (present (B.given self.old.bank) (B.tape self.new.bank)) }
-        ensures caused { IsCausedBy (list_size (places_of self.old.members)) (at + length into.old / 512) (IsUnread (not self.old.unsynced) at (length into.old / 512)) self.old.members self.new.members result }
+        ensures caused { IsCausedBy (list_size (places_of self.old.members)) (at + length into.old / 512) (IsUnread (mended_rows self.old.resync self.old.members) at (length into.old / 512)) self.old.members self.new.members result }
         ensures failed { HaveFailedSince self.old.members self.new.members 0 (B.faults_of self.old.bank) (B.faults_of self.new.bank) }
         ensures held { AreStillHeld self.old.members self.new.members }
         ensures losses { AreLossesOf self.old.members (B.faults_of self.old.bank) (B.faults_of self.new.bank) self.old.entries self.new.entries }
+        ensures resync { self.new.resync ≡ self.old.resync }
         ensures ended { IsEndOf B.tells self.new.first self.new.entries (B.tape self.new.bank) }
         ensures never_falls { NeverFalls (B.faults_of self.old.bank) (B.faults_of self.new.bank) }
         ensures given { B.given self.new.bank ≡ B.given self.old.bank }
@@ -90,6 +93,7 @@ impl<B: Bank> Array<B> {
             Ok(()) => {}
             Err(_) => return Err(Fault::NoMemory),
         }
+        self.steps = 0;
         check_number(&self.epoch.entries, who);
         if let Some(refusal) = self.unread(at, (into.len() / 512) as u64) {
             let end = self.bank.ops();
@@ -98,6 +102,7 @@ impl<B: Bank> Array<B> {
         }
         let shape = shape_in(&self.members);
         let before = missing_roles(&self.members, shape.disks);
+        let mended = mended_rows(&self.members, self.resync);
         let fetched = fetch(
             &mut self.members,
             &mut self.bank,
@@ -105,7 +110,7 @@ impl<B: Bank> Array<B> {
             at,
             bytes.as_mut_slice(),
             self.buffer.as_mut_slice(),
-            !self.unsynced,
+            mended,
         );
         let roles = newly_missing(&self.members, shape.disks, before);
         let end = self.bank.ops();

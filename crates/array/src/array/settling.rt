@@ -1,6 +1,6 @@
 //! Flushes of an array.
 
-ghost use Rattle.std.specs.Prelude.{◌≡◌, ◌≢◌, ◌+◌, ◌^◌, ◌<◌, ◌≤◌, length, true, false, OnOk};
+ghost use Rattle.std.specs.Prelude.{◌≡◌, ◌≢◌, ◌+◌, ◌^◌, ◌<◌, ◌≤◌, length, true, None, OnOk};
 ghost use Rattle.bank.specs.Given.{NeverFalls};
 ghost use Rattle.superblocks.specs.Reading.{is_clean};
 ghost use Rattle.row_io.specs.Rows.{reading_of, present};
@@ -35,12 +35,13 @@ impl<B: Bank> Array<B> {
         ensures left { OnOk result (B.tells → AreLeftFlushed self.old.members self.new.entries (B.given self.old.bank) (B.tape self.new.bank)) }
         ensures grows { Grows B.tells (B.tape self.old.bank) (B.tape self.new.bank) }
         ensures others { B.tells → AreOthersPresent (present (B.given self.old.bank) (B.tape self.old.bank)) (present (B.given self.old.bank) (B.tape self.new.bank)) }
-        ensures clean { OnOk result (self.old.unsynced ≡ false → is_clean self.new.members.newest ≡ true) }
+        ensures clean { OnOk result (self.old.resync ≡ None → is_clean self.new.members.newest ≡ true) }
         ensures caused { IsCausedBy (list_size (places_of self.old.members)) 0 AreTooMany self.old.members self.new.members result }
         ensures last { OnOk result (B.tells → self.new.last ≡ length (B.tape self.new.bank)) }
         ensures failed { HaveFailedSince self.old.members self.new.members 0 (B.faults_of self.old.bank) (B.faults_of self.new.bank) }
         ensures held { AreStillHeld self.old.members self.new.members }
         ensures losses { AreLossesOf self.old.members (B.faults_of self.old.bank) (B.faults_of self.new.bank) self.old.entries self.new.entries }
+        ensures resync { self.new.resync ≡ self.old.resync }
         ensures ended { IsEndOf B.tells self.new.first self.new.entries (B.tape self.new.bank) }
         ensures never_falls { NeverFalls (B.faults_of self.old.bank) (B.faults_of self.new.bank) }
         ensures given { B.given self.new.bank ≡ B.given self.old.bank }
@@ -50,6 +51,7 @@ impl<B: Bank> Array<B> {
             Ok(()) => {}
             Err(_) => return Err(Fault::NoMemory),
         }
+        self.steps = 0;
         check_number(&self.epoch.entries, who);
         if let Some(refusal) = refusal_of(&self.members, 0, 0) {
             let end = self.bank.ops();
@@ -58,7 +60,7 @@ impl<B: Bank> Array<B> {
         }
         let disks = shape_in(&self.members).disks;
         let before = missing_roles(&self.members, disks);
-        let settled = settle(&mut self.members, &mut self.bank, self.unsynced);
+        let settled = settle(&mut self.members, &mut self.bank, self.resync.is_some());
         let roles = newly_missing(&self.members, disks, before);
         let end = self.bank.ops();
         if let Some(refusal) = settled.refusal {
@@ -70,7 +72,7 @@ impl<B: Bank> Array<B> {
         Ok(())
     }
 
-    /// Makes what was written durable, and marks the array clean, but for one that was opened dirty. Refusals:
+    /// Makes what was written durable, and marks the array clean, unless a resync is pending. Refusals:
     /// `TooManyMissing`.
     pub fn flush(&mut self, who: Who) -> Result<(), Fault>
         requires next { who.number ≡ next_number who.caller self.old.entries }
@@ -80,11 +82,12 @@ impl<B: Bank> Array<B> {
         ensures flushed { OnOk result (B.tells → AreHoldersFlushed (reading_of self.new.members) (B.given self.old.bank) (B.tape self.new.bank)) }
         ensures grows { Grows B.tells (B.tape self.old.bank) (B.tape self.new.bank) }
         ensures others { B.tells → AreOthersPresent (present (B.given self.old.bank) (B.tape self.old.bank)) (present (B.given self.old.bank) (B.tape self.new.bank)) }
-        ensures clean { OnOk result (self.old.unsynced ≡ false → is_clean self.new.members.newest ≡ true) }
+        ensures clean { OnOk result (self.old.resync ≡ None → is_clean self.new.members.newest ≡ true) }
         ensures caused { IsCausedBy (list_size (places_of self.old.members)) 0 AreTooMany self.old.members self.new.members result }
         ensures failed { HaveFailedSince self.old.members self.new.members 0 (B.faults_of self.old.bank) (B.faults_of self.new.bank) }
         ensures held { AreStillHeld self.old.members self.new.members }
         ensures losses { AreLossesOf self.old.members (B.faults_of self.old.bank) (B.faults_of self.new.bank) self.old.entries self.new.entries }
+        ensures resync { self.new.resync ≡ self.old.resync }
         ensures ended { IsEndOf B.tells self.new.first self.new.entries (B.tape self.new.bank) }
         ensures never_falls { NeverFalls (B.faults_of self.old.bank) (B.faults_of self.new.bank) }
         ensures given { B.given self.new.bank ≡ B.given self.old.bank }

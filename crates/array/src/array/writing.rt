@@ -1,9 +1,9 @@
 //! Writes to an array.
 
-ghost use Rattle.std.specs.Prelude.{◌≡◌, ◌≢◌, ◌+◌, ◌/◌, ◌^◌, ◌<◌, ◌≤◌, not, length, OnOk, OnErr, IsFalse, false};
+ghost use Rattle.std.specs.Prelude.{◌≡◌, ◌≢◌, ◌+◌, ◌/◌, ◌^◌, ◌<◌, ◌≤◌, length, OnOk, OnErr, IsFalse, false};
 ghost use Rattle.bank.specs.Given.{NeverFalls};
 ghost use Rattle.md_base.specs.Sectors.{IsWhole, sectors_of};
-ghost use Rattle.superblocks.specs.Reading.{is_clean};
+ghost use Rattle.superblocks.specs.Reading.{is_clean, shape_of};
 ghost use Rattle.row_io.specs.Rows.{present};
 ghost use Rattle.flat_history.specs.Flat.{next_number};
 ghost use Rattle.flat_history.specs.declared.events.Event.TheVariants.{Wrote};
@@ -12,29 +12,38 @@ ghost use Rattle.array.specs.Whole.{list_size};
 ghost use Rattle.array.specs.Placed.{places_of, AreStillHeld};
 ghost use Rattle.array.specs.Marking.{AreOthersPresent};
 ghost use Rattle.array.specs.Moving.{Grows};
-ghost use Rattle.array.specs.Lacking.{HaveFailedSince, IsUnwritten};
+ghost use Rattle.array.specs.Lacking.{HaveFailedSince, IsUnwritten, are_mended, mended_rows};
 ghost use Rattle.array.specs.Calls.{world_for, IsAnswered, IsCausedBy, IsRefusalOf, IsSameArray, AreLossesOf, IsEndOf, OnNoMemory, has_torn};
 
-use crate::array::{Array, list_length, refusal_of};
+use crate::array::{Array, refusal_of};
 use crate::calls::{check_number, enter, enter_behind, enter_failure};
+use crate::mending::mended_rows;
 use crate::naming::newly_missing;
 use crate::putting::put;
-use crate::roles::{missing_roles, shape_in};
+use crate::roles::{list_length, missing_roles, shape_in};
 use bank::Bank;
 use flat_history::Event;
 use list_io::missing_data;
-use md_base::{Fault, Refusal, Sectors, Who};
+use md_base::{Fault, Refusal, Sectors, Shape, Who};
 
 impl<B: Bank> Array<B> {
+    // Whether the sectors of the list below this one are all in rows whose parity is to be relied on.
+    fn are_mended(&self, shape: &Shape, to: u64) -> bool
+        requires shape { shape.now ≡ shape_of self.now.members.newest }
+        ensures { result ≡ are_mended shape.now (mended_rows self.now.resync self.now.members) to }
+    {
+        to <= list_length(shape, mended_rows(&self.members, self.resync))
+    }
+
     // Why so many sectors from one on aren't written, before any row is read.
     fn unwritten(&self, at: u64, count: u64) -> Option<Refusal>
         requires short { at + count < 2 ^ 63 }
-        ensures { IsRefusalOf (list_size (places_of self.now.members)) (at + count) (IsUnwritten (not self.now.unsynced)) self.now.members result }
+        ensures { IsRefusalOf (list_size (places_of self.now.members)) (at + count) (IsUnwritten (are_mended (shape_of self.now.members.newest) (mended_rows self.now.resync self.now.members) (at + count))) self.now.members result }
     {
         let shape = shape_in(&self.members);
         let visible = list_length(&shape, self.members.newest.size);
         let refusal = refusal_of(&self.members, visible, at + count);
-        if refusal.is_some() | !self.unsynced {
+        if refusal.is_some() | self.are_mended(&shape, at + count) {
             return refusal;
         }
         match missing_data(&self.members, &shape) {
@@ -44,7 +53,7 @@ impl<B: Bank> Array<B> {
     }
 
     /// Makes the list hold `from`, of 1 to 128 whole sectors, from `at` on. Refusals: `PastEnd`, `TooManyMissing`, and
-    /// `NotResynced` in an array that was opened dirty.
+    /// `NotResynced` where a resync is pending.
     pub fn write(&mut self, who: Who, at: u64, from: &[u8]) -> Result<(), Fault>
         requires next { who.number ≡ next_number who.caller self.old.entries }
         requires caller { who.caller ≢ 254 }
@@ -57,10 +66,11 @@ impl<B: Bank> Array<B> {
         ensures dirty { OnOk result (is_clean self.new.members.newest ≡ false) }
         ensures untouched { OnErr result (IsFalse (has_torn self.old.entries self.new.entries) → B.tells
             → AreOthersPresent (present (B.given self.old.bank) (B.tape self.old.bank)) (present (B.given self.old.bank) (B.tape self.new.bank))) }
-        ensures caused { IsCausedBy (list_size (places_of self.old.members)) (at + length from.now / 512) (IsUnwritten (not self.old.unsynced)) self.old.members self.new.members result }
+        ensures caused { IsCausedBy (list_size (places_of self.old.members)) (at + length from.now / 512) (IsUnwritten (are_mended (shape_of self.old.members.newest) (mended_rows self.old.resync self.old.members) (at + length from.now / 512))) self.old.members self.new.members result }
         ensures failed { HaveFailedSince self.old.members self.new.members 0 (B.faults_of self.old.bank) (B.faults_of self.new.bank) }
         ensures held { AreStillHeld self.old.members self.new.members }
         ensures losses { AreLossesOf self.old.members (B.faults_of self.old.bank) (B.faults_of self.new.bank) self.old.entries self.new.entries }
+        ensures resync { self.new.resync ≡ self.old.resync }
         ensures ended { IsEndOf B.tells self.new.first self.new.entries (B.tape self.new.bank) }
         ensures never_falls { NeverFalls (B.faults_of self.old.bank) (B.faults_of self.new.bank) }
         ensures given { B.given self.new.bank ≡ B.given self.old.bank }
@@ -74,23 +84,27 @@ impl<B: Bank> Array<B> {
             Ok(()) => {}
             Err(_) => return Err(Fault::NoMemory),
         }
+        self.steps = 0;
         check_number(&self.epoch.entries, who);
-        if let Some(refusal) = self.unwritten(at, (from.len() / 512) as u64) {
+        let count = (from.len() / 512) as u64;
+        if let Some(refusal) = self.unwritten(at, count) {
             let end = self.bank.ops();
             enter(&mut self.epoch, who, end, Event::Refused { refusal });
             return Err(Fault::Refused(refusal));
         }
         let shape = shape_in(&self.members);
         let before = missing_roles(&self.members, shape.disks);
+        let synced = self.are_mended(&shape, at + count);
         let done = put(
             &mut self.members,
             &mut self.bank,
             &shape,
             at,
+            count,
             from,
             &mut self.rows,
             &mut self.buffer,
-            !self.unsynced,
+            synced,
         );
         let roles = newly_missing(&self.members, shape.disks, before);
         let end = self.bank.ops();

@@ -2,16 +2,14 @@ use Rattle.std.proofs.Common.{◌≡◌, ℕ, ◌<◌, ◌≤◌, Bool, true, fa
 use Rattle.std.proofs.lemmas.Bool.{cases_lt}
 use Rattle.md_base.specs.Shapes.{has_slot}
 use Rattle.bank.specs.Given.{Given}
-use Rattle.superblocks.specs.Outcome.{live_set, is_in_update}
+use Rattle.superblocks.specs.Outcome.{live_set}
 use Rattle.superblocks.proofs.SlotSets.{none_above}
 use Rattle.array.specs.Placed.{IsPlaced}
 use Rattle.array.specs.Marking.{marking}
 use Rattle.array.proofs.MarkLaws.{few-planned}
 use Rattle.array.proofs.MovedLaws.{moved-less}
 use Rattle.array.proofs.MarkedLaws.{grows-marks, others-present, failed-marked}
-use Rattle.array.proofs.SafetyLaws.{marked-stretch}
 use Rattle.array.proofs.LackingLaws.{since-failed, holders-marked}
-use Rattle.array.proofs.LostLaws.{lost-same, list-elsewhere, set-small}
 use Rattle.array.proofs.MarkedSafe.{marked-safe, marked-named}
 use Rattle.flat_history.specs.Sound.{OpensFit}
 use Rattle.array.proofs.Risen.{risen-marked}
@@ -61,17 +59,6 @@ returns-clause-failed g c =
 
 pub returns-clause-flushed : goal.returns-clause-flushed
 returns-clause-flushed g c = λ told flushed. holders-marked c.mark-lost.ensures.marked told flushed
-
-pub returns-clause-none : goal.returns-clause-none
-returns-clause-none g c = λ whole spares.
-    let did = c.mark-lost.ensures in
-    lost-same c.args.members.now c.mark-lost.new.members c.mark-lost.result c.holders-held.result c.without.result (g.B.Bank.given c.args.bank.now) (g.B.Bank.faults_of c.args.bank.now) (g.B.Bank.faults_of c.mark-lost.new.bank)
-    (live_set c.args.members.now (marking c.args.members.now c.args.clean)) c.requires.placed did.less did.losses c.holders-held.ensures did.result c.without.ensures (set-small (is_in_update c.args.members.now (marking c.args.members.now c.args.clean))) whole spares
-
-pub returns-clause-right : goal.returns-clause-right
-returns-clause-right g c = λ whole told scope values at room lost.
-    marked-stretch (g.B.Bank.given c.args.bank.now) scope values c.args.members.now c.requires.placed whole
-    (list-elsewhere (g.B.Bank.given c.args.bank.now) c.args.members.now c.requires.placed whole) (g.B.Bank.tape c.args.bank.now) (g.B.Bank.tape c.mark-lost.new.bank) told c.mark-lost.ensures.marked c.mark-lost.ensures.less lost at room
 
 pub returns-clause-safe : goal.returns-clause-safe
 returns-clause-safe g c = λ tell world size told room markable now.

@@ -1,21 +1,18 @@
-use Rattle.std.proofs.Common.{◌≡◌, ◌<◌, ℕ, List, length, arith, inr, refl, sym, ◌∙◌, ap, subst}
+use Rattle.std.proofs.Common.{◌<◌, ℕ, List, length, arith, inr, refl, sym, ◌∙◌, ap, subst}
 use Rattle.std.specs.Prelude.{Option, is_some}
 use Rattle.md_base.specs.declared.places.Shape.{Shape}
 use Rattle.md_base.specs.declared.answers.Refusal.{Refusal}
 use Rattle.bank.specs.Given.{Given}
 use Rattle.bank.specs.declared.bank.Operation.{Operation}
 use Rattle.superblocks.specs.declared.members.Members.{Members}
-use Rattle.superblocks.specs.Reading.{shape_of}
 use Rattle.row_io.specs.Rows.{present, reading_of}
 use Rattle.list_io.specs.Buffers.{buffered}
 use Rattle.list_io.specs.Full.{DataStands, RowStands}
 use Rattle.list_io.proofs.BufferLaws.{data_read}
-use Rattle.array.specs.Placed.{AreWhole, IsPlaced, AreLost}
+use Rattle.array.specs.Placed.{IsPlaced, AreLost}
 use Rattle.array.specs.Moving.{IsMoved}
-use Rattle.array.specs.Safety.{HasMarkRoom}
-use Rattle.array.proofs.MovedLaws.{moved-lost, moved-then, lost-none, moved-from}
-use Rattle.array.proofs.SafetyLaws.{stretch-from, at-from}
-use Rattle.array.proofs.LackingLaws.{since-lost, since-then, stretch-still}
+use Rattle.array.proofs.MovedLaws.{moved-lost, moved-then, moved-from}
+use Rattle.array.proofs.LackingLaws.{since-lost, since-then}
 use Rattle.array.proofs.LackingWrites.{lost-of, ok-of, standing-later}
 use Rattle.flat_history.specs.Sound.{OpensFit}
 use Rattle.array.specs.Safety.{IsRisen}
@@ -34,20 +31,6 @@ returns-then-is_some-clause-moved g c =
     let r = c.read_touched-read.result.lost in
     let shape = c.args.shape.now in
     moved-lost given shape m n r f0 f1 c.requires.placed (lost-of given shape m n r f0 f1 c.requires.placed c.read_touched-read.ensures.lost) c.requires.unlost
-
-pub returns-then-is_some-clause-right : goal.returns-then-is_some-clause-right
-returns-then-is_some-clause-right g c = λ whole none told scope values at room.
-    let m = c.args.members.now in
-    let n = c.read_touched-read.new.members in
-    let given = g.B.Bank.given c.args.bank.now in
-    let f0 = g.B.Bank.faults_of c.args.bank.now in
-    let f1 = g.B.Bank.faults_of c.read_touched-read.new.bank in
-    let r = c.read_touched-read.result.lost in
-    let shape = c.args.shape.now in
-    let did = c.read_touched-read.ensures in
-    let lost : AreLost given shape m n r f0 f1 = lost-of given shape m n r f0 f1 c.requires.placed did.lost in
-    stretch-still given scope values m n (g.B.Bank.tape c.args.bank.now) (g.B.Bank.tape c.read_touched-read.new.bank)
-    (lost.kept (lost-none given shape m n r f0 f1 lost c.requires.shape (ap (λ (x : Members). shape_of x.newest) lost.members) whole)) (did.tape told) at
 
 pub returns-then-is_some-clause-below : goal.returns-then-is_some-clause-below
 returns-then-is_some-clause-below g c row has = subst (λ (x : Members). row < x.newest.size) (sym c.read_touched-read.ensures.lost.members) (c.read_touched-read.ensures.below row has)
@@ -121,29 +104,8 @@ returns-clause-read g c = λ none told.
       held = λ i lt. standing-later given n c.raise-spares.new.members moved lost.placed c0 c0 (λ s k other. refl) shape _ (buffered buffer i) (read i lt).held;
       listed = λ list stands full. data_read 0 shape c.args.synced (reading_of m) (reading_of n) c0 list rows buffer read
           (λ row has. subst (λ (s : Shape). DataStands (reading_of m) c0 s list row) (sym c.requires.shape) (stands row (did.below row has)))
-          (λ synced row has. subst (λ (s : Shape). RowStands (reading_of m) c0 s list row) (sym c.requires.shape) (full synced row (did.below row has)));
+          (λ synced row has. subst (λ (s : Shape). RowStands (reading_of m) c0 s list row) (sym c.requires.shape) (full synced row has (did.below row has)));
     }
-
-pub returns-clause-right : goal.returns-clause-right
-returns-clause-right g c = λ whole none told scope values at room.
-    let m = c.args.members.now in
-    let n = c.read_touched-read.new.members in
-    let given = g.B.Bank.given c.args.bank.now in
-    let given1 = g.B.Bank.given c.read_touched-read.new.bank in
-    let f0 = g.B.Bank.faults_of c.args.bank.now in
-    let f1 = g.B.Bank.faults_of c.read_touched-read.new.bank in
-    let tape0 = g.B.Bank.tape c.args.bank.now in
-    let tape1 = g.B.Bank.tape c.read_touched-read.new.bank in
-    let tape2 = g.B.Bank.tape c.raise-spares.new.bank in
-    let r = c.read_touched-read.result.lost in
-    let shape = c.args.shape.now in
-    let did = c.read_touched-read.ensures in
-    let whole1 : AreWhole n = c.raise-spares.ensures.moved.whole whole in
-    let lost : AreLost given shape m n r f0 f1 = lost-of given shape m n r f0 f1 c.requires.placed did.lost in
-    let kept1 : n ≡ m = lost.kept (lost-none given shape m n r f0 f1 lost c.requires.shape (ap (λ (x : Members). shape_of x.newest) lost.members) whole1) in
-    let room1 : HasMarkRoom n tape1 tape2 = subst (λ (x : Members). HasMarkRoom x tape1 tape2) (sym kept1) (subst (λ (l : List Operation). HasMarkRoom m l tape2) (sym (did.tape told)) room) in
-    stretch-from given given1 m n c.raise-spares.new.members tape0 tape1 tape2 scope values did.given kept1 (did.tape told)
-    (c.raise-spares.ensures.right whole1 told scope values (at-from given given1 m n tape0 tape1 scope values did.given kept1 (did.tape told) at) room1 (c.raise-spares.ensures.none whole none))
 
 pub returns-clause-below : goal.returns-clause-below
 returns-clause-below g c row has =

@@ -1,34 +1,23 @@
-use Rattle.std.proofs.Common.{◌≡◌, ◌-◌, ◌/◌, ◌<◌, ℕ, List, length, refl, sym, ◌∙◌, ap, subst, arith}
+use Rattle.std.proofs.Common.{◌≡◌, ◌⊎◌, ◌-◌, ◌<◌, ℕ, true, List, length, refl, sym, ◌∙◌, ap, subst, arith}
 use Rattle.std.specs.Prelude.{Contains, slice_index, None}
-use Rattle.md_base.specs.Sectors.{Sector}
 use Rattle.md_base.specs.declared.places.Shape.{Shape}
 use Rattle.bank.specs.Given.{Given}
-use Rattle.bank.specs.Tape.{EachMark, disk}
-use Rattle.bank.proofs.Marks.{each_mark-map}
-use Rattle.superblocks.specs.declared.members.Members.{Members}
 use Rattle.superblocks.specs.Reading.{shape_of}
 use Rattle.row_io.specs.Rows.{reading_of, present}
-use Rattle.list_io.specs.Buffers.{buffered, AreStanding, AreTouched}
-use Rattle.list_io.specs.Writing.{IsWritten, AreDataFrom}
-use Rattle.array.specs.Whole.{Places, placed, AreRight}
-use Rattle.array.specs.Rows.{IsPutting}
-use Rattle.array.specs.Placed.{places_of, AreWhole}
+use Rattle.list_io.specs.Buffers.{buffered, AreStanding, AreTouched, IsTouched}
+use Rattle.list_io.specs.Full.{AreWholeIn, RowStands}
+use Rattle.list_io.specs.Writing.{AreDataFrom}
 use Rattle.array.specs.Moving.{IsMoved}
-use Rattle.array.specs.Safety.{HasMarkRoom, IsStretch, AreMore}
-use Rattle.array.specs.Lacking.{AreRowsRead, AreRowsWritten, IsListPut}
+use Rattle.array.specs.Lacking.{RowsStandAmong, AreRowsRead, AreRowsWritten}
+use Rattle.array.specs.Placed.{AreWhole}
 use Rattle.array.proofs.MovedLaws.{moved-then, moved-same, moved-from}
-use Rattle.array.proofs.SafetyLaws.{put-stretch, stretch-more, stretch-then, stretch-last}
-use Rattle.array.proofs.LackingLaws.{since-then, in-either, none-left, none-refused}
-use Rattle.array.proofs.LackingWrites.{standing-later, list-with, list-with-is, disk-now}
-use Rattle.array.proofs.LackingLists.{list-written, rows-written, data-read, sectors-whole, none-of, putting-list, placed-data}
+use Rattle.array.proofs.LackingLaws.{since-then, in-either}
+use Rattle.array.proofs.LackingWrites.{standing-later}
+use Rattle.array.proofs.LackingLists.{list-written, row-written, data-read, sectors-whole, none-of}
 use Rattle.flat_history.specs.Sound.{OpensFit}
 use Rattle.array.proofs.Risen.{risen-then, room-first, room-then}
 use Rattle.array.proofs.SafeStretch.{gone-before, safe-then, allowed-later, grows-longer, over-at, keeps-from}
 use Rattle.array.proofs.putting.put.Goals as goal
-
-pub returns-then-is_some-clause-right : goal.returns-then-is_some-clause-right
-returns-then-is_some-clause-right g c = λ whole none told scope values more at room are.
-    stretch-more more are.old (c.prepare-begun.ensures.right whole none told scope values at room)
 
 pub put_rows-done-requires-clause-below : goal.put_rows-done-requires-clause-below
 put_rows-done-requires-clause-below g c row has = c.prepare-begun.ensures.below row (subst (λ (l : List ℕ). Contains l row) c.as_slice.ensures.value has)
@@ -84,13 +73,13 @@ returns-clause-put g c = λ ok told list list' w stands.
     subst (λ (b : Given). AreRowsWritten shape first from rows 0 (length rows) m3 (present b tape2) (present b tape3) buffer buffer') did1.given
     (subst (λ (n : ℕ). AreRowsWritten shape first from rows 0 n m3 (present given2 tape2) (present given2 tape3) buffer buffer') (did2.done ok ∙ ap length c.as_slice.ensures.value)
     (subst (λ (l : List ℕ). AreRowsWritten shape first from l 0 c.put_rows-done.result.next m3 (present given2 tape2) (present given2 tape3) buffer buffer') c.as_slice.ensures.value (did2.written told))) in
-    list-written given m m2 m3 did1.moved two c.requires.placed (present given tape0) (present given tape2) (present given tape3) (did1.others told) first from rows buffer buffer'
-    (subst (λ (s : Shape). AreTouched s first (length from / 512) rows) c.requires.shape did1.touched)
+    list-written given m m2 m3 did1.moved two c.requires.placed (present given tape0) (present given tape2) (present given tape3) (did1.others told) first c.args.count from rows buffer buffer' c.requires.from_few
+    (subst (λ (s : Shape). AreTouched s first c.args.count rows) c.requires.shape did1.touched)
     (subst (λ (s : Shape). AreRowsWritten s first from rows 0 (length rows) m3 (present given tape2) (present given tape3) buffer buffer') c.requires.shape done)
     list list' w c.args.synced (subst (λ (s : Shape). AreRowsRead s c.args.synced m m2 (present given tape0) rows buffer) c.requires.shape read) stands
 
 pub returns-clause-good : goal.returns-clause-good
-returns-clause-good g c = λ ok told list list' w small stands.
+returns-clause-good g c = λ ok told list list' w small stands full row below whole which.
     let given = g.B.Bank.given c.args.bank.now in
     let given2 = g.B.Bank.given c.prepare-begun.new.bank in
     let m = c.args.members.now in
@@ -113,61 +102,16 @@ returns-clause-good g c = λ ok told list list' w small stands.
     subst (λ (b : Given). AreRowsWritten shape first from rows 0 (length rows) m3 (present b tape2) (present b tape3) buffer buffer') did1.given
     (subst (λ (n : ℕ). AreRowsWritten shape first from rows 0 n m3 (present given2 tape2) (present given2 tape3) buffer buffer') (did2.done ok ∙ ap length c.as_slice.ensures.value)
     (subst (λ (l : List ℕ). AreRowsWritten shape first from l 0 c.put_rows-done.result.next m3 (present given2 tape2) (present given2 tape3) buffer buffer') c.as_slice.ensures.value (did2.written told))) in
-    rows-written given m m2 m3 did1.moved two c.requires.placed (present given tape0) (present given tape2) (present given tape3) (did1.others told) first from rows buffer buffer'
-    (subst (λ (s : Shape). AreTouched s first (length from / 512) rows) c.requires.shape did1.touched)
-    (subst (λ (s : Shape). AreRowsWritten s first from rows 0 (length rows) m3 (present given tape2) (present given tape3) buffer buffer') c.requires.shape done)
-    list list' w c.args.synced (subst (λ (s : Shape). AreRowsRead s c.args.synced m m2 (present given tape0) rows buffer) c.requires.shape read)
-    (λ x low high. sectors-whole from c.requires.from small (x - first) (omega (arith, low, high))) stands
-
-pub returns-clause-right : goal.returns-clause-right
-returns-clause-right g c = λ whole none told scope values more at room are.
-    let given = g.B.Bank.given c.args.bank.now in
-    let given2 = g.B.Bank.given c.prepare-begun.new.bank in
-    let m = c.args.members.now in
-    let m2 = c.prepare-begun.new.members in
-    let m3 = c.put_rows-done.new.members in
-    let did1 = c.prepare-begun.ensures in
-    let did2 = c.put_rows-done.ensures in
-    let tape0 = g.B.Bank.tape c.args.bank.now in
-    let tape2 = g.B.Bank.tape c.prepare-begun.new.bank in
-    let tape3 = g.B.Bank.tape c.put_rows-done.new.bank in
-    let rows = c.prepare-begun.new.rows.items in
-    let buffer = c.prepare-begun.new.buffer.items in
-    let shape = c.args.shape.now in
-    let first = c.args.first in
-    let from = c.args.from.now in
     let c0 = present given tape0 in
-    let c2 = present given tape2 in
-    let two : IsMoved given m2 m3 = moved-from given given2 m2 m2 m3 did1.given refl did2.moved in
-    let whole2 : AreWhole m2 = two.whole whole in
-    let same2 : shape ≡ shape_of m2.newest = c.requires.shape ∙ sym did1.moved.shape in
-    let kept3 : m3 ≡ m2 = did2.kept whole in
-    let ok : c.put_rows-done.result.refusal ≡ None = none-refused given m3 c.put_rows-done.result.refusal did2.refused two.placed whole in
-    let read = did1.read (none-of c.prepare-begun.result.refusal (sym c.is_some.ensures ∙ c.if-is_some.false)) told in
-    let standing : (i : ℕ) → i < length rows → AreStanding (reading_of m2) c2 (shape_of m2.newest) (slice_index rows i) (buffered buffer i) = λ i lt.
-    subst (λ (s : Shape). AreStanding (reading_of m2) c2 s (slice_index rows i) (buffered buffer i)) same2
-    (standing-later given m2 m2 (moved-same given given m2 m2 refl refl did1.moved.placed did1.moved.unlost) did1.moved.placed c0 c2 (did1.others told) shape (slice_index rows i) (buffered buffer i) (read.held i lt)) in
-    let list : ℕ → Sector = λ x. placed (places_of m2) c2 x in
-    let list' : ℕ → Sector = list-with list first from in
-    let w : IsWritten list list' first from = list-with-is list first from in
-    let has : AreDataFrom 0 shape list c.as_slice.result.now buffer =
-    subst (λ (l : List ℕ). AreDataFrom 0 shape list l buffer) (sym c.as_slice.ensures.value)
-    (subst (λ (s : Shape). AreDataFrom 0 s list rows buffer) (sym same2) (placed-data given m2 did1.moved.placed whole2 c2 rows buffer did1.below standing)) in
-    let marks : EachMark g.B.Bank.tells given.start tape2 tape3 (IsListPut m2 list' c.as_slice.result.now (disk given.start tape2)) =
-    subst (λ (b : Given). EachMark g.B.Bank.tells b.start tape2 tape3 (IsListPut m2 list' c.as_slice.result.now (disk b.start tape2))) did1.given (did2.marks whole ok list list' w (λ t. has)) in
-    let longer = marks.longer told in
-    let room2 : HasMarkRoom m tape0 tape2 = omega (arith, room, longer) in
-    let one : IsStretch scope (places_of m) values given.start tape0 tape2 m m2 =
-    did1.right whole2 (none-left c.prepare-begun.result.spares c.put_rows-done.result.spares none) told scope values at room2 in
-    let same : places_of m2 ≡ places_of m = did1.moved.same whole2 in
-    let put : IsStretch scope (places_of m2) more given.start tape2 tape3 m2 m2 =
-    put-stretch given scope m2 values more first from tape2 tape3 told (subst (λ (p : Places). AreMore p first from values more) (sym same) are)
-    (each_mark-map (IsPutting (places_of m2) first from (disk given.start tape2))
-    (λ t e here. putting-list given m2 did1.moved.placed whole2 first from c.as_slice.result.now list list' w (disk given.start tape2) e (λ x below. disk-now given tape2 _ _) here) marks)
-    (subst (λ (p : Places). AreRight scope p values (disk given.start tape2)) (sym same) (stretch-last one)) one.next in
-    stretch-then (stretch-more more are.old one)
-    (subst (λ (p : Places). IsStretch scope p more given.start tape2 tape3 m2 m3) same
-    (subst (λ (x : Members). IsStretch scope (places_of m2) more given.start tape2 tape3 m2 x) (sym kept3) put))
+    let touched : AreTouched (shape_of m.newest) first c.args.count rows = subst (λ (s : Shape). AreTouched s first c.args.count rows) c.requires.shape did1.touched in
+    let has : AreDataFrom 0 (shape_of m.newest) list rows buffer =
+    data-read given m m2 m3 did1.moved two c.requires.placed c0 first c.args.count rows buffer list c.args.synced touched did1.below
+    (subst (λ (s : Shape). AreRowsRead s c.args.synced m m2 c0 rows buffer) c.requires.shape read) stands
+    (subst (λ (s : Shape). c.args.synced ≡ true → AreWhole m3 ⊎ RowsStandAmong (IsTouched s first c.args.count) m c0 list) c.requires.shape full) in
+    subst (λ (s : Shape). AreWholeIn s list row → IsTouched s first c.args.count row ⊎ RowStands (reading_of m) c0 s list row → RowStands (reading_of m3) (present given tape3) s list' row) (sym c.requires.shape)
+    (row-written given m m2 m3 did1.moved two c.requires.placed c0 (present given tape2) (present given tape3) (did1.others told) first c.args.count from rows buffer buffer' c.requires.from_few touched
+    (subst (λ (s : Shape). AreRowsWritten s first from rows 0 (length rows) m3 (present given tape2) (present given tape3) buffer buffer') c.requires.shape done)
+    list list' w has (λ x low high. sectors-whole from c.requires.from small (x - first) (omega (arith, low, high))) row) whole which
 
 pub returns-then-is_some-clause-safe : goal.returns-then-is_some-clause-safe
 returns-then-is_some-clause-safe g c = λ told world size ledger room gone unclean list list' w stands full allowed safe. c.prepare-begun.ensures.safe told world size ledger room gone unclean safe
@@ -190,6 +134,7 @@ returns-clause-safe g c = λ told world size ledger room gone unclean list list'
     let rows = c.prepare-begun.new.rows.items in
     let buffer = c.prepare-begun.new.buffer.items in
     let shape = c.args.shape.now in
+    let first = c.args.first in
     let none : c.prepare-begun.result.refusal ≡ None = none-of c.prepare-begun.result.refusal (sym c.is_some.ensures ∙ c.if-is_some.false) in
     let two : IsMoved given m2 m3 = moved-from given given2 m2 m2 m3 did1.given refl did2.moved in
     let read : AreRowsRead (shape_of m.newest) c.args.synced m m2 (present given tape0) rows buffer =
@@ -197,7 +142,9 @@ returns-clause-safe g c = λ told world size ledger room gone unclean list list'
     let has : AreDataFrom 0 shape list c.as_slice.result.now buffer =
     subst (λ (l : List ℕ). AreDataFrom 0 shape list l buffer) (sym c.as_slice.ensures.value)
     (subst (λ (s : Shape). AreDataFrom 0 s list rows buffer) (sym c.requires.shape)
-    (data-read given m m2 m3 did1.moved two c.requires.placed (present given tape0) rows buffer list c.args.synced did1.below read stands full)) in
+    (data-read given m m2 m3 did1.moved two c.requires.placed (present given tape0) first c.args.count rows buffer list c.args.synced
+    (subst (λ (s : Shape). AreTouched s first c.args.count rows) c.requires.shape did1.touched) did1.below read stands
+    (subst (λ (s : Shape). c.args.synced ≡ true → AreWhole m3 ⊎ RowsStandAmong (IsTouched s first c.args.count) m (present given tape0) list) c.requires.shape full))) in
     let one = did1.safe told world size ledger (room-first m tape0 tape2 tape3 room (grows-longer did2.grows told)) (gone-before given m2 m3 did1.moved.placed two ledger gone) unclean safe in
     safe-then (OpensFit world) world.scope given size ledger m2 m3 tape0 tape2 tape3 one
     (keeps-from world given given2 size ledger m3 tape2 tape3 did1.given

@@ -1,18 +1,12 @@
-use Rattle.std.proofs.Common.{inl, inr, ◌<◌, ℕ, List, refl, sym, ◌∙◌, subst, arith}
+use Rattle.std.proofs.Common.{inl, ◌<◌, ℕ, refl, sym, ◌∙◌, subst, arith}
 use Rattle.bank.specs.Given.{Given}
-use Rattle.bank.specs.Tape.{EachMark, disk}
-use Rattle.superblocks.specs.Reading.{shape_of}
-use Rattle.row_io.specs.Rows.{present, reading_of}
-use Rattle.list_io.specs.Writing.{AreDataFrom}
+use Rattle.row_io.specs.Rows.{present}
 use Rattle.array.specs.Moving.{IsMoved}
-use Rattle.array.specs.Lacking.{AreRowsWritten, IsListPut}
-use Rattle.superblocks.specs.declared.members.Members.{Members}
+use Rattle.array.specs.Lacking.{AreRowsWritten}
 use Rattle.superblocks.proofs.SlotSets.{none_there}
 use Rattle.array.proofs.MovedLaws.{moved-then, moved-same, grows-none, grows-then, moved-from}
 use Rattle.array.proofs.LackingLaws.{since-then, in-either}
-use Rattle.array.proofs.LackingWrites.{written-then, marks-since, marks-until, marks-here}
-use Rattle.list_io.proofs.PutLaws.{putting_none}
-use Rattle.std.specs.Prelude.{Contains}
+use Rattle.array.proofs.LackingWrites.{written-then}
 use Rattle.std.specs.Prelude.{IsTrue}
 use Rattle.md_base.specs.Shapes.{is_valid_shape}
 use Rattle.md_base.specs.declared.places.Shape.{Shape}
@@ -40,7 +34,6 @@ loop-next-init g c =
       within = omega arith;
       clean = refl;
       kept = λ whole. refl;
-      whole = λ whole. inl (refl, λ told. refl, refl);
       rise = risen-none m tape0 tape0 (λ told. omega arith);
       safe = λ told world size ledger room gone unclean dirty list list' w has allowed safe. safe-none (OpensFit world) world.scope given size ledger m tape0 safe;
       given = refl;
@@ -102,18 +95,6 @@ loop-next-preserved g c =
       within = did.within;
       clean = did.clean ∙ was.clean;
       kept = λ whole. did.kept whole ∙ was.kept (moved.whole whole);
-      whole = λ whole. elim (was.whole (moved.whole whole)) [
-        | inl none ↦ inr (
-          did.all whole,
-          λ list list' w has.
-              marks-since {start = given.start} (IsListPut c.args.members.now list' c.args.rows.now) tape0 tape1 tape2 none.1
-              (subst (λ (m : Members). EachMark g.B.Bank.tells given.start tape1 tape2 (IsListPut m list' c.args.rows.now (disk given.start tape1))) (was.kept (moved.whole whole))
-              (subst (λ (b : Given). EachMark g.B.Bank.tells b.start tape1 tape2 (IsListPut c.loop-next.members list' c.args.rows.now (disk b.start tape1))) was.given
-              (did.marks whole list list' w (λ told. subst (λ (n : ℕ). AreDataFrom n c.args.shape.now list c.args.rows.now c.loop-next.buffer.items) (sym none.0)
-              (subst (λ (b : List ℕ). AreDataFrom 0 c.args.shape.now list c.args.rows.now b) (sym none.2) (has told)))))),
-        )
-        | inr full ↦ absurd (let test = c.loop-next-test.true in let all = full.0 in omega (arith, test, all))
-      ];
       rise = risen-then was.rise did.rise;
       safe = λ told world size ledger room gone unclean dirty list list' w has allowed safe.
           let was = c.loop-next.invariant in
@@ -138,16 +119,6 @@ loop-next-preserved g c =
       counts = λ s. let one = was.counts s in let two = did.counts s in omega (arith, one, two);
       size = did.size ∙ was.size;
     }
-
-pub returns-clause-marks : goal.returns-clause-marks
-returns-clause-marks g c = λ whole done list list' w has.
-    let start = (g.B.Bank.given c.args.bank.now).start in
-    let tape0 = g.B.Bank.tape c.args.bank.now in
-    elim (c.loop-next.invariant.whole whole) [
-      | inl none ↦ marks-until {P = IsListPut c.args.members.now list' c.args.rows.now (disk start tape0)} tape0 tape0 (g.B.Bank.tape c.loop-next.bank) none.1
-          (marks-here g.B.Bank.tells start tape0 (putting_none (reading_of c.args.members.now) (shape_of c.args.members.now.newest) list' (Contains c.args.rows.now) (disk start tape0), λ slot at low. refl))
-      | inr full ↦ full.1 list list' w has
-    ]
 
 pub returns-then-is_some-clause-rise : goal.returns-then-is_some-clause-rise
 returns-then-is_some-clause-rise g c = risen-then c.loop-next.invariant.rise c.put_stretch-one.ensures.rise

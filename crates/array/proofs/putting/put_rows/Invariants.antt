@@ -1,13 +1,12 @@
-use Rattle.std.proofs.Common.{◌≡◌, ◌⊎◌, ◌-◌, ◌≤◌, ℕ, true, false, length}
+use Rattle.std.proofs.Common.{◌≡◌, ◌-◌, ◌≤◌, ℕ, true, false, length}
 use Rattle.bank.specs.Given.{NeverFalls}
-use Rattle.bank.specs.Tape.{EachMark, disk}
 use Rattle.md_base.specs.Sectors.{Sector}
 use Rattle.superblocks.specs.Reading.{is_clean}
 use Rattle.row_io.specs.Rows.{present}
 use Rattle.list_io.specs.Writing.{IsWritten, AreDataFrom}
 use Rattle.array.specs.Placed.{AreWhole}
 use Rattle.array.specs.Moving.{Grows, IsMoved}
-use Rattle.array.specs.Lacking.{HaveFailedSince, AreRowsWritten, IsListPut}
+use Rattle.array.specs.Lacking.{HaveFailedSince, AreRowsWritten}
 use Rattle.flat_history.specs.World.{World}
 use Rattle.array.specs.Safety.{HasRoomLeft, IsRisen}
 use Rattle.array.specs.Views.{Ledger}
@@ -27,9 +26,6 @@ invariant-loop-next g l = record {
   within : l.next ≤ length l.rows;
   clean : is_clean l.members.newest ≡ is_clean l.fn.members.newest;
   kept : AreWhole l.members → l.members ≡ l.fn.members;
-  whole : AreWhole l.members → ((l.next ≡ 0) × (g.B.Bank.tells → g.B.Bank.tape l.bank ≡ g.B.Bank.tape l.fn.bank) × (l.buffer.items ≡ l.fn.buffer.items))
-      ⊎ ((l.next ≡ length l.rows) × ((list list' : ℕ → Sector) → IsWritten list list' l.first l.from → (g.B.Bank.tells → AreDataFrom 0 l.shape list l.rows l.fn.buffer.items)
-      → EachMark g.B.Bank.tells (g.B.Bank.given l.fn.bank).start (g.B.Bank.tape l.fn.bank) (g.B.Bank.tape l.bank) (IsListPut l.fn.members list' l.rows (disk (g.B.Bank.given l.fn.bank).start (g.B.Bank.tape l.fn.bank)))));
   rise : IsRisen g.B.Bank.tells l.fn.members l.members (g.B.Bank.tape l.fn.bank) (g.B.Bank.tape l.bank);
   safe : g.B.Bank.tells → (world : World) → (size : ℕ) → (told : Ledger) → HasRoomLeft l.fn.members (g.B.Bank.tape l.fn.bank) (g.B.Bank.tape l.bank)
       → AreGoneTold told l.members → told.unclean ≡ true → is_clean l.fn.members.newest ≡ false → (list list' : ℕ → Sector) → IsWritten list list' l.first l.from

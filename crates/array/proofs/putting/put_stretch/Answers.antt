@@ -1,13 +1,10 @@
 use Rattle.std.proofs.Common.{inr, refl, subst}
 use Rattle.bank.specs.Given.{Given}
-use Rattle.bank.specs.Tape.{disk}
 use Rattle.row_io.specs.Rows.{present}
-use Rattle.array.specs.Placed.{AreWhole}
 use Rattle.array.specs.Marking.{AreOthersPresent}
-use Rattle.array.specs.Lacking.{IsListPut}
 use Rattle.array.proofs.MovedLaws.{moved-then, moved-from}
 use Rattle.array.proofs.LackingLaws.{since-then}
-use Rattle.array.proofs.LackingWrites.{written-later, marks-until}
+use Rattle.array.proofs.LackingWrites.{written-later}
 use Rattle.flat_history.specs.Sound.{OpensFit}
 use Rattle.array.proofs.Risen.{risen-then, room-then}
 use Rattle.array.proofs.SafeStretch.{safe-then, over-at, keeps-from}
@@ -41,14 +38,6 @@ returns-clause-written g c = λ told.
     (subst (λ (b : Given). AreOthersPresent (present b tape1) (present b tape2)) did.given (c.name_missing-spares.ensures.others told))
     c.args.shape.now c.args.first c.args.from.now c.args.rows.now c.args.start c.write_stretch-next.result.next (present given (g.B.Bank.tape c.args.bank.now)) c.args.buffer.now.items c.write_stretch-next.new.buffer.items
     (did.written told)
-
-pub returns-clause-marks : goal.returns-clause-marks
-returns-clause-marks g c = λ whole list list' w has.
-    let start = (g.B.Bank.given c.args.bank.now).start in
-    let tape0 = g.B.Bank.tape c.args.bank.now in
-    let mid : AreWhole c.write_stretch-next.new.members = c.name_missing-spares.ensures.moved.whole whole in
-    marks-until {P = IsListPut c.args.members.now list' c.args.rows.now (disk start tape0)} tape0 (g.B.Bank.tape c.write_stretch-next.new.bank) (g.B.Bank.tape c.name_missing-spares.new.bank)
-    (c.name_missing-spares.ensures.tape mid) (c.write_stretch-next.ensures.marks mid list list' w has)
 
 pub returns-then-is_some-clause-safe : goal.returns-then-is_some-clause-safe
 returns-then-is_some-clause-safe g c = λ told world size ledger room gone unclean dirty list list' w has allowed safe. c.write_stretch-next.ensures.safe told world size ledger dirty list list' w has allowed safe

@@ -1,20 +1,19 @@
-use Rattle.std.specs.Prelude.{MatchOption, ⊤, Option, Result, Ok, Err, OnOk, Contains}
+use Rattle.std.specs.Prelude.{MatchOption, ⊤, Option, Contains}
 use Rattle.md_base.specs.declared.places.Shape.{Shape}
 use Rattle.md_base.specs.declared.answers.Refusal.{Refusal}
 use Rattle.bank.specs.Tape.{EachMark, disk}
-use Rattle.list_io.specs.declared.outcome.Unavailable.{Unavailable}
 use Rattle.list_io.specs.Writing.{IsPutting, AreSuperblocksKept}
 use Rattle.std.proofs.Common.{◌≡◌, sym, ◌∙◌, ap, subst}
 use Rattle.bank.specs.Given.{Given}
 use Rattle.superblocks.specs.declared.members.Members.{Members}
 use Rattle.superblocks.specs.Reading.{shape_of}
 use Rattle.row_io.specs.Rows.{present, reading_of}
-use Rattle.array.specs.Placed.{AreWhole, AreLost, IsPlaced}
-use Rattle.array.specs.Lacking.{AreRowsWritten, AreTooMany, refused_by, refusal_for}
+use Rattle.array.specs.Placed.{AreLost}
+use Rattle.array.specs.Lacking.{AreRowsWritten, AreTooMany}
 use Rattle.array.proofs.MemberLaws.{are_lost}
 use Rattle.array.proofs.MovedLaws.{moved-lost, lost-none}
 use Rattle.array.proofs.MarkedLaws.{grows-marks}
-use Rattle.array.proofs.LackingLaws.{since-lost, too-many-answer, never-too-many}
+use Rattle.array.proofs.LackingLaws.{since-lost, too-many-answer}
 use Rattle.array.proofs.LackingWrites.{has-rows, list-in, list-in-is, list-with, list-with-is}
 use Rattle.flat_history.specs.Sound.{OpensFit}
 use Rattle.array.proofs.Risen.{risen-lost}
@@ -89,31 +88,6 @@ returns-clause-kept g c = λ whole.
     let shape = c.args.shape.now in
     let lost : AreLost given shape m n r f0 f1 = are_lost given shape m n r f0 f1 c.requires.placed did.lost.members did.lost.failed did.lost.never_falls in
     lost.kept (lost-none given shape m n r f0 f1 lost c.requires.shape (ap (λ (x : Members). shape_of x.newest) did.lost.members) whole)
-
-pub returns-clause-all : goal.returns-clause-all
-returns-clause-all g c = λ whole.
-    let m = c.args.members.now in
-    let n = c.write_touched-written.new.members in
-    let given = g.B.Bank.given c.args.bank.now in
-    let did = c.write_touched-written.ensures in
-    let f0 = g.B.Bank.faults_of c.args.bank.now in
-    let f1 = g.B.Bank.faults_of c.write_touched-written.new.bank in
-    let r = c.write_touched-written.result.lost in
-    let shape = c.args.shape.now in
-    let lost : AreLost given shape m n r f0 f1 = are_lost given shape m n r f0 f1 c.requires.placed did.lost.members did.lost.failed did.lost.never_falls in
-    let none = lost-none given shape m n r f0 f1 lost c.requires.shape (ap (λ (x : Members). shape_of x.newest) did.lost.members) whole in
-    let same : shape ≡ shape_of n.newest = c.requires.shape ∙ ap (λ (x : Members). shape_of x.newest) (sym did.lost.members) in
-    by n c.write_touched-written.result.answer lost.placed whole (too-many-answer n shape c.write_touched-written.result.answer same did.answer) did.all none
-  where
-    by : {T Q : Type 0} {b : Given} (n : Members) (answer : Result T Unavailable) → IsPlaced b n → AreWhole n → MatchOption (refused_by n answer) ⊤ (AreTooMany n) → OnOk answer Q → Q
-    by n (Ok x) placed whole fine q = q
-    by {b = b} n (Err cause) placed whole many q = never-too-many b n (refusal_for n cause) placed whole many
-
-pub returns-clause-marks : goal.returns-clause-marks
-returns-clause-marks g c = λ whole list list' w has.
-    subst (λ (s : Shape). EachMark g.B.Bank.tells (g.B.Bank.given c.args.bank.now).start (g.B.Bank.tape c.args.bank.now) (g.B.Bank.tape c.write_touched-written.new.bank)
-    (λ e. IsPutting (reading_of c.args.members.now) s list' (Contains c.args.rows.now) (disk (g.B.Bank.given c.args.bank.now).start (g.B.Bank.tape c.args.bank.now)) e
-    × AreSuperblocksKept (disk (g.B.Bank.given c.args.bank.now).start (g.B.Bank.tape c.args.bank.now)) e)) c.requires.shape (c.write_touched-written.ensures.each_mark list list' w has)
 
 pub returns-clause-rise : goal.returns-clause-rise
 returns-clause-rise g c =

@@ -1,12 +1,10 @@
-use Rattle.std.proofs.Common.{List, refl, sym, ◌∙◌, ap, subst, inr}
+use Rattle.std.proofs.Common.{refl, sym, ◌∙◌, ap, subst, inr}
 use Rattle.bank.specs.Given.{Given}
 use Rattle.bank.specs.Tape.{Contents}
 use Rattle.superblocks.specs.Reading.{shape_of, is_clean}
 use Rattle.row_io.specs.Rows.{present, reading_of}
 use Rattle.array.specs.Placed.{AreWhole, AreLost, IsPlaced}
-use Rattle.bank.specs.declared.bank.Operation.{Operation}
 use Rattle.array.specs.Marking.{AreOthersPresent}
-use Rattle.array.specs.Flushing.{OnlyFlushesAdded}
 use Rattle.array.proofs.Flushed.{contents-added}
 use Rattle.array.proofs.MemberLaws.{are_lost}
 use Rattle.array.proofs.MovedLaws.{moved-lost, moved-then, lost-none, moved-from}
@@ -114,10 +112,6 @@ returns-clause-kept g c = λ whole.
     let moved = moved-lost given (shape_of m.newest) m n c.flush_members-failed.result f0 f1 c.requires.placed lost c.requires.unlost in
     let mid : AreWhole n = c.name_missing.ensures.moved.whole whole in
     c.name_missing.ensures.kept mid ∙ lost.kept (lost-none given (shape_of m.newest) m n c.flush_members-failed.result f0 f1 lost refl moved.shape mid)
-
-pub returns-clause-added : goal.returns-clause-added
-returns-clause-added g c = λ whole told.
-    subst (λ (l : List Operation). OnlyFlushesAdded (g.B.Bank.tape c.args.bank.now) l) (sym (c.name_missing.ensures.tape (c.name_missing.ensures.moved.whole whole) told)) (c.flush_members-failed.ensures.tape told)
 
 pub returns-clause-clean : goal.returns-clause-clean
 returns-clause-clean g c = c.name_missing.ensures.clean ∙ ap (λ (x : Members). is_clean x.newest) c.lose_slots.ensures

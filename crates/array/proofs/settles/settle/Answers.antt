@@ -1,4 +1,4 @@
-use Rattle.std.proofs.Common.{◌≡◌, ◌||◌, Bool, true, false, refl, sym, ◌∙◌, ap, subst, arith}
+use Rattle.std.proofs.Common.{◌≡◌, ◌||◌, Bool, true, false, refl, sym, ◌∙◌, ap, subst}
 use Rattle.std.specs.Prelude.{Option, Some, None, MatchOption, is_some}
 use Rattle.md_base.specs.declared.answers.Refusal.{Refusal}
 use Rattle.bank.specs.Given.{Given}
@@ -16,21 +16,9 @@ use Rattle.array.proofs.SafeStretch.{gone-before, safe-then, allowed-later, grow
 use Rattle.array.proofs.SettledSafe.{settled-safe}
 use Rattle.superblocks.specs.declared.members.Members.{Members}
 use Rattle.row_io.specs.Rows.{reading_of, present}
-use Rattle.array.specs.Placed.{places_of, AreWhole}
-use Rattle.array.specs.Safety.{HasMarkRoom, IsRightAt, IsStretch}
 use Rattle.array.proofs.MovedLaws.{moved-then, moved-from}
-use Rattle.array.proofs.SafetyLaws.{flush-stretch, stretch-then, stretch-last, stretch-from, at-from}
-use Rattle.array.proofs.LackingLaws.{since-then, in-either, none-right, holders-fewer, holders-at}
+use Rattle.array.proofs.LackingLaws.{since-then, in-either, holders-fewer, holders-at}
 use Rattle.array.proofs.settles.settle.Goals as goal
-
-pub returns-then-is_some-unsynced-clause-right : goal.returns-then-is_some-unsynced-clause-right
-returns-then-is_some-unsynced-clause-right g c = λ whole none told scope values at room.
-    let m = c.args.members.now in
-    let given = g.B.Bank.given c.args.bank.now in
-    let tape0 = g.B.Bank.tape c.args.bank.now in
-    let did1 = c.flush_naming-named.ensures in
-    let tape1 = g.B.Bank.tape c.flush_naming-named.new.bank in
-    subst (λ (x : Members). IsStretch scope (places_of m) values given.start tape0 tape1 m x) (sym (did1.kept whole)) (flush-stretch given scope m values tape0 tape1 (did1.added whole told) at.right at.next)
 
 pub returns-clause-moved : goal.returns-clause-moved
 returns-clause-moved g c =
@@ -57,28 +45,6 @@ returns-clause-flushed g c = λ told.
     let did2 = c.mark_members-marked.ensures in
     holders-fewer given m1 c.mark_members-marked.new.members tape2 did2.moved.held
     (holders-at (reading_of m1) given1 given tape2 (sym did1.given) (did2.flushed told (holders-at (reading_of m1) given given1 tape1 did1.given (did1.flushed told))))
-
-pub returns-clause-right : goal.returns-clause-right
-returns-clause-right g c = λ whole none told scope values at room.
-    let m = c.args.members.now in
-    let given = g.B.Bank.given c.args.bank.now in
-    let given1 = g.B.Bank.given c.flush_naming-named.new.bank in
-    let tape0 = g.B.Bank.tape c.args.bank.now in
-    let tape1 = g.B.Bank.tape c.flush_naming-named.new.bank in
-    let tape2 = g.B.Bank.tape c.mark_members-marked.new.bank in
-    let m1 = c.flush_naming-named.new.members in
-    let m2 = c.mark_members-marked.new.members in
-    let did1 = c.flush_naming-named.ensures in
-    let did2 = c.mark_members-marked.ensures in
-    let whole1 : AreWhole m1 = did2.moved.whole whole in
-    let kept1 : m1 ≡ m = did1.kept whole1 in
-    let one : IsStretch scope (places_of m) values given.start tape0 tape1 m m = flush-stretch given scope m values tape0 tape1 (did1.added whole1 told) at.right at.next in
-    let mid : IsRightAt given scope values m tape1 = record { right = stretch-last one; next = one.next } in
-    let longer = one.marks.longer tt in
-    let room1 : HasMarkRoom m1 tape1 tape2 = subst (λ (x : Members). HasMarkRoom x tape1 tape2) (sym kept1) (omega (arith, room, longer)) in
-    stretch-then one (stretch-from given given1 m m1 m2 tape1 tape1 tape2 scope values did1.given kept1 refl
-    (did2.right whole1 told scope values (at-from given given1 m m1 tape1 tape1 scope values did1.given kept1 refl mid) room1
-    (did2.none whole (none-right c.flush_naming-named.result c.mark_members-marked.result none))))
 
 -- ---- where slots are lost
 
@@ -110,7 +76,7 @@ returns-then-is_some-unsynced-clause-settled g c = λ none tell world size told 
     (list-moved given m m1 (present given tape0) (present given tape1) list did1.moved c.requires.placed (did1.others tell) (stands does))
     (λ is. still c.is_some.result c.args.unsynced c.is_clean.result c.if-is_some-unsynced.true (c.is_some.ensures ∙ ap (λ (o : Option Refusal). is_some o) none) (c.is_clean.ensures ∙ is))
     (λ clean does_without premise. rows-moved given m m1 (present given tape0) (present given tape1) list did1.moved c.requires.placed (did1.others tell)
-    (rows (synced c.args.unsynced (λ is. sym (did1.clean ∙ dirty is) ∙ clean)) does premise))
+    (rows (synced c.args.unsynced (λ is. sym (did1.clean ∙ dirty does is) ∙ clean)) does premise))
     (did1.named tell world size told room gone unclean now (without-left given m1 did1.moved.placed did1.moved.unlost does1))
   where
     still : (a b c : Bool) → ((a || b) || c) ≡ true → a ≡ false → c ≡ false → b ≡ true

@@ -9,6 +9,7 @@ use Rattle.flat_history.specs.declared.events.LostCause.TheVariants.{Command}
 use Rattle.flat_history.specs.Flat.{next_number}
 use Rattle.flat_history.specs.Plain.{entries_of}
 use Rattle.flat_history.proofs.OneShapeGrowing.{one}
+use Rattle.flat_history.proofs.OneShapeGoing.{begins-open}
 use Rattle.array.specs.Whole.{list_size}
 use Rattle.array.specs.Placed.{places_of}
 use Rattle.array.specs.Losing.{losses_of}
@@ -33,7 +34,7 @@ invariant_of-self-in_default g c =
     let given = g.B.Bank.given a.bank in
     let number : c.args.who.number ≡ next_number c.args.who.caller a.epoch.entries.items = c.requires.next ∙ ap (λ p. next_number c.args.who.caller p.entries) (sym c.self.view_is) in
     ready (entries_of c.args.who c.ops-end.result (Refused (NoSuchRole c.args.role) ∷ []))
-    (kept-refused c.args.who c.ops-end.result was.kept number c.requires.caller c.ops-end.ensures (NoSuchRole c.args.role) tt)
+    (kept-refused c.args.who c.ops-end.result was.kept (begins-open a.epoch.entries.items c.args.who number) c.requires.caller c.ops-end.ensures (NoSuchRole c.args.role) tt)
     refl (scope-same given a.backup refl c.enter.ensures.uuid c.enter.ensures.given) c.enter.ensures.first c.make_room.ensures.items c.enter.ensures.items
     (omega (arith, c.enter.ensures.room, c.in-Ok.ensures.ok)) was.rows_fit was.buffer_fits
 
@@ -87,8 +88,8 @@ invariant_of-self-2 g c =
     let items = behind-loss c.make_room.new.self.items c.enter-2.new.epoch.entries.items c.enter_behind.new.epoch.entries.items c.args.who end (Lost role Command) (losses_of roles spares ++ Failed role ∷ []) c.enter-2.ensures.items c.enter_behind.ensures.items in
     let out = out-only given a.members mid c.lose_slot.result c.in-Some.slot role was.kept.placed was.kept.unlost c.lose_slot.ensures.members c.lose_slot.ensures.alone c.in-Some.ensures.held in
     ready (entries_of c.args.who end ((Lost role Command ∷ losses_of roles spares) ++ Failed role ∷ []))
-    (degraded-failed c.args.who end was.kept number c.requires.caller c.ops-end-2.ensures (moved-then given a.members mid m moved did.moved) did.grows role mid roles spares before after did.moved.shape out since did.others
-    (leaves-failed c.args.who end was.kept number c.requires.caller c.ops-end-2.ensures (moved-then given a.members mid m moved did.moved) did.grows role mid roles spares before after did.moved.shape out since
+    (degraded-failed c.args.who end was.kept (begins-open a.epoch.entries.items c.args.who number) c.requires.caller c.ops-end-2.ensures (moved-then given a.members mid m moved did.moved) did.grows role mid roles spares before after did.moved.shape out since did.others
+    (leaves-failed c.args.who end was.kept (begins-open a.epoch.entries.items c.args.who number) c.requires.caller c.ops-end-2.ensures (moved-then given a.members mid m moved did.moved) did.grows role mid roles spares before after did.moved.shape out since
     (rise-out a.members mid c.lose_slot.result c.lose_slot.ensures.members m (g.B.Bank.tape a.bank) (g.B.Bank.tape c.name_missing-spares.new.bank) did.rise)
     (did.clean ∙ clean-out a.members mid c.lose_slot.result c.lose_slot.ensures.members)
     (named-out a.members mid c.lose_slot.result c.lose_slot.ensures.members given m (g.B.Bank.tape a.bank) (g.B.Bank.tape c.name_missing-spares.new.bank) did.safe)))
@@ -194,7 +195,6 @@ returns-clause-same g c =
       given = c.enter_behind.ensures.given ∙ c.enter-2.ensures.given;
       first = c.enter_behind.ensures.first ∙ c.enter-2.ensures.first;
       backup = refl;
-      unsynced = refl;
       shape = did.moved.shape ∙ moved.shape;
       size = did.moved.size ∙ moved.size;
       list = list-same given (scope_in given a.epoch.uuid a.epoch.given a.backup) a.epoch.first did.given

@@ -1,4 +1,4 @@
-use Rattle.std.proofs.Common.{◌≡◌, ◌+◌, ◌/◌, ◌<◌, ◌≤◌, ◌++◌, ◌∷◌, [], ℕ, not, List, length, take, take_all, drop, inl, refl, sym, ◌∙◌, ap, subst, arith}
+use Rattle.std.proofs.Common.{◌≡◌, ◌+◌, ◌/◌, ◌<◌, ◌≤◌, ◌++◌, ◌∷◌, [], ℕ, Option, List, length, take, take_all, drop, inl, refl, sym, ◌∙◌, ap, subst, arith}
 use Rattle.std.proofs.lemmas.List.{take-append-le}
 use Rattle.std.specs.Vec.{with_items}
 use Rattle.md_base.specs.Sectors.{Sector, sectors_of}
@@ -14,21 +14,26 @@ use Rattle.array.specs.Whole.{list_size}
 use Rattle.array.specs.Rows.{row_sector}
 use Rattle.array.specs.Placed.{places_of}
 use Rattle.array.specs.Losing.{losses_of}
-use Rattle.array.specs.Lacking.{AreLostSince, IsUnread}
+use Rattle.array.specs.Lacking.{AreLostSince, IsUnread, mended_rows}
 use Rattle.array.specs.Kept.{scope_in, AreFillsRight}
 use Rattle.array.specs.Calls.{world_for}
-use Rattle.array.proofs.LackingLaws.{lost-since, since-held}
+use Rattle.flat_history.proofs.OneShapeGoing.{begins-open}
+use Rattle.array.proofs.LackingLaws.{lost-since, since-held, does-without}
 use Rattle.array.proofs.ReadyLaws.{ready, scope-same, list-same}
 use Rattle.array.proofs.DegradedLaws.{refused-here, kept-refused, unread-here}
 use Rattle.array.proofs.LossLaws.{losses-behind, ended-behind}
 use Rattle.array.proofs.ReplyLaws.{refused_reply, lost_reply, replied, read_kind, unread-of, refused-for}
-use Rattle.array.proofs.ReadLaws.{kept-unread, kept-read, fetched, does-without, some-of}
+use Rattle.array.proofs.ReadLaws.{kept-unread, kept-read, fetched, some-of}
 use Rattle.array.proofs.CallLaws.{losses-are, torn-losses}
 use Rattle.array.proofs.array.Array.read.Goals as goal
 
 -- bytes that were written whole
 written-whole : (n : ℕ) (bytes written : List ℕ) → length written ≡ length bytes → n ≡ length bytes → take n (written ++ drop (length written) bytes) ≡ written
 written-whole n bytes written len ok = take-append-le n written (drop (length written) bytes) (omega (arith, len, ok)) ∙ take_all n written (omega (arith, len, ok))
+
+-- so many sectors are asked for as the buffer has
+asked-is : (bytes slice into : List ℕ) → length bytes ≡ length into → slice ≡ bytes → length slice / 512 ≡ length into / 512
+asked-is bytes slice into len same = ap (λ (l : List ℕ). length l / 512) same ∙ ap (λ (n : ℕ). n / 512) len
 
 -- ---- refused before any sector is read
 
@@ -39,10 +44,11 @@ invariant_of-self-in-Some g c =
     let number : c.args.who.number ≡ next_number c.args.who.caller a.epoch.entries.items = c.requires.next ∙ ap (λ p. next_number c.args.who.caller p.entries) (sym c.self.view_is) in
     let count = length c.args.into.now / 512 in
     let size = list_size (places_of a.members) in
-    let why = refused-here size (c.args.at + count) a.unsynced (IsUnread (not a.unsynced) c.args.at count) a.members c.in-Some.refusal
-    (unread-here size c.args.at count a.unsynced (not a.unsynced) a.members c.in-Some.refusal was.kept.placed.valid refl) c.in-Some.ensures in
+    let mended = mended_rows a.resync a.members in
+    let why = refused-here size (c.args.at + count) a.resync (IsUnread mended c.args.at count) a.members c.in-Some.refusal
+    (λ within. unread-here (g.B.Bank.given a.bank) size c.args.at count mended a.resync a.members c.in-Some.refusal was.kept.placed within (λ none. ap (λ (o : Option ℕ). mended_rows o a.members) none)) c.in-Some.ensures in
     ready (entries_of c.args.who c.ops-end.result (Refused c.in-Some.refusal ∷ []))
-    (kept-refused c.args.who c.ops-end.result was.kept number c.requires.caller c.ops-end.ensures c.in-Some.refusal why)
+    (kept-refused c.args.who c.ops-end.result was.kept (begins-open a.epoch.entries.items c.args.who number) c.requires.caller c.ops-end.ensures c.in-Some.refusal why)
     refl (scope-same (g.B.Bank.given a.bank) a.backup refl c.enter.ensures.uuid c.enter.ensures.given) c.enter.ensures.first c.make_room.ensures.items c.enter.ensures.items
     (omega (arith, c.enter.ensures.room, c.in-Ok-make_room.ensures.ok)) was.rows_fit was.buffer_fits
 
@@ -53,13 +59,16 @@ returns-in-Some-clause-answered g c =
     let number : c.args.who.number ≡ next_number c.args.who.caller a.epoch.entries.items = c.requires.next ∙ ap (λ p. next_number c.args.who.caller p.entries) (sym c.self.view_is) in
     let count = length c.args.into.now / 512 in
     rw (← c.self.view_is) (refused_reply (list_size (places_of a.members)) a.epoch.entries.items was.kept.sized was.kept.unlimited (AsksRead c.args.at count) c.args.who (c.args.at + count)
-    (IsUnread (not a.unsynced) c.args.at count) c.enter.new.epoch.entries.items c.ops-end.result a.members c.in-Some.refusal (read_kind c.args.at count)
-    (unread-of (not a.unsynced) c.args.at count a.members c.in-Some.refusal) c.in-Some.ensures
+    (IsUnread (mended_rows a.resync a.members) c.args.at count) c.enter.new.epoch.entries.items c.ops-end.result a.members c.in-Some.refusal (read_kind c.args.at count)
+    (unread-of (mended_rows a.resync a.members) c.args.at count a.members c.in-Some.refusal) c.in-Some.ensures
     (c.enter.ensures.items ∙ ap (λ (l : List Entry). l ++ entries_of c.args.who c.ops-end.result (Refused c.in-Some.refusal ∷ [])) c.make_room.ensures.items) number)
 
 pub returns-in-Some-clause-ended : goal.returns-in-Some-clause-ended
 returns-in-Some-clause-ended g c =
     ended-behind (g.B.Bank.tape c.self.inside.bank) c.enter.new.epoch.first c.make_room.new.self.items c.args.who c.ops-end.result [] (Refused c.in-Some.refusal) c.enter.ensures.items c.ops-end.ensures
+
+pub returns-in-Some-clause-caused : goal.returns-in-Some-clause-caused
+returns-in-Some-clause-caused g c = rw (← c.self.view_is) c.in-Some.ensures
 
 -- ---- refused since members are missing
 
@@ -81,8 +90,9 @@ invariant_of-self-in-Some-refusal g c =
     let since : AreLostSince a.members m roles spares before after = lost-since given a.members m c.shape_in-shape.result.disks c.missing_roles-before.result roles spares before after was.kept.placed did.moved did.failed
     (ap (λ (s : Shape). s.disks) c.shape_in-shape.ensures) c.missing_roles-before.ensures c.newly_missing-roles.ensures in
     ready (entries_of c.args.who end (losses_of roles spares ++ Refused refusal ∷ []))
-    (kept-unread c.args.who end was.kept number c.requires.caller c.ops-end-2.ensures did.moved did.grows roles spares before after since did.others did.rise did.clean did.safe c.args.at count refusal
-    (some-of (IsUnread (not a.unsynced) c.args.at count m) c.fetch-fetched.result.refusal refusal c.in-Some-refusal.is did.refused))
+    (kept-unread c.args.who end was.kept (begins-open a.epoch.entries.items c.args.who number) c.requires.caller c.ops-end-2.ensures did.moved did.grows roles spares before after since did.others did.rise did.clean did.safe c.args.at count c.mended_rows-mended.result refusal
+    (subst (λ (n : ℕ). c.args.at + n ≤ list_size (places_of a.members)) (sym (asked-is c.in-Ok.bytes.items c.as_mut_slice.result.now c.args.into.now c.in-Ok.ensures.len c.as_mut_slice.ensures.value)) c.in_default.ensures.0) c.mended_rows-mended.ensures.rows
+    (some-of (IsUnread c.mended_rows-mended.result c.args.at count m) c.fetch-fetched.result.refusal refusal c.in-Some-refusal.is did.refused))
     did.given (scope-same given a.backup did.given c.enter_behind.ensures.uuid c.enter_behind.ensures.given) c.enter_behind.ensures.first c.make_room.ensures.items c.enter_behind.ensures.items
     (omega (arith, c.enter_behind.ensures.room, c.in-Ok-make_room.ensures.ok)) was.rows_fit
     (let len = (with_items a.buffer c.fetch-fetched.new.scratch).ok.0 in let ok = a.buffer.ok.0 in omega (arith, len, ok, was.buffer_fits))
@@ -99,9 +109,9 @@ returns-in-Some-refusal-clause-answered g c =
     let end = c.ops-end-2.result in
     let count = length c.args.into.now / 512 in
     let asked = length c.as_mut_slice.result.now / 512 in
-    let why = some-of (IsUnread (not a.unsynced) c.args.at asked m) c.fetch-fetched.result.refusal refusal c.in-Some-refusal.is c.fetch-fetched.ensures.refused in
+    let why = some-of (IsUnread c.mended_rows-mended.result c.args.at asked m) c.fetch-fetched.result.refusal refusal c.in-Some-refusal.is c.fetch-fetched.ensures.refused in
     rw (← c.self.view_is) (lost_reply (list_size (places_of a.members)) a.epoch.entries.items was.kept.sized was.kept.unlimited (AsksRead c.args.at count) c.args.who (c.args.at + count)
-    c.enter_behind.new.epoch.entries.items end roles spares refusal (read_kind c.args.at count) c.in_default.ensures.0 (unread-of (not a.unsynced) c.args.at asked m refusal why)
+    c.enter_behind.new.epoch.entries.items end roles spares refusal (read_kind c.args.at count) c.in_default.ensures.0 (unread-of c.mended_rows-mended.result c.args.at asked m refusal why)
     (c.enter_behind.ensures.items ∙ ap (λ (l : List Entry). l ++ entries_of c.args.who end (losses_of roles spares ++ Refused refusal ∷ [])) c.make_room.ensures.items) number)
 
 pub returns-in-Some-refusal-clause-caused : goal.returns-in-Some-refusal-clause-caused
@@ -111,10 +121,17 @@ returns-in-Some-refusal-clause-caused g c =
     let refusal = c.in-Some-refusal.refusal in
     let count = length c.args.into.now / 512 in
     let asked = length c.as_mut_slice.result.now / 512 in
-    let same : asked ≡ count = ap (λ (l : List ℕ). length l / 512) c.as_mut_slice.ensures.value ∙ ap (λ (n : ℕ). n / 512) c.in-Ok.ensures.len in
-    let why = some-of (IsUnread (not a.unsynced) c.args.at asked m) c.fetch-fetched.result.refusal refusal c.in-Some-refusal.is c.fetch-fetched.ensures.refused in
-    rw (← c.self.view_is) (refused-for (list_size (places_of a.members)) (c.args.at + count) (IsUnread (not a.unsynced) c.args.at count) a.members m refusal
-    (unread-of (not a.unsynced) c.args.at asked m refusal why) c.in_default.ensures.0 (subst (λ (n : ℕ). IsUnread (not a.unsynced) c.args.at n m refusal) same why))
+    let same : asked ≡ count = asked-is c.in-Ok.bytes.items c.as_mut_slice.result.now c.args.into.now c.in-Ok.ensures.len c.as_mut_slice.ensures.value in
+    let why = some-of (IsUnread c.mended_rows-mended.result c.args.at asked m) c.fetch-fetched.result.refusal refusal c.in-Some-refusal.is c.fetch-fetched.ensures.refused in
+    rw (← c.self.view_is) (refused-for (list_size (places_of a.members)) (c.args.at + count) (IsUnread (mended_rows a.resync a.members) c.args.at count) a.members m refusal
+    (unread-of c.mended_rows-mended.result c.args.at asked m refusal why) c.in_default.ensures.0
+    (subst (λ (n : ℕ). IsUnread n c.args.at count m refusal) c.mended_rows-mended.ensures.rows (subst (λ (n : ℕ). IsUnread c.mended_rows-mended.result c.args.at n m refusal) same why)))
+
+pub returns-in-Some-refusal-clause-tape : goal.returns-in-Some-refusal-clause-tape
+returns-in-Some-refusal-clause-tape g c = rw (← c.self.view_is) c.fetch-fetched.ensures.tape
+
+pub returns-in-Some-refusal-clause-others : goal.returns-in-Some-refusal-clause-others
+returns-in-Some-refusal-clause-others g c = rw (← c.self.view_is) c.fetch-fetched.ensures.others
 
 pub returns-in-Some-refusal-clause-failed : goal.returns-in-Some-refusal-clause-failed
 returns-in-Some-refusal-clause-failed g c = rw (← c.self.view_is) (since-held c.self.inside.members c.fetch-fetched.new.members c.fetch-fetched.result.spares
@@ -157,7 +174,6 @@ returns-in-Some-refusal-clause-same g c =
       given = c.enter_behind.ensures.given;
       first = c.enter_behind.ensures.first;
       backup = refl;
-      unsynced = refl;
       shape = did.moved.shape;
       size = did.moved.size;
       list = list-same given (scope_in given a.epoch.uuid a.epoch.given a.backup) a.epoch.first did.given
@@ -189,8 +205,8 @@ invariant_of-self-3 g c =
     let since : AreLostSince a.members m roles spares before after = lost-since given a.members m c.shape_in-shape.result.disks c.missing_roles-before.result roles spares before after was.kept.placed did.moved did.failed
     (ap (λ (s : Shape). s.disks) c.shape_in-shape.ensures) c.missing_roles-before.ensures c.newly_missing-roles.ensures in
     ready (entries_of c.args.who end (losses_of roles spares ++ Read c.args.at (sectors_of bytes) ∷ []))
-    (kept-read c.args.who end was.kept number c.requires.caller c.ops-end-2.ensures did.moved did.grows roles spares before after since did.others did.rise did.clean did.safe c.args.at bytes within
-    (fetched was.kept m c.args.at bytes does (λ t list stands filled i lt. did.holds c.in_default-refusal.is t list stands filled i (subst (λ (n : ℕ). i < n) same lt))))
+    (kept-read c.args.who end was.kept (begins-open a.epoch.entries.items c.args.who number) c.requires.caller c.ops-end-2.ensures did.moved did.grows roles spares before after since did.others did.rise did.clean did.safe c.args.at bytes within
+    (fetched was.kept m c.args.at c.mended_rows-mended.result bytes does c.mended_rows-mended.ensures.rows (λ t list stands filled i lt. did.holds c.in_default-refusal.is t list stands filled i (subst (λ (n : ℕ). i < n) same lt))))
     did.given (scope-same given a.backup did.given c.enter_behind-2.ensures.uuid c.enter_behind-2.ensures.given) c.enter_behind-2.ensures.first c.make_room.ensures.items
     (c.enter_behind-2.ensures.items ∙ ap (λ (b : List Sector). c.make_room.new.self.items ++ entries_of c.args.who end (losses_of roles spares ++ Read c.args.at b ∷ [])) (c.from_bytes-body.ensures ∙ ap sectors_of whole))
     (omega (arith, c.enter_behind-2.ensures.room, c.in-Ok-make_room.ensures.ok)) was.rows_fit
@@ -211,7 +227,7 @@ returns-clause-answered g c =
     end (losses_of roles spares) (Read c.args.at (sectors_of into))
     (c.enter_behind-2.ensures.items ∙ ap (λ (l : List Entry). l ++ entries_of c.args.who end (losses_of roles spares ++ Read c.args.at c.from_bytes-body.result ∷ [])) c.make_room.ensures.items
     ∙ ap (λ (b : List Sector). a.epoch.entries.items ++ entries_of c.args.who end (losses_of roles spares ++ Read c.args.at b ∷ [])) (c.from_bytes-body.ensures ∙ ap (λ (l : List ℕ). sectors_of l) (sym copied)))
-    number (refl, count) (torn-losses (AsksRead c.args.at (length c.args.into.now / 512)) c.args.who end (losses_of roles spares) (losses-are roles spares)))
+    number (λ call. (refl, count)) (torn-losses (AsksRead c.args.at (length c.args.into.now / 512)) c.args.who end (losses_of roles spares) (losses-are roles spares)))
 
 pub returns-clause-holds : goal.returns-clause-holds
 returns-clause-holds g c = λ t fills i lt.
@@ -225,9 +241,15 @@ returns-clause-holds g c = λ t fills i lt.
     let same : length bytes / 512 ≡ length c.as_mut_slice.result.now / 512 = ap (λ (n : ℕ). n / 512) c.fetch-fetched.auto.into in
     let does = does-without a.members (λ refusal many. c.in_default.ensures.1 refusal (inl many)) in
     ap (λ (l : List ℕ). row_sector l i) copied
-    ∙ fetched was.kept m c.args.at bytes does (λ t list stands filled k below. did.holds c.in_default-refusal.is t list stands filled k (subst (λ (n : ℕ). k < n) same below)) t
-    (subst (λ p. AreFillsRight (world_for (g.B.Bank.given p.bank) (g.B.Bank.tape p.bank) p) p.unsynced m) (sym c.self.view_is) fills) i (subst (λ (l : List ℕ). i < length l / 512) copied lt)
+    ∙ fetched was.kept m c.args.at c.mended_rows-mended.result bytes does c.mended_rows-mended.ensures.rows (λ t list stands filled k below. did.holds c.in_default-refusal.is t list stands filled k (subst (λ (n : ℕ). k < n) same below)) t
+    (subst (λ p. AreFillsRight (world_for (g.B.Bank.given p.bank) (g.B.Bank.tape p.bank) p) p.resync m) (sym c.self.view_is) fills) i (subst (λ (l : List ℕ). i < length l / 512) copied lt)
     ∙ ap (λ p. now (opening_list (world_for (g.B.Bank.given p.bank) (g.B.Bank.tape p.bank) p)) p.entries (c.args.at + i)) c.self.view_is
+
+pub returns-clause-tape : goal.returns-clause-tape
+returns-clause-tape g c = rw (← c.self.view_is) c.fetch-fetched.ensures.tape
+
+pub returns-clause-others : goal.returns-clause-others
+returns-clause-others g c = rw (← c.self.view_is) c.fetch-fetched.ensures.others
 
 pub returns-clause-caused : goal.returns-clause-caused
 returns-clause-caused g c = rw (← c.self.view_is) c.in_default.ensures
@@ -273,7 +295,6 @@ returns-clause-same g c =
       given = c.enter_behind-2.ensures.given;
       first = c.enter_behind-2.ensures.first;
       backup = refl;
-      unsynced = refl;
       shape = did.moved.shape;
       size = did.moved.size;
       list = list-same given (scope_in given a.epoch.uuid a.epoch.given a.backup) a.epoch.first did.given

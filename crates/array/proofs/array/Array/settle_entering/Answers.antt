@@ -9,6 +9,7 @@ use Rattle.layout.proofs.Limits.{limited}
 use Rattle.flat_history.specs.declared.events.Entry.{Entry}
 use Rattle.flat_history.specs.Flat.{next_number}
 use Rattle.flat_history.specs.Plain.{entries_of}
+use Rattle.flat_history.proofs.OneShapeGoing.{begins-open}
 use Rattle.array.specs.Whole.{list_size}
 use Rattle.array.specs.Placed.{places_of}
 use Rattle.array.specs.Losing.{losses_of}
@@ -19,7 +20,7 @@ use Rattle.array.proofs.ReadyLaws.{ready, settles-of, scope-same, list-same}
 use Rattle.array.proofs.ReplyLaws.{refused-zero}
 use Rattle.array.proofs.LossLaws.{losses-behind, ended-behind, behind-alone, settling-no-loss}
 use Rattle.array.proofs.DegradedLaws.{told-since, kept-refused, degraded-refused, degraded-settled, too-many-here, refused-here}
-use Rattle.array.proofs.SettledLaws.{left-flushed, leaves-refused, leaves-settled}
+use Rattle.array.proofs.SettledLaws.{left-flushed, all-mended, leaves-refused, leaves-flushed}
 use Rattle.array.proofs.array.Array.settle_entering.Goals as goal
 
 too-many-of : (m : Members) (o : Option Refusal) (refusal : Refusal) → o ≡ Some refusal → MatchOption o ⊤ (AreTooMany m) → AreTooMany m refusal
@@ -33,9 +34,9 @@ invariant_of-self-in-Some g c =
     let number : c.args.who.number ≡ next_number c.args.who.caller a.epoch.entries.items = c.requires.next ∙ ap (λ p. next_number c.args.who.caller p.entries) (sym c.self.view_is) in
     let visible = list_size (places_of a.members) in
     let refusal = c.in-Some.refusal in
-    let why = refused-here visible 0 a.unsynced AreTooMany a.members refusal (too-many-here visible a.unsynced a.members refusal) (refused-zero visible AreTooMany a.members refusal c.in-Some.ensures) in
+    let why = refused-here visible 0 a.resync AreTooMany a.members refusal (λ within. too-many-here visible a.resync a.members refusal) (refused-zero visible AreTooMany a.members refusal c.in-Some.ensures) in
     ready (entries_of c.args.who c.ops-end.result (Refused refusal ∷ []))
-    (kept-refused c.args.who c.ops-end.result was.kept number c.requires.caller c.ops-end.ensures refusal why)
+    (kept-refused c.args.who c.ops-end.result was.kept (begins-open a.epoch.entries.items c.args.who number) c.requires.caller c.ops-end.ensures refusal why)
     refl (scope-same given a.backup refl c.enter.ensures.uuid c.enter.ensures.given) c.enter.ensures.first c.make_room.ensures.items c.enter.ensures.items
     (omega (arith, c.enter.ensures.room, c.in-Ok.ensures.ok)) was.rows_fit was.buffer_fits
 
@@ -65,9 +66,9 @@ invariant_of-self-in-Some-refusal g c =
     let refusal = c.in-Some-refusal.refusal in
     let many = too-many-of m c.settle-settled.result.refusal refusal c.in-Some-refusal.is did.refused in
     ready (entries_of c.args.who end (losses_of roles spares ++ Refused refusal ∷ []))
-    (degraded-refused c.args.who end was.kept number c.requires.caller c.ops-end-2.ensures did.moved did.grows roles spares before after since refusal
-    (too-many-here (list_size (places_of a.members)) a.unsynced m refusal many) did.others
-    (leaves-refused c.args.who end was.kept number c.requires.caller c.ops-end-2.ensures did.moved did.grows roles spares before after since did.rise did.stays did.safe refusal many))
+    (degraded-refused c.args.who end was.kept (begins-open a.epoch.entries.items c.args.who number) c.requires.caller c.ops-end-2.ensures did.moved did.grows roles spares before after since refusal
+    (too-many-here (list_size (places_of a.members)) a.resync m refusal many) did.others
+    (leaves-refused c.args.who end was.kept (begins-open a.epoch.entries.items c.args.who number) c.requires.caller c.ops-end-2.ensures did.moved did.grows roles spares before after since did.rise c.is_some.result (all-mended a.members a.resync c.is_some.result c.is_some.ensures) did.safe refusal many))
     did.given (scope-same given a.backup did.given c.enter_behind.ensures.uuid c.enter_behind.ensures.given) c.enter_behind.ensures.first c.make_room.ensures.items c.enter_behind.ensures.items
     (omega (arith, c.enter_behind.ensures.room, c.in-Ok.ensures.ok)) was.rows_fit was.buffer_fits
 
@@ -111,7 +112,6 @@ returns-in-Some-refusal-clause-same g c =
       given = c.enter_behind.ensures.given;
       first = c.enter_behind.ensures.first;
       backup = refl;
-      unsynced = refl;
       shape = did.moved.shape;
       size = did.moved.size;
       list = list-same (g.B.Bank.given a.bank) (scope_in (g.B.Bank.given a.bank) a.epoch.uuid a.epoch.given a.backup) a.epoch.first did.given
@@ -135,9 +135,9 @@ invariant_of-self-2 g c =
     c.missing_roles-before.ensures c.newly_missing-roles.ensures in
     let settles = settles-of c.args.event c.requires.event in
     ready (entries_of c.args.who end (losses_of roles spares ++ c.args.event ∷ []))
-    (degraded-settled c.args.who end was.kept number c.requires.caller c.ops-end-2.ensures did.moved did.grows roles spares before after since c.args.event settles did.others
-    (leaves-settled c.args.who end was.kept number c.requires.caller c.ops-end-2.ensures did.moved did.grows roles spares before after since did.rise did.stays did.safe c.args.event settles
-    (did.clean c.in_default-refusal.is) (did.settled c.in_default-refusal.is)))
+    (degraded-settled c.args.who end was.kept (begins-open a.epoch.entries.items c.args.who number) c.requires.caller c.ops-end-2.ensures did.moved did.grows roles spares before after since c.args.event settles did.others
+    (leaves-flushed c.args.who end was.kept (begins-open a.epoch.entries.items c.args.who number) c.requires.caller c.ops-end-2.ensures did.moved did.grows roles spares before after since did.rise c.is_some.result
+    (all-mended a.members a.resync c.is_some.result c.is_some.ensures) did.safe c.args.event settles c.is_some.ensures did.stays (did.clean c.in_default-refusal.is) (did.settled c.in_default-refusal.is)))
     did.given (scope-same given a.backup did.given c.enter_behind-2.ensures.uuid c.enter_behind-2.ensures.given) c.enter_behind-2.ensures.first c.make_room.ensures.items c.enter_behind-2.ensures.items
     (omega (arith, c.enter_behind-2.ensures.room, c.in-Ok.ensures.ok)) was.rows_fit was.buffer_fits
 
@@ -199,7 +199,6 @@ returns-clause-same g c =
       given = c.enter_behind-2.ensures.given;
       first = c.enter_behind-2.ensures.first;
       backup = refl;
-      unsynced = refl;
       shape = did.moved.shape;
       size = did.moved.size;
       list = list-same (g.B.Bank.given a.bank) (scope_in (g.B.Bank.given a.bank) a.epoch.uuid a.epoch.given a.backup) a.epoch.first did.given

@@ -2,6 +2,7 @@ use Rattle.std.proofs.Common.{◌≡◌, ◌∷◌, [], refl, sym, ◌∙◌, ap
 use Rattle.flat_history.specs.Flat.{next_number}
 use Rattle.flat_history.specs.Plain.{entries_of}
 use Rattle.flat_history.specs.declared.events.Event.TheVariants.{Shown}
+use Rattle.flat_history.proofs.OneShapeGoing.{begins-open}
 use Rattle.array.specs.Status.{left_of}
 use Rattle.array.proofs.LossLaws.{ended-behind}
 use Rattle.array.proofs.ReadyLaws.{ready, scope-same}
@@ -14,9 +15,9 @@ invariant_of-self-2 g c =
     let a = c.self.inside in
     let given = g.B.Bank.given a.bank in
     let number : c.args.who.number ≡ next_number c.args.who.caller a.epoch.entries.items = c.requires.next ∙ ap (λ p. next_number c.args.who.caller p.entries) (sym c.self.view_is) in
-    let steps : c.in-Ok.shown.left ≡ left_of a.unsynced a.members = c.in-Ok.ensures.left ∙ ap (λ p. left_of p.unsynced p.members) (sym c.self.view_is) in
+    let steps : c.in-Ok.shown.left ≡ left_of a.resync a.members = c.in-Ok.ensures.left ∙ ap (λ p. left_of p.resync p.members) (sym c.self.view_is) in
     ready (entries_of c.args.who c.ops-end.result (Shown c.in-Ok.shown ∷ []))
-    (kept-shown c.args.who c.ops-end.result was.kept number c.requires.caller c.ops-end.ensures c.in-Ok.shown steps)
+    (kept-shown c.args.who c.ops-end.result was.kept (begins-open a.epoch.entries.items c.args.who number) c.requires.caller c.ops-end.ensures c.in-Ok.shown steps)
     refl (scope-same given a.backup refl c.enter.ensures.uuid c.enter.ensures.given) c.enter.ensures.first c.make_room.ensures.items c.enter.ensures.items
     (omega (arith, c.enter.ensures.room, c.in-Ok-make_room.ensures.ok)) was.rows_fit was.buffer_fits
 

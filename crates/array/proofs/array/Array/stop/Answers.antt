@@ -4,11 +4,11 @@ use Rattle.flat_history.specs.OneShape.{opening_in, IsOneShapeLegal}
 use Rattle.flat_history.specs.Sound.{FillsRight}
 use Rattle.array.specs.Calls.{AreLeftFlushed}
 use Rattle.array.proofs.ReadyLaws.{kept-legal, epoch-right}
-use Rattle.array.proofs.SettledLaws.{without-few}
+use Rattle.array.proofs.LackingLaws.{does-without}
 use Rattle.array.proofs.array.Array.stop.Goals as goal
 
 pub returns-in-Ok-clause-ready : goal.returns-in-Ok-clause-ready
-returns-in-Ok-clause-ready g c = without-few c.args.self.members c.in-Ok.ensures.caused.1
+returns-in-Ok-clause-ready g c = does-without c.args.self.members c.in-Ok.ensures.caused.1
 
 pub returns-in-Ok-clause-flushed : goal.returns-in-Ok-clause-flushed
 returns-in-Ok-clause-flushed g c =

@@ -1,4 +1,4 @@
-use Rattle.std.proofs.Common.{◌≡◌, ◌≤◌, ◌+◌, ◌*◌, ◌||◌, ℕ, Bool, true, false, not, Option, Some, None, refl, sym, ◌∙◌, ap, subst, arith, inl, inr}
+use Rattle.std.proofs.Common.{◌≡◌, ◌≤◌, ◌+◌, ◌*◌, ◌||◌, ℕ, Bool, true, false, Option, Some, None, refl, sym, ◌∙◌, ap, subst, arith, inl, inr}
 use Rattle.std.specs.Option.{is_some}
 use Rattle.md_base.specs.Shapes.{data_disks}
 use Rattle.md_base.specs.declared.places.Shape.{Shape}
@@ -9,11 +9,11 @@ use Rattle.row_io.specs.Rows.{reading_of}
 use Rattle.list_io.specs.Buffers.{IsDataWhole}
 use Rattle.array.specs.Whole.{list_size}
 use Rattle.array.specs.Placed.{places_of}
-use Rattle.array.specs.Lacking.{AreTooMany, IsUnwritten}
+use Rattle.array.specs.Lacking.{AreTooMany, IsUnwritten, are_mended, mended_rows}
 use Rattle.array.specs.Calls.{IsRefusalOf}
 use Rattle.array.proofs.array.Array.unwritten.Goals as goal
 
-neither : (a b : Bool) → (a || not b) ≡ false → a ≡ false
+neither : (a b : Bool) → (a || b) ≡ false → a ≡ false
 neither false b e = refl
 neither true b e = absurd (cc)
 
@@ -31,9 +31,9 @@ pub returns-in-None : goal.returns-in-None
 returns-in-None g c =
     let m = c.self.inside.members in
     let visible : c.list_length-visible.result ≡ list_size (places_of m) = c.list_length-visible.ensures ∙ ap (λ (s : Shape). data_disks s * m.newest.size) c.shape_in-shape.ensures in
-    let free = neither c.is_some.result c.self.inside.unsynced c.if-is_some-self.false in
+    let free = neither c.is_some.result c.are_mended.result c.if-is_some-are_mended.false in
     let none = none-refused c.list_length-visible.result (c.args.at + c.args.count) m c.refusal_of-refusal.result (sym c.is_some.ensures ∙ free) c.refusal_of-refusal.ensures in
     rw (← c.self.view_is) (
       (let within = none.0 in omega (arith, visible, within)),
-      none-unwritten m c.shape_in-shape.result (not c.self.inside.unsynced) c.shape_in-shape.ensures none.1 c.in-None.ensures,
+      none-unwritten m c.shape_in-shape.result (are_mended (shape_of m.newest) (mended_rows c.self.inside.resync m) (c.args.at + c.args.count)) c.shape_in-shape.ensures none.1 c.in-None.ensures,
     )

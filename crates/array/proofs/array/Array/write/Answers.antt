@@ -1,24 +1,26 @@
-use Rattle.std.proofs.Common.{inl, ◌≡◌, ◌+◌, ◌/◌, ◌≤◌, ◌++◌, ◌∷◌, [], ℕ, not, List, length, refl, sym, ◌∙◌, ap, subst, arith}
+use Rattle.std.proofs.Common.{inl, ◌≡◌, ◌+◌, ◌/◌, ◌≤◌, ◌++◌, ◌∷◌, [], ℕ, Bool, List, length, refl, sym, ◌∙◌, ap, subst, arith}
 use Rattle.md_base.specs.Sectors.{Sector, sectors_of}
 use Rattle.md_base.proofs.SectorLaws.{length-sectors_of}
 use Rattle.md_base.specs.declared.places.Shape.{Shape}
+use Rattle.superblocks.specs.Reading.{shape_of}
 use Rattle.flat_history.specs.declared.events.Entry.{Entry}
 use Rattle.flat_history.specs.declared.events.Event.TheVariants.{Wrote, Refused}
 use Rattle.flat_history.specs.declared.events.Request.TheVariants.{Write as AsksWrite}
 use Rattle.flat_history.specs.Flat.{next_number}
 use Rattle.flat_history.specs.Plain.{entries_of}
+use Rattle.flat_history.proofs.OneShapeGoing.{begins-open}
 use Rattle.array.specs.Whole.{list_size}
 use Rattle.array.specs.Placed.{places_of}
 use Rattle.array.specs.Losing.{losses_of, failure_events}
-use Rattle.array.specs.Lacking.{AreLostSince, IsUnwritten, AreTooMany, AreBytes}
+use Rattle.array.specs.Lacking.{AreLostSince, IsUnwritten, AreTooMany, AreBytes, are_mended, mended_rows}
 use Rattle.array.specs.Kept.{scope_in}
 use Rattle.array.specs.Calls.{IsRefusedFor}
-use Rattle.array.proofs.LackingLaws.{lost-since, since-held}
+use Rattle.array.proofs.LackingLaws.{lost-since, since-held, does-without}
 use Rattle.array.proofs.ReadyLaws.{ready, scope-same, list-same}
-use Rattle.array.proofs.DegradedLaws.{refused-here, kept-refused, unwritten-here}
+use Rattle.array.proofs.DegradedLaws.{refused-here, kept-refused, pending-of, unwritten-here}
 use Rattle.array.proofs.LossLaws.{losses-behind, losses-failure, ended-behind, ended-failure, torn-told}
 use Rattle.array.proofs.ReplyLaws.{refused_reply, failed_reply, replied, write_kind, unwritten-of, refused-for}
-use Rattle.array.proofs.ReadLaws.{some-of, does-without}
+use Rattle.array.proofs.ReadLaws.{some-of}
 use Rattle.array.proofs.WriteLaws.{kept-unwritten, kept-wrote}
 use Rattle.array.proofs.CallLaws.{losses-are, torn-losses}
 use Rattle.array.proofs.array.Array.write.Goals as goal
@@ -31,10 +33,12 @@ invariant_of-self-in-Some g c =
     let a = c.self.inside in
     let number : c.args.who.number ≡ next_number c.args.who.caller a.epoch.entries.items = c.requires.next ∙ ap (λ p. next_number c.args.who.caller p.entries) (sym c.self.view_is) in
     let size = list_size (places_of a.members) in
-    let why = refused-here size (c.args.at + length c.args.from.now / 512) a.unsynced (IsUnwritten (not a.unsynced)) a.members c.in-Some.refusal
-    (unwritten-here size a.unsynced (not a.unsynced) a.members c.in-Some.refusal refl) c.in-Some.ensures in
+    let to = c.args.at + length c.args.from.now / 512 in
+    let synced = are_mended (shape_of a.members.newest) (mended_rows a.resync a.members) to in
+    let why = refused-here size to a.resync (IsUnwritten synced) a.members c.in-Some.refusal
+    (λ within. unwritten-here size a.resync synced a.members c.in-Some.refusal (pending-of a.members a.resync to within)) c.in-Some.ensures in
     ready (entries_of c.args.who c.ops-end.result (Refused c.in-Some.refusal ∷ []))
-    (kept-refused c.args.who c.ops-end.result was.kept number c.requires.caller c.ops-end.ensures c.in-Some.refusal why)
+    (kept-refused c.args.who c.ops-end.result was.kept (begins-open a.epoch.entries.items c.args.who number) c.requires.caller c.ops-end.ensures c.in-Some.refusal why)
     refl (scope-same (g.B.Bank.given a.bank) a.backup refl c.enter.ensures.uuid c.enter.ensures.given) c.enter.ensures.first c.make_room.ensures.items c.enter.ensures.items
     (omega (arith, c.enter.ensures.room, c.in-Ok-make_room.ensures.ok)) was.rows_fit was.buffer_fits
 
@@ -45,10 +49,11 @@ returns-in-Some-clause-answered g c =
     let number : c.args.who.number ≡ next_number c.args.who.caller a.epoch.entries.items = c.requires.next ∙ ap (λ p. next_number c.args.who.caller p.entries) (sym c.self.view_is) in
     let size = list_size (places_of a.members) in
     let body = sectors_of c.args.from.now in
-    let why = subst (λ (n : ℕ). IsRefusedFor size (c.args.at + n) (IsUnwritten (not a.unsynced)) a.members a.members c.in-Some.refusal) (sym (length-sectors_of c.args.from.now)) c.in-Some.ensures in
+    let synced = are_mended (shape_of a.members.newest) (mended_rows a.resync a.members) (c.args.at + length c.args.from.now / 512) in
+    let why = subst (λ (n : ℕ). IsRefusedFor size (c.args.at + n) (IsUnwritten synced) a.members a.members c.in-Some.refusal) (sym (length-sectors_of c.args.from.now)) c.in-Some.ensures in
     rw (← c.self.view_is) (refused_reply size a.epoch.entries.items was.kept.sized was.kept.unlimited (AsksWrite c.args.at body) c.args.who (c.args.at + length body)
-    (IsUnwritten (not a.unsynced)) c.enter.new.epoch.entries.items c.ops-end.result a.members c.in-Some.refusal (write_kind c.args.at body)
-    (unwritten-of (not a.unsynced) a.members c.in-Some.refusal) why
+    (IsUnwritten synced) c.enter.new.epoch.entries.items c.ops-end.result a.members c.in-Some.refusal (write_kind c.args.at body)
+    (unwritten-of synced a.members c.in-Some.refusal) why
     (c.enter.ensures.items ∙ ap (λ (l : List Entry). l ++ entries_of c.args.who c.ops-end.result (Refused c.in-Some.refusal ∷ [])) c.make_room.ensures.items) number)
 
 pub returns-in-Some-clause-ended : goal.returns-in-Some-clause-ended
@@ -74,11 +79,13 @@ invariant_of-self-in-Some-refusal g c =
     let end = c.ops-end-2.result in
     let body = sectors_of c.args.from.now in
     let does = does-without a.members (λ refusal many. c.in_default.ensures.1 refusal (inl many)) in
+    let synced = c.are_mended-synced.result in
+    let asked : synced ≡ are_mended (shape_of a.members.newest) (mended_rows a.resync a.members) (c.args.at + length c.args.from.now / 512) = c.are_mended-synced.ensures ∙ ap (λ (s : Shape). are_mended s (mended_rows a.resync a.members) (c.args.at + length c.args.from.now / 512)) c.shape_in-shape.ensures in
     let since : AreLostSince a.members m roles spares before after = lost-since given a.members m c.shape_in-shape.result.disks c.missing_roles-before.result roles spares before after was.kept.placed did.moved did.failed
     (ap (λ (s : Shape). s.disks) c.shape_in-shape.ensures) c.missing_roles-before.ensures c.newly_missing-roles.ensures in
     ready (entries_of c.args.who end (failure_events roles spares torn c.args.at body refusal))
-    (kept-unwritten c.args.who end was.kept number c.requires.caller c.ops-end-2.ensures did.moved did.grows roles spares before after since c.args.at c.args.from.now c.in_default.ensures.0 does torn did.rise did.stays did.safe refusal
-    (some-of (IsUnwritten (not a.unsynced) m) c.put-done.result.refusal refusal c.in-Some-refusal.is did.refused)
+    (kept-unwritten c.args.who end was.kept (begins-open a.epoch.entries.items c.args.who number) c.requires.caller c.ops-end-2.ensures did.moved did.grows roles spares before after since c.shape_in-shape.result c.shape_in-shape.ensures c.args.at c.args.from.now c.in_default.ensures.0 does torn synced asked did.rise did.stays did.safe refusal
+    (some-of (IsUnwritten synced m) c.put-done.result.refusal refusal c.in-Some-refusal.is did.refused)
     (λ begun. some-of (AreTooMany m) c.put-done.result.refusal refusal c.in-Some-refusal.is (did.torn begun)) did.untouched)
     did.given (scope-same given a.backup did.given c.enter_failure.ensures.uuid c.enter_failure.ensures.given) c.enter_failure.ensures.first c.make_room.ensures.items
     (c.enter_failure.ensures.items ∙ ap (λ (b : List Sector). c.make_room.new.self.items ++ entries_of c.args.who end (failure_events roles spares torn c.args.at b refusal)) c.in-Ok.ensures)
@@ -98,9 +105,10 @@ returns-in-Some-refusal-clause-answered g c =
     let size = list_size (places_of a.members) in
     let body = sectors_of c.args.from.now in
     let within : c.args.at + length body ≤ size = omega (arith, c.in_default.ensures.0, length-sectors_of c.args.from.now) in
-    let why = some-of (IsUnwritten (not a.unsynced) m) c.put-done.result.refusal refusal c.in-Some-refusal.is c.put-done.ensures.refused in
+    let synced = c.are_mended-synced.result in
+    let why = some-of (IsUnwritten synced m) c.put-done.result.refusal refusal c.in-Some-refusal.is c.put-done.ensures.refused in
     rw (← c.self.view_is) (failed_reply size a.epoch.entries.items was.kept.sized was.kept.unlimited torn c.args.who c.args.at body c.enter_failure.new.epoch.entries.items end roles spares refusal within
-    (unwritten-of (not a.unsynced) m refusal why)
+    (unwritten-of synced m refusal why)
     (c.enter_failure.ensures.items ∙ ap (λ (l : List Entry). l ++ entries_of c.args.who end (failure_events roles spares torn c.args.at c.in-Ok.body refusal)) c.make_room.ensures.items
     ∙ ap (λ (b : List Sector). a.epoch.entries.items ++ entries_of c.args.who end (failure_events roles spares torn c.args.at b refusal)) c.in-Ok.ensures) number)
 
@@ -117,9 +125,12 @@ returns-in-Some-refusal-clause-caused g c =
     let a = c.self.inside in
     let m = c.put-done.new.members in
     let refusal = c.in-Some-refusal.refusal in
-    let why = some-of (IsUnwritten (not a.unsynced) m) c.put-done.result.refusal refusal c.in-Some-refusal.is c.put-done.ensures.refused in
-    rw (← c.self.view_is) (refused-for (list_size (places_of a.members)) (c.args.at + length c.args.from.now / 512) (IsUnwritten (not a.unsynced)) a.members m refusal
-    (unwritten-of (not a.unsynced) m refusal why) c.in_default.ensures.0 why)
+    let synced = c.are_mended-synced.result in
+    let asked : synced ≡ are_mended (shape_of a.members.newest) (mended_rows a.resync a.members) (c.args.at + length c.args.from.now / 512) = c.are_mended-synced.ensures ∙ ap (λ (s : Shape). are_mended s (mended_rows a.resync a.members) (c.args.at + length c.args.from.now / 512)) c.shape_in-shape.ensures in
+    let why = some-of (IsUnwritten synced m) c.put-done.result.refusal refusal c.in-Some-refusal.is c.put-done.ensures.refused in
+    rw (← c.self.view_is) (refused-for (list_size (places_of a.members)) (c.args.at + length c.args.from.now / 512)
+    (IsUnwritten (are_mended (shape_of a.members.newest) (mended_rows a.resync a.members) (c.args.at + length c.args.from.now / 512))) a.members m refusal
+    (unwritten-of synced m refusal why) c.in_default.ensures.0 (subst (λ (b : Bool). IsUnwritten b m refusal) asked why))
 
 pub returns-in-Some-refusal-clause-failed : goal.returns-in-Some-refusal-clause-failed
 returns-in-Some-refusal-clause-failed g c = rw (← c.self.view_is) (since-held c.self.inside.members c.put-done.new.members c.put-done.result.spares
@@ -162,7 +173,6 @@ returns-in-Some-refusal-clause-same g c =
       given = c.enter_failure.ensures.given;
       first = c.enter_failure.ensures.first;
       backup = refl;
-      unsynced = refl;
       shape = did.moved.shape;
       size = did.moved.size;
       list = list-same given (scope_in given a.epoch.uuid a.epoch.given a.backup) a.epoch.first did.given
@@ -171,8 +181,8 @@ returns-in-Some-refusal-clause-same g c =
 
 -- ---- done
 
-pub invariant_of-self-3 : goal.invariant_of-self-3
-invariant_of-self-3 g c =
+pub invariant_of-self-4 : goal.invariant_of-self-4
+invariant_of-self-4 g c =
     let was = c.self.invariant in
     let a = c.self.inside in
     let number : c.args.who.number ≡ next_number c.args.who.caller a.epoch.entries.items = c.requires.next ∙ ap (λ p. next_number c.args.who.caller p.entries) (sym c.self.view_is) in
@@ -188,11 +198,13 @@ invariant_of-self-3 g c =
     let done = c.in_default-refusal.is in
     let bytes : AreBytes c.args.from.now = λ i. (c.type_inv.from i).fits in
     let does = does-without a.members (λ refusal many. c.in_default.ensures.1 refusal (inl many)) in
+    let synced = c.are_mended-synced.result in
+    let asked : synced ≡ are_mended (shape_of a.members.newest) (mended_rows a.resync a.members) (c.args.at + length c.args.from.now / 512) = c.are_mended-synced.ensures ∙ ap (λ (s : Shape). are_mended s (mended_rows a.resync a.members) (c.args.at + length c.args.from.now / 512)) c.shape_in-shape.ensures in
     let since : AreLostSince a.members m roles spares before after = lost-since given a.members m c.shape_in-shape.result.disks c.missing_roles-before.result roles spares before after was.kept.placed did.moved did.failed
     (ap (λ (s : Shape). s.disks) c.shape_in-shape.ensures) c.missing_roles-before.ensures c.newly_missing-roles.ensures in
     ready (entries_of c.args.who end (losses_of roles spares ++ Wrote c.args.at body ∷ []))
-    (kept-wrote c.args.who end was.kept number c.requires.caller c.ops-end-2.ensures did.moved did.grows roles spares before after since c.args.at c.args.from.now c.in_default.ensures.0 does c.put-done.result.begun did.rise did.stays did.safe
-    (did.put done) (λ t list more written. did.good done t list more written bytes))
+    (kept-wrote c.args.who end was.kept (begins-open a.epoch.entries.items c.args.who number) c.requires.caller c.ops-end-2.ensures did.moved did.grows roles spares before after since c.shape_in-shape.result c.shape_in-shape.ensures c.args.at c.args.from.now c.in_default.ensures.0 does c.put-done.result.begun synced asked did.rise did.stays did.safe
+    c.requires.whole bytes (did.put done) (λ t list more written. did.good done t list more written bytes))
     did.given (scope-same given a.backup did.given c.enter_behind.ensures.uuid c.enter_behind.ensures.given) c.enter_behind.ensures.first c.make_room.ensures.items
     (c.enter_behind.ensures.items ∙ ap (λ (b : List Sector). c.make_room.new.self.items ++ entries_of c.args.who end (losses_of roles spares ++ Wrote c.args.at b ∷ [])) c.in-Ok.ensures)
     (omega (arith, c.enter_behind.ensures.room, c.in-Ok-make_room.ensures.ok)) (omega (arith, was.rows_fit, did.rows)) (rw did.buffer was.buffer_fits)
@@ -210,7 +222,7 @@ returns-clause-answered g c =
     end (losses_of roles spares) (Wrote c.args.at body)
     (c.enter_behind.ensures.items ∙ ap (λ (l : List Entry). l ++ entries_of c.args.who end (losses_of roles spares ++ Wrote c.args.at c.in-Ok.body ∷ [])) c.make_room.ensures.items
     ∙ ap (λ (b : List Sector). a.epoch.entries.items ++ entries_of c.args.who end (losses_of roles spares ++ Wrote c.args.at b ∷ [])) c.in-Ok.ensures)
-    number (refl, refl) (torn-losses (AsksWrite c.args.at body) c.args.who end (losses_of roles spares) (losses-are roles spares)))
+    number (λ call. (refl, refl)) (torn-losses (AsksWrite c.args.at body) c.args.who end (losses_of roles spares) (losses-are roles spares)))
 
 pub returns-clause-caused : goal.returns-clause-caused
 returns-clause-caused g c = rw (← c.self.view_is) c.in_default.ensures
@@ -256,7 +268,6 @@ returns-clause-same g c =
       given = c.enter_behind.ensures.given;
       first = c.enter_behind.ensures.first;
       backup = refl;
-      unsynced = refl;
       shape = did.moved.shape;
       size = did.moved.size;
       list = list-same given (scope_in given a.epoch.uuid a.epoch.given a.backup) a.epoch.first did.given

@@ -1,0 +1,100 @@
+-- What is kept of an array whose resync ends.
+use Rattle.std.proofs.Common.{◌≡◌, ◌≢◌, ℕ, ◌+◌, ◌-◌, ◌*◌, ◌/◌, ◌<◌, ◌≤◌, ◌||◌, ◌&&◌, Bool, true, false, not, Option, Some, None, List, length, [], ◌∷◌, ◌++◌, refl, sym, ◌∙◌, ap, subst, arith}
+use Rattle.std.specs.Prelude.{IfSome}
+use Rattle.std.specs.List.{list_any}
+use Rattle.std.proofs.lemmas.Bool.Decides.{nat_tests}
+use Rattle.std.proofs.lemmas.List.Folds.{list_any-append}
+use Rattle.md_base.specs.Shapes.{is_multiple}
+use Rattle.md_base.specs.declared.answers.Who.{Who}
+use Rattle.bank.specs.Given.{Given}
+use Rattle.bank.specs.declared.bank.Operation.{Operation}
+use Rattle.superblocks.specs.declared.members.Members.{Members}
+use Rattle.superblocks.specs.Reading.{Scope, shape_of}
+use Rattle.row_io.specs.Rows.{present}
+use Rattle.flat_history.specs.declared.events.Entry.{Entry}
+use Rattle.flat_history.specs.declared.events.Event.{Event}
+use Rattle.flat_history.specs.declared.events.Event.TheVariants.{Step}
+use Rattle.flat_history.specs.declared.events.StepKind.TheVariants.{ResyncEnded}
+use Rattle.flat_history.specs.Losses.{is_resync_end}
+use Rattle.flat_history.specs.Plain.{entries_of}
+use Rattle.flat_history.specs.OneShape.{opening_in, IsCallOpen}
+use Rattle.array.specs.Placed.{IsPlaced}
+use Rattle.array.specs.Losing.{losses_of}
+use Rattle.array.specs.Marking.{AreOthersPresent}
+use Rattle.array.specs.Moving.{Grows, IsMoved}
+use Rattle.array.specs.Status.{stripes_of, left_of}
+use Rattle.array.specs.Lacking.{AreLostSince, mended_rows}
+use Rattle.array.specs.Kept.{world_in, IsKept}
+use Rattle.array.proofs.CallLaws.{losses-are, ends-losses}
+use Rattle.array.proofs.RecordLaws.{AreSilent}
+use Rattle.array.proofs.ReadyLaws.{AreStill, silent-behind, still-behind}
+use Rattle.array.proofs.StepLaws.{call-stepped, left-stepped}
+use Rattle.array.proofs.DegradedLaws.{LeavesSafe, LeavesResync, degraded-after, holds-still, whole-still, good-still, told-behind}
+
+-- ---- every stripe is mended
+
+whole_size : (n c : ℕ) → is_multiple n c ≡ true → n / c * c ≡ n
+whole_size n c h = grind (arith, nat_tests)
+
+-- the rows of all stripes are all rows
+pub all-mended : {given : Given} {resync : Option ℕ} {members : Members} → IsPlaced given members → resync ≡ Some (stripes_of members) → mended_rows resync members ≡ members.newest.size
+all-mended {members = members} placed all =
+    ap (λ (o : Option ℕ). mended_rows o members) all ∙ whole_size members.newest.size (shape_of members.newest).chunk placed.multiple
+
+pub enough-mended : {given : Given} {resync : Option ℕ} {members : Members} → IsPlaced given members → resync ≡ Some (stripes_of members) → members.newest.size ≤ mended_rows resync members
+enough-mended placed all = let same = all-mended placed all in omega (arith, same)
+
+-- the end alone is left
+one-left : {resync : Option ℕ} (members : Members) → resync ≡ Some (stripes_of members) → 1 ≡ left_of resync members
+one-left members all = one (stripes_of members) ∙ sym (ap (λ (o : Option ℕ). left_of o members) all)
+  where
+    one : (n : ℕ) → 1 ≡ n - n + 1
+    one n = omega arith
+
+-- ---- the end
+
+pub end-silent : (who : Who) (end left : ℕ) → AreSilent who end (Step ResyncEnded left ∷ [])
+end-silent who end left = record { length = λ n. refl; limit = refl }
+
+module _ {tells : Type 0} {given : Given} {tape tape' : List Operation} {scope : Scope} {first : ℕ} {entries : List Entry} {members members' : Members} {resync : Option ℕ}
+    (who : Who) (end : ℕ) (was : IsKept tells given tape scope first entries members resync)
+    (opens : IsCallOpen entries who) (caller : who.caller ≢ 254) (at_end : tells → end ≡ length tape')
+    (moved : IsMoved given members members') (grows : Grows tells tape tape')
+    (roles spares : ℕ) (before after : ℕ → ℕ) (since : AreLostSince members members' roles spares before after)
+    (all : resync ≡ Some (stripes_of members)) where
+  abbrev ending : List Event
+  ending = losses_of roles spares ++ Step ResyncEnded 0 ∷ []
+
+  -- no resync is pending behind it, and nothing is left
+  resync-ends : LeavesResync resync None members' entries (entries_of who end ending)
+  resync-ends = record {
+    begins = λ is. absurd (cc);
+    progress = tt;
+    left = subst (λ (o : Option ℕ). IfSome o (λ n. n ≡ 0)) (sym (left-stepped entries who end (losses_of roles spares) ResyncEnded 0)) refl;
+    pending = λ dirty is. ap (λ (b : Bool). dirty && not b)
+        (list_any-append (λ e. is_resync_end e.event) entries (entries_of who end ending)
+        ∙ ap (λ (b : Bool). list_any (λ e. is_resync_end e.event) entries || b) (ends-losses who end (losses_of roles spares) (Step ResyncEnded 0 ∷ []) (losses-are roles spares)))
+        ∙ neither dirty (list_any (λ e. is_resync_end e.event) entries);
+  }
+    where
+      neither : (a b : Bool) → (a && not (b || true)) ≡ false
+      neither true true = refl
+      neither true false = refl
+      neither false b = refl
+
+  -- What is kept behind it and the losses of its call. The rows of the whole array stand.
+  pub degraded-ended : (tells → AreOthersPresent (present given tape) (present given tape'))
+      → LeavesSafe tells given tape' scope first (entries ++ entries_of who end (losses_of roles spares ++ Step ResyncEnded 0 ∷ [])) members' false
+      → IsKept tells given tape' scope first (entries ++ entries_of who end (losses_of roles spares ++ Step ResyncEnded 0 ∷ [])) members' None
+  degraded-ended others safe =
+      degraded-after who end was opens caller at_end moved grows (losses_of roles spares) (Step ResyncEnded 0)
+      (silent-behind who end (losses_of roles spares) (Step ResyncEnded 0) (losses-are roles spares) (end-silent who end 0)) resync-ends
+      (told-behind who end was opens caller at_end moved grows roles spares before after since (Step ResyncEnded 0 ∷ []))
+      (λ t fills. call-stepped (opening_in (world_in given tape scope first)) (left_of resync members) entries who end (losses_of roles spares) ResyncEnded 0 (losses-are roles spares) tt (one-left members all) was.left)
+      (holds-still who end was opens caller at_end moved grows ending still others)
+      (whole-still who end was opens caller at_end moved grows ending still)
+      (λ t does fit row below lt. good-still who end was opens caller at_end moved grows ending still others t does fit row (subst (λ (n : ℕ). row < n) (moved.size ∙ sym (all-mended was.placed all)) below) lt)
+      safe
+    where
+      still : AreStill who end ending
+      still = still-behind who end (losses_of roles spares) (Step ResyncEnded 0) (losses-are roles spares) (λ x values. refl)

@@ -1,0 +1,224 @@
+use Rattle.std.proofs.Common.{◌≤◌, ◌∷◌, ◌++◌, [], false, inl, refl, sym, ap, subst, arith}
+use Rattle.md_base.specs.declared.places.Shape.{Shape}
+use Rattle.flat_history.specs.declared.events.Event.TheVariants.{Refused, Step}
+use Rattle.flat_history.specs.declared.events.StepKind.TheVariants.{ResyncStripe}
+use Rattle.flat_history.specs.OneShape.{IsCallOpen}
+use Rattle.flat_history.specs.Plain.{entries_of}
+use Rattle.array.specs.Whole.{list_size}
+use Rattle.array.specs.Placed.{places_of}
+use Rattle.array.specs.Losing.{losses_of}
+use Rattle.array.specs.Lacking.{AreLostSince, IsUnwritten}
+use Rattle.array.specs.Kept.{scope_in}
+use Rattle.array.specs.Calls.{HasStripeLeft}
+use Rattle.array.proofs.CallLaws.{losses-are}
+use Rattle.array.proofs.LackingLaws.{lost-since, does-without}
+use Rattle.array.proofs.ReadyLaws.{ready, scope-same, list-same}
+use Rattle.array.proofs.ReplyLaws.{unwritten-of, refused-for}
+use Rattle.array.proofs.ReadLaws.{some-of}
+use Rattle.array.proofs.LossLaws.{losses-behind, ended-behind, behind-alone}
+use Rattle.array.proofs.StepLaws.{losses-go_on, still-open}
+use Rattle.array.proofs.MendLaws.{is-pending, next-stripe, degraded-unmended, degraded-mended}
+use Rattle.array.proofs.DegradedLaws.{kept-refused, unwritten-here}
+use Rattle.array.proofs.array.Array.mend_stripe.Goals as goal
+
+-- ---- refused before anything is done
+
+pub invariant_of-self-in-Some : goal.invariant_of-self-in-Some
+invariant_of-self-in-Some g c =
+    let was = c.self.invariant in
+    let a = c.self.inside in
+    let opens : IsCallOpen a.epoch.entries.items c.args.who = subst (λ p. IsCallOpen p.entries c.args.who) (sym c.self.view_is) c.requires.open in
+    let left : HasStripeLeft a.resync a.members = subst (λ p. HasStripeLeft p.resync p.members) (sym c.self.view_is) c.requires.pending in
+    let some : 1 ≤ a.steps = subst (λ p. 1 ≤ p.steps) (sym c.self.view_is) c.requires.room in
+    let refusal = c.in-Some.refusal in
+    let why = unwritten-here (list_size (places_of a.members)) a.resync false a.members refusal (λ no. is-pending a.resync a.members left) c.in-Some.ensures in
+    ready (entries_of c.args.who c.ops-end.result (Refused refusal ∷ []))
+    (kept-refused c.args.who c.ops-end.result was.kept opens c.requires.caller c.ops-end.ensures refusal why)
+    refl (scope-same (g.B.Bank.given a.bank) a.backup refl c.enter.ensures.uuid c.enter.ensures.given) c.enter.ensures.first refl c.enter.ensures.items
+    (omega (arith, c.enter.ensures.room, was.room_left, some)) was.rows_fit was.buffer_fits
+
+pub returns-in-Some-clause-entered : goal.returns-in-Some-clause-entered
+returns-in-Some-clause-entered g c =
+    rw (← c.self.view_is) (behind-alone c.args.who c.ops-end.result (Refused c.in-Some.refusal) refl c.enter.ensures.items)
+
+pub returns-in-Some-clause-open : goal.returns-in-Some-clause-open
+returns-in-Some-clause-open g c =
+    still-open c.args.who c.ops-end.result (Refused c.in-Some.refusal ∷ []) c.requires.open (tt, tt) (ap (λ p. p.entries) c.self.view_is) c.enter.ensures.items
+
+pub returns-in-Some-clause-ended : goal.returns-in-Some-clause-ended
+returns-in-Some-clause-ended g c =
+    ended-behind (g.B.Bank.tape c.self.inside.bank) c.enter.new.epoch.first c.self.inside.epoch.entries.items c.args.who c.ops-end.result [] (Refused c.in-Some.refusal) c.enter.ensures.items c.ops-end.ensures
+
+-- ---- the stripe
+
+pub mend-mended-requires-clause-dirty : goal.mend-mended-requires-clause-dirty
+mend-mended-requires-clause-dirty g c =
+    let a = c.self.inside in
+    let left : HasStripeLeft a.resync a.members = subst (λ p. HasStripeLeft p.resync p.members) (sym c.self.view_is) c.requires.pending in
+    c.self.invariant.kept.dirty (does-without a.members (λ refusal many. c.in_default.ensures refusal (inl many))) (is-pending a.resync a.members left)
+
+-- ---- it isn't mended
+
+pub invariant_of-self-in-Some-refusal : goal.invariant_of-self-in-Some-refusal
+invariant_of-self-in-Some-refusal g c =
+    let was = c.self.invariant in
+    let a = c.self.inside in
+    let given = g.B.Bank.given a.bank in
+    let opens : IsCallOpen a.epoch.entries.items c.args.who = subst (λ p. IsCallOpen p.entries c.args.who) (sym c.self.view_is) c.requires.open in
+    let left : HasStripeLeft a.resync a.members = subst (λ p. HasStripeLeft p.resync p.members) (sym c.self.view_is) c.requires.pending in
+    let some : 1 ≤ a.steps = subst (λ p. 1 ≤ p.steps) (sym c.self.view_is) c.requires.room in
+    let did = c.mend-mended.ensures in
+    let m = c.mend-mended.new.members in
+    let before = g.B.Bank.faults_of a.bank in
+    let after = g.B.Bank.faults_of c.mend-mended.new.bank in
+    let roles = c.newly_missing-roles.result in
+    let spares = c.mend-mended.result.spares in
+    let end = c.ops-end-2.result in
+    let stripe = c.unwrap_or-stripe.result in
+    let next = next-stripe a.resync a.members stripe left c.unwrap_or-stripe.ensures in
+    let does = does-without a.members (λ refusal many. c.in_default.ensures refusal (inl many)) in
+    let since : AreLostSince a.members m roles spares before after = lost-since given a.members m c.shape_in-shape.result.disks c.missing_roles-before.result roles spares before after was.kept.placed did.moved did.failed
+    (ap (λ (s : Shape). s.disks) c.shape_in-shape.ensures) c.missing_roles-before.ensures c.newly_missing-roles.ensures in
+    let refusal = c.in-Some-refusal.refusal in
+    ready (entries_of c.args.who end (losses_of roles spares ++ Refused refusal ∷ []))
+    (degraded-unmended c.args.who end was.kept opens c.requires.caller c.ops-end-2.ensures did.moved did.grows roles spares before after since stripe next.0 does did.dirty did.rise
+    c.shape_in-shape.result c.shape_in-shape.ensures did.stands did.kept did.safe
+    refusal (some-of (IsUnwritten false m) c.mend-mended.result.refusal refusal c.in-Some-refusal.is did.refused))
+    did.given (scope-same given a.backup did.given c.enter_behind.ensures.uuid c.enter_behind.ensures.given) c.enter_behind.ensures.first refl c.enter_behind.ensures.items
+    (omega (arith, c.enter_behind.ensures.room, was.room_left, some)) (omega (arith, was.rows_fit, did.rows)) (rw did.buffer was.buffer_fits)
+
+pub returns-in-Some-refusal-clause-open : goal.returns-in-Some-refusal-clause-open
+returns-in-Some-refusal-clause-open g c =
+    let roles = c.newly_missing-roles.result in
+    let spares = c.mend-mended.result.spares in
+    let event = Refused c.in-Some-refusal.refusal in
+    still-open c.args.who c.ops-end-2.result (losses_of roles spares ++ event ∷ []) c.requires.open (losses-go_on (losses_of roles spares) event (losses-are roles spares) tt)
+    (ap (λ p. p.entries) c.self.view_is) c.enter_behind.ensures.items
+
+pub returns-in-Some-refusal-clause-caused : goal.returns-in-Some-refusal-clause-caused
+returns-in-Some-refusal-clause-caused g c =
+    let a = c.self.inside in
+    let m = c.mend-mended.new.members in
+    let refusal = c.in-Some-refusal.refusal in
+    let why = some-of (IsUnwritten false m) c.mend-mended.result.refusal refusal c.in-Some-refusal.is c.mend-mended.ensures.refused in
+    rw (← c.self.view_is) (refused-for (list_size (places_of a.members)) 0 (IsUnwritten false) a.members m refusal (unwritten-of false m refusal why) (omega arith) why)
+
+pub returns-in-Some-refusal-clause-held : goal.returns-in-Some-refusal-clause-held
+returns-in-Some-refusal-clause-held g c = rw (← c.self.view_is) c.mend-mended.ensures.moved.held
+
+pub returns-in-Some-refusal-clause-losses : goal.returns-in-Some-refusal-clause-losses
+returns-in-Some-refusal-clause-losses g c =
+    let was = c.self.invariant in
+    let a = c.self.inside in
+    let did = c.mend-mended.ensures in
+    let m = c.mend-mended.new.members in
+    let before = g.B.Bank.faults_of a.bank in
+    let after = g.B.Bank.faults_of c.mend-mended.new.bank in
+    let roles = c.newly_missing-roles.result in
+    let spares = c.mend-mended.result.spares in
+    let since : AreLostSince a.members m roles spares before after = lost-since (g.B.Bank.given a.bank) a.members m c.shape_in-shape.result.disks c.missing_roles-before.result roles spares before after was.kept.placed did.moved did.failed
+    (ap (λ (s : Shape). s.disks) c.shape_in-shape.ensures) c.missing_roles-before.ensures c.newly_missing-roles.ensures in
+    rw (← c.self.view_is) (losses-behind a.members m before after a.epoch.entries.items a.epoch.entries.items c.enter_behind.new.epoch.entries.items c.args.who c.ops-end-2.result roles spares
+    (Refused c.in-Some-refusal.refusal) since tt refl c.enter_behind.ensures.items)
+
+pub returns-in-Some-refusal-clause-ended : goal.returns-in-Some-refusal-clause-ended
+returns-in-Some-refusal-clause-ended g c =
+    ended-behind (g.B.Bank.tape c.mend-mended.new.bank) c.enter_behind.new.epoch.first c.self.inside.epoch.entries.items c.args.who c.ops-end-2.result
+    (losses_of c.newly_missing-roles.result c.mend-mended.result.spares) (Refused c.in-Some-refusal.refusal) c.enter_behind.ensures.items c.ops-end-2.ensures
+
+pub returns-in-Some-refusal-clause-same : goal.returns-in-Some-refusal-clause-same
+returns-in-Some-refusal-clause-same g c =
+    let was = c.self.invariant in
+    let a = c.self.inside in
+    let did = c.mend-mended.ensures in
+    let given = g.B.Bank.given a.bank in
+    rw (← c.self.view_is) (record {
+      uuid = c.enter_behind.ensures.uuid;
+      given = c.enter_behind.ensures.given;
+      first = c.enter_behind.ensures.first;
+      backup = refl;
+      shape = did.moved.shape;
+      size = did.moved.size;
+      list = list-same given (scope_in given a.epoch.uuid a.epoch.given a.backup) a.epoch.first did.given
+          (scope-same given a.backup did.given c.enter_behind.ensures.uuid c.enter_behind.ensures.given) c.enter_behind.ensures.first did.grows (λ t. (was.kept.recorded t).begun);
+    })
+
+-- ---- it is mended
+
+pub invariant_of-self-2 : goal.invariant_of-self-2
+invariant_of-self-2 g c =
+    let was = c.self.invariant in
+    let a = c.self.inside in
+    let given = g.B.Bank.given a.bank in
+    let opens : IsCallOpen a.epoch.entries.items c.args.who = subst (λ p. IsCallOpen p.entries c.args.who) (sym c.self.view_is) c.requires.open in
+    let left : HasStripeLeft a.resync a.members = subst (λ p. HasStripeLeft p.resync p.members) (sym c.self.view_is) c.requires.pending in
+    let some : 1 ≤ a.steps = subst (λ p. 1 ≤ p.steps) (sym c.self.view_is) c.requires.room in
+    let did = c.mend-mended.ensures in
+    let m = c.mend-mended.new.members in
+    let before = g.B.Bank.faults_of a.bank in
+    let after = g.B.Bank.faults_of c.mend-mended.new.bank in
+    let roles = c.newly_missing-roles.result in
+    let spares = c.mend-mended.result.spares in
+    let end = c.ops-end-2.result in
+    let stripe = c.unwrap_or-stripe.result in
+    let next = next-stripe a.resync a.members stripe left c.unwrap_or-stripe.ensures in
+    let does = does-without a.members (λ refusal many. c.in_default.ensures refusal (inl many)) in
+    let since : AreLostSince a.members m roles spares before after = lost-since given a.members m c.shape_in-shape.result.disks c.missing_roles-before.result roles spares before after was.kept.placed did.moved did.failed
+    (ap (λ (s : Shape). s.disks) c.shape_in-shape.ensures) c.missing_roles-before.ensures c.newly_missing-roles.ensures in
+    ready (entries_of c.args.who end (losses_of roles spares ++ Step ResyncStripe c.steps_left-left.result ∷ []))
+    (degraded-mended c.args.who end was.kept opens c.requires.caller c.ops-end-2.ensures did.moved did.grows roles spares before after since stripe next.0 does did.dirty did.rise
+    c.shape_in-shape.result c.shape_in-shape.ensures did.stands did.kept did.safe
+    next.1 c.steps_left-left.result c.steps_left-left.ensures (did.mended c.in_default-refusal.is))
+    did.given (scope-same given a.backup did.given c.enter_behind-2.ensures.uuid c.enter_behind-2.ensures.given) c.enter_behind-2.ensures.first refl c.enter_behind-2.ensures.items
+    (omega (arith, c.enter_behind-2.ensures.room, was.room_left, some)) (omega (arith, was.rows_fit, did.rows)) (rw did.buffer was.buffer_fits)
+
+pub returns-clause-open : goal.returns-clause-open
+returns-clause-open g c =
+    let roles = c.newly_missing-roles.result in
+    let spares = c.mend-mended.result.spares in
+    let event = Step ResyncStripe c.steps_left-left.result in
+    still-open c.args.who c.ops-end-2.result (losses_of roles spares ++ event ∷ []) c.requires.open (losses-go_on (losses_of roles spares) event (losses-are roles spares) tt)
+    (ap (λ p. p.entries) c.self.view_is) c.enter_behind-2.ensures.items
+
+pub returns-clause-caused : goal.returns-clause-caused
+returns-clause-caused g c = rw (← c.self.view_is) (omega arith, c.in_default.ensures)
+
+pub returns-clause-held : goal.returns-clause-held
+returns-clause-held g c = rw (← c.self.view_is) c.mend-mended.ensures.moved.held
+
+pub returns-clause-losses : goal.returns-clause-losses
+returns-clause-losses g c =
+    let was = c.self.invariant in
+    let a = c.self.inside in
+    let did = c.mend-mended.ensures in
+    let m = c.mend-mended.new.members in
+    let before = g.B.Bank.faults_of a.bank in
+    let after = g.B.Bank.faults_of c.mend-mended.new.bank in
+    let roles = c.newly_missing-roles.result in
+    let spares = c.mend-mended.result.spares in
+    let since : AreLostSince a.members m roles spares before after = lost-since (g.B.Bank.given a.bank) a.members m c.shape_in-shape.result.disks c.missing_roles-before.result roles spares before after was.kept.placed did.moved did.failed
+    (ap (λ (s : Shape). s.disks) c.shape_in-shape.ensures) c.missing_roles-before.ensures c.newly_missing-roles.ensures in
+    rw (← c.self.view_is) (losses-behind a.members m before after a.epoch.entries.items a.epoch.entries.items c.enter_behind-2.new.epoch.entries.items c.args.who c.ops-end-2.result roles spares
+    (Step ResyncStripe c.steps_left-left.result) since tt refl c.enter_behind-2.ensures.items)
+
+pub returns-clause-ended : goal.returns-clause-ended
+returns-clause-ended g c =
+    ended-behind (g.B.Bank.tape c.mend-mended.new.bank) c.enter_behind-2.new.epoch.first c.self.inside.epoch.entries.items c.args.who c.ops-end-2.result
+    (losses_of c.newly_missing-roles.result c.mend-mended.result.spares) (Step ResyncStripe c.steps_left-left.result) c.enter_behind-2.ensures.items c.ops-end-2.ensures
+
+pub returns-clause-same : goal.returns-clause-same
+returns-clause-same g c =
+    let was = c.self.invariant in
+    let a = c.self.inside in
+    let did = c.mend-mended.ensures in
+    let given = g.B.Bank.given a.bank in
+    rw (← c.self.view_is) (record {
+      uuid = c.enter_behind-2.ensures.uuid;
+      given = c.enter_behind-2.ensures.given;
+      first = c.enter_behind-2.ensures.first;
+      backup = refl;
+      shape = did.moved.shape;
+      size = did.moved.size;
+      list = list-same given (scope_in given a.epoch.uuid a.epoch.given a.backup) a.epoch.first did.given
+          (scope-same given a.backup did.given c.enter_behind-2.ensures.uuid c.enter_behind-2.ensures.given) c.enter_behind-2.ensures.first did.grows (λ t. (was.kept.recorded t).begun);
+    })
