@@ -1,10 +1,10 @@
 -- What was opened, with each role whole or missing, can be taken over as an array.
-use Rattle.std.proofs.Common.{◌≡◌, ℕ, ◌<◌, ◌≤◌, Bool, true, false, not, ◌&&◌, nat_lt, List, [], length, Option, Some, IfSome, refl, sym, ◌∙◌, ap, subst, arith, le_refl}
+use Rattle.std.proofs.Common.{◌≡◌, ℕ, ◌<◌, ◌≤◌, Bool, true, false, not, ◌&&◌, nat_lt, List, [], length, take, Option, Some, IfSome, refl, sym, ◌∙◌, ap, subst, arith, le_refl}
 use Rattle.std.specs.Option.{option_map_or}
 use Rattle.std.proofs.lemmas.Bool.Decides.{nat_tests}
 use Rattle.md_base.specs.Shapes.{has_slot, tolerance, tolerance_of}
 use Rattle.bank.specs.declared.bank.Operation.{Operation}
-use Rattle.bank.specs.Given.{Given}
+use Rattle.bank.specs.Given.{Given, sizes}
 use Rattle.bank.specs.Tape.{Contents, contents, disk}
 use Rattle.superblocks.specs.declared.members.Members.{Members}
 use Rattle.superblocks.specs.Reading.{Scope, Reading, reading, is_clean, role_count, shape_of, role_state, is_whole}
@@ -14,19 +14,20 @@ use Rattle.row_io.specs.Rows.{reading_of, is_missing}
 use Rattle.flat_history.specs.Flat.{now}
 use Rattle.flat_history.specs.World.{World, reading_at, opening_list}
 use Rattle.flat_history.specs.Losses.{was_dirty}
-use Rattle.flat_history.specs.Opened.{IsSound, OpensSound, OpensGood}
+use Rattle.flat_history.specs.Opened.{IsSound, OpensSound, OpensWhole, OpensGood}
 use Rattle.flat_history.specs.OneShape.{opening_in, is_absent_at_first}
 use Rattle.flat_history.specs.Epochs.{OpensAlike}
 use Rattle.flat_history.proofs.GivenLaws.{holder-given}
 use Rattle.array.specs.Whole.{Places, list_size}
 use Rattle.array.specs.Placed.{places_of, IsPlaced, AreUnlost}
 use Rattle.array.specs.Held.{IsHeldBy}
-use Rattle.array.specs.Lacking.{ListStands, RowsStand, AreHoldersFlushed}
-use Rattle.array.specs.Kept.{world_in}
+use Rattle.array.specs.Lacking.{DoesWithout, ListStands, RowsStand, AreHoldersFlushed}
+use Rattle.array.specs.Kept.{world_in, AreSectorsWhole}
 use Rattle.array.specs.Adopting.{IsAdoptable}
 use Rattle.assemble.specs.declared.opening.Opened.{Opened}
 use Rattle.assemble.specs.Opening.{scope_of, IsOpened, AreFlushed}
-use Rattle.assemble.proofs.FoundRows.{list-length, list-stands, rows-stand}
+use Rattle.assemble.proofs.FoundRows.{list-length, list-stands, list-whole, rows-stand}
+use Rattle.assemble.proofs.Judged.{elected-does}
 use Rattle.assemble.proofs.PlacedFound.{count-is, few-spares}
 use Rattle.assemble.proofs.OpenedHeld.{opened-held}
 
@@ -98,9 +99,16 @@ module _ {tells : Type 0} (bank : Given) (tape : List Operation) (backup : Optio
     unfolding opening_list
     list-is = list-stands bank m placed scope c (is.says told)
 
+    does : DoesWithout m
+    does = elected-does (sizes bank).sectors (take bank.slots opened.members.own) opened.members.lost opened.members is.elected
+
+    whole-list : OpensWhole world → AreSectorsWhole (list_size p) (now (opening_list world) [])
+    unfolding opening_list
+    whole-list whole = list-whole bank m placed scope c (is.says told) refl whole does
+
     rows-are : OpensGood world → RowsStand m c (now (opening_list world) [])
     unfolding opening_list
-    rows-are opens = rows-stand bank m placed scope c (is.says told) refl opens.whole ((sound-is opens.sound).rows (clean-is opens.clean))
+    rows-are opens = rows-stand bank m placed scope c (is.says told) refl opens.whole does ((sound-is opens.sound).rows (clean-is opens.clean))
 
     -- ---- the superblocks
 
@@ -130,6 +138,7 @@ module _ {tells : Type 0} (bank : Given) (tape : List Operation) (backup : Optio
     dirty = dirty-is;
     absent = absent-is;
     holds = list-is;
+    whole = whole-list;
     good = rows-are;
     flushed = holders-flushed;
     next = held-next;

@@ -1,5 +1,5 @@
 -- The flat list of what was opened, on the members that are there: each role whole, or missing.
-use Rattle.std.proofs.Common.{◌≡◌, inl, inr, ℕ, ◌+◌, ◌*◌, ◌/◌, ◌%◌, ◌<◌, ◌≤◌, ◌==◌, Bool, true, false, cond, not, if◌then◌else◌, ltb, nat_lt, min, List, [], length, drop, get_or, Option, Some, None, unwrap_or, option_map, refl, sym, ◌∙◌, ap, ap₂, subst, arith}
+use Rattle.std.proofs.Common.{◌≡◌, inl, inr, ℕ, ◌+◌, ◌*◌, ◌/◌, ◌%◌, ◌<◌, ◌≤◌, Bool, true, false, cond, not, if◌then◌else◌, ltb, nat_lt, min, List, [], length, drop, get_or, Option, Some, None, unwrap_or, option_map, refl, sym, ◌∙◌, ap, ap₂, subst, arith}
 use Rattle.std.specs.Option.{option_map_or}
 use Rattle.std.specs.Prelude.{slice_index_or}
 use Rattle.std.proofs.lemmas.Bool.{cases_lt}
@@ -12,13 +12,13 @@ use Rattle.md_base.specs.declared.places.Shape.{Shape}
 use Rattle.md_base.specs.declared.places.Span.{Span}
 use Rattle.md_base.specs.declared.status.Role.{Role}
 use Rattle.md_base.specs.Sectors.{Sector, zero_sector}
-use Rattle.md_base.specs.Shapes.{data_disks, tolerance}
+use Rattle.md_base.specs.Shapes.{data_disks}
 use Rattle.md_base.proofs.Tabulated.{length-tabulate, get_or-tabulate}
 use Rattle.sb1.specs.declared.sb.Sb.{Sb}
 use Rattle.bank.specs.Given.{Given, Sizes, sizes}
 use Rattle.bank.specs.Tape.{Contents}
 use Rattle.layout.specs.Layout.{place, row_roles}
-use Rattle.layout.proofs.Places.{chunk_some, data_some, place-sector, place-role_below, place-sector_below, sector_at}
+use Rattle.layout.proofs.Places.{chunk_some, data_some, place-sector, place-role_below, place-row_below, place-sector_below, sector_at}
 use Rattle.parity.specs.Fills.{IsGoodBut}
 use Rattle.parity.specs.Parity.{Row, fill, lacking_in, AreEquationsMet}
 use Rattle.parity.specs.Rows.{IsSector, row_without, whole_row, filled_sector}
@@ -28,11 +28,11 @@ use Rattle.parity.proofs.Refilled.{filled-sector, good-filled}
 use Rattle.superblocks.specs.declared.members.Members.{Members}
 use Rattle.superblocks.specs.Reading.{Scope, Reading, reading, is_reshaping, shape_of, target_of, list_length, next_window, rows_held, role_state, holder, data_offset_of}
 use Rattle.superblocks.specs.Election.{reading_in}
-use Rattle.row_io.specs.Rows.{reading_of, is_held, held_slot, held_sector, held_row, standing_sector}
+use Rattle.row_io.specs.Rows.{reading_of, is_held, held_slot, held_sector, held_row, standing_sector, IsTolerated}
 use Rattle.row_io.specs.Writes.{is_parity}
 use Rattle.row_io.proofs.Losses.{row_is, all_stand}
-use Rattle.row_io.proofs.NewRow.{parity_few}
-use Rattle.list_io.specs.Full.{listed_at, full_sector, RowStands}
+use Rattle.row_io.proofs.NewRow.{parity_few, lacking_few}
+use Rattle.list_io.specs.Full.{listed_at, full_sector, AreWholeIn, RowStands}
 use Rattle.list_io.proofs.FullLaws.{full-data, listed-is, row_roles-valid, sector_there}
 use Rattle.list_io.proofs.Parities.{filled-same}
 use Rattle.flat_history.specs.ActiveSection.{section_for, active_section}
@@ -44,6 +44,7 @@ use Rattle.flat_history.proofs.SameLaws.{stands-is}
 use Rattle.array.specs.Placed.{places_of, IsPlaced}
 use Rattle.array.specs.Whole.{list_size}
 use Rattle.array.specs.Lacking.{ListStands, RowsStand}
+use Rattle.array.specs.Kept.{AreSectorsWhole}
 
 -- a list that nothing happened to
 now-first : (list : List Sector) (x : ℕ) → now list [] x ≡ slice_index_or list x []
@@ -178,27 +179,10 @@ module _ (bank : Given) (m : Members) (placed : IsPlaced bank m) (scope : Scope)
       let found = sector_there shape role row placed.valid lt here in
       sym (full-data shape list role row found.0 placed.valid found.1 ∙ list-there row role found.0 below found.1 ∙ standing-held row role slot held)
 
-  -- ---- the rows, where each sector is whole and each row is good
+  -- ---- the rows, where each sector is whole and no more roles are missing than the array can do without
 
-  -- some sector of the list has its place in the row
-  on-row : (row : ℕ) → row < m.newest.size → (x : ℕ) × (x < list_size (places_of m)) × ((place shape x).row ≡ row)
-  on-row row below =
-      let some : 0 < shape.chunk = chunk_some shape placed.valid in
-      let x : ℕ = sector_at shape (row / shape.chunk) 0 (row % shape.chunk) in
-      let at : (place shape x).row ≡ row =
-      ap (λ (q : Place). q.row) (place-sector shape (row / shape.chunk) 0 (row % shape.chunk) (data_some shape placed.valid) (mod_below row shape.chunk some)) ∙ div-add-mod' row shape.chunk in
-      (x, within-list row x below at, at)
-
-  module _ (sizes_are : scope.sizes ≡ sizes bank) (whole : (slot k : ℕ) → k < scope.sizes.sectors slot → IsSector (c slot k)) (good : HasGoodRows scope c r) where
-    good-row : (row : ℕ) → row < m.newest.size → IsGoodRow c r shape row
-    good-row row below =
-        let found = on-row row below in
-        let x : ℕ = found.0 in
-        let here : IsGoodRow c r (shape_for m.newest x) (place (shape_for m.newest x) x).row =
-        good x (omega (arith, found.1, length-is)) (ap (λ (o : Option Span). covers o x) (no-section scope.backup)) in
-        subst (λ (n : ℕ). IsGoodRow c r shape n) found.2
-        (subst (λ (s : Shape). IsGoodRow c r s (place s x).row) (shape-is x) here)
-
+  module _ (sizes_are : scope.sizes ≡ sizes bank) (whole : (slot k : ℕ) → k < scope.sizes.sectors slot → IsSector (c slot k))
+      (does : IsTolerated (reading_of m) (shape_of m.newest)) where
     module _ (row : ℕ) (below : row < m.newest.size) where
       abbrev roles : RowRoles
       roles = row_roles shape row
@@ -231,25 +215,16 @@ module _ (bank : Given) (m : Members) (placed : IsPlaced bank m) (scope : Scope)
           by true None each = zero-is_sector
           by false h each = zero-is_sector
 
-      row-is : found_row c r shape row ≡ row_without lacks shape.disks there
-      row-is = row-same row ∙ sym (row_is c own shape row there there (λ role slot lt held. there-is role slot held))
-
       few : length (lacking_in (row_without lacks shape.disks there)) ≤ 2
-      few = most shape.level (length (lacking_in (row_without lacks shape.disks there))) (subst (λ (l : Row). length (lacking_in l) ≤ tolerance shape) row-is (good-row row below).tolerated)
+      few = most (row_roles shape row).q (lacking_few own shape row there below does)
         where
-          most : (level n : ℕ) → n ≤ (if level == 6 then 2 else 1) → n ≤ 2
-          most level n le = by (level == 6) le
-            where
-              by : (b : Bool) → n ≤ (if b then 2 else 1) → n ≤ 2
-              by true le = le
-              by false le = omega (arith, le)
+          most : (q : Option ℕ) → length (lacking_in (row_without lacks shape.disks there)) ≤ option_map_or (λ q. 2) q 1 → length (lacking_in (row_without lacks shape.disks there)) ≤ 2
+          most (Some q) le = le
+          most None le = omega (arith, le)
 
       -- the row with its fills
       abbrev full : ℕ → Sector
       full = filled_sector roles lacks shape.disks there
-
-      full-good : AreEquationsMet roles (whole_row shape.disks full)
-      full-good = good-filled roles there there-whole lacks few (subst (λ (l : Row). AreEquationsMet roles l) row-is (good-row row below).parity)
 
       full-whole : (role : ℕ) → role < shape.disks → IsSector (full role)
       full-whole role lt = filled-sector roles there there-whole lacks few role lt
@@ -259,31 +234,70 @@ module _ (bank : Given) (m : Members) (placed : IsPlaced bank m) (scope : Scope)
           (λ other l held. ap (λ (b : Bool). cond (not b) (fill roles (row_without lacks shape.disks there) other) (there other)) held)
           (λ other l none. ap (λ (b : Bool). cond (not b) (fill roles (row_without lacks shape.disks there) other) (there other)) none) role lt
 
-      -- is that of the list
-      full-data_is : (role : ℕ) → role < shape.disks → is_parity roles role ≡ false → full role ≡ list (listed_at shape row role)
-      full-data_is role lt here =
-          let found = sector_there shape role row placed.valid lt here in
-          full-stands role lt ∙ sym (ap list (listed-is shape role row found.0 placed.valid found.1) ∙ list-there row role found.0 below found.1)
+      -- a sector that has its place in the row is that of its role
+      full-listed : (x : ℕ) → (place shape x).row ≡ row → list x ≡ full (place shape x).role
+      full-listed x at =
+          list-at x (within-list row x below at)
+          ∙ ap (λ (n : ℕ). standing_sector c own shape n (place shape x).role) at
+          ∙ sym (full-stands (place shape x).role (place-role_below shape placed.valid x))
 
-      full-parity_is : (role : ℕ) → role < shape.disks → is_parity roles role ≡ true → full role ≡ full_sector shape list row role
-      full-parity_is role lt here =
-          let but : IsGoodBut roles full (is_parity roles) =
-          record { valid = row_roles-valid shape row placed.valid; whole = full-whole; good = full-good; tolerated = parity_few roles full } in
-          sym (ap (λ (b : Bool). cond b (fill roles (row_without (is_parity roles) shape.disks full) role) (full role)) here ∙ fills-are-own roles full (is_parity roles) role but lt)
-          ∙ filled-same roles shape.disks full (λ other. list (listed_at shape row other)) full-data_is role lt
+      -- and so is whole
+      row-whole : AreWholeIn shape list row
+      row-whole x at = subst IsSector (sym (full-listed x at)) (full-whole (place shape x).role (place-role_below shape placed.valid x))
 
-      row-stands : RowStands own c shape list row
-      row-stands = record {
-        whole = λ x at.
-            let here : list x ≡ full (place shape x).role =
-            list-at x (within-list row x below at)
-            ∙ ap (λ (n : ℕ). standing_sector c own shape n (place shape x).role) at
-            ∙ sym (full-stands (place shape x).role (place-role_below shape placed.valid x)) in
-            subst IsSector (sym here) (full-whole (place shape x).role (place-role_below shape placed.valid x));
-        sectors = list-stands row below;
-        parity = λ role slot lt here held.
-            sym (standing-held row role slot held) ∙ sym (full-stands role lt) ∙ full-parity_is role lt here;
-      }
+    pub list-whole : AreSectorsWhole (list_size (places_of m)) (now (stands scope c) [])
+    list-whole x within = row-whole (place shape x).row (place-row_below shape placed.valid x m.newest.size placed.multiple within) x refl
 
-    pub rows-stand : RowsStand m c (now (stands scope c) [])
-    rows-stand row below = row-stands row below
+    -- ---- where each row is good
+
+    -- some sector of the list has its place in the row
+    on-row : (row : ℕ) → row < m.newest.size → (x : ℕ) × (x < list_size (places_of m)) × ((place shape x).row ≡ row)
+    on-row row below =
+        let some : 0 < shape.chunk = chunk_some shape placed.valid in
+        let x : ℕ = sector_at shape (row / shape.chunk) 0 (row % shape.chunk) in
+        let at : (place shape x).row ≡ row =
+        ap (λ (q : Place). q.row) (place-sector shape (row / shape.chunk) 0 (row % shape.chunk) (data_some shape placed.valid) (mod_below row shape.chunk some)) ∙ div-add-mod' row shape.chunk in
+        (x, within-list row x below at, at)
+
+    module _ (good : HasGoodRows scope c r) where
+      good-row : (row : ℕ) → row < m.newest.size → IsGoodRow c r shape row
+      good-row row below =
+          let found = on-row row below in
+          let x : ℕ = found.0 in
+          let here : IsGoodRow c r (shape_for m.newest x) (place (shape_for m.newest x) x).row =
+          good x (omega (arith, found.1, length-is)) (ap (λ (o : Option Span). covers o x) (no-section scope.backup)) in
+          subst (λ (n : ℕ). IsGoodRow c r shape n) found.2
+          (subst (λ (s : Shape). IsGoodRow c r s (place s x).row) (shape-is x) here)
+
+      module _ (row : ℕ) (below : row < m.newest.size) where
+        row-is : found_row c r shape row ≡ row_without (lacks row below) shape.disks (there row below)
+        row-is = row-same row ∙ sym (row_is c own shape row (there row below) (there row below) (λ role slot lt held. there-is row below role slot held))
+
+        full-good : AreEquationsMet (roles row below) (whole_row shape.disks (full row below))
+        full-good = good-filled (roles row below) (there row below) (there-whole row below) (lacks row below) (few row below)
+            (subst (λ (l : Row). AreEquationsMet (roles row below) l) row-is (good-row row below).parity)
+
+        -- is that of the list
+        full-data_is : (role : ℕ) → role < shape.disks → is_parity (roles row below) role ≡ false → full row below role ≡ list (listed_at shape row role)
+        full-data_is role lt here =
+            let found = sector_there shape role row placed.valid lt here in
+            full-stands row below role lt ∙ sym (ap list (listed-is shape role row found.0 placed.valid found.1) ∙ list-there row role found.0 below found.1)
+
+        full-parity_is : (role : ℕ) → role < shape.disks → is_parity (roles row below) role ≡ true → full row below role ≡ full_sector shape list row role
+        full-parity_is role lt here =
+            let but : IsGoodBut (roles row below) (full row below) (is_parity (roles row below)) =
+            record { valid = row_roles-valid shape row placed.valid; whole = full-whole row below; good = full-good; tolerated = parity_few (roles row below) (full row below) } in
+            sym (ap (λ (b : Bool). cond b (fill (roles row below) (row_without (is_parity (roles row below)) shape.disks (full row below)) role) (full row below role)) here
+            ∙ fills-are-own (roles row below) (full row below) (is_parity (roles row below)) role but lt)
+            ∙ filled-same (roles row below) shape.disks (full row below) (λ other. list (listed_at shape row other)) full-data_is role lt
+
+        row-stands : RowStands own c shape list row
+        row-stands = record {
+          whole = row-whole row below;
+          sectors = list-stands row below;
+          parity = λ role slot lt here held.
+              sym (standing-held row role slot held) ∙ sym (full-stands row below role lt) ∙ full-parity_is role lt here;
+        }
+
+      pub rows-stand : RowsStand m c (now (stands scope c) [])
+      rows-stand row below = row-stands row below

@@ -13,3 +13,4 @@ pub mod FoundRows
 pub mod PlacedFound
 pub mod Adopting
 pub mod RunningLaws
+pub mod NewSound

@@ -1,5 +1,5 @@
 -- What runs was made, or found, as it is answered.
-use Rattle.std.proofs.Common.{◌≡◌, ◌⊎◌, inl, inr, ℕ, zero, suc, ◌*◌, ◌<◌, ◌≤◌, Bool, true, false, cond, not, ◌&&◌, nat_lt, List, [], ◌∷◌, ◌++◌, length, take, get_or, Option, Some, None, IfSome, Result, Ok, Err, IfOk, refl, sym, ◌∙◌, ap, ap₂, subst, arith}
+use Rattle.std.proofs.Common.{◌≡◌, ◌⊎◌, inl, inr, ℕ, zero, suc, ◌*◌, ◌<◌, ◌≤◌, Bool, true, false, cond, not, if◌then◌else◌, ◌&&◌, nat_lt, List, [], ◌∷◌, ◌++◌, length, take, get_or, Option, Some, None, IfSome, Result, Ok, Err, IfOk, refl, sym, ◌∙◌, ap, ap₂, subst, arith}
 use Rattle.std.proofs.lemmas.Bool.{cases_lt}
 use Rattle.std.proofs.lemmas.Bool.Decides.{nat_tests}
 use Rattle.std.proofs.lemmas.List.{get_or-take}
@@ -34,9 +34,10 @@ use Rattle.flat_history.specs.Stands.{verdict}
 use Rattle.flat_history.specs.Plain.{entries_of}
 use Rattle.flat_history.specs.World.{World, opening_list, reading_at}
 use Rattle.flat_history.specs.Epochs.{OpensAlike}
+use Rattle.flat_history.specs.Opened.{IsSound, OpensSound}
 use Rattle.array.specs.declared.spec.CreateSpec.{CreateSpec}
 use Rattle.array.specs.Parts.{Parts}
-use Rattle.array.specs.Placed.{AreWhole, AreUnlost}
+use Rattle.array.specs.Placed.{places_of, AreWhole, AreUnlost}
 use Rattle.array.specs.Lacking.{DoesWithout}
 use Rattle.array.specs.Kept.{world_in, scope_in}
 use Rattle.array.specs.Calls.{world_for}
@@ -50,6 +51,7 @@ use Rattle.assemble.specs.Running.{opened_of, IsBegun, OpensWithZeros, IsCreated
 use Rattle.assemble.proofs.Judged.{elected-does}
 use Rattle.assemble.proofs.MadeLaws.{entry-is}
 use Rattle.assemble.proofs.SafeLaws.{opened-told}
+use Rattle.assemble.proofs.NewSound.{whole-sound}
 use Rattle.assemble.proofs.NewZeros.{new-arrays-are-zeros}
 use Rattle.assemble.proofs.Adopting.{adoptable}
 
@@ -167,6 +169,15 @@ module _ {tells : Type 0} (bank : Given) (tape : List Operation) (backup : Optio
         each = λ x lt. holds.each x (omega (arith, lt, holds.size));
       }
 
+  new-sound : tells → AreZeros spec.shape.disks spec (contents bank.start tape (length tape))
+      → OpensSound (world_in bank tape (scope_of bank backup opened.given opened.members.newest.set_uuid) (length tape))
+  unfolding reading_at
+  new-sound told zeros =
+      let law = new-arrays-are-zeros bank backup spec c opened new (opened-told told is) zeros in
+      subst (λ (o : Option Reading). IfSome o (IsSound (scope_of bank backup opened.given opened.members.newest.set_uuid) c)) (sym (is.says told))
+      (whole-sound (scope_of bank backup opened.given opened.members.newest.set_uuid) (places_of opened.members)
+      (record { valid = new.placed.valid; multiple = new.placed.multiple; short = new.placed.short }) c (reading_in bank.slots opened.members) law.0 law.1.good)
+
   pub new-adoptable : bank.slots ≤ 32 → (tells → AreFlushed bank.start tape opened.given) → (tells → AreInSectors (contents bank.start tape (length tape)) opened.members.own)
       → IsAdoptable tells bank tape (scope_of bank backup opened.given opened.members.newest.set_uuid) opened.members
   new-adoptable few flushed stand = adoptable bank tape backup (Some spec.uuid) opened few is inside flushed stand new.placed new-unlost
@@ -199,7 +210,7 @@ module _ {B tells : Type 0} (device : B) (bank : Given) (tape : List Operation) 
     last = adopted.last;
     backup_is = adopted.backup_is;
     uuid = adopted.uuid ∙ sym (ap (λ (m : Members). m.newest.set_uuid) adopted.members_are);
-    unsynced = adopted.unsynced ∙ sym (ap (λ (m : Members). not (is_clean m.newest)) adopted.members_are);
+    resync = adopted.resync ∙ sym (ap (λ (m : Members). if is_clean m.newest then None else Some 0) adopted.members_are);
     does = subst (λ (m : Members). DoesWithout m) (sym adopted.members_are) does;
   }
 
@@ -218,6 +229,7 @@ module _ {B tells : Type 0} (device : B) (bank : Given) (tape : List Operation) 
     zeros = λ told. subst (λ (w : World). OpensWithZeros (data_disks spec.shape * spec.size) (opening_list w)) (same-world told)
         (new-zeros bank tape backup spec opened new is told (zeros told));
     alike = λ told. subst (λ (w : World). OpensAlike w) (same-world told) (new-alike bank tape backup spec opened new is told);
+    sound = λ told. subst (λ (w : World). OpensSound w) (same-world told) (new-sound bank tape backup spec opened new is told (zeros told));
   }
 
   pub assembled : (asked : Option (List ℕ)) (before after : ℕ → ℕ) → IsOpened tells bank (contents bank.start tape (length tape)) backup asked opened

@@ -1,5 +1,5 @@
 -- An array that runs once it was made, or found, and why none does.
-use Rattle.std.specs.Prelude.{◌≡◌, ◌⊎◌, ℕ, ◌*◌, ◌<◌, not, List, [], length, slice_index_or, Option, Some, None, IfSome, IsFalse}
+use Rattle.std.specs.Prelude.{◌≡◌, ◌⊎◌, ℕ, ◌*◌, ◌<◌, if◌then◌else◌, List, [], length, slice_index_or, Option, Some, None, IfSome, IsFalse}
 use Rattle.md_base.specs.Sectors.{zero_sector}
 use Rattle.md_base.specs.Shapes.{data_disks}
 use Rattle.md_base.specs.declared.answers.Fault.{Fault}
@@ -15,6 +15,7 @@ use Rattle.row_io.specs.Rows.{reading_of, missing_count}
 use Rattle.flat_history.specs.World.{opening_list}
 use Rattle.flat_history.specs.Stands.{verdict}
 use Rattle.flat_history.specs.Epochs.{OpensAlike}
+use Rattle.flat_history.specs.Opened.{OpensSound}
 use Rattle.array.specs.Parts.{Parts}
 use Rattle.array.specs.Placed.{AreWhole}
 use Rattle.array.specs.Lacking.{DoesWithout}
@@ -37,7 +38,7 @@ pub record IsBegun {B : Type 0} (tells : Type 0) (tape : List Operation) (backup
   pub last : array.last ≡ array.first
   pub backup_is : array.backup ≡ backup
   pub uuid : array.uuid ≡ array.members.newest.set_uuid
-  pub unsynced : array.unsynced ≡ not (is_clean array.members.newest)
+  pub resync : array.resync ≡ (if is_clean array.members.newest then None else Some 0)
   pub does : DoesWithout array.members
 
 -- its list is of so many sectors, all zero
@@ -45,7 +46,7 @@ pub record OpensWithZeros (size : ℕ) (list : List (List ℕ)) : Type 0 where
   pub count : length list ≡ size
   pub each : (x : ℕ) → x < size → slice_index_or list x [] ≡ zero_sector
 
--- An array that was just made: it is new, with every role whole, its list is zero, and its superblocks are alike.
+-- An array that was just made: it is new, with every role whole, its list is zero, its superblocks are alike, and it is sound.
 pub record IsCreated {B : Type 0} (tells : Type 0) (bank : Given) (tape : List Operation) (backup : Option ℕ) (spec : CreateSpec) (made : Parts B) : Type 0 where
   pub begun : IsBegun tells tape backup made
   pub new : IsNew bank spec (opened_of made)
@@ -54,6 +55,7 @@ pub record IsCreated {B : Type 0} (tells : Type 0) (bank : Given) (tape : List O
   pub opened : IsOpened tells bank (contents bank.start tape (length tape)) backup (Some spec.uuid) (opened_of made)
   pub zeros : tells → OpensWithZeros (data_disks spec.shape * spec.size) (opening_list (world_for bank tape made))
   pub alike : tells → OpensAlike (world_for bank tape made)
+  pub sound : tells → OpensSound (world_for bank tape made)
 
 -- An array that was just found, of the uuid that was asked for, if one was.
 pub record IsAssembled {B : Type 0} (tells : Type 0) (bank : Given) (tape : List Operation) (backup : Option ℕ) (asked : Option (List ℕ))

@@ -118,6 +118,38 @@ fn goes_on_without_a_member(rt: HostRuntime) -> Result<(), Fail> {
     Ok(())
 }
 
+/// An array of 5 stripes that no update marked clean is found with none of them mended, and the end of its resync to do.
+#[test]
+fn finds_a_resync_pending(rt: HostRuntime) -> Result<(), Fail> {
+    let alloc = rt.alloc();
+    let mut bank = bank_of(alloc, &[])?;
+    let opened = made(&rt, alloc, &mut bank, &SPEC).expect(&rt, "an array");
+    for slot in 0..3 {
+        let dirty = Sb {
+            dev_number: slot,
+            resync_offset: 0,
+            ..opened.members.newest
+        };
+        put(&rt, &mut bank, slot, &dirty);
+    }
+    let array = match assembled(&rt, alloc, bank) {
+        Ok(array) => array,
+        Err(_) => return Err(Fail::from("not found")),
+    };
+    assert_eq!(rt; array.resync(), Some(0));
+    assert_eq!(rt; array.left(), 6);
+    Ok(())
+}
+
+/// And one that is clean has none.
+#[test]
+fn finds_no_resync_where_clean(rt: HostRuntime) -> Result<(), Fail> {
+    let array = created(&rt, rt.alloc())?;
+    assert_eq!(rt; array.resync(), None);
+    assert_eq!(rt; array.left(), 0);
+    Ok(())
+}
+
 /// Slot 1 has the first 8 rows of its role.
 #[test]
 fn refuses_what_is_rebuilt(rt: HostRuntime) -> Result<(), Fail> {

@@ -1,0 +1,45 @@
+-- What is read whole and has good rows is sound: so is a new array.
+use Rattle.std.proofs.Common.{◌≡◌, ℕ, ◌<◌, false, length, Some, ap, sym, ◌∙◌, subst, arith}
+use Rattle.md_base.specs.declared.places.Shape.{Shape}
+use Rattle.md_base.specs.Search.{tabulate}
+use Rattle.bank.specs.Tape.{Contents}
+use Rattle.layout.specs.Layout.{place, row_roles}
+use Rattle.layout.proofs.Places.{place-row_below}
+use Rattle.parity.specs.Parity.{Row, lacking_in, AreEquationsMet}
+use Rattle.parity.proofs.Lacking.{lacking_in-row, lack_list-none}
+use Rattle.superblocks.specs.Reading.{Scope, Reading}
+use Rattle.flat_history.specs.Opened.{IsSound}
+use Rattle.flat_history.specs.Reshaped.{IsGoodRow}
+use Rattle.flat_history.specs.Stands.{held_sector, held_row}
+use Rattle.array.specs.Rows.{AreGoodRows}
+use Rattle.array.specs.Whole.{Places, AreFit, in_row, list_size, IsReadWhole}
+use Rattle.array.proofs.WholeLaws.{length-is, shape-is, held-is}
+use Rattle.assemble.proofs.MadeLaws.{same-tabulated}
+
+module _ (scope : Scope) (p : Places) (fit : AreFit p) (c : Contents) (r : Reading) (whole : IsReadWhole scope p r) (good : AreGoodRows p c) where
+  -- every role holds its sector of a row
+  held-all : (row : ℕ) → row < p.size → held_row c r p.shape row ≡ tabulate p.shape.disks (λ role. Some (in_row p c row role))
+  held-all row short =
+      same-tabulated p.shape.disks (λ role. held_sector c r role row) (λ role. Some (in_row p c row role)) (λ role lt. held-is scope p fit c r whole role row lt short)
+
+  none-lacks : (row : ℕ) → row < p.size → length (lacking_in (held_row c r p.shape row)) ≡ 0
+  none-lacks row short =
+      ap (λ (l : Row). length (lacking_in l)) (held-all row short)
+      ∙ ap length (lacking_in-row (λ role. false) p.shape.disks (λ role. in_row p c row role) ∙ lack_list-none p.shape.disks)
+
+  good-row : (row : ℕ) → row < p.size → IsGoodRow c r p.shape row
+  good-row row short = record {
+    tolerated = let none = none-lacks row short in omega (arith, none);
+    parity = subst (λ (l : Row). AreEquationsMet (row_roles p.shape row) l) (sym (held-all row short)) (good row short);
+  }
+
+  -- no reshape is active, so that only its rows are asked for
+  pub whole-sound : IsSound scope c r
+  whole-sound = record {
+    rows = λ clean x within free.
+        let inside : x < list_size p = omega (arith, within, length-is scope p fit c r whole) in
+        subst (λ (s : Shape). IsGoodRow c r s (place s x).row) (sym (shape-is scope p fit c r whole x))
+        (good-row (place p.shape x).row (place-row_below p.shape fit.valid x p.size fit.multiple inside));
+    sections = λ active. absurd (let still = whole.still in cc);
+    tail = λ active. absurd (let still = whole.still in cc);
+  }
