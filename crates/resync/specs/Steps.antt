@@ -1,0 +1,34 @@
+-- The next step of an array's pending resync.
+use Rattle.std.specs.Prelude.{◌≡◌, ℕ, ◌==◌, Bool, true, false, List, if◌then◌else◌, Option, Some, None}
+use Rattle.md_base.specs.Sectors.{Sector}
+use Rattle.md_base.specs.declared.answers.Refusal.{Refusal}
+use Rattle.superblocks.specs.declared.members.Members.{Members}
+use Rattle.flat_history.specs.declared.events.Entry.{Entry}
+use Rattle.flat_history.specs.declared.events.StepKind.{StepKind}
+use Rattle.flat_history.specs.declared.events.StepKind.TheVariants.{ResyncStripe, ResyncEnded}
+use Rattle.flat_history.specs.Flat.{values_of}
+use Rattle.array.specs.Status.{stripes_of}
+use Rattle.array.specs.Lacking.{AreTooMany, IsUnwritten}
+use Rattle.array.specs.Calls.{one_more}
+
+-- a resync is pending, and has mended every stripe: its next step is its last
+abbrev pub is_at_end : Option ℕ → Members → Bool
+is_at_end None members = false
+is_at_end (Some mended) members = mended == stripes_of members
+
+-- the kind of the next step
+abbrev pub next_kind : Option ℕ → Members → StepKind
+next_kind resync members = if is_at_end resync members then ResyncEnded else ResyncStripe
+
+-- the resync after its next step: it has mended one stripe more, or isn't pending any more
+abbrev pub after_step : Option ℕ → Members → Option ℕ
+after_step resync members = if is_at_end resync members then None else one_more resync
+
+-- why the next step isn't done, by whether it is the last
+abbrev pub IsUnmended : Bool → Members → Refusal → Type 0
+IsUnmended true members refusal = AreTooMany members refusal
+IsUnmended false members refusal = IsUnwritten false members refusal
+
+-- each sector of the list that stood at the opening holds what it held, and a stop may leave the same in its place
+abbrev pub AreValuesKept : List Entry → List Entry → Type 0
+AreValuesKept old new = (list : List Sector) (x : ℕ) → values_of list new x ≡ values_of list old x

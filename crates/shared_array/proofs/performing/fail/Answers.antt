@@ -1,0 +1,9 @@
+use Rattle.flat_history.specs.declared.events.Event.TheVariants.{Failed}
+use Rattle.flat_history.specs.declared.events.Request.TheVariants.{Fail as AsksFail}
+use Rattle.array.specs.Whole.{list_size}
+use Rattle.array.specs.Placed.{places_of}
+use Rattle.shared_array.proofs.Replies.{told-answer}
+use Rattle.shared_array.proofs.performing.fail.Goals as goal
+
+pub returns-clause-replied : goal.returns-clause-replied
+returns-clause-replied g c = told-answer (list_size (places_of c.args.array.now.members)) (AsksFail c.args.role) c.args.who c.args.array.now.entries c.fail-answer.new.self.entries (Failed c.args.role) c.fail-answer.result c.told.result c.told.ensures c.fail-answer.ensures.answered
