@@ -4,7 +4,7 @@ use Rattle.std.specs.List.{slice_split, enumerate_from, filter_map}
 use Rattle.md_base.specs.Search.{least_below}
 use Rattle.script.specs.Grammar.{is_span, meaning_of}
 use Rattle.script.specs.declared.lines.Line.{Line}
-use Rattle.script.specs.declared.lines.Line.TheVariants.{Read, Write}
+use Rattle.script.specs.declared.lines.Line.TheVariants.{Read, Write, Step}
 use Rattle.script.specs.declared.lines.Numbered.{Numbered}
 use Rattle.script.specs.declared.lines.ScriptFault.{ScriptFault}
 use Rattle.script.specs.declared.lines.ScriptFault.TheVariants.{BadLine, NoMemory}
@@ -44,10 +44,11 @@ sectors_of (Read start count) = count
 sectors_of (Write start count seed) = count
 sectors_of line = 0
 
--- what a line reads or writes is a span
+-- what a line reads or writes is a span, and one for steps asks for at least one
 abbrev pub is_within_limits : Line → Bool
 is_within_limits (Read start count) = is_span (start, count)
 is_within_limits (Write start count seed) = is_span (start, count)
+is_within_limits (Step most) = nat_le 1 most
 is_within_limits line = true
 
 abbrev pub total_sectors : List Numbered → ℕ

@@ -17,6 +17,8 @@ pub enum Line {
     Write { at: u64, count: u32, seed: u32 },
     Flush,
     Fail { role: u32 },
+    Step { most: u32 },
+    Wait,
     Stop,
     Halt,
     Assemble { uuid: Option<[u8; 16]> },

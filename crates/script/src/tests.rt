@@ -63,7 +63,7 @@ fn whole_texts(rt: HostRuntime) -> Result<(), Fail> {
 // Lines that begin with a verb and a uuid, or not, and whether they are in the grammar.
 #[test]
 fn lines_of_the_array(rt: HostRuntime) -> Result<(), Fail> {
-    let lines: [(&str, bool); 30] = [
+    let lines: [(&str, bool); 37] = [
         ("flush", true),
         ("  stop  ", true),
         ("halt", true),
@@ -77,6 +77,15 @@ fn lines_of_the_array(rt: HostRuntime) -> Result<(), Fail> {
         ("fail 4294967296", false),
         ("fail 1 2", false),
         ("fail 01", false),
+        ("step 1", true),
+        ("step 4294967295", true),
+        ("step", false),
+        ("step 0", false),
+        ("step 4294967296", false),
+        ("step 01", false),
+        ("step 1 2", false),
+        ("wait", true),
+        ("wait 1", false),
         ("assemble", true),
         ("assemble 6BA7B8109DAD11D180B400C04FD430C8", true),
         ("assemble {6ba7b810-9dad-11d1-80b4-00c04fd430c8}", true),
@@ -98,8 +107,6 @@ fn lines_of_the_array(rt: HostRuntime) -> Result<(), Fail> {
             "create 6ba7b810-9dad-11d1-80b4-00c04fd430c level=5 disks=3 size=40",
             false,
         ),
-        ("step 1", false),
-        ("wait", false),
         ("grow disks=5", false),
         ("array-size max", false),
         ("detail", false),
@@ -242,7 +249,7 @@ fn layouts_by_name(rt: HostRuntime) -> Result<(), Fail> {
 #[test]
 fn asked_lines(rt: HostRuntime) -> Result<(), Fail> {
     let text = format!(in rt.alloc();
-        "assemble\n# one\ncreate {UUID} level=5 disks=3 chunk=8 size=40 offset=16\n\nwrite 5 1 7\nread 0 2\nflush\nhalt\nassemble {UUID}\nfail 3\nstop"
+        "assemble\n# one\ncreate {UUID} level=5 disks=3 chunk=8 size=40 offset=16\n\nwrite 5 1 7\nread 0 2\nflush\nhalt\nassemble {UUID}\nfail 3\nstep 1\nstep 4294967295\nwait\nstop"
     )?;
     let lines = read_script(rt.alloc(), text.as_bytes())?;
     let wanted = [
@@ -266,7 +273,10 @@ fn asked_lines(rt: HostRuntime) -> Result<(), Fail> {
             },
         ),
         (10, Line::Fail { role: 3 }),
-        (11, Line::Stop),
+        (11, Line::Step { most: 1 }),
+        (12, Line::Step { most: u32::MAX }),
+        (13, Line::Wait),
+        (14, Line::Stop),
     ];
     assert_eq!(rt; lines.len(), wanted.len());
     for (k, (number, line)) in wanted.iter().enumerate() {
