@@ -1,7 +1,9 @@
 -- A line that was answered by an array, and the place of its reply in the history.
 use Rattle.std.proofs.Common.{◌≡◌, ◌≢◌, ℕ, zero, suc, ◌+◌, ◌/◌, ◌≤◌, Some, List, [], ◌∷◌, ◌++◌, length, take, drop, Result, Ok, Err, refl, sym, ◌∙◌, ap, subst, arith, append_assoc, length-append}
 use Rattle.std.proofs.lemmas.List.{take_at}
+use Rattle.std.proofs.lemmas.List.Elements.{All-nil, All-cons}
 use Rattle.std.specs.Prelude.{slice_get}
+use Rattle.std.specs.List.{All}
 use Rattle.md_base.specs.declared.answers.Who.{Who}
 use Rattle.md_base.specs.declared.answers.Fault.{Fault}
 use Rattle.md_base.specs.declared.answers.Fault.TheVariants.{Refused as IsRefusedWith, NoMemory}
@@ -20,14 +22,14 @@ use Rattle.array.specs.Losing.{losses_of}
 use Rattle.flat_history.specs.declared.events.Request.{Request}
 use Rattle.flat_history.specs.Flat.{rest_of_call, next_number}
 use Rattle.flat_history.specs.Plain.{entries_of}
-use Rattle.flat_history.specs.OneShape.{OneShapeFits}
+use Rattle.flat_history.specs.OneShape.{IsOfCall, OneShapeFits}
 use Rattle.array.specs.Lacking.{AreTooMany}
 use Rattle.array.specs.Calls.{OnNoMemory, IsReplied, IsAnswered, IsEntered, IsBehind, IsRefusedFor}
-use Rattle.script.specs.declared.lines.Line.TheVariants.{Stop, Halt}
+use Rattle.script.specs.declared.lines.Line.TheVariants.{Wait, Stop, Halt}
 use Rattle.script.specs.declared.lines.Line.{Line}
 use Rattle.script.specs.Seeds.{seeded, seed_sector}
 use Rattle.runner.specs.Asked.{script_who, IsAskedAt}
-use Rattle.runner.specs.Replies.{FitsLine, IsReplyAt}
+use Rattle.runner.specs.Replies.{FitsLine, IsReplyAt, IsRepliedAt}
 
 -- the entry of an event of a call
 abbrev pub one : Who → ℕ → Event → Entry
@@ -37,32 +39,40 @@ pub entries_of-append : (who : Who) (end : ℕ) (xs ys : List Event) → entries
 entries_of-append who end [] ys = refl
 entries_of-append who end (x ∷ xs) ys = ap (λ (l : List Entry). one who end x ∷ l) (entries_of-append who end xs ys)
 
--- the history before the last entry of a call, and with it
-pub with_last : {new : List Entry} (old : List Entry) (who : Who) (end : ℕ) (inner : List Event) (event : Event) → new ≡ old ++ entries_of who end (inner ++ event ∷ [])
-    → new ≡ (old ++ entries_of who end inner) ++ one who end event ∷ []
-with_last old who end inner event is =
-    is ∙ ap (λ (l : List Entry). old ++ l) (entries_of-append who end inner (event ∷ [])) ∙ sym (append_assoc old (entries_of who end inner) (one who end event ∷ []))
+-- the entries of a call's events are of that call
+own_call : (who : Who) (end : ℕ) (events : List Event) → All (λ e. IsOfCall who e) (entries_of who end events)
+own_call who end [] = All-nil (λ e. IsOfCall who e)
+own_call who end (event ∷ events) = All-cons (λ e. IsOfCall who e) (one who end event) (entries_of who end events) (refl, refl) (own_call who end events)
 
-pub with_reply : {size : ℕ} {line : Line} {old new : List Entry} {place : ℕ} (was : IsAskedAt size line old new place) → new ≡ (old ++ entries_of (script_who old) was.end was.inner) ++ one (script_who old) was.end was.event ∷ []
-with_reply {old = old} was = with_last old (script_who old) was.end was.inner was.event was.is
+-- the last of them stands alone
+last_alone : {new : List Entry} (old : List Entry) (who : Who) (end : ℕ) (inner : List Event) (event : Event) → new ≡ old ++ entries_of who end (inner ++ event ∷ []) → new ≡ old ++ (entries_of who end inner ++ one who end event ∷ [])
+last_alone old who end inner event is = is ∙ ap (λ (l : List Entry). old ++ l) (entries_of-append who end inner (event ∷ []))
 
-reply_length : {size : ℕ} {line : Line} {old new : List Entry} {place : ℕ} (was : IsAskedAt size line old new place) → length new ≡ length (old ++ entries_of (script_who old) was.end was.inner) + 1
-reply_length {old = old} was = ap (λ (l : List Entry). length l) (with_reply was) ∙ length-append (old ++ entries_of (script_who old) was.end was.inner) (one (script_who old) was.end was.event ∷ [])
+-- something stands behind the former entries
+longer : {new : List Entry} (old inner : List Entry) (e : Entry) → new ≡ old ++ (inner ++ e ∷ []) → 1 ≤ length new
+longer old inner e is = let long = ap (λ (l : List Entry). length l) is ∙ length-append old (inner ++ e ∷ []) in let last = length-append inner (e ∷ []) in omega (arith, long, last)
+
+-- the history before the reply, and with it
+pub with_reply : {size : ℕ} {line : Line} {old new : List Entry} {place : ℕ} (was : IsAskedAt size line old new place) → new ≡ (old ++ was.inner) ++ one (script_who old) was.end was.event ∷ []
+with_reply {old = old} was = was.is ∙ sym (append_assoc old was.inner (one (script_who old) was.end was.event ∷ []))
+
+reply_length : {size : ℕ} {line : Line} {old new : List Entry} {place : ℕ} (was : IsAskedAt size line old new place) → length new ≡ length (old ++ was.inner) + 1
+reply_length {old = old} was = ap (λ (l : List Entry). length l) (with_reply was) ∙ length-append (old ++ was.inner) (one (script_who old) was.end was.event ∷ [])
 
 -- a call that was answered made the history longer
 pub grew : {size : ℕ} {request : Request} {who : Who} {old new : List Entry} {event : Event} → IsReplied size request who old new event → 1 ≤ length new
-grew {who = who} {old = old} {event = event} was =
-    let is = ap (λ (l : List Entry). length l) (with_last old who was.end was.inner event was.is) ∙ length-append (old ++ entries_of who was.end was.inner) (one who was.end event ∷ []) in omega (arith, is)
+grew {who = who} {old = old} {event = event} was = longer old (entries_of who was.end was.inner) (one who was.end event) (last_alone old who was.end was.inner event was.is)
 
 -- a request that was answered is a line that was
 pub asked_at : {size : ℕ} {request : Request} {who : Who} {old new : List Entry} {event : Event} (line : Line) (place : ℕ) → IsReplied size request who old new event
     → ((before : List Entry) (e : Entry) → OneShapeFits size before e request → FitsLine size before e line) → who ≡ script_who old → place + 1 ≡ length new → IsAskedAt size line old new place
 asked_at {size = size} {request = request} {old = old} {new = new} {event = event} line place was fits script at_end =
     let now = subst (λ (w : Who). IsReplied size request w old new event) script was in record {
-      inner = now.inner;
+      inner = entries_of (script_who old) now.end now.inner;
       event = event;
       end = now.end;
-      is = now.is;
+      own = own_call (script_who old) now.end now.inner;
+      is = last_alone old (script_who old) now.end now.inner event now.is;
       fits = fits (old ++ entries_of (script_who old) now.end now.inner) (one (script_who old) now.end event) now.fits;
       at_end = at_end;
     }
@@ -75,14 +85,14 @@ get-last (x ∷ xs) e = get-last xs e
 pub entry_there : {size : ℕ} {line : Line} {old new : List Entry} {place : ℕ} (asked : IsAskedAt size line old new place) → slice_get new place ≡ Some (one (script_who old) asked.end asked.event)
 entry_there {old = old} {new = new} {place = place} asked =
     let e = one (script_who old) asked.end asked.event in
-    let before : List Entry = old ++ entries_of (script_who old) asked.end asked.inner in
+    let before : List Entry = old ++ asked.inner in
     let at : place ≡ length before = omega (arith, asked.at_end, reply_length asked) in
     ap (λ (l : List Entry). slice_get l place) (with_reply asked) ∙ ap (λ (n : ℕ). slice_get (before ++ e ∷ []) n) at ∙ get-last before e
 
 pub reply_at : {size : ℕ} {line : Line} {old new : List Entry} {place : ℕ} → IsAskedAt size line old new place → IsReplyAt size new place (next_number 0 old) line
 reply_at {size = size} {line = line} {old = old} {new = new} {place = place} asked =
     let e = one (script_who old) asked.end asked.event in
-    let before : List Entry = old ++ entries_of (script_who old) asked.end asked.inner in
+    let before : List Entry = old ++ asked.inner in
     let at : place ≡ length before = omega (arith, asked.at_end, reply_length asked) in
     record {
       entry = e;
@@ -101,6 +111,11 @@ reply_at {size = size} {line = line} {old = old} {new = new} {place = place} ask
         drop_nothing (suc n) = refl
     drop_past zero (x ∷ l) le = absurd (omega (arith, le))
     drop_past (suc n) (x ∷ l) le = drop_past n l (omega (arith, le))
+
+-- each line but a wait has one call
+pub replied_at : {size : ℕ} {old new : List Entry} {place : ℕ} (line : Line) → IsAskedAt size line old new place → IsRepliedAt size new place (next_number 0 old) line
+replied_at Wait asked = absurd asked.fits
+replied_at line asked = reply_at asked
 
 -- an answer that isn't want of memory is a reply
 pub answered_reply : (size : ℕ) (request : Request) (who : Who) (old new : List Entry) (event : Event) (r : Result (Unit {0}) Fault) → IsAnswered size request who old new event r → r ≢ Err NoMemory
@@ -123,12 +138,22 @@ seeded_count bytes seed at count is = sym (length-sectors_of bytes) ∙ ap (λ (
 pub asked_halt : {tells : Type 0} {tape : List Operation} {old new : List Entry} (size place : ℕ) (who : Who) → who ≡ script_who old → IsEntered tells tape who old new (Halted ∷ []) → place + 1 ≡ length new → (asked : IsAskedAt size Halt old new place) × (asked.event ≡ Halted) × (tells → asked.end ≡ length tape)
 asked_halt {tells = tells} {tape = tape} {old = old} {new = new} size place who script was at_end =
     let now = subst (λ (w : Who). IsEntered tells tape w old new (Halted ∷ [])) script was in
-    (record { inner = []; event = Halted; end = now.end; is = now.is; fits = tt; at_end = at_end }, refl, now.at_end)
+    (record { inner = []; event = Halted; end = now.end; own = All-nil (λ e. IsOfCall (script_who old) e); is = now.is; fits = tt; at_end = at_end }, refl, now.at_end)
 
 pub asked_stop : {old new : List Entry} (size place : ℕ) (who : Who) → who ≡ script_who old → IsBehind who old new Stopped → place + 1 ≡ length new → (asked : IsAskedAt size Stop old new place) × (asked.event ≡ Stopped)
 asked_stop {old = old} {new = new} size place who script was at_end =
-    let now = subst (λ (w : Who). IsBehind w old new Stopped) script was in
-    (record { inner = losses_of now.roles now.spares; event = Stopped; end = now.end; is = now.is; fits = tt; at_end = at_end }, refl)
+    let now = subst (λ (w : Who). IsBehind w old new Stopped) script was in (
+      record {
+        inner = entries_of (script_who old) now.end (losses_of now.roles now.spares);
+        event = Stopped;
+        end = now.end;
+        own = own_call (script_who old) now.end (losses_of now.roles now.spares);
+        is = last_alone old (script_who old) now.end (losses_of now.roles now.spares) Stopped now.is;
+        fits = tt;
+        at_end = at_end;
+      },
+      refl,
+    )
 
 -- a stop is refused where too many roles are missing
 fits_refused : (visible : ℕ) (old new : Members) (refusal : Refusal) → IsRefusedFor visible 0 AreTooMany old new refusal → FitsStop (Refused refusal)
@@ -137,16 +162,26 @@ fits_refused visible old new refusal is = subst (λ (r : Refusal). FitsStop (Ref
 
 pub asked_unstopped : {old new : List Entry} (size place visible : ℕ) (before after : Members) (who : Who) (refusal : Refusal) → who ≡ script_who old → IsBehind who old new (Refused refusal) → IsRefusedFor visible 0 AreTooMany before after refusal → place + 1 ≡ length new → (asked : IsAskedAt size Stop old new place) × (asked.event ≡ Refused refusal)
 asked_unstopped {old = old} {new = new} size place visible before after who refusal script was why at_end =
-    let now = subst (λ (w : Who). IsBehind w old new (Refused refusal)) script was in
-    (record { inner = losses_of now.roles now.spares; event = Refused refusal; end = now.end; is = now.is; fits = fits_refused visible before after refusal why; at_end = at_end }, refl)
+    let now = subst (λ (w : Who). IsBehind w old new (Refused refusal)) script was in (
+      record {
+        inner = entries_of (script_who old) now.end (losses_of now.roles now.spares);
+        event = Refused refusal;
+        end = now.end;
+        own = own_call (script_who old) now.end (losses_of now.roles now.spares);
+        is = last_alone old (script_who old) now.end (losses_of now.roles now.spares) (Refused refusal) now.is;
+        fits = fits_refused visible before after refusal why;
+        at_end = at_end;
+      },
+      refl,
+    )
 
 -- a call that entered something made the history longer
 pub behind_grew : {old new : List Entry} {event : Event} (who : Who) → IsBehind who old new event → 1 ≤ length new
 behind_grew {old = old} {event = event} who was =
-    let is = ap (λ (l : List Entry). length l) (with_last old who was.end (losses_of was.roles was.spares) event was.is) ∙ length-append (old ++ entries_of who was.end (losses_of was.roles was.spares)) (one who was.end event ∷ []) in omega (arith, is)
+    longer old (entries_of who was.end (losses_of was.roles was.spares)) (one who was.end event) (last_alone old who was.end (losses_of was.roles was.spares) event was.is)
 
 pub halt_grew : {tells : Type 0} {tape : List Operation} {old new : List Entry} (who : Who) → IsEntered tells tape who old new (Halted ∷ []) → 1 ≤ length new
-halt_grew {old = old} who was = let is = ap (λ (l : List Entry). length l) was.is ∙ length-append old (one who was.end Halted ∷ []) in omega (arith, is)
+halt_grew {old = old} who was = longer old [] (one who was.end Halted) was.is
 
 -- what holds where memory was short
 pub on_no_memory : {fact : Type 0} (r : Result (Unit {0}) Fault) → OnNoMemory r fact → r ≡ Err NoMemory → fact

@@ -10,7 +10,6 @@ use Rattle.flat_history.specs.declared.events.Entry.{Entry}
 use Rattle.flat_history.specs.declared.events.Epoch.{Epoch}
 use Rattle.flat_history.specs.declared.events.Event.TheVariants.{Halted}
 use Rattle.flat_history.specs.Flat.{next_number, last_of}
-use Rattle.flat_history.specs.Plain.{entries_of}
 use Rattle.md_base.specs.declared.answers.Who.{Who}
 use Rattle.array.specs.Calls.{IsEntered}
 use Rattle.array.specs.Parts.{Parts}
@@ -31,9 +30,9 @@ use Rattle.runner.specs.Replies.{Course, at_rest, course_after, course_of}
 use Rattle.runner.specs.Runs.{status_for, stop_of, IsHalted, AreLinesPerformed, AreLossesFailed, IsEnded}
 use Rattle.runner.specs.Sessions.{counted, IsCourse, IsCourseBehind, taken_whole, IsTaken, IsPerformed, IsShownTo}
 use Rattle.runner.specs.Shown.{report_text, has_refusal}
-use Rattle.runner.specs.States.{running_history, histories_in, course_in, RunsOwn, IsLossSince, AreLossesFrom, IsFoundUntold}
+use Rattle.runner.specs.States.{running_history, histories_in, course_in, RunsOwn, IsLossSince, AreLossesFrom, IsCallNamed, IsFoundUntold}
 use Rattle.runner.proofs.AskLaws.{one, with_reply}
-use Rattle.runner.proofs.Growth.{IsWider, replies_stay, replies_front, shown_stays, courses_stay, course_stays, named_stay}
+use Rattle.runner.proofs.Growth.{IsWider, replies_stay, replies_front, shown_stays, courses_stay, course_stays, called_named, called_stays}
 use Rattle.runner.proofs.Losses.{losses-halted, losses-whole, losses-kept, losses-last, losses_add}
 use Rattle.runner.proofs.Turns.{now_are, turn_ended, grown_kept, get_last}
 
@@ -61,7 +60,7 @@ ended_running {place = place} setting who array epoch epochs ended items own ent
             (sym (ap (λ (l : List History). slice_get l (length (histories_of ended.items) - 1)) are
             ∙ ap (λ (n : ℕ). slice_get (histories_of epochs.items ++ history_of epoch ∷ []) n) {y = length (histories_of epochs.items)} (omega (arith, many)) ∙ get_last (histories_of epochs.items) (history_of epoch)))
             (subst (λ (o : Option Entry). MatchOption o ⊥ (λ e. (e.caller ≡ 0) × (e.number ≡ next_number 0 array.entries) × (e.event ≡ Halted)))
-            (sym (ap (λ (l : List Entry). last_of l) (with_reply asked) ∙ last-snoc (array.entries ++ entries_of (script_who array.entries) asked.end asked.inner) (one (script_who array.entries) asked.end asked.event)))
+            (sym (ap (λ (l : List Entry). last_of l) (with_reply asked) ∙ last-snoc (array.entries ++ asked.inner) (one (script_who array.entries) asked.end asked.event)))
             (refl, refl, halts));
       };
       script = turn.own;
@@ -98,22 +97,22 @@ module _ {B bank_tells : Type 0} {given : Given} {backup : Option ℕ} {tape : L
   same_setting : IsWider (setting_of bank_tells given first_tape tape backup start now) (setting_of bank_tells given first_tape tape backup start now)
   same_setting = record { told = λ t. t; given = refl; backup = refl; grows = record { more = λ t. ([], sym (append-nil tape)) }; early = λ s. omega arith; between = falls; late = λ s. omega arith }
 
-  shown_end : (report_text (histories_of epochs) session.replies.items ≡ report_text (histories_in session.state) session.replies.items)
-      × (has_refusal (histories_of epochs) session.replies.items ≡ has_refusal (histories_in session.state) session.replies.items)
-  shown_end = shown_stays (setting_of bank_tells given first_tape tape backup start now) (histories_in session.state) (histories_of epochs) (at_rest 0) (take (length session.replies.items) lines) session.replies.items ended.grown performed.replies
+  shown_end : (report_text (histories_of epochs) lines session.replies.items ≡ report_text (histories_in session.state) lines session.replies.items)
+      × (has_refusal (histories_of epochs) lines session.replies.items ≡ has_refusal (histories_in session.state) lines session.replies.items)
+  shown_end = shown_stays (setting_of bank_tells given first_tape tape backup start now) (histories_in session.state) (histories_of epochs) (at_rest 0) (length session.replies.items) lines session.replies.items ended.grown performed.replies
 
   -- the text of the first so many replies
-  part_end : (n : ℕ) → n ≤ length session.replies.items → report_text (histories_of epochs) (take n session.replies.items) ≡ report_text (histories_in session.state) (take n session.replies.items)
-  part_end n le = (shown_stays (setting_of bank_tells given first_tape tape backup start now) (histories_in session.state) (histories_of epochs) (at_rest 0) (take n (take (length session.replies.items) lines)) (take n session.replies.items) ended.grown
-      (replies_front (setting_of bank_tells given first_tape tape backup start now) (histories_in session.state) (at_rest 0) n (take (length session.replies.items) lines) session.replies.items performed.replies)).0
+  part_end : (n : ℕ) → n ≤ length session.replies.items → report_text (histories_of epochs) lines (take n session.replies.items) ≡ report_text (histories_in session.state) lines (take n session.replies.items)
+  part_end n le = (shown_stays (setting_of bank_tells given first_tape tape backup start now) (histories_in session.state) (histories_of epochs) (at_rest 0) n lines (take n session.replies.items) ended.grown
+      (replies_front (setting_of bank_tells given first_tape tape backup start now) (histories_in session.state) (at_rest 0) n (length session.replies.items) lines session.replies.items le performed.replies)).0
 
-  whole_end : (o : Option Stop) → report_text (histories_of epochs) (taken_whole o session.replies.items) ≡ report_text (histories_in session.state) (taken_whole o session.replies.items)
+  whole_end : (o : Option Stop) → report_text (histories_of epochs) lines (taken_whole o session.replies.items) ≡ report_text (histories_in session.state) lines (taken_whole o session.replies.items)
   whole_end None = shown_end.0
   whole_end (Some WriteFault) = part_end (length session.replies.items - 1) (omega arith)
   whole_end (Some WantsMemory) = shown_end.0
 
-  pub end_status : status ≡ status_for (stop_of status) (has_refusal (histories_of epochs) session.replies.items)
-  end_status = told ∙ ap (λ (b : Bool). status_for session.stopped b) (performed.refused ∙ sym (shown_end.1)) ∙ ap (λ (o : Option Stop). status_for o (has_refusal (histories_of epochs) session.replies.items)) (sym is_stop)
+  pub end_status : status ≡ status_for (stop_of status) (has_refusal (histories_of epochs) lines session.replies.items)
+  end_status = told ∙ ap (λ (b : Bool). status_for session.stopped b) (performed.refused ∙ sym (shown_end.1)) ∙ ap (λ (o : Option Stop). status_for o (has_refusal (histories_of epochs) lines session.replies.items)) (sym is_stop)
 
   abbrev told_by : List History → Course
   told_by histories = course_of histories (at_rest 0) (take (length session.replies.items) lines) session.replies.items
@@ -138,8 +137,8 @@ module _ {B bank_tells : Type 0} {given : Given} {backup : Option ℕ} {tape : L
       by_first [] next = absurd next
       by_first (l ∷ ls) (inl (what, named, is)) = inl (
         what,
-        named_stay (histories_in session.state) (histories_of epochs) what ended.grown named,
-        is ∙ sym (course_stays (histories_in session.state) (histories_of epochs) (told_by (histories_in session.state)) l.line what ended.grown named)
+        subst (λ (c : Course). IsCallNamed (histories_of epochs) c l.line what) (sym told_still) (called_stays (histories_in session.state) (histories_of epochs) (told_by (histories_in session.state)) l.line what ended.grown named),
+        is ∙ sym (course_stays (histories_in session.state) (histories_of epochs) (told_by (histories_in session.state)) l.line what ended.grown (called_named (histories_in session.state) (told_by (histories_in session.state)) l.line what named))
             ∙ ap (λ (c : Course). course_after (histories_of epochs) c l.line what) (sym told_still),
       )
       by_first (l ∷ ls) (inr untold) = inr (by_line l.line untold)
@@ -165,11 +164,11 @@ module _ {B bank_tells : Type 0} {given : Given} {backup : Option ℕ} {tape : L
       (losses_add (setting_of bank_tells given first_tape tape backup start now) (setting_of bank_tells given tape tape backup now now) (setting_of bank_tells given first_tape tape backup start now) same_setting end_setting (histories_in session.state) (histories_of epochs) ended.grown
       performed.losses ended.losses)
 
-  module _ {K : Type 0} {old new : List ℕ} {old_faults new_faults : ℕ} (shown : IsShownTo K session old new old_faults new_faults) where
-    pub end_taken : K → IsTaken (stop_of status) old new (report_text (histories_of epochs) session.replies.items)
-    end_taken holds = subst (λ (o : Option Stop). IsTaken o old new (report_text (histories_of epochs) session.replies.items)) (sym is_stop)
+  module _ {K : Type 0} {old new : List ℕ} {old_faults new_faults : ℕ} (shown : IsShownTo K lines session old new old_faults new_faults) where
+    pub end_taken : K → IsTaken (stop_of status) old new (report_text (histories_of epochs) lines session.replies.items)
+    end_taken holds = subst (λ (o : Option Stop). IsTaken o old new (report_text (histories_of epochs) lines session.replies.items)) (sym is_stop)
         (subst (λ (t : List ℕ). IsTaken session.stopped old new t) (sym (shown_end.0)) (shown.taken holds))
 
-    pub end_shown : session.shown ≡ counted (length (report_text (histories_of epochs) (taken_whole (stop_of status) session.replies.items)))
+    pub end_shown : session.shown ≡ counted (length (report_text (histories_of epochs) lines (taken_whole (stop_of status) session.replies.items)))
     end_shown = shown.shown ∙ ap (λ (t : List ℕ). counted (length t)) (sym (whole_end session.stopped))
-        ∙ ap (λ (o : Option Stop). counted (length (report_text (histories_of epochs) (taken_whole o session.replies.items)))) (sym is_stop)
+        ∙ ap (λ (o : Option Stop). counted (length (report_text (histories_of epochs) lines (taken_whole o session.replies.items)))) (sym is_stop)

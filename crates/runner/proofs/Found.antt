@@ -28,7 +28,7 @@ use Rattle.array.specs.Placed.{places_of}
 use Rattle.array.specs.declared.spec.CreateSpec.{CreateSpec}
 use Rattle.assemble.specs.Opening.{scope_of, IsOpened}
 use Rattle.assemble.specs.Running.{opened_of, IsBegun, IsCreated, IsAssembled}
-use Rattle.array.specs.Status.{IsStatusFor}
+use Rattle.array.specs.Status.{left_of, IsStatusFor}
 use Rattle.runner.specs.Histories.{History}
 use Rattle.runner.specs.Making.{Setting, world_at, history_world, HeldAtFirst, MissingAtFirst, AreHeldAtFirst, IsStored, IsStoredNew, IsStoredAs}
 use Rattle.runner.specs.States.{running_history}
@@ -133,11 +133,11 @@ module _ {B tells : Type 0} {before after : ℕ → ℕ} (given : Given) (tape :
   no_target = let still = is.opened.still in cc
 
   left : status.left ≡ (if is_clean found.members.newest then 0 else found.members.newest.size / (shape_of found.members.newest).chunk + 1)
-  left = told.left ∙ ap (λ (b : Bool). if b then found.members.newest.size / (shape_of found.members.newest).chunk + 1 else 0) is.begun.unsynced ∙ turned (is_clean found.members.newest)
+  left = told.left ∙ ap (λ (o : Option ℕ). left_of o found.members) is.begun.resync ∙ turned (is_clean found.members.newest)
     where
-      turned : (b : Bool) → (if not b then found.members.newest.size / (shape_of found.members.newest).chunk + 1 else 0) ≡ (if b then 0 else found.members.newest.size / (shape_of found.members.newest).chunk + 1)
+      turned : (b : Bool) → left_of (if b then None else Some 0) found.members ≡ (if b then 0 else found.members.newest.size / (shape_of found.members.newest).chunk + 1)
       turned true = refl
-      turned false = refl
+      turned false = omega arith
 
   pub stored_found : IsStoredAs (found_world given tape backup found) status (found_losses (reading_of found.members))
   stored_found =

@@ -1,8 +1,9 @@
 -- The replies to several lines, as the histories grow.
-use Rattle.std.proofs.Common.{◌≡◌, ℕ, zero, suc, ◌+◌, ◌*◌, ◌≤◌, ◌||◌, Bool, true, false, Option, Some, None, List, [], ◌∷◌, ◌++◌, length, take, drop, refl, sym, ◌∙◌, ap, subst, arith, append_assoc, length-append}
+use Rattle.std.proofs.Common.{◌≡◌, ℕ, zero, suc, ◌+◌, ◌*◌, ◌<◌, ◌≤◌, ◌||◌, Bool, true, false, Option, Some, None, List, [], ◌∷◌, ◌++◌, length, take, drop, refl, sym, ◌∙◌, ap, subst, arith, append_assoc, append-nil, length-append}
 use Rattle.std.proofs.lemmas.List.{take-append-le, drop-append-le}
 use Rattle.std.proofs.lemmas.Option.{slice_get_within}
-use Rattle.std.specs.Prelude.{slice_get, MatchOption, if◌then◌else◌, IfSome, IsSome, nat_lt}
+use Rattle.std.proofs.Math.ListN.{get_or}
+use Rattle.std.specs.Prelude.{slice_get, MatchOption, if◌then◌else◌, IfSome, IsSome, IsTrue, IsFalse, nat_lt}
 use Rattle.std.specs.Option.{option_and_then, option_map_or}
 use Rattle.bank.specs.Given.{Given, sizes, NeverFalls}
 use Rattle.bank.specs.declared.bank.Operation.{Operation}
@@ -15,6 +16,7 @@ use Rattle.md_base.specs.Sectors.{Sector}
 use Rattle.md_base.specs.Shapes.{data_disks, has_slot}
 use Rattle.flat_history.specs.World.{World, opening_list}
 use Rattle.flat_history.specs.Epochs.{OpensAlike}
+use Rattle.flat_history.specs.Opened.{OpensSound}
 use Rattle.flat_history.specs.Growing.{grown}
 use Rattle.array.specs.Moving.{Grows}
 use Rattle.assemble.specs.Creating.{create_refusal}
@@ -24,26 +26,26 @@ use Rattle.assemble.specs.Running.{OpensWithZeros, HasAssembleCause}
 use Rattle.std.specs.List.{All}
 use Rattle.std.proofs.lemmas.List.Elements.{All-head, All-tail}
 use Rattle.array.specs.declared.spec.CreateSpec.{CreateSpec}
-use Rattle.script.specs.declared.lines.Line.TheVariants.{Create, Read, Write, Flush, Fail, Stop, Halt, Assemble}
+use Rattle.script.specs.declared.lines.Line.TheVariants.{Create, Read, Write, Flush, Fail, Step, Wait, Stop, Halt, Assemble}
 use Rattle.flat_history.specs.declared.events.Entry.{Entry}
 use Rattle.flat_history.specs.declared.events.Event.TheVariants.{Shown}
 use Rattle.flat_history.specs.Plain.{entries_of}
 use Rattle.array.specs.Adopting.{opener}
 use Rattle.flat_history.specs.Flat.{rest_of_call, is_same_call}
-use Rattle.script.specs.Texts.{event_text, lane_text}
+use Rattle.script.specs.Texts.{lane_text}
 use Rattle.script.specs.declared.lines.Line.{Line}
 use Rattle.script.specs.declared.lines.Numbered.{Numbered}
 use Rattle.runner.specs.declared.report.Outside.TheVariants.{Created, Assembled, Refused}
 use Rattle.runner.specs.declared.report.Answered.{Answered}
 use Rattle.runner.specs.declared.report.Answered.TheVariants.{Inside, Outside as IsOutside}
 use Rattle.runner.specs.declared.report.LineReply.{LineReply}
-use Rattle.runner.specs.Histories.{History, entry_at, is_end}
+use Rattle.runner.specs.Histories.{History, entry_at}
 use Rattle.runner.specs.Making.{Setting, held_at, history_world, IsUncreated, IsUnassembled, IsStoredNew, IsStoredAs, BeginsShown}
-use Rattle.runner.specs.Replies.{Course, spec_of, FitsLine, IsMadeBy, IsFoundBy, IsRefusedOutside, at_rest, one_call_more, course_after, course_of, IsReplyAt, IsAnsweredInside, IsAnswer, IsEnd, IsReplyTo, AreReplies}
-use Rattle.runner.specs.Shown.{answer_text, reply_text, report_text, tells_refusal, is_refusal, has_refusal}
-use Rattle.runner.specs.States.{IsGrown, AreGrown, IsNamed}
+use Rattle.runner.specs.Replies.{Course, spec_of, FitsLine, IsMadeBy, IsFoundBy, IsRefusedOutside, course_behind, course_after, course_of, leaves_more, leaves_more_at, IsReplyAt, IsWaitedAt, IsRepliedAt, IsAnsweredInside, IsAnswer, IsEnd, IsReplyTo, AreReplies}
+use Rattle.runner.specs.Shown.{entry_text, answer_text, reply_text, report_text, tells_refusal, is_refusal, has_refusal}
+use Rattle.runner.specs.States.{IsGrown, AreGrown, IsNamed, IsCallFor, IsCallNamed}
 use Rattle.runner.proofs.Causes.{given-wider, create-later, assemble-later}
-use Rattle.runner.proofs.Worlds.{list-same, alike-later, new-later, stored-later}
+use Rattle.runner.proofs.Worlds.{list-same, alike-later, sound-later, new-later, stored-later}
 
 rest_append : (e : Entry) (xs ys : List Entry) → rest_of_call e xs ≡ [] → rest_of_call e ys ≡ [] → rest_of_call e (xs ++ ys) ≡ []
 rest_append e [] ys nothing after = after
@@ -87,7 +89,7 @@ at_place P (x ∷ entries) zero e all is = subst P (some_same is) (All-head P x 
 at_place P (x ∷ entries) (suc place) e all is = at_place P entries place e (All-tail P x entries all) is
 
 -- a reply stays one, as later calls are entered
-reply_longer : {size : ℕ} {entries : List Entry} {place number : ℕ} {line : Line} (more : List Entry) → All (λ e. rest_of_call e more ≡ []) entries
+pub reply_longer : {size : ℕ} {entries : List Entry} {place number : ℕ} {line : Line} (more : List Entry) → All (λ e. rest_of_call e more ≡ []) entries
     → IsReplyAt size entries place number line → IsReplyAt size (entries ++ more) place number line
 reply_longer {size = size} {entries = entries} {place = place} {line = line} more later was =
     let within = slice_get_within entries place was.entry was.there in
@@ -101,6 +103,34 @@ reply_longer {size = size} {entries = entries} {place = place} {line = line} mor
       fits = subst (λ (l : List Entry). FitsLine size l was.entry line) (sym (take-append-le place entries more (omega (arith, within)))) was.fits;
     }
 
+pub leaves_longer : (entries more : List Entry) (place : ℕ) (e : Entry) → slice_get entries place ≡ Some e → leaves_more_at (entries ++ more) place ≡ leaves_more_at entries place
+leaves_longer entries more place e is = ap (λ (o : Option Entry). option_map_or (λ e. leaves_more e.event) o false) (get_append entries more place e is ∙ sym is)
+
+-- so do the replies to the calls of a wait
+waited_longer : (size place : ℕ) (entries more : List Entry) → All (λ e. rest_of_call e more ≡ []) entries
+    → (earlier : List ℕ) (number : ℕ) → IsWaitedAt size entries earlier place number → IsWaitedAt size (entries ++ more) earlier place number
+waited_longer size place entries more later [] number (reply, ended) =
+    (reply_longer more later reply, subst (λ (b : Bool). IsFalse b) (sym (leaves_longer entries more place reply.entry reply.there)) ended)
+waited_longer size place entries more later (first ∷ others) number (reply, going, rest) = (
+  reply_longer more later reply,
+  subst (λ (b : Bool). IsTrue b) (sym (leaves_longer entries more first reply.entry reply.there)) going,
+  waited_longer size place entries more later others (number + 1) rest,
+)
+
+replied_longer : (size place number : ℕ) (line : Line) (entries more : List Entry) → All (λ e. rest_of_call e more ≡ []) entries
+    → IsRepliedAt size entries place number line → IsRepliedAt size (entries ++ more) place number line
+replied_longer size place number Wait entries more later (earlier, was) = (earlier, waited_longer size place entries more later earlier number was)
+replied_longer size place number line entries more later was = reply_longer more later was
+
+-- the entry of a reply is there, and of a call for the line
+waited_there : (size place : ℕ) (entries : List Entry) (earlier : List ℕ) (number : ℕ) → IsWaitedAt size entries earlier place number → (e : Entry) × (slice_get entries place ≡ Some e) × (number ≤ e.number)
+waited_there size place entries [] number (reply, ended) = (reply.entry, reply.there, omega (arith, reply.numbered))
+waited_there size place entries (first ∷ others) number (reply, going, rest) = let is = waited_there size place entries others (number + 1) rest in (is.0, is.1, omega (arith, is.2))
+
+replied_there : (size place : ℕ) (entries : List Entry) (line : Line) (number : ℕ) → IsRepliedAt size entries place number line → (e : Entry) × (slice_get entries place ≡ Some e) × IsCallFor line number e.number
+replied_there size place entries Wait number (earlier, was) = waited_there size place entries earlier number was
+replied_there size place entries line number was = (was.entry, was.there, was.numbered)
+
 inside_stays : (olds news : List History) (course : Course) {epoch place : ℕ} {line : Line} → AreGrown olds news → IsAnsweredInside olds course epoch place line → IsAnsweredInside news course epoch place line
 inside_stays olds news course {epoch = epoch} {place = place} {line = line} grown was =
     let now = history_stays olds news grown epoch was.history was.there in
@@ -109,7 +139,7 @@ inside_stays olds news course {epoch = epoch} {place = place} {line = line} grow
       latest = was.latest;
       history = now.0;
       there = now.1;
-      replied = subst (λ (l : List Entry). IsReplyAt course.size l place course.calls line) (sym now.2.grown) (reply_longer now.2.more now.2.later was.replied);
+      replied = subst (λ (l : List Entry). IsRepliedAt course.size l place course.calls line) (sym now.2.grown) (replied_longer course.size place course.calls line was.history.entries now.2.more now.2.later was.replied);
     }
 
 -- the same bank, over a longer time
@@ -161,6 +191,8 @@ module _ (was now : Setting) (wider : IsWider was now) (end later : ℕ) (moved 
   refused_stays true (Write at count seed) refusal is = is
   refused_stays true Flush refusal is = is
   refused_stays true (Fail role) refusal is = is
+  refused_stays true (Step most) refusal is = is
+  refused_stays true Wait refusal is = is
   refused_stays true Stop refusal is = is
   refused_stays true Halt refusal is = is
   refused_stays true (Assemble uuid) refusal is = is
@@ -169,6 +201,8 @@ module _ (was now : Setting) (wider : IsWider was now) (end later : ℕ) (moved 
   refused_stays false (Write at count seed) refusal is = is
   refused_stays false Flush refusal is = is
   refused_stays false (Fail role) refusal is = is
+  refused_stays false (Step most) refusal is = is
+  refused_stays false Wait refusal is = is
   refused_stays false Stop refusal is = is
   refused_stays false Halt refusal is = is
   refused_stays false (Assemble uuid) refusal is = unassembled_stays uuid refusal is
@@ -193,11 +227,14 @@ module _ (was now : Setting) (wider : IsWider was now) (end later : ℕ) (moved 
         ∙ ap (λ (c : Contents). used_slot (scope_of was.given was.backup is.history.given line.uuid) c line.shape.disks) (held t) ∙ is.free (wider.told t);
     stored = λ t. subst (λ (w : World). IsStoredNew w (spec_of line)) (sym (world_stays was now wider is.history t)) (new-later (history_world was is.history) (wider.grows.more t).0 (begun_by is.history is.first t) (is.stored (wider.told t)));
     alike = λ t. subst OpensAlike (sym (world_stays was now wider is.history t)) (alike-later (history_world was is.history) (wider.grows.more t).0 (begun_by is.history is.first t) (is.alike (wider.told t)));
+    sound = λ t. subst OpensSound (sym (world_stays was now wider is.history t)) (sound-later (history_world was is.history) (wider.grows.more t).0 (begun_by is.history is.first t) (is.sound (wider.told t)));
   }
   made_wider histories epoch (Read at count) is = is
   made_wider histories epoch (Write at count seed) is = is
   made_wider histories epoch Flush is = is
   made_wider histories epoch (Fail role) is = is
+  made_wider histories epoch (Step most) is = is
+  made_wider histories epoch Wait is = is
   made_wider histories epoch Stop is = is
   made_wider histories epoch Halt is = is
   made_wider histories epoch (Assemble uuid) is = is
@@ -208,6 +245,8 @@ module _ (was now : Setting) (wider : IsWider was now) (end later : ℕ) (moved 
   found_wider histories epoch (Write at count seed) status is = is
   found_wider histories epoch Flush status is = is
   found_wider histories epoch (Fail role) status is = is
+  found_wider histories epoch (Step most) status is = is
+  found_wider histories epoch Wait status is = is
   found_wider histories epoch Stop status is = is
   found_wider histories epoch Halt status is = is
   found_wider histories epoch (Assemble asked) status is = record {
@@ -254,11 +293,14 @@ made_stays setting olds news grown epoch end (Create line) is =
       free = λ t. ap (λ (n : ℕ). used_slot (scope_of setting.given setting.backup n line.uuid) (held_at setting end) line.shape.disks) now.2.given ∙ is.free t;
       stored = λ t. subst (λ (w : World). IsStoredNew w (spec_of line)) same (is.stored t);
       alike = λ t. subst OpensAlike same (is.alike t);
+      sound = λ t. subst OpensSound same (is.sound t);
     }
 made_stays setting olds news grown epoch end (Read at count) is = is
 made_stays setting olds news grown epoch end (Write at count seed) is = is
 made_stays setting olds news grown epoch end Flush is = is
 made_stays setting olds news grown epoch end (Fail role) is = is
+made_stays setting olds news grown epoch end (Step most) is = is
+made_stays setting olds news grown epoch end Wait is = is
 made_stays setting olds news grown epoch end Stop is = is
 made_stays setting olds news grown epoch end Halt is = is
 made_stays setting olds news grown epoch end (Assemble uuid) is = is
@@ -281,6 +323,8 @@ found_stays setting olds news grown epoch end (Read at count) status is = is
 found_stays setting olds news grown epoch end (Write at count seed) status is = is
 found_stays setting olds news grown epoch end Flush status is = is
 found_stays setting olds news grown epoch end (Fail role) status is = is
+found_stays setting olds news grown epoch end (Step most) status is = is
+found_stays setting olds news grown epoch end Wait status is = is
 found_stays setting olds news grown epoch end Stop status is = is
 found_stays setting olds news grown epoch end Halt status is = is
 found_stays setting olds news grown epoch end (Assemble asked) status is =
@@ -308,24 +352,40 @@ some_named : (o : Option Entry) → IsSome o → (e : Entry) × (o ≡ Some e)
 some_named None is = absurd (cc)
 some_named (Some e) is = (e, refl)
 
--- an answer names an entry that is there
-pub answer_named : (setting : Setting) (histories : List History) (course : Course) (line : Line) (end : ℕ) (what : Answered) → IsAnswer setting histories course line end what → IsNamed histories what
-answer_named setting histories course line end (Inside epoch at) is =
-    subst (λ (o : Option Entry). IsSome o) (sym (ap (λ (o : Option History). option_and_then (λ h. slice_get h.entries at) o) is.there ∙ is.replied.there)) refl
-answer_named setting histories course line end (IsOutside outside) was = tt
+-- an answer names an entry of a call for the line
+pub answer_called : (setting : Setting) (histories : List History) (course : Course) (line : Line) (end : ℕ) (what : Answered) → IsAnswer setting histories course line end what → IsCallNamed histories course line what
+answer_called setting histories course line end (Inside epoch at) is =
+    let entry = replied_there course.size at is.history.entries line course.calls is.replied in
+    subst (λ (o : Option Entry). MatchOption o ⊥ (λ e. IsCallFor line course.calls e.number)) (sym (ap (λ (o : Option History). option_and_then (λ h. slice_get h.entries at) o) is.there ∙ entry.1)) (entry.2)
+answer_called setting histories course line end (IsOutside outside) was = tt
 
-pub named_stay : (olds news : List History) (what : Answered) → AreGrown olds news → IsNamed olds what → IsNamed news what
-named_stay olds news (Inside epoch at) grown named =
-    let is = some_named (entry_at olds epoch at) named in
-    subst (λ (o : Option Entry). IsSome o) (sym (named_stays olds news grown epoch at is.0 (is.1))) refl
-named_stay olds news (IsOutside outside) grown named = tt
+-- it is there
+pub called_named : (histories : List History) (course : Course) (line : Line) (what : Answered) → IsCallNamed histories course line what → IsNamed histories what
+called_named histories course line (Inside epoch at) is = by_entry (entry_at histories epoch at) is
+  where
+    by_entry : (o : Option Entry) → MatchOption o ⊥ (λ e. IsCallFor line course.calls e.number) → IsSome o
+    by_entry None is = absurd is
+    by_entry (Some e) is = refl
+called_named histories course line (IsOutside outside) is = tt
+
+pub answer_named : (setting : Setting) (histories : List History) (course : Course) (line : Line) (end : ℕ) (what : Answered) → IsAnswer setting histories course line end what → IsNamed histories what
+answer_named setting histories course line end what is = called_named histories course line what (answer_called setting histories course line end what is)
+
+-- and stays so
+pub called_stays : (olds news : List History) (course : Course) (line : Line) (what : Answered) → AreGrown olds news → IsCallNamed olds course line what → IsCallNamed news course line what
+called_stays olds news course line (Inside epoch at) grown is = by_entry (entry_at olds epoch at) refl is
+  where
+    by_entry : (o : Option Entry) → entry_at olds epoch at ≡ o → MatchOption o ⊥ (λ e. IsCallFor line course.calls e.number) → MatchOption (entry_at news epoch at) ⊥ (λ e. IsCallFor line course.calls e.number)
+    by_entry None same is = absurd is
+    by_entry (Some e) same is = subst (λ (o : Option Entry). MatchOption o ⊥ (λ e. IsCallFor line course.calls e.number)) (sym (named_stays olds news grown epoch at e same)) is
+called_stays olds news course line (IsOutside outside) grown is = tt
 
 -- the run stands where it stood
 pub course_stays : (olds news : List History) (course : Course) (line : Line) (what : Answered) → AreGrown olds news → IsNamed olds what → course_after news course line what ≡ course_after olds course line what
 course_stays olds news course line (Inside epoch at) grown named =
     let is = some_named (entry_at olds epoch at) named in
     let same : entry_at news epoch at ≡ entry_at olds epoch at = named_stays olds news grown epoch at is.0 (is.1) ∙ sym (is.1) in
-    ap (λ (o : Option Entry). if option_map_or (λ e. is_end e.event) o false then at_rest course.opened else one_call_more course) same
+    ap (λ (o : Option Entry). option_map_or (course_behind course) o course) same
 course_stays olds news course line (IsOutside Created) grown named = refl
 course_stays olds news course line (IsOutside (Assembled epoch status)) grown named = refl
 course_stays olds news course line (IsOutside (Refused refusal)) grown named = refl
@@ -373,14 +433,15 @@ replies_more setting histories course (l ∷ lines) [] line reply was one = absu
 replies_more setting histories course (l ∷ lines) (r ∷ replies) line reply (first, rest) one = (first, replies_more setting histories (course_after histories course l.line r.what) lines replies line reply rest one)
 
 -- the first so many replies answer the first so many lines
-pub replies_front : (setting : Setting) (histories : List History) (course : Course) (n : ℕ) (lines : List Numbered) (replies : List LineReply)
-    → AreReplies setting histories course lines replies → AreReplies setting histories course (take n lines) (take n replies)
-replies_front setting histories course zero [] [] was = was
-replies_front setting histories course (suc n) [] [] was = was
-replies_front setting histories course n [] (r ∷ replies) was = absurd was
-replies_front setting histories course n (l ∷ lines) [] was = absurd was
-replies_front setting histories course zero (l ∷ lines) (r ∷ replies) was = tt
-replies_front setting histories course (suc n) (l ∷ lines) (r ∷ replies) (first, rest) = (first, replies_front setting histories (course_after histories course l.line r.what) n lines replies rest)
+pub replies_front : (setting : Setting) (histories : List History) (course : Course) (n m : ℕ) (lines : List Numbered) (replies : List LineReply) → n ≤ m
+    → AreReplies setting histories course (take m lines) replies → AreReplies setting histories course (take n lines) (take n replies)
+replies_front setting histories course zero m lines replies le was = tt
+replies_front setting histories course (suc n) zero lines replies le was = absurd (omega (arith, le))
+replies_front setting histories course (suc n) (suc m) [] [] le was = was
+replies_front setting histories course (suc n) (suc m) [] (r ∷ replies) le was = absurd was
+replies_front setting histories course (suc n) (suc m) (l ∷ lines) [] le was = absurd was
+replies_front setting histories course (suc n) (suc m) (l ∷ lines) (r ∷ replies) le (first, rest) =
+    (first, replies_front setting histories (course_after histories course l.line r.what) n m lines replies (omega (arith, le)) rest)
 
 pub course_more : (histories : List History) (course : Course) (lines : List Numbered) (replies : List LineReply) (line : Numbered) (reply : LineReply) → length lines ≡ length replies
     → course_of histories course (lines ++ line ∷ []) (replies ++ reply ∷ []) ≡ course_after histories (course_of histories course lines replies) line.line reply.what
@@ -390,21 +451,47 @@ course_more histories course (l ∷ lines) [] line reply same = absurd (omega (a
 course_more histories course (l ∷ lines) (r ∷ replies) line reply same = course_more histories (course_after histories course l.line r.what) lines replies line reply (omega (arith, same))
 
 -- what an answer shows stays
-answer_shown : (olds news : List History) (what : Answered) → AreGrown olds news → IsNamed olds what → (answer_text news what ≡ answer_text olds what) × (is_refusal news what ≡ is_refusal olds what)
-answer_shown olds news (Inside epoch at) grown named =
+answer_shown : (olds news : List History) (line : Line) (what : Answered) → AreGrown olds news → IsNamed olds what → (answer_text news line what ≡ answer_text olds line what) × (is_refusal news line what ≡ is_refusal olds line what)
+answer_shown olds news line (Inside epoch at) grown named =
     let is = some_named (entry_at olds epoch at) named in
     let same : entry_at news epoch at ≡ entry_at olds epoch at = named_stays olds news grown epoch at is.0 (is.1) ∙ sym (is.1) in
-    (ap (λ (o : Option Entry). option_map_or (λ e. event_text e.event) o []) same, ap (λ (o : Option Entry). option_map_or (λ e. tells_refusal e.event) o false) same)
-answer_shown olds news (IsOutside outside) grown named = (refl, refl)
+    (ap (λ (o : Option Entry). option_map_or (λ e. entry_text line e.event) o []) same, ap (λ (o : Option Entry). option_map_or (λ e. tells_refusal line e.event) o false) same)
+answer_shown olds news line (IsOutside outside) grown named = (refl, refl)
 
-pub shown_stays : (setting : Setting) (olds news : List History) (course : Course) (lines : List Numbered) (replies : List LineReply) → AreGrown olds news → AreReplies setting olds course lines replies
-    → (report_text news replies ≡ report_text olds replies) × (has_refusal news replies ≡ has_refusal olds replies)
-shown_stays setting olds news course [] [] grown was = (refl, refl)
-shown_stays setting olds news course [] (reply ∷ replies) grown was = absurd was
-shown_stays setting olds news course (line ∷ lines) [] grown was = absurd was
-shown_stays setting olds news course (line ∷ lines) (reply ∷ replies) grown (one, rest) =
-    let first = answer_shown olds news reply.what grown (answer_named setting olds course line.line reply.end reply.what one.answer) in
-    let others = shown_stays setting olds news (course_after olds course line.line reply.what) lines replies grown rest in (
-      ap (λ (t : List ℕ). (lane_text reply.lane ++ t ++ 10 ∷ []) ++ report_text news replies) (first.0) ∙ ap (λ (t : List ℕ). reply_text olds reply ++ t) (others.0),
-      ap (λ (b : Bool). b || has_refusal news replies) (first.1) ∙ ap (λ (b : Bool). is_refusal olds reply.what || b) (others.1),
+-- and so does what the replies to the first so many lines show
+pub shown_stays : (setting : Setting) (olds news : List History) (course : Course) (n : ℕ) (lines : List Numbered) (replies : List LineReply) → AreGrown olds news → AreReplies setting olds course (take n lines) replies
+    → (report_text news lines replies ≡ report_text olds lines replies) × (has_refusal news lines replies ≡ has_refusal olds lines replies)
+shown_stays setting olds news course n lines [] grown was = (refl, refl)
+shown_stays setting olds news course zero lines (reply ∷ replies) grown was = absurd was
+shown_stays setting olds news course (suc n) [] (reply ∷ replies) grown was = absurd was
+shown_stays setting olds news course (suc n) (line ∷ lines) (reply ∷ replies) grown (one, rest) =
+    let first = answer_shown olds news line.line reply.what grown (answer_named setting olds course line.line reply.end reply.what one.answer) in
+    let others = shown_stays setting olds news (course_after olds course line.line reply.what) n lines replies grown rest in (
+      ap (λ (t : List ℕ). (lane_text reply.lane ++ t ++ 10 ∷ []) ++ report_text news lines replies) (first.0) ∙ ap (λ (t : List ℕ). reply_text olds line.line reply ++ t) (others.0),
+      ap (λ (b : Bool). b || has_refusal news lines replies) (first.1) ∙ ap (λ (b : Bool). is_refusal olds line.line reply.what || b) (others.1),
     )
+
+-- one reply more
+pub text_more : (histories : List History) (lines : List Numbered) (replies : List LineReply) (nothing line : Numbered) (reply : LineReply) → length replies < length lines → get_or lines (length replies) nothing ≡ line
+    → report_text histories lines (replies ++ reply ∷ []) ≡ report_text histories lines replies ++ reply_text histories line.line reply
+text_more histories [] replies nothing line reply lt here = absurd (omega (arith, lt))
+text_more histories (l ∷ lines) [] nothing line reply lt here = append-nil (reply_text histories l.line reply) ∙ ap (λ (n : Numbered). reply_text histories n.line reply) here
+text_more histories (l ∷ lines) (r ∷ replies) nothing line reply lt here =
+    ap (λ (t : List ℕ). reply_text histories l.line r ++ t) (text_more histories lines replies nothing line reply (omega (arith, lt)) here)
+    ∙ sym (append_assoc (reply_text histories l.line r) (report_text histories lines replies) (reply_text histories line.line reply))
+
+pub refusal_more : (histories : List History) (lines : List Numbered) (replies : List LineReply) (nothing line : Numbered) (reply : LineReply) → length replies < length lines → get_or lines (length replies) nothing ≡ line
+    → has_refusal histories lines (replies ++ reply ∷ []) ≡ (has_refusal histories lines replies || is_refusal histories line.line reply.what)
+refusal_more histories [] replies nothing line reply lt here = absurd (omega (arith, lt))
+refusal_more histories (l ∷ lines) [] nothing line reply lt here = or_false (is_refusal histories l.line reply.what) ∙ ap (λ (n : Numbered). is_refusal histories n.line reply.what) here
+  where
+    or_false : (b : Bool) → (b || false) ≡ b
+    or_false true = refl
+    or_false false = refl
+refusal_more histories (l ∷ lines) (r ∷ replies) nothing line reply lt here =
+    ap (λ (b : Bool). is_refusal histories l.line r.what || b) (refusal_more histories lines replies nothing line reply (omega (arith, lt)) here)
+    ∙ or_assoc (is_refusal histories l.line r.what) (has_refusal histories lines replies) (is_refusal histories line.line reply.what)
+  where
+    or_assoc : (a b c : Bool) → (a || (b || c)) ≡ ((a || b) || c)
+    or_assoc true b c = refl
+    or_assoc false b c = refl

@@ -1,4 +1,5 @@
 pub mod AskLaws
+pub mod Called
 pub mod Causes
 pub mod Ends
 pub mod Found
@@ -10,4 +11,5 @@ pub mod Reopening
 pub mod Steps
 pub mod Texts
 pub mod Turns
+pub mod Waits
 pub mod Worlds

@@ -1,5 +1,5 @@
 -- What an array leaves is what the next one opens with.
-use Rattle.std.proofs.Common.{◌≡◌, ℕ, suc, ◌≤◌, Bool, false, Option, Some, None, List, [], ◌∷◌, ◌++◌, length, refl, ◌∙◌, ap}
+use Rattle.std.proofs.Common.{◌≡◌, ℕ, suc, ◌≤◌, Bool, false, inr, Option, Some, None, List, [], ◌∷◌, ◌++◌, length, refl, ◌∙◌, ap}
 use Rattle.std.specs.Prelude.{if◌then◌else◌}
 use Rattle.std.specs.Option.{option_map_or}
 use Rattle.std.proofs.lemmas.List.Elements.{All-head, All-tail}
@@ -15,9 +15,9 @@ use Rattle.flat_history.specs.Flat.{rest_of_call}
 use Rattle.flat_history.specs.Growing.{EndBy}
 use Rattle.flat_history.specs.OneShape.{ShapeOpening, opening_in, IsOneShapeEvent, AreOneShape}
 use Rattle.flat_history.specs.Reopened.{IsReopened}
-use Rattle.flat_history.proofs.ReopenedLaws.{settled-found}
+use Rattle.flat_history.proofs.ReopenedLaws.{settled-found, sound-found}
 use Rattle.runner.specs.Ended.{IsLegalEpoch, IsSafeEpoch, AreFormer}
-use Rattle.runner.specs.Kept.{IsFoundAgain, IsListKept, AreListsKept}
+use Rattle.runner.specs.Kept.{IsOpenedAgain, IsListKept, IsSoundKept, AreKept}
 use Rattle.runner.proofs.Legal.{next_within}
 
 -- ---- an idle array's history
@@ -38,7 +38,7 @@ entries_keep opening ops before (e ∷ entries) plain =
 
 -- the next epoch begins behind the former one, within the tape
 reopened : (given : Given) (tape : List Operation) (backup : Option ℕ) (former next : Epoch) → former.first ≤ next.first → EndBy next.first former.entries.items → next.first ≤ length tape
-    → IsFoundAgain tape former next → IsReopened (world_of given tape backup former) former.entries.items (world_of given tape backup next)
+    → IsOpenedAgain tape former next → IsReopened (world_of given tape backup former) former.entries.items (world_of given tape backup next)
 reopened given tape backup former next later made within again = record {
   start = refl;
   tape = refl;
@@ -56,14 +56,23 @@ one_kept given tape backup former next legal opened safe later made within fills
     let world = world_of given tape backup former in
     let keeps = entries_keep (opening_in world) (length tape) [] former.entries.items (legal.legal fills) in
     settled-found world (world_of given tape backup next) former.entries.items (length tape) keeps (safe fills room alike).0 within
-    (reopened given tape backup former next later made within again) opened.accepted again.settled
+    (reopened given tape backup former next later made within again.again) opened.accepted again.settled
 
-pub all_kept : (given : Given) (tape : List Operation) (backup : Option ℕ) (epochs : List Epoch) → AreFormer given tape backup (length tape) epochs → AreListsKept given tape backup epochs
+sound_kept : (given : Given) (tape : List Operation) (backup : Option ℕ) (former next : Epoch) → IsLegalEpoch given tape backup next → IsSafeEpoch given tape backup former
+    → former.first ≤ next.first → EndBy next.first former.entries.items → next.first ≤ length tape → IsSoundKept given tape backup former next
+sound_kept given tape backup former next opened safe later made within fit room alike again =
+    sound-found (world_of given tape backup former) (world_of given tape backup next) former.entries.items (length tape) fit (safe (inr fit) room alike).1 within
+    (reopened given tape backup former next later made within again) opened.accepted
+
+pub all_kept : (given : Given) (tape : List Operation) (backup : Option ℕ) (epochs : List Epoch) → AreFormer given tape backup (length tape) epochs → AreKept given tape backup epochs
 all_kept given tape backup [] was = tt
 all_kept given tape backup (e ∷ []) was = tt
 all_kept given tape backup (e ∷ f ∷ epochs) was =
-    let rest = All-tail (λ e. IsLegalEpoch given tape backup e) e (f ∷ epochs) was.legal in (
-      one_kept given tape backup e f (All-head (λ e. IsLegalEpoch given tape backup e) e (f ∷ epochs) was.legal) (All-head (λ e. IsLegalEpoch given tape backup e) f epochs rest)
-          (All-head (λ e. IsSafeEpoch given tape backup e) e (f ∷ epochs) was.safe) was.rising.0.0 was.rising.0.1 (next_within tape (f ∷ epochs) was.rising.1),
+    let rest = All-tail (λ e. IsLegalEpoch given tape backup e) e (f ∷ epochs) was.legal in
+    let opened = All-head (λ e. IsLegalEpoch given tape backup e) f epochs rest in
+    let safe = All-head (λ e. IsSafeEpoch given tape backup e) e (f ∷ epochs) was.safe in
+    let within = next_within tape (f ∷ epochs) was.rising.1 in (
+      one_kept given tape backup e f (All-head (λ e. IsLegalEpoch given tape backup e) e (f ∷ epochs) was.legal) opened safe was.rising.0.0 was.rising.0.1 within,
+      sound_kept given tape backup e f opened safe was.rising.0.0 was.rising.0.1 within,
       all_kept given tape backup (f ∷ epochs) (record { legal = rest; safe = All-tail (λ e. IsSafeEpoch given tape backup e) e (f ∷ epochs) was.safe; rising = was.rising.1 }),
     )

@@ -1,11 +1,9 @@
 -- One line more was performed and shown.
-use Rattle.std.proofs.Common.{◌≡◌, ℕ, suc, ◌+◌, ◌-◌, ◌<◌, ◌≤◌, ◌||◌, ◌⊎◌, inl, inr, Bool, true, false, Option, Some, None, List, [], ◌∷◌, ◌++◌, length, take, drop, refl, sym, ◌∙◌, ap, subst, arith, append_assoc, append-nil, length-append}
+use Rattle.std.proofs.Common.{◌≡◌, ℕ, suc, ◌+◌, ◌-◌, ◌<◌, ◌≤◌, ◌||◌, ◌⊎◌, inl, inr, Bool, false, Option, Some, None, List, [], ◌∷◌, ◌++◌, length, take, drop, refl, sym, ◌∙◌, ap, subst, arith, append_assoc, append-nil, length-append}
 use Rattle.std.specs.Global.{Vec}
 use Rattle.std.proofs.lemmas.Bool.Decides.{nat_tests}
 use Rattle.std.proofs.lemmas.List.Elements.{All-nil}
 use Rattle.std.proofs.lemmas.List.{take_at, length-take-le}
-use Rattle.std.proofs.lemmas.List.Folds.{list_any-append}
-use Rattle.std.proofs.lemmas.Grind.{flat_map-append}
 use Rattle.std.proofs.Math.Seq.{drop-cons, take-suc, take-append-add}
 use Rattle.std.proofs.Math.ListN.{get_or}
 use Rattle.std.specs.Prelude.{MatchOption}
@@ -28,10 +26,10 @@ use Rattle.runner.specs.Histories.{History, histories_of, entry_at}
 use Rattle.runner.specs.Making.{Setting, setting_of}
 use Rattle.runner.proofs.Legal.{grows_longer}
 use Rattle.runner.specs.Replies.{Course, at_rest, course_after, course_of, IsAnswer, IsEnd, IsReplyTo, AreReplies, AreInOrder}
-use Rattle.runner.specs.Shown.{reply_text, report_text, is_refusal, has_refusal}
+use Rattle.runner.specs.Shown.{reply_text, report_text, has_refusal}
 use Rattle.runner.specs.States.{histories_in, course_in, RunsOwn, IsByScript, AreOfScript, AreLossesFrom, AreGrown, EndsBetween, IsNextCourse, IsCourseOrNext}
 use Rattle.runner.specs.Sessions.{counted, IsEndNow, IsUnreplied, IsReplyMore, IsStep, IsCourse, taken_whole, IsTaken, IsStopCause, IsCourseBehind, IsPerformed, IsShownTo}
-use Rattle.runner.proofs.Growth.{IsWider, answer_wider, replies_stay, replies_more, course_more, courses_stay, shown_stays}
+use Rattle.runner.proofs.Growth.{IsWider, answer_wider, replies_stay, replies_more, course_more, courses_stay, shown_stays, text_more, refusal_more}
 use Rattle.runner.proofs.Losses.{losses_add}
 
 -- ---- where the replies were made
@@ -56,11 +54,6 @@ order_more low mark high (r ∷ replies) reply (one, rest) le within = (one, ord
 
 counted_more : (a b : ℕ) → counted (counted a + b) ≡ counted (a + b)
 counted_more a b = grind (arith, nat_tests)
-
--- the text of one reply more
-text_more : (histories : List History) (replies : List LineReply) (reply : LineReply) → report_text histories (replies ++ reply ∷ []) ≡ report_text histories replies ++ reply_text histories reply
-text_more histories replies reply =
-    flat_map-append (λ r. reply_text histories r) replies (reply ∷ []) ∙ ap (λ (t : List ℕ). report_text histories replies ++ t) (append-nil (reply_text histories reply))
 
 module _ {B bank_tells : Type 0} {given : Given} {backup : Option ℕ} {first_tape mid_tape tape : List Operation} {start mid now : ℕ → ℕ} {lines : List Numbered} {old : Session B} (new : Session B) (nothing numbered : Numbered)
     (early : NeverFalls start mid) (late : NeverFalls mid now) (grew_early : Grows bank_tells first_tape mid_tape) (grew : Grows bank_tells mid_tape tape) (going : old.stopped ≡ None) (performed : IsPerformed (setting_of bank_tells given first_tape mid_tape backup start mid) lines old)
@@ -92,9 +85,9 @@ module _ {B bank_tells : Type 0} {given : Given} {backup : Option ℕ} {first_ta
       performed.replies
 
   shown_still : AreGrown (histories_in old.state) (histories_in new.state)
-      → (report_text (histories_in new.state) old.replies.items ≡ report_text (histories_in old.state) old.replies.items)
-      × (has_refusal (histories_in new.state) old.replies.items ≡ has_refusal (histories_in old.state) old.replies.items)
-  shown_still grown = shown_stays (setting_of bank_tells given first_tape mid_tape backup start mid) (histories_in old.state) (histories_in new.state) (at_rest 0) (take (length old.replies.items) lines) old.replies.items grown performed.replies
+      → (report_text (histories_in new.state) lines old.replies.items ≡ report_text (histories_in old.state) lines old.replies.items)
+      × (has_refusal (histories_in new.state) lines old.replies.items ≡ has_refusal (histories_in old.state) lines old.replies.items)
+  shown_still grown = shown_stays (setting_of bank_tells given first_tape mid_tape backup start mid) (histories_in old.state) (histories_in new.state) (at_rest 0) (length old.replies.items) lines old.replies.items grown performed.replies
 
   module _ (is : IsReplyMore (setting_of bank_tells given mid_tape tape backup mid now) old new numbered) where
     reply : LineReply
@@ -142,15 +135,11 @@ module _ {B bank_tells : Type 0} {given : Given} {backup : Option ℕ} {first_ta
         ∙ ap (λ (ls : List Numbered). course_of (histories_in new.state) (at_rest 0) ls (old.replies.items ++ is.made.reply ∷ [])) (sym lines_taken)
         ∙ ap (λ (rs : List LineReply). course_of (histories_in new.state) (at_rest 0) (take (length new.replies.items) lines) rs) (sym is.more)
 
-    refused_new : new.refused ≡ has_refusal (histories_in new.state) new.replies.items
+    refused_new : new.refused ≡ has_refusal (histories_in new.state) lines new.replies.items
     refused_new = is.refused ∙ ap (λ (b : Bool). b || is.made.refused) (performed.refused ∙ sym ((shown_still is.replied.turn.grown).1))
-        ∙ ap (λ (b : Bool). has_refusal (histories_in new.state) old.replies.items || b) (is.replied.refusal ∙ sym (or_false (is_refusal (histories_in new.state) is.made.reply.what)))
-        ∙ sym (list_any-append (λ r. is_refusal (histories_in new.state) r.what) old.replies.items (is.made.reply ∷ []))
-        ∙ ap (λ (rs : List LineReply). has_refusal (histories_in new.state) rs) (sym is.more)
-      where
-        or_false : (b : Bool) → (b || false) ≡ b
-        or_false true = refl
-        or_false false = refl
+        ∙ ap (λ (b : Bool). has_refusal (histories_in new.state) lines old.replies.items || b) is.replied.refusal
+        ∙ sym (refusal_more (histories_in new.state) lines old.replies.items nothing numbered is.made.reply lt here)
+        ∙ ap (λ (rs : List LineReply). has_refusal (histories_in new.state) lines rs) (sym is.more)
 
     performed_reply : (o : Option Stop) → new.stopped ≡ o → ((f c : Course) → c ≡ f → IsCourse o (histories_in new.state) (drop (length new.replies.items) lines) f c) → IsPerformed (setting_of bank_tells given first_tape tape backup start now) lines new
     performed_reply o stop course = record {
@@ -164,9 +153,9 @@ module _ {B bank_tells : Type 0} {given : Given} {backup : Option ℕ} {first_ta
       refused = refused_new;
     }
 
-    text_new : report_text (histories_in new.state) new.replies.items ≡ report_text (histories_in old.state) old.replies.items ++ reply_text (histories_in new.state) is.made.reply
-    text_new = ap (λ (rs : List LineReply). report_text (histories_in new.state) rs) is.more ∙ text_more (histories_in new.state) old.replies.items is.made.reply
-        ∙ ap (λ (t : List ℕ). t ++ reply_text (histories_in new.state) is.made.reply) ((shown_still is.replied.turn.grown).0)
+    text_new : report_text (histories_in new.state) lines new.replies.items ≡ report_text (histories_in old.state) lines old.replies.items ++ reply_text (histories_in new.state) numbered.line is.made.reply
+    text_new = ap (λ (rs : List LineReply). report_text (histories_in new.state) lines rs) is.more ∙ text_more (histories_in new.state) lines old.replies.items nothing numbered is.made.reply lt here
+        ∙ ap (λ (t : List ℕ). t ++ reply_text (histories_in new.state) numbered.line is.made.reply) ((shown_still is.replied.turn.grown).0)
 
   performed_short : IsUnreplied (setting_of bank_tells given mid_tape tape backup mid now) old.state new.state numbered.line → new.replies.items ≡ old.replies.items → new.refused ≡ old.refused → new.stopped ≡ Some WantsMemory
       → IsPerformed (setting_of bank_tells given first_tape tape backup start now) lines new
@@ -178,7 +167,7 @@ module _ {B bank_tells : Type 0} {given : Given} {backup : Option ℕ} {first_ta
         (subst (λ (rs : List LineReply). IsCourse (Some WantsMemory) (histories_in new.state) (drop (length rs) lines) (course_of (histories_in new.state) (at_rest 0) (take (length rs) lines) rs) (course_in new.state)) (sym same) (by_course none.course));
     losses = losses_add (setting_of bank_tells given first_tape mid_tape backup start mid) (setting_of bank_tells given mid_tape tape backup mid now) (setting_of bank_tells given first_tape tape backup start now) wider_was wider_step (histories_in old.state) (histories_in new.state) none.grown performed.losses none.losses;
     ends = λ t. subst (λ (rs : List LineReply). AreInOrder (length first_tape) (length tape) rs) (sym same) (order_later (length first_tape) (length mid_tape) (length tape) old.replies.items (grows_longer grew t) (performed.ends t));
-    refused = refused ∙ performed.refused ∙ sym ((shown_still none.grown).1) ∙ ap (λ (rs : List LineReply). has_refusal (histories_in new.state) rs) (sym same);
+    refused = refused ∙ performed.refused ∙ sym ((shown_still none.grown).1) ∙ ap (λ (rs : List LineReply). has_refusal (histories_in new.state) lines rs) (sym same);
   }
     where
       first_behind : drop (length old.replies.items) lines ≡ numbered ∷ drop (suc (length old.replies.items)) lines
@@ -190,27 +179,27 @@ module _ {B bank_tells : Type 0} {given : Given} {backup : Option ℕ} {first_ta
       by_course (inr next) = inr (subst (λ (ls : List Numbered). IsCourseBehind (histories_in new.state) ls (told_before (histories_in new.state)) (course_in new.state)) (sym first_behind)
           (subst (λ (c : Course). IsNextCourse (histories_in new.state) c numbered.line (course_in new.state)) (course_still none.grown) next))
 
-  module _ {tells : Type 0} {first before : List ℕ} {first_faults before_faults : ℕ} (after : List ℕ) (after_faults : ℕ) (shown : IsShownTo tells old first before first_faults before_faults) where
-    taken_before : tells → before ≡ first ++ report_text (histories_in old.state) old.replies.items
-    taken_before told = subst (λ (o : Option Stop). IsTaken o first before (report_text (histories_in old.state) old.replies.items)) going (shown.taken told)
+  module _ {tells : Type 0} {first before : List ℕ} {first_faults before_faults : ℕ} (after : List ℕ) (after_faults : ℕ) (shown : IsShownTo tells lines old first before first_faults before_faults) where
+    taken_before : tells → before ≡ first ++ report_text (histories_in old.state) lines old.replies.items
+    taken_before told = subst (λ (o : Option Stop). IsTaken o first before (report_text (histories_in old.state) lines old.replies.items)) going (shown.taken told)
 
-    shown_before : old.shown ≡ counted (length (report_text (histories_in old.state) old.replies.items))
-    shown_before = subst (λ (o : Option Stop). old.shown ≡ counted (length (report_text (histories_in old.state) (taken_whole o old.replies.items)))) going shown.shown
+    shown_before : old.shown ≡ counted (length (report_text (histories_in old.state) lines old.replies.items))
+    shown_before = subst (λ (o : Option Stop). old.shown ≡ counted (length (report_text (histories_in old.state) lines (taken_whole o old.replies.items)))) going shown.shown
 
     -- a line was performed, by whether the run stops there
     pub step : (o : Option Stop) → new.stopped ≡ o → IsStep tells (setting_of bank_tells given mid_tape tape backup mid now) old new numbered before after o → IsStopCause o before_faults after_faults → before_faults ≤ after_faults
-        → IsPerformed (setting_of bank_tells given first_tape tape backup start now) lines new × IsShownTo tells new first after first_faults after_faults
+        → IsPerformed (setting_of bank_tells given first_tape tape backup start now) lines new × IsShownTo tells lines new first after first_faults after_faults
     step None stop is cause le = (
       performed_reply is.reply None stop (λ f c same. same),
       record {
-        taken = λ told. subst (λ (o : Option Stop). IsTaken o first after (report_text (histories_in new.state) new.replies.items)) (sym stop)
-            (is.taken told ∙ ap (λ (t : List ℕ). t ++ reply_text (histories_in new.state) is.reply.made.reply) (taken_before told)
-            ∙ append_assoc first (report_text (histories_in old.state) old.replies.items) (reply_text (histories_in new.state) is.reply.made.reply)
+        taken = λ told. subst (λ (o : Option Stop). IsTaken o first after (report_text (histories_in new.state) lines new.replies.items)) (sym stop)
+            (is.taken told ∙ ap (λ (t : List ℕ). t ++ reply_text (histories_in new.state) numbered.line is.reply.made.reply) (taken_before told)
+            ∙ append_assoc first (report_text (histories_in old.state) lines old.replies.items) (reply_text (histories_in new.state) numbered.line is.reply.made.reply)
             ∙ ap (λ (t : List ℕ). first ++ t) (sym (text_new is.reply)));
-        shown = subst (λ (o : Option Stop). new.shown ≡ counted (length (report_text (histories_in new.state) (taken_whole o new.replies.items)))) (sym stop)
-            (is.shown ∙ ap (λ (n : ℕ). counted (n + length (reply_text (histories_in new.state) is.reply.made.reply))) shown_before
-            ∙ counted_more (length (report_text (histories_in old.state) old.replies.items)) (length (reply_text (histories_in new.state) is.reply.made.reply))
-            ∙ ap counted (sym (length-append (report_text (histories_in old.state) old.replies.items) (reply_text (histories_in new.state) is.reply.made.reply)))
+        shown = subst (λ (o : Option Stop). new.shown ≡ counted (length (report_text (histories_in new.state) lines (taken_whole o new.replies.items)))) (sym stop)
+            (is.shown ∙ ap (λ (n : ℕ). counted (n + length (reply_text (histories_in new.state) numbered.line is.reply.made.reply))) shown_before
+            ∙ counted_more (length (report_text (histories_in old.state) lines old.replies.items)) (length (reply_text (histories_in new.state) numbered.line is.reply.made.reply))
+            ∙ ap counted (sym (length-append (report_text (histories_in old.state) lines old.replies.items) (reply_text (histories_in new.state) numbered.line is.reply.made.reply)))
             ∙ ap (λ (t : List ℕ). counted (length t)) (sym (text_new is.reply)));
         cause = subst (λ (o : Option Stop). IsStopCause o first_faults after_faults) (sym stop) tt;
         never_falls = omega (arith, le, shown.never_falls);
@@ -219,11 +208,11 @@ module _ {B bank_tells : Type 0} {given : Given} {backup : Option ℕ} {first_ta
     step (Some WriteFault) stop is cause le = (
       performed_reply is.reply (Some WriteFault) stop (λ f c same. same),
       record {
-        taken = λ told. subst (λ (o : Option Stop). IsTaken o first after (report_text (histories_in new.state) new.replies.items)) (sym stop)
+        taken = λ told. subst (λ (o : Option Stop). IsTaken o first after (report_text (histories_in new.state) lines new.replies.items)) (sym stop)
             (part told (is.taken told));
-        shown = subst (λ (o : Option Stop). new.shown ≡ counted (length (report_text (histories_in new.state) (taken_whole o new.replies.items)))) (sym stop)
+        shown = subst (λ (o : Option Stop). new.shown ≡ counted (length (report_text (histories_in new.state) lines (taken_whole o new.replies.items)))) (sym stop)
             (is.shown ∙ shown_before ∙ ap (λ (t : List ℕ). counted (length t)) (sym ((shown_still is.reply.replied.turn.grown).0))
-            ∙ ap (λ (rs : List LineReply). counted (length (report_text (histories_in new.state) rs))) (sym all_but_last));
+            ∙ ap (λ (rs : List LineReply). counted (length (report_text (histories_in new.state) lines rs))) (sym all_but_last));
         cause = subst (λ (o : Option Stop). IsStopCause o first_faults after_faults) (sym stop) (risen_since cause);
         never_falls = omega (arith, le, shown.never_falls);
       },
@@ -233,13 +222,13 @@ module _ {B bank_tells : Type 0} {given : Given} {backup : Option ℕ} {first_ta
         all_but_last = ap (λ (rs : List LineReply). take (length new.replies.items - 1) rs) is.reply.more
             ∙ take_at old.replies.items (is.reply.made.reply ∷ []) (length new.replies.items - 1) (omega (arith, one_more is.reply))
 
-        part : tells → ((n : ℕ) × (after ≡ before ++ take n (reply_text (histories_in new.state) is.reply.made.reply))) → (n : ℕ) × (after ≡ first ++ take n (report_text (histories_in new.state) new.replies.items))
+        part : tells → ((n : ℕ) × (after ≡ before ++ take n (reply_text (histories_in new.state) numbered.line is.reply.made.reply))) → (n : ℕ) × (after ≡ first ++ take n (report_text (histories_in new.state) lines new.replies.items))
         part told (n, taken) = (
-          length (report_text (histories_in old.state) old.replies.items) + n,
-          taken ∙ ap (λ (t : List ℕ). t ++ take n (reply_text (histories_in new.state) is.reply.made.reply)) (taken_before told)
-              ∙ append_assoc first (report_text (histories_in old.state) old.replies.items) (take n (reply_text (histories_in new.state) is.reply.made.reply))
-              ∙ ap (λ (t : List ℕ). first ++ t) (sym (take-append-add (report_text (histories_in old.state) old.replies.items) (reply_text (histories_in new.state) is.reply.made.reply) n)
-              ∙ ap (λ (t : List ℕ). take (length (report_text (histories_in old.state) old.replies.items) + n) t) (sym (text_new is.reply))),
+          length (report_text (histories_in old.state) lines old.replies.items) + n,
+          taken ∙ ap (λ (t : List ℕ). t ++ take n (reply_text (histories_in new.state) numbered.line is.reply.made.reply)) (taken_before told)
+              ∙ append_assoc first (report_text (histories_in old.state) lines old.replies.items) (take n (reply_text (histories_in new.state) numbered.line is.reply.made.reply))
+              ∙ ap (λ (t : List ℕ). first ++ t) (sym (take-append-add (report_text (histories_in old.state) lines old.replies.items) (reply_text (histories_in new.state) numbered.line is.reply.made.reply) n)
+              ∙ ap (λ (t : List ℕ). take (length (report_text (histories_in old.state) lines old.replies.items) + n) t) (sym (text_new is.reply))),
         )
 
         risen_since : HasRisen before_faults after_faults → HasRisen first_faults after_faults
@@ -247,17 +236,17 @@ module _ {B bank_tells : Type 0} {given : Given} {backup : Option ℕ} {first_ta
     step (Some WantsMemory) stop is cause le = (
       performed_short is.none is.same is.refused stop,
       record {
-        taken = λ told. subst (λ (o : Option Stop). IsTaken o first after (report_text (histories_in new.state) new.replies.items)) (sym stop)
+        taken = λ told. subst (λ (o : Option Stop). IsTaken o first after (report_text (histories_in new.state) lines new.replies.items)) (sym stop)
             (is.taken ∙ taken_before told ∙ ap (λ (t : List ℕ). first ++ t) (sym same_text));
-        shown = subst (λ (o : Option Stop). new.shown ≡ counted (length (report_text (histories_in new.state) (taken_whole o new.replies.items)))) (sym stop)
+        shown = subst (λ (o : Option Stop). new.shown ≡ counted (length (report_text (histories_in new.state) lines (taken_whole o new.replies.items)))) (sym stop)
             (is.shown ∙ shown_before ∙ ap (λ (t : List ℕ). counted (length t)) (sym same_text));
         cause = subst (λ (o : Option Stop). IsStopCause o first_faults after_faults) (sym stop) tt;
         never_falls = omega (arith, le, shown.never_falls);
       },
     )
       where
-        same_text : report_text (histories_in new.state) new.replies.items ≡ report_text (histories_in old.state) old.replies.items
-        same_text = ap (λ (rs : List LineReply). report_text (histories_in new.state) rs) is.same ∙ (shown_still is.none.grown).0
+        same_text : report_text (histories_in new.state) lines new.replies.items ≡ report_text (histories_in old.state) lines old.replies.items
+        same_text = ap (λ (rs : List LineReply). report_text (histories_in new.state) lines rs) is.same ∙ (shown_still is.none.grown).0
 
 -- nothing was performed yet
 pub performed_none : {B bank_tells : Type 0} {given : Given} {backup : Option ℕ} {tape : List Operation} {start : ℕ → ℕ} (lines : List Numbered) (session : Session B) (bank : B) (epochs : Vec Epoch) → session.state ≡ Idle bank epochs → epochs.items ≡ []
@@ -270,7 +259,7 @@ performed_none {B = B} {bank_tells = bank_tells} {given = given} {backup = backu
       (ap (λ (s : State B). course_in s) idle ∙ ap (λ (l : List Epoch). at_rest (length l)) empty ∙ ap (λ (rs : List LineReply). course_of (histories_in session.state) (at_rest 0) (take (length rs) lines) rs) (sym none));
   losses = subst (λ (s : State B). AreLossesFrom (setting_of bank_tells given tape tape backup start start) [] (histories_in s)) (sym idle) (subst (λ (l : List Epoch). AreLossesFrom (setting_of bank_tells given tape tape backup start start) [] (histories_of l)) (sym empty) tt);
   ends = λ t. subst (λ (rs : List LineReply). AreInOrder (length tape) (length tape) rs) (sym none) (omega arith);
-  refused = refused ∙ ap (λ (rs : List LineReply). has_refusal (histories_in session.state) rs) (sym none);
+  refused = refused ∙ ap (λ (rs : List LineReply). has_refusal (histories_in session.state) lines rs) (sym none);
 }
 
 -- a line that went on has one reply more

@@ -1,9 +1,8 @@
 -- What one line does to a run, by the answer that it got.
-use Rattle.std.proofs.Common.{◌≡◌, ℕ, ◌+◌, ◌*◌, ◌^◌, ◌<◌, ◌==◌, ◌&&◌, fold, Bool, true, false, Option, Some, None, List, [], ◌∷◌, ◌++◌, length, length-append, refl, sym, ◌∙◌, ap, subst, arith, append-nil, Result, Ok, Err, inl, inr, ◌≤◌}
+use Rattle.std.proofs.Common.{◌≡◌, ℕ, ◌+◌, ◌*◌, ◌^◌, ◌<◌, fold, Bool, true, false, Option, Some, None, List, [], ◌∷◌, ◌++◌, length, length-append, refl, sym, ◌∙◌, ap, subst, arith, append-nil, Result, Ok, Err, ◌⊎◌, inl, inr, ◌≤◌}
 use Rattle.std.proofs.lemmas.List.Sums.{fold-append}
 use Rattle.std.proofs.lemmas.List.{map-append, length-map}
-use Rattle.std.proofs.lemmas.Bool.Decides.{nat_tests}
-use Rattle.std.proofs.lemmas.List.Elements.{All-nil, All-cons, All-append, All-weaker}
+use Rattle.std.proofs.lemmas.List.Elements.{All-nil, All-cons, All-append}
 use Rattle.std.specs.Prelude.{slice_get, if◌then◌else◌, vec_capacity, MatchOption, IfOk, IfSome}
 use Rattle.std.specs.Global.{Vec}
 use Rattle.std.specs.List.{All}
@@ -12,7 +11,6 @@ use Rattle.md_base.specs.declared.places.Shape.{Shape}
 use Rattle.md_base.specs.declared.answers.NoMemory.{NoMemory}
 use Rattle.md_base.specs.declared.answers.Refusal.{Refusal}
 use Rattle.md_base.specs.declared.answers.Refusal.TheVariants.{Running as IsRunning}
-use Rattle.md_base.specs.declared.answers.Who.{Who}
 use Rattle.md_base.specs.declared.status.Status.{Status}
 use Rattle.md_base.specs.Shapes.{data_disks}
 use Rattle.array.specs.Parts.{Parts}
@@ -23,8 +21,9 @@ use Rattle.flat_history.specs.declared.events.Entry.{Entry}
 use Rattle.flat_history.specs.declared.events.Epoch.{Epoch}
 use Rattle.flat_history.specs.declared.events.Event.{Event}
 use Rattle.flat_history.specs.declared.events.Event.TheVariants.{Shown, Stopped, Halted}
-use Rattle.flat_history.specs.declared.events.Request.TheVariants.{Read as AsksRead, Write as AsksWrite, Flush as AsksFlush, Fail as AsksFail}
-use Rattle.flat_history.specs.Flat.{rest_of_call, is_same_call, next_number, number_after}
+use Rattle.flat_history.specs.declared.events.Request.TheVariants.{Read as AsksRead, Write as AsksWrite, Flush as AsksFlush, Fail as AsksFail, Steps as AsksSteps}
+use Rattle.flat_history.specs.Flat.{rest_of_call, next_number, number_after}
+use Rattle.flat_history.specs.Legal.{call_before}
 use Rattle.flat_history.specs.Plain.{entries_of}
 use Rattle.flat_history.specs.OneShape.{OneShapeAnswers}
 use Rattle.flat_history.specs.Transfers.{last_end_from}
@@ -32,6 +31,7 @@ use Rattle.flat_history.proofs.OneShapeLegal.{last-snoc}
 use Rattle.flat_history.proofs.OneShapeGrowing.{call-ends}
 use Rattle.flat_history.specs.World.{World, opening_list}
 use Rattle.flat_history.specs.Epochs.{OpensAlike}
+use Rattle.flat_history.specs.Opened.{OpensSound}
 use Rattle.bank.specs.Given.{sizes}
 use Rattle.superblocks.specs.declared.members.Members.{Members}
 use Rattle.row_io.specs.Rows.{reading_of}
@@ -43,36 +43,26 @@ use Rattle.assemble.specs.Made.{used_slot}
 use Rattle.assemble.specs.Running.{IsCreated, IsAssembled, OpensWithZeros}
 use Rattle.script.specs.declared.lines.CreateLine.{CreateLine}
 use Rattle.script.specs.declared.lines.Line.{Line}
-use Rattle.script.specs.declared.lines.Line.TheVariants.{Create, Read, Write, Flush, Fail, Assemble}
+use Rattle.script.specs.declared.lines.Line.TheVariants.{Create, Read, Write, Flush, Fail, Step, Wait, Assemble}
 use Rattle.runner.specs.declared.report.Outside.TheVariants.{Created, Assembled, Refused}
+use Rattle.runner.specs.declared.report.Answered.{Answered}
 use Rattle.runner.specs.declared.report.Answered.TheVariants.{Inside, Outside as IsOutside}
+use Rattle.runner.specs.declared.states.State.{State}
 use Rattle.runner.specs.declared.states.State.TheVariants.{Idle, Running}
-use Rattle.runner.specs.Asked.{script_who, IsAskedAt, IsAsked}
-use Rattle.runner.specs.Histories.{History, history_of, histories_of, entry_at, is_end, ends_epoch}
+use Rattle.runner.specs.Asked.{script_who, IsAskedAt, IsAsked, IsStillWaiting, IsWaited}
+use Rattle.runner.specs.Histories.{History, history_of, histories_of, entry_at, is_end}
 use Rattle.runner.specs.Making.{Setting, held_at, history_world, MissingAtFirst, IsStoredNew, IsStoredAs}
-use Rattle.runner.specs.Replies.{at_rest, begun, one_call_more, IsAnsweredInside, IsRefusedOutside, spec_of}
+use Rattle.runner.specs.Replies.{Course, at_rest, begun, with_calls, course_behind, course_after, steps_at_once, IsRepliedAt, IsAnsweredInside, IsRefusedOutside, spec_of}
 use Rattle.superblocks.specs.Reading.{shape_of}
 use Rattle.script.specs.Seeds.{seeded}
-use Rattle.runner.specs.States.{EndsBetween, IsLossSince, AreLossesFrom, running_history, course_with, answer_at, IsGrown, AreGrown, AreLossesSince, IsTurn, IsNoTurn, IsTurnOrNone, RunsOwn, IsOwnEntry, AreByScript, IsByScript, AreOfScript}
-use Rattle.runner.proofs.AskLaws.{one, with_reply, entry_there, reply_at}
+use Rattle.runner.specs.Sessions.{IsUnreplied}
+use Rattle.runner.specs.States.{histories_in, course_in, IsNamed, EndsBetween, IsLossSince, AreLossesFrom, running_history, course_with, answer_at, IsGrown, AreGrown, AreLossesSince, IsTurn, IsNoTurn, IsTurnOrNone, RunsOwn, IsOwnEntry, AreByScript, IsByScript, AreOfScript}
+use Rattle.runner.proofs.AskLaws.{one, with_reply, entry_there, replied_at}
+use Rattle.runner.proofs.Called.{HasCalled, called_none, called_once, called_own, called_grown, number_more}
+use Rattle.runner.proofs.Growth.{answer_named, answer_called}
+use Rattle.runner.proofs.Waits.{size_same, waiting_called, waited_called, last_waited, waited_reply}
 use Rattle.runner.proofs.Losses.{losses-kept, losses-last, losses-same, losses-came, losses-found, each-absent}
 use Rattle.runner.proofs.Found.{found_world, found_history, opened_missing, stored_made, stored_found}
-
-both_false : (a b : Bool) → b ≡ false → (a && b) ≡ false
-both_false true b is = is
-both_false false b is = refl
-
-other_number : (a b : ℕ) → a < b → (a == b) ≡ false
-other_number a b lt = grind (arith, nat_tests, lt)
-
-other_call : (e : Entry) (who : Who) (end : ℕ) (event : Event) → e.number < who.number → is_same_call e (one who end event) ≡ false
-other_call e who end event lt = both_false (e.caller == who.caller) (e.number == who.number) (other_number e.number who.number lt)
-
--- an entry of the opening is of no call of the script
-opening_apart : (e : Entry) (number end : ℕ) (events : List Event) → e.caller ≡ 254 → rest_of_call e (entries_of (record { caller = 0; number = number }) end events) ≡ []
-opening_apart e number end [] is = refl
-opening_apart e number end (event ∷ events) is =
-    ap (λ (n : ℕ). if (n == 0) && (e.number == number) then one (record { caller = 0; number = number }) end event ∷ rest_of_call e (entries_of (record { caller = 0; number = number }) end events) else []) is
 
 -- its entries end where it began
 pub opening_end : (first : ℕ) (events : List Event) → last_end_from first (entries_of opener first events) ≡ first
@@ -83,22 +73,6 @@ opening_end first (event ∷ events) = call-ends first [] opener first event eve
 opening_number : (end : ℕ) (events : List Event) (n : ℕ) → fold (number_after 0) n (entries_of opener end events) ≡ n
 opening_number end [] n = refl
 opening_number end (event ∷ events) n = opening_number end events n
-
--- the entries of a later call go on with no former one
-later_call : (e : Entry) (who : Who) (end : ℕ) (events : List Event) → e.number < who.number → rest_of_call e (entries_of who end events) ≡ []
-later_call e who end [] lt = refl
-later_call e who end (event ∷ events) lt = ap (λ (t : Bool). if t then one who end event ∷ rest_of_call e (entries_of who end events) else []) (other_call e who end event lt)
-
--- the entries of a call of the script are the script's
-by_script_call : (number end : ℕ) (events : List Event) → AreByScript (number + 1) (entries_of (record { caller = 0; number = number }) end events)
-by_script_call number end [] = All-nil (λ e. IsOwnEntry (number + 1) e)
-by_script_call number end (event ∷ events) =
-    All-cons (λ e. IsOwnEntry (number + 1) e) (one (record { caller = 0; number = number }) end event) (entries_of (record { caller = 0; number = number }) end events) (inl (refl, omega arith)) (by_script_call number end events)
-
--- a later number
-own_later : (n : ℕ) (e : Entry) → IsOwnEntry n e → IsOwnEntry (n + 1) e
-own_later n e (inl (script, lt)) = inl (script, omega (arith, lt))
-own_later n e (inr found) = inr found
 
 -- ---- the history of the array that runs goes on
 
@@ -125,89 +99,74 @@ grown_came : (hs : List History) (new : History) → AreGrown hs (hs ++ new ∷ 
 grown_came [] new = tt
 grown_came (h ∷ hs) new = (grown_same h, grown_came hs new)
 
--- a call of the script, over the history of the array that runs
-module _ {size : ℕ} {line : Line} {place : ℕ} (hs : List History) (old new : History) (asked : IsAskedAt size line old.entries new.entries place) where
-  abbrev who : Who
-  who = script_who old.entries
-
-  pub number_more : next_number 0 new.entries ≡ next_number 0 old.entries + 1
-  number_more = ap (λ (l : List Entry). next_number 0 l) (with_reply asked) ∙ fold-append (number_after 0) 0 (old.entries ++ entries_of who asked.end asked.inner) (one who asked.end asked.event ∷ [])
-
-  pub by_script_more : IsByScript old → IsByScript new
-  by_script_more was =
-      let n = next_number 0 old.entries in
-      subst (λ (l : List Entry). AreByScript (next_number 0 new.entries) l) (sym asked.is)
-      (subst (λ (k : ℕ). AreByScript k (old.entries ++ entries_of who asked.end (asked.inner ++ asked.event ∷ []))) (sym number_more)
-      (All-append (λ e. IsOwnEntry (n + 1) e) old.entries (entries_of who asked.end (asked.inner ++ asked.event ∷ []))
-      (All-weaker (λ e. IsOwnEntry n e) (λ e. IsOwnEntry (n + 1) e) (λ e own. own_later n e own) old.entries was)
-      (by_script_call n asked.end (asked.inner ++ asked.event ∷ []))))
-
-  pub grown_more : new.uuid ≡ old.uuid → new.given ≡ old.given → new.first ≡ old.first → IsByScript old → IsGrown old new
-  grown_more uuid given first was = record {
-    uuid = uuid;
-    given = given;
-    first = first;
-    more = entries_of who asked.end (asked.inner ++ asked.event ∷ []);
-    grown = asked.is;
-    later = All-weaker (λ e. IsOwnEntry (next_number 0 old.entries) e) (λ e. rest_of_call e (entries_of who asked.end (asked.inner ++ asked.event ∷ [])) ≡ [])
-        (λ e own. apart e own) old.entries was;
-  }
-    where
-      apart : (e : Entry) → IsOwnEntry (next_number 0 old.entries) e → rest_of_call e (entries_of who asked.end (asked.inner ++ asked.event ∷ [])) ≡ []
-      apart e (inl (script, lt)) = later_call e who asked.end (asked.inner ++ asked.event ∷ []) lt
-      apart e (inr (found, number, absence)) = opening_apart e (next_number 0 old.entries) asked.end (asked.inner ++ asked.event ∷ []) found
-
+-- a line was answered by calls of the script, the last of them at this place, over the history of the array that runs
+module _ {size : ℕ} {line last : Line} {place : ℕ} {mid : List Entry} (hs : List History) (old new : History) (asked : IsAskedAt size last mid new.entries place) (replied : IsRepliedAt size new.entries place (next_number 0 old.entries) line) where
   pub answered_last : IsAnsweredInside (hs ++ new ∷ []) (record { opened = length hs + 1; running = true; calls = next_number 0 old.entries; size = size }) (length hs) place line
   answered_last = record {
     running = refl;
     latest = refl;
     history = new;
     there = get_last hs new;
-    replied = reply_at asked;
+    replied = replied;
   }
 
-  entry_last : entry_at (hs ++ new ∷ []) (length hs) place ≡ Some (one who asked.end asked.event)
+-- the entry of its reply
+module _ {size : ℕ} {last : Line} {place : ℕ} {mid : List Entry} (hs : List History) (new : History) (asked : IsAskedAt size last mid new.entries place) where
+  pub entry_last : entry_at (hs ++ new ∷ []) (length hs) place ≡ Some (one (script_who mid) asked.end asked.event)
   entry_last = ap (λ (o : Option History). option_and_then (λ h. slice_get h.entries place) o) (get_last hs new) ∙ entry_there asked
 
-  pub ends_last : ends_epoch (hs ++ new ∷ []) (length hs) place ≡ is_end asked.event
-  ends_last = ap (λ (o : Option Entry). option_map_or (λ e. is_end e.event) o false) entry_last
+  -- where the run stands behind it
+  pub course_last : (course : Course) (line : Line) → course_after (hs ++ new ∷ []) course line (Inside (length hs) place) ≡ course_behind course (one (script_who mid) asked.end asked.event)
+  course_last course line = ap (λ (o : Option Entry). option_map_or (course_behind course) o course) entry_last
 
   -- and when it ended
   pub between_last : (low high : ℕ) → low ≤ asked.end → asked.end ≤ high → EndsBetween low high (hs ++ new ∷ []) (Inside (length hs) place)
   between_last low high above below = subst (λ (o : Option Entry). MatchOption o ⊥ (λ e. (low ≤ e.end) × (e.end ≤ high))) (sym entry_last) (above, below)
 
--- a read, a write, a flush and a fail end no epoch
-goes_read : (size : ℕ) (before : List Entry) (at count : ℕ) (event : Event) → OneShapeAnswers size before (AsksRead at count) event → is_end event ≡ false
-goes_read size before at count Stopped is = absurd is
-goes_read size before at count Halted is = absurd is
-goes_read size before at count event is = refl
+-- a read, a write, a flush, a fail and steps end no epoch
+goes_read : (size : ℕ) (before call : List Entry) (at count : ℕ) (event : Event) → OneShapeAnswers size before call (AsksRead at count) event → is_end event ≡ false
+goes_read size before call at count Stopped is = absurd is
+goes_read size before call at count Halted is = absurd is
+goes_read size before call at count event is = refl
 
-goes_write : (size : ℕ) (before : List Entry) (at : ℕ) (body : List (List ℕ)) (event : Event) → OneShapeAnswers size before (AsksWrite at body) event → is_end event ≡ false
-goes_write size before at body Stopped is = absurd is
-goes_write size before at body Halted is = absurd is
-goes_write size before at body event is = refl
+goes_write : (size : ℕ) (before call : List Entry) (at : ℕ) (body : List (List ℕ)) (event : Event) → OneShapeAnswers size before call (AsksWrite at body) event → is_end event ≡ false
+goes_write size before call at body Stopped is = absurd is
+goes_write size before call at body Halted is = absurd is
+goes_write size before call at body event is = refl
 
-goes_flush : (size : ℕ) (before : List Entry) (event : Event) → OneShapeAnswers size before AsksFlush event → is_end event ≡ false
-goes_flush size before Stopped is = absurd is
-goes_flush size before Halted is = absurd is
-goes_flush size before event is = refl
+goes_flush : (size : ℕ) (before call : List Entry) (event : Event) → OneShapeAnswers size before call AsksFlush event → is_end event ≡ false
+goes_flush size before call Stopped is = absurd is
+goes_flush size before call Halted is = absurd is
+goes_flush size before call event is = refl
 
-goes_fail : (size : ℕ) (before : List Entry) (role : ℕ) (event : Event) → OneShapeAnswers size before (AsksFail role) event → is_end event ≡ false
-goes_fail size before role Stopped is = absurd is
-goes_fail size before role Halted is = absurd is
-goes_fail size before role event is = refl
+goes_fail : (size : ℕ) (before call : List Entry) (role : ℕ) (event : Event) → OneShapeAnswers size before call (AsksFail role) event → is_end event ≡ false
+goes_fail size before call role Stopped is = absurd is
+goes_fail size before call role Halted is = absurd is
+goes_fail size before call role event is = refl
+
+goes_steps : (size : ℕ) (before call : List Entry) (most : ℕ) (event : Event) → OneShapeAnswers size before call (AsksSteps most) event → is_end event ≡ false
+goes_steps size before call most Stopped is = absurd is
+goes_steps size before call most Halted is = absurd is
+goes_steps size before call most event is = refl
+
+-- what stands before the reply in its call
+abbrev call_of : {size place : ℕ} {line : Line} {old new : List Entry} → IsAskedAt size line old new place → List Entry
+call_of {old = old} asked = call_before (old ++ asked.inner) (one (script_who old) asked.end asked.event)
 
 pub going_read : {size place : ℕ} {old new : List Entry} (at count : ℕ) (asked : IsAskedAt size (Read at count) old new place) → is_end asked.event ≡ false
-going_read {size = size} {old = old} at count asked = goes_read size (old ++ entries_of (script_who old) asked.end asked.inner) at count asked.event asked.fits.answers
+going_read {size = size} {old = old} at count asked = goes_read size (old ++ asked.inner) (call_of asked) at count asked.event asked.fits.answers
 
 pub going_write : {size place : ℕ} {old new : List Entry} (at count seed : ℕ) (asked : IsAskedAt size (Write at count seed) old new place) → is_end asked.event ≡ false
-going_write {size = size} {old = old} at count seed asked = goes_write size (old ++ entries_of (script_who old) asked.end asked.inner) at (seeded seed at count) asked.event asked.fits.answers
+going_write {size = size} {old = old} at count seed asked = goes_write size (old ++ asked.inner) (call_of asked) at (seeded seed at count) asked.event asked.fits.answers
 
 pub going_flush : {size place : ℕ} {old new : List Entry} (asked : IsAskedAt size Flush old new place) → is_end asked.event ≡ false
-going_flush {size = size} {old = old} asked = goes_flush size (old ++ entries_of (script_who old) asked.end asked.inner) asked.event asked.fits.answers
+going_flush {size = size} {old = old} asked = goes_flush size (old ++ asked.inner) (call_of asked) asked.event asked.fits.answers
 
 pub going_fail : {size place : ℕ} {old new : List Entry} (role : ℕ) (asked : IsAskedAt size (Fail role) old new place) → is_end asked.event ≡ false
-going_fail {size = size} {old = old} role asked = goes_fail size (old ++ entries_of (script_who old) asked.end asked.inner) role asked.event asked.fits.answers
+going_fail {size = size} {old = old} role asked = goes_fail size (old ++ asked.inner) (call_of asked) role asked.event asked.fits.answers
+
+pub going_steps : {size place : ℕ} {old new : List Entry} (most : ℕ) (asked : IsAskedAt size (Step most) old new place) → is_end asked.event ≡ false
+going_steps {size = size} {old = old} most asked = goes_steps size (old ++ asked.inner) (call_of asked) most asked.event asked.fits.answers
 
 -- ---- the array that runs was called
 
@@ -219,7 +178,7 @@ EndsWithin setting end = (setting.began ≤ end) × (end ≤ length setting.tape
 pub at_the_end : {size place : ℕ} {line : Line} (setting : Setting) (old new : List Entry) (asked : IsAskedAt size line old new place) (first : ℕ) → setting.tells → setting.began ≤ length setting.tape
     → IsEndOf setting.tells first new setting.tape → EndsWithin setting asked.end
 at_the_end setting old new asked first t longer ended =
-    let last = last_end-snoc first (old ++ entries_of (script_who old) asked.end asked.inner) (one (script_who old) asked.end asked.event) in
+    let last = last_end-snoc first (old ++ asked.inner) (one (script_who old) asked.end asked.event) in
     let same : asked.end ≡ length setting.tape = sym last ∙ sym (ap (λ (l : List Entry). last_end_from first l) (with_reply asked)) ∙ ended t in
     (omega (arith, longer, same), omega (arith, same))
   where
@@ -238,40 +197,87 @@ module _ {B : Type 0} (setting : Setting) (old new : Parts B) (epochs : Vec Epoc
   len = length-map epochs.items history_of
 
   same_size : list_size (places_of new.members) ≡ list_size (places_of old.members)
-  same_size = ap (λ (s : Shape). data_disks s * new.members.newest.size) shape ∙ ap (λ (n : ℕ). data_disks (shape_of old.members.newest) * n) rows
+  same_size = size_same old.members new.members shape rows
 
-  -- it answered and goes on
+  -- it was called, and goes on
+  called_own_still : HasCalled old.entries new.entries → RunsOwn (Running new epochs)
+  called_own_still called = record { former = own.former; script = called_own called own.script; room = own.room; few = own.few }
+
+  called_grown_still : HasCalled old.entries new.entries → AreGrown (hs ++ running_history old ∷ []) (hs ++ running_history new ∷ [])
+  called_grown_still called = grown_last hs (running_history old) (running_history new) (called_grown (running_history old) (running_history new) called uuid given first own.script)
+
+  -- where the run stands behind its last call
+  course_asked : {last : Line} {mid : List Entry} {place : ℕ} (line : Line) (asked : IsAskedAt (list_size (places_of old.members)) last mid new.entries place) → is_end asked.event ≡ false
+      → course_with k new ≡ course_after (hs ++ running_history new ∷ []) (course_with k old) line (Inside k place)
+  course_asked {mid = mid} {place = place} line asked goes =
+      ap (λ (n : ℕ). record { opened = k + 1; running = true; calls = n; size = list_size (places_of new.members) }) (number_more asked)
+      ∙ ap (λ (n : ℕ). record { opened = k + 1; running = true; calls = next_number 0 mid + 1; size = n }) same_size
+      ∙ sym (ap (λ (n : ℕ). course_after (hs ++ running_history new ∷ []) (course_with k old) line (Inside n place)) (sym len)
+      ∙ course_last hs (running_history new) asked (course_with k old) line
+      ∙ ap (λ (b : Bool). if b then at_rest (k + 1) else with_calls (next_number 0 mid + 1) (course_with k old)) goes)
+
+  -- it answered
+  pub turn_called : {last : Line} {mid : List Entry} (line : Line) (place : ℕ) (asked : IsAskedAt (list_size (places_of old.members)) last mid new.entries place) → HasCalled old.entries new.entries
+      → IsRepliedAt (list_size (places_of old.members)) new.entries place (next_number 0 old.entries) line → (setting.tells → EndsWithin setting asked.end) → is_end asked.event ≡ false
+      → IsTurn setting (Running old epochs) (Running new epochs) line (Inside k place)
+  turn_called line place asked called replied ended goes = record {
+    own = called_own_still called;
+    losses = losses-last setting hs (running_history old) (running_history new) lost;
+    grown = called_grown_still called;
+    ends = λ t. subst (λ (n : ℕ). EndsBetween setting.began (length setting.tape) (hs ++ running_history new ∷ []) (Inside n place)) len
+        (between_last hs (running_history new) asked setting.began (length setting.tape) (ended t).0 (ended t).1);
+    answer = subst (λ (n : ℕ). IsAnsweredInside (hs ++ running_history new ∷ []) (record { opened = n + 1; running = true; calls = next_number 0 old.entries; size = list_size (places_of old.members) }) n place line) len
+        (answered_last hs (running_history old) (running_history new) asked replied);
+    course = course_asked line asked goes;
+  }
+
   pub turn_asked : (line : Line) (place : ℕ) (asked : IsAskedAt (list_size (places_of old.members)) line old.entries new.entries place) → (setting.tells → EndsWithin setting asked.end) → is_end asked.event ≡ false
       → IsTurn setting (Running old epochs) (Running new epochs) line (Inside k place)
-  turn_asked line place asked ended goes = record {
-    own = record { former = own.former; script = by_script_more hs (running_history old) (running_history new) asked own.script; room = own.room; few = own.few };
-    losses = losses-last setting hs (running_history old) (running_history new) lost;
-    grown = grown_last hs (running_history old) (running_history new) (grown_more hs (running_history old) (running_history new) asked uuid given first own.script);
-    ends = λ t. subst (λ (n : ℕ). EndsBetween setting.began (length setting.tape) (hs ++ running_history new ∷ []) (Inside n place)) len
-        (between_last hs (running_history old) (running_history new) asked setting.began (length setting.tape) (ended t).0 (ended t).1);
-    answer = subst (λ (n : ℕ). IsAnsweredInside (hs ++ running_history new ∷ []) (record { opened = n + 1; running = true; calls = next_number 0 old.entries; size = list_size (places_of old.members) }) n place line) len
-        (answered_last hs (running_history old) (running_history new) asked);
-    course = ap (λ (n : ℕ). record { opened = k + 1; running = true; calls = n; size = list_size (places_of new.members) }) (number_more hs (running_history old) (running_history new) asked)
-        ∙ ap (λ (n : ℕ). record { opened = k + 1; running = true; calls = next_number 0 old.entries + 1; size = n }) same_size
-        ∙ sym (ap (λ (b : Bool). if b then at_rest (k + 1) else one_call_more (course_with k old))
-        (ap (λ (n : ℕ). ends_epoch (hs ++ running_history new ∷ []) n place) (sym len) ∙ ends_last hs (running_history old) (running_history new) asked ∙ goes));
-  }
+  turn_asked line place asked ended goes = turn_called line place asked (called_once asked) (replied_at line asked) ended goes
 
   -- memory was short for it
   pub no_turn : (line : Line) → new.entries ≡ old.entries → IsNoTurn setting (Running old epochs) (Running new epochs) line
   no_turn line same = record {
-    own = record { former = own.former; script = subst (λ (l : List Entry). AreByScript (next_number 0 l) l) (sym same) own.script; room = own.room; few = own.few };
+    own = called_own_still (called_none same);
     losses = losses-last setting hs (running_history old) (running_history new) lost;
-    grown = grown_last hs (running_history old) (running_history new) (record { uuid = uuid; given = given; first = first; more = []; grown = same ∙ sym (append-nil old.entries); later = none_later old.entries });
-    course = inl (ap (λ (l : List Entry). record { opened = k + 1; running = true; calls = next_number 0 l; size = list_size (places_of new.members) }) same
-        ∙ ap (λ (n : ℕ). record { opened = k + 1; running = true; calls = next_number 0 old.entries; size = n }) same_size);
+    grown = called_grown_still (called_none same);
+    course = inl (course_same same);
   }
+    where
+      course_same : new.entries ≡ old.entries → course_with k new ≡ course_with k old
+      course_same same = ap (λ (l : List Entry). record { opened = k + 1; running = true; calls = next_number 0 l; size = list_size (places_of new.members) }) same
+          ∙ ap (λ (n : ℕ). record { opened = k + 1; running = true; calls = next_number 0 old.entries; size = n }) same_size
 
   pub turn_of_ask : (line : Line) (r : Result ℕ NoMemory) → ((place : ℕ) (asked : IsAskedAt (list_size (places_of old.members)) line old.entries new.entries place) → is_end asked.event ≡ false)
       → (setting.tells → setting.began ≤ length setting.tape) → IfOk r (λ place. IsEndOf setting.tells new.first new.entries setting.tape)
       → IsAsked (list_size (places_of old.members)) line old.entries new.entries r → IsTurnOrNone setting (Running old epochs) (Running new epochs) line (answer_at k r)
   turn_of_ask line (Ok place) going longer ended asked = turn_asked line place asked (λ t. at_the_end setting old.entries new.entries asked new.first t (longer t) ended) (going place asked)
   turn_of_ask line (Err fault) going longer ended asked = no_turn line asked
+
+  -- memory was short for one of the calls of a wait
+  no_turn_waiting : (earlier : List ℕ) → IsStillWaiting (list_size (places_of old.members)) old.entries earlier new.entries → IsNoTurn setting (Running old epochs) (Running new epochs) Wait
+  no_turn_waiting earlier was = by_last (last_waited (list_size (places_of old.members)) old.entries new.entries earlier was)
+    where
+      by_last : ((new.entries ≡ old.entries) ⊎ ((mid : List Entry) × (place : ℕ) × IsAskedAt (list_size (places_of old.members)) (Step steps_at_once) mid new.entries place × (next_number 0 old.entries ≤ next_number 0 mid)))
+          → IsNoTurn setting (Running old epochs) (Running new epochs) Wait
+      by_last (inl same) = no_turn Wait same
+      by_last (inr (mid, place, asked, le)) = record {
+        own = called_own_still (waiting_called (list_size (places_of old.members)) old.entries new.entries earlier was);
+        losses = losses-last setting hs (running_history old) (running_history new) lost;
+        grown = called_grown_still (waiting_called (list_size (places_of old.members)) old.entries new.entries earlier was);
+        course = inr (inl (
+          Inside k place,
+          subst (λ (o : Option Entry). MatchOption o ⊥ (λ e. next_number 0 old.entries ≤ e.number))
+              (sym (ap (λ (n : ℕ). entry_at (hs ++ running_history new ∷ []) n place) (sym len) ∙ entry_last hs (running_history new) asked)) le,
+          course_asked Wait asked (going_steps steps_at_once asked),
+        ));
+      }
+
+  pub turn_of_wait : (r : Result ℕ NoMemory) → (setting.tells → setting.began ≤ length setting.tape) → IsEndOf setting.tells new.first new.entries setting.tape
+      → IsWaited (list_size (places_of old.members)) old.entries new.entries r → IsTurnOrNone setting (Running old epochs) (Running new epochs) Wait (answer_at k r)
+  turn_of_wait (Ok place) longer ended was =
+      turn_called Wait place was.asked (waited_called was) (waited_reply own.script was) (λ t. at_the_end setting was.between new.entries was.asked new.first t (longer t) ended) (going_steps steps_at_once was.asked)
+  turn_of_wait (Err fault) longer ended (earlier, was) = no_turn_waiting earlier was
 
 -- it was not called, and goes on
 pub turn_refused : {B : Type 0} (setting : Setting) (array : Parts B) (epochs : Vec Epoch) (line : Line) → RunsOwn (Running array epochs) → (setting.tells → setting.began ≤ length setting.tape) → IsRefusedOutside setting true (length setting.tape) line IsRunning
@@ -306,23 +312,26 @@ module _ {B : Type 0} (setting : Setting) (old : Parts B) (epoch : Epoch) (bank 
 
   pub turn_ended : (line : Line) (place : ℕ) (asked : IsAskedAt (list_size (places_of old.members)) line old.entries epoch.entries.items place) → (setting.tells → EndsWithin setting asked.end) → is_end asked.event ≡ true
       → IsTurn setting (Running old epochs) (Idle bank ended) line (Inside count place)
-  turn_ended line place asked within ends = record {
-    own = subst (λ (l : List History). AreOfScript l) (sym now_are)
-        (All-append IsByScript before (history_of epoch ∷ []) own.former (All-cons IsByScript (history_of epoch) [] (by_script_more before (running_history old) (history_of epoch) asked own.script) (All-nil IsByScript)));
-    losses = subst (λ (l : List History). AreLossesFrom setting (before ++ running_history old ∷ []) l) (sym now_are) (losses-last setting before (running_history old) (history_of epoch) lost);
-    grown = subst (λ (l : List History). AreGrown (before ++ running_history old ∷ []) l) (sym now_are)
-        (grown_last before (running_history old) (history_of epoch) (grown_more before (running_history old) (history_of epoch) asked uuid given first own.script));
-    ends = λ t. subst (λ (l : List History). EndsBetween setting.began (length setting.tape) l (Inside count place)) (sym now_are)
-        (subst (λ (n : ℕ). EndsBetween setting.began (length setting.tape) (before ++ history_of epoch ∷ []) (Inside n place)) counted
-        (between_last before (running_history old) (history_of epoch) asked setting.began (length setting.tape) (within t).0 (within t).1));
-    answer = subst (λ (l : List History). IsAnsweredInside l (course_with count old) count place line) (sym now_are)
-        (subst (λ (n : ℕ). IsAnsweredInside (before ++ history_of epoch ∷ []) (record { opened = n + 1; running = true; calls = next_number 0 old.entries; size = list_size (places_of old.members) }) n place line) counted
-        (answered_last before (running_history old) (history_of epoch) asked));
-    course = ap (λ (n : ℕ). at_rest n) now_many
-        ∙ sym (ap (λ (b : Bool). if b then at_rest (count + 1) else one_call_more (course_with count old))
-        (ap (λ (l : List History). ends_epoch l count place) now_are ∙ ap (λ (n : ℕ). ends_epoch (before ++ history_of epoch ∷ []) n place) (sym counted)
-        ∙ ends_last before (running_history old) (history_of epoch) asked ∙ ends));
-  }
+  turn_ended line place asked within ends =
+      let now = history_of epoch in
+      let called = called_once asked in
+      record {
+        own = subst (λ (l : List History). AreOfScript l) (sym now_are) (All-append IsByScript before (now ∷ []) own.former (All-cons IsByScript now [] (called_own called own.script) (All-nil IsByScript)));
+        losses = subst (λ (l : List History). AreLossesFrom setting (before ++ running_history old ∷ []) l) (sym now_are) (losses-last setting before (running_history old) now lost);
+        grown = subst (λ (l : List History). AreGrown (before ++ running_history old ∷ []) l) (sym now_are)
+            (grown_last before (running_history old) now (called_grown (running_history old) now called uuid given first own.script));
+        ends = λ t. subst (λ (l : List History). EndsBetween setting.began (length setting.tape) l (Inside count place)) (sym now_are)
+            (subst (λ (n : ℕ). EndsBetween setting.began (length setting.tape) (before ++ now ∷ []) (Inside n place)) counted
+            (between_last before now asked setting.began (length setting.tape) (within t).0 (within t).1));
+        answer = subst (λ (l : List History). IsAnsweredInside l (course_with count old) count place line) (sym now_are)
+            (subst (λ (n : ℕ). IsAnsweredInside (before ++ now ∷ []) (record { opened = n + 1; running = true; calls = next_number 0 old.entries; size = list_size (places_of old.members) }) n place line) counted
+            (answered_last before (running_history old) now asked (replied_at line asked)));
+        course = ap (λ (n : ℕ). at_rest n) now_many
+            ∙ sym (ap (λ (l : List History). course_after l (course_with count old) line (Inside count place)) now_are
+            ∙ ap (λ (n : ℕ). course_after (before ++ now ∷ []) (course_with count old) line (Inside n place)) (sym counted)
+            ∙ course_last before now asked (course_with count old) line
+            ∙ ap (λ (b : Bool). if b then at_rest (count + 1) else with_calls (next_number 0 old.entries + 1) (course_with count old)) ends);
+      }
 
 -- ---- no array ran
 
@@ -398,6 +407,7 @@ module _ {B : Type 0} (setting : Setting) (bank : B) (olds epochs : Vec Epoch) (
           stored = λ t. subst (λ (w : World). IsStoredNew w (spec_of line)) (found_history setting array (running_history array) (sym made.begun.uuid) refl (sym (made.begun.first t)))
               (stored_made setting.given setting.tape setting.backup (spec_of line) array made t);
           alike = λ t. subst OpensAlike (world_is made.begun.backup_is) (made.alike t);
+          sound = λ t. subst OpensSound (world_is made.begun.backup_is) (made.sound t);
         },
       );
       course = opened_course 0 (data_disks line.shape * line.size) (ap (λ (l : List Entry). next_number 0 l) made.quiet)
@@ -472,3 +482,22 @@ module _ {B : Type 0} (setting : Setting) (bank : B) (olds epochs : Vec Epoch) (
         grown = opened_grown;
         course = inr (inr (refl, (list_size (places_of array.members), opened_course 0 (list_size (places_of array.members)) (ap (λ (l : List Entry). next_number 0 l) kept ∙ found_number) refl)));
       }
+
+-- ---- the reply
+
+-- an answer is a turn, which names its entry
+module _ {B : Type 0} {what : Answered} {r : Result Answered NoMemory} (setting : Setting) (old new : State B) (line : Line) (answered : IsTurnOrNone setting old new line r) (is : r ≡ Ok what) where
+  turn : IsTurn setting old new line what
+  turn = subst (λ (r : Result Answered NoMemory). IsTurnOrNone setting old new line r) is answered
+
+  pub turn_named : IsNamed (histories_in new) what
+  turn_named = answer_named setting (histories_in new) (course_in old) line (length setting.tape) what turn.answer
+
+  -- memory was short for its text
+  pub turn_unreplied : IsUnreplied setting old new line
+  turn_unreplied = record {
+    own = turn.own;
+    losses = turn.losses;
+    grown = turn.grown;
+    course = inr (inl (what, answer_called setting (histories_in new) (course_in old) line (length setting.tape) what turn.answer, turn.course));
+  }

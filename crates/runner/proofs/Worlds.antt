@@ -25,6 +25,7 @@ use Rattle.flat_history.specs.Transfers.{last_end_from}
 use Rattle.flat_history.specs.Legal.{last_end}
 use Rattle.flat_history.specs.CrashSafe.{IsSafeAt, IsSafeFor, IsCrashSafe, made_by}
 use Rattle.flat_history.specs.Epochs.{HasRoomForEvents, OpensAlike}
+use Rattle.flat_history.specs.Opened.{IsSound, OpensSound}
 use Rattle.flat_history.specs.Reopened.{OpensAccepted}
 use Rattle.flat_history.specs.Sound.{FillsRight, LeavesSound, StaysSound}
 use Rattle.flat_history.specs.Growing.{grown, EndBy}
@@ -52,6 +53,11 @@ module _ (world : World) (more : List Operation) (begun : world.first ≤ length
   alike-later was =
       subst (λ (o : Option Reading). IfSome o (λ r. AreLikeNewest world.scope r.newest (contents_at (grown world more) world.first))) (sym reading-same)
       (subst (λ (c : Contents). IfSome (reading_at world world.first) (λ r. AreLikeNewest world.scope r.newest c)) (sym first-same) was)
+
+  pub sound-later : OpensSound world → OpensSound (grown world more)
+  sound-later was =
+      subst (λ (o : Option Reading). IfSome o (IsSound world.scope (contents_at (grown world more) world.first))) (sym reading-same)
+      (subst (λ (c : Contents). IfSome (reading_at world world.first) (IsSound world.scope c)) (sym first-same) was)
 
   pub alike-before : OpensAlike (grown world more) → OpensAlike world
   alike-before was =

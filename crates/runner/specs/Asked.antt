@@ -1,28 +1,55 @@
 -- One line of the script to a running array.
-use Rattle.std.specs.Prelude.{◌≡◌, ℕ, ◌+◌, ◌++◌, List, [], ◌∷◌, length, Result, Ok, Err}
+use Rattle.std.specs.Prelude.{◌≡◌, ℕ, ◌+◌, ◌++◌, List, [], ◌∷◌, length, slice_get, MatchOption, Result, Ok, Err, IsTrue, IsFalse}
+use Rattle.std.specs.List.{All}
 use Rattle.md_base.specs.declared.answers.NoMemory.{NoMemory}
 use Rattle.md_base.specs.declared.answers.Who.{Who}
 use Rattle.flat_history.specs.declared.events.Entry.{Entry}
 use Rattle.flat_history.specs.declared.events.Event.{Event}
 use Rattle.flat_history.specs.Flat.{next_number}
-use Rattle.flat_history.specs.Plain.{entries_of}
+use Rattle.flat_history.specs.OneShape.{IsOfCall}
+use Rattle.shared_array.specs.Steps.{IsStepCount}
 use Rattle.script.specs.declared.lines.Line.{Line}
-use Rattle.runner.specs.Replies.{FitsLine}
+use Rattle.script.specs.declared.lines.Line.TheVariants.{Step}
+use Rattle.runner.specs.Replies.{FitsLine, leaves_more, steps_at_once}
 
 -- the script's next call
 abbrev pub script_who : List Entry → Who
 script_who entries = record { caller = 0; number = next_number 0 entries }
 
--- The script's next call entered these events; the last one answers the line and stands at this place.
+-- The script's next call entered these entries, and the one behind them, which answers the line and stands at this place.
 pub record IsAskedAt (size : ℕ) (line : Line) (old new : List Entry) (place : ℕ) : Type 0 where
-  pub inner : List Event
+  pub inner : List Entry
   pub event : Event
   pub end : ℕ
-  pub is : new ≡ old ++ entries_of (script_who old) end (inner ++ event ∷ [])
-  pub fits : FitsLine size (old ++ entries_of (script_who old) end inner) (record { caller = 0; number = next_number 0 old; end = end; event = event }) line
+  pub own : All (λ e. IsOfCall (script_who old) e) inner
+  pub is : new ≡ old ++ (inner ++ record { caller = 0; number = next_number 0 old; end = end; event = event } ∷ [])
+  pub fits : FitsLine size (old ++ inner) (record { caller = 0; number = next_number 0 old; end = end; event = event }) line
   pub at_end : place + 1 ≡ length new
 
 -- or memory was short, and nothing was entered
 abbrev pub IsAsked : ℕ → Line → List Entry → List Entry → Result ℕ NoMemory → Type 0
 IsAsked size line old new (Ok place) = IsAskedAt size line old new place
 IsAsked size line old new (Err fault) = new ≡ old
+
+-- the reply at a place tells how many of the steps that were left were done, and how many are left now
+abbrev pub IsCountedAt : ℕ → ℕ → List Entry → ℕ → Type 0
+IsCountedAt before after entries place = MatchOption (slice_get entries place) ⊥ (λ e. IsStepCount before after e.event)
+
+-- The calls of a wait so far, whose replies stand at these places: each leaves more to do.
+abbrev pub IsStillWaiting : ℕ → List Entry → List ℕ → List Entry → Type 0
+IsStillWaiting size old [] new = new ≡ old
+IsStillWaiting size old (place ∷ places) new = (between : List Entry) × (asked : IsAskedAt size (Step steps_at_once) old between place)
+    × IsTrue (leaves_more asked.event) × IsStillWaiting size between places new
+
+-- The calls of a wait, and the last one, whose reply stands at this place.
+pub record IsWaitedFor (size : ℕ) (old new : List Entry) (place : ℕ) : Type 0 where
+  pub earlier : List ℕ
+  pub between : List Entry
+  pub waiting : IsStillWaiting size old earlier between
+  pub asked : IsAskedAt size (Step steps_at_once) between new place
+  pub done : IsFalse (leaves_more asked.event)
+
+-- or memory was short for one of them, which entered nothing
+abbrev pub IsWaited : ℕ → List Entry → List Entry → Result ℕ NoMemory → Type 0
+IsWaited size old new (Ok place) = IsWaitedFor size old new place
+IsWaited size old new (Err fault) = (earlier : List ℕ) × IsStillWaiting size old earlier new

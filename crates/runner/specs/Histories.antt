@@ -1,6 +1,6 @@
 -- The histories of a run's arrays, in the order in which these were opened.
 use Rattle.std.specs.Prelude.{ℕ, Bool, true, false, List, map, slice_get, Option}
-use Rattle.std.specs.Option.{option_and_then, option_map_or}
+use Rattle.std.specs.Option.{option_and_then}
 use Rattle.flat_history.specs.declared.events.Entry.{Entry}
 use Rattle.flat_history.specs.declared.events.Epoch.{Epoch}
 use Rattle.flat_history.specs.declared.events.Event.{Event}
@@ -28,7 +28,3 @@ abbrev pub is_end : Event → Bool
 is_end Stopped = true
 is_end Halted = true
 is_end event = false
-
--- the entry at a place ends its epoch
-abbrev pub ends_epoch : List History → ℕ → ℕ → Bool
-ends_epoch histories epoch place = option_map_or (λ e. is_end e.event) (entry_at histories epoch place) false

@@ -4,18 +4,24 @@ use Rattle.bank.specs.Given.{Given}
 use Rattle.bank.specs.Tape.{OnlyFlushesBetween}
 use Rattle.bank.specs.declared.bank.Operation.{Operation}
 use Rattle.flat_history.specs.declared.events.Epoch.{Epoch}
-use Rattle.flat_history.specs.Epochs.{world_of}
+use Rattle.flat_history.specs.Epochs.{world_of, HasRoomForEvents, OpensAlike}
+use Rattle.flat_history.specs.Opened.{OpensSound}
 use Rattle.flat_history.specs.Reopened.{EndsSettled, OpensWith}
+use Rattle.flat_history.specs.Sound.{OpensFit}
 use Rattle.flat_history.specs.Transfers.{last_end_from}
 use Rattle.flat_history.specs.World.{opening_list}
 use Rattle.runner.specs.Ended.{IfFilledRight}
 
--- The former epoch ends with a flush or a stop, and the next one is of the same array, in the same slots, behind nothing but flushes.
-pub record IsFoundAgain (tape : List Operation) (former next : Epoch) : Type 0 where
-  pub settled : EndsSettled former.entries.items
+-- The next epoch is of the same array, in the same slots, behind nothing but flushes.
+pub record IsOpenedAgain (tape : List Operation) (former next : Epoch) : Type 0 where
   pub uuid : next.uuid ≡ former.uuid
   pub slots : next.given ≡ former.given
   pub flushes : OnlyFlushesBetween tape (last_end_from former.first former.entries.items) next.first
+
+-- It is, and the former epoch ends with a flush or a stop.
+pub record IsFoundAgain (tape : List Operation) (former next : Epoch) : Type 0 where
+  pub settled : EndsSettled former.entries.items
+  pub again : IsOpenedAgain tape former next
 
 -- Where what the former epoch filled in is right and it is found again, the next one opens with the list that the former left, sector by
 -- sector, also where members were lost.
@@ -24,8 +30,16 @@ IsListKept given tape backup former next =
     IfFilledRight given tape backup former (IsFoundAgain tape former next
     → OpensWith (world_of given tape backup next) (opening_list (world_of given tape backup former)) former.entries.items)
 
+-- Where the former epoch opened fit, with room for its events and superblocks that are alike, and is opened again, the next one opens
+-- sound, however the former ended.
+abbrev pub IsSoundKept : Given → List Operation → Option ℕ → Epoch → Epoch → Type 0
+IsSoundKept given tape backup former next =
+    OpensFit (world_of given tape backup former) → HasRoomForEvents (world_of given tape backup former) → OpensAlike (world_of given tape backup former)
+    → IsOpenedAgain tape former next → OpensSound (world_of given tape backup next)
+
 -- so it is of each epoch and the next one
-abbrev pub AreListsKept : Given → List Operation → Option ℕ → List Epoch → Type 0
-AreListsKept given tape backup [] = ⊤
-AreListsKept given tape backup (former ∷ []) = ⊤
-AreListsKept given tape backup (former ∷ next ∷ epochs) = IsListKept given tape backup former next × AreListsKept given tape backup (next ∷ epochs)
+abbrev pub AreKept : Given → List Operation → Option ℕ → List Epoch → Type 0
+AreKept given tape backup [] = ⊤
+AreKept given tape backup (former ∷ []) = ⊤
+AreKept given tape backup (former ∷ next ∷ epochs) =
+    IsListKept given tape backup former next × IsSoundKept given tape backup former next × AreKept given tape backup (next ∷ epochs)

@@ -16,7 +16,8 @@ use Rattle.runner.specs.declared.states.State.{State}
 use Rattle.runner.specs.Histories.{History, history_of, histories_of}
 use Rattle.runner.specs.Making.{Setting}
 use Rattle.runner.specs.Replies.{Course, at_rest, course_of, AreReplies, AreInOrder}
-use Rattle.runner.specs.Sessions.{IsCourse}
+use Rattle.runner.specs.Sessions.{IsCourse, counted, taken_whole, IsTaken}
+use Rattle.runner.specs.Shown.{report_text, has_refusal}
 use Rattle.runner.specs.Source.{IsTextOf}
 use Rattle.runner.specs.States.{histories_in, bank_in, course_in, AreOfScript, AreGrown, IsLossSince, AreLossesFrom}
 
@@ -52,13 +53,34 @@ pub record AreLinesPerformed (setting : Setting) (asked : List Numbered) (stoppe
   pub script : AreOfScript (histories_of epochs)
   pub ends : setting.tells → AreInOrder setting.began (length setting.tape) lines
 
--- the whole text of the script was read, and then its lines were performed
-pub record IsScriptPerformed (source_tells : Type 0) (old new : List ℕ) (setting : Setting) (stopped : Option Stop) (epochs : List Epoch) (lines : List LineReply) : Type 0 where
+-- 0 where no reply is a refusal, 1 where one is
+abbrev pub AreTold : ℕ → Bool → Type 0
+AreTold status refused = (status ≡ 0 → refused ≡ false) × (status ≡ 1 → refused ≡ true)
+
+-- What a sink took: whether it tells, what it had taken before and has now, and how many bytes of replies it took whole.
+pub record Sunk : Type 1 where
+  pub tells : Type 0
+  pub old : List ℕ
+  pub new : List ℕ
+  pub shown : ℕ
+
+abbrev pub sunk_of : Type 0 → List ℕ → List ℕ → ℕ → Sunk
+sunk_of tells old new shown = record { tells = tells; old = old; new = new; shown = shown }
+
+-- The text of the replies to these lines went to the sink, and the status tells whether one of them is a refusal.
+pub record AreShown (sunk : Sunk) (status : ℕ) (asked : List Numbered) (epochs : List Epoch) (lines : List LineReply) : Type 0 where
+  pub taken : sunk.tells → IsTaken (stop_of status) sunk.old sunk.new (report_text (histories_of epochs) asked lines)
+  pub shown : sunk.shown ≡ counted (length (report_text (histories_of epochs) asked (taken_whole (stop_of status) lines)))
+  pub refusals : AreTold status (has_refusal (histories_of epochs) asked lines)
+
+-- the whole text of the script was read, and then its lines were performed, and their replies were shown
+pub record IsScriptPerformed (source_tells : Type 0) (old new : List ℕ) (setting : Setting) (sunk : Sunk) (status : ℕ) (epochs : List Epoch) (lines : List LineReply) : Type 0 where
   pub text : List ℕ
   pub read : IsTextOf source_tells old new text
   pub asked : List Numbered
   pub parsed : script_of text ≡ Ok asked
-  pub performed : AreLinesPerformed setting asked stopped epochs lines
+  pub performed : AreLinesPerformed setting asked (stop_of status) epochs lines
+  pub shown : AreShown sunk status asked epochs lines
 
 -- the whole text was read, or one byte more than it may have, and this is its first bad line
 pub record IsScriptBad (tells : Type 0) (old new : List ℕ) (line : ℕ) : Type 0 where
@@ -98,13 +120,12 @@ IsAfterLines status = (status ≡ 0) ⊎ (status ≡ 1) ⊎ (status ≡ 5)
 abbrev pub IsBeforeLines : ℕ → Type 0
 IsBeforeLines status = (status ≡ 2) ⊎ (status ≡ 3) ⊎ (status ≡ 4)
 
--- no line was performed, and no array was made
-abbrev pub IsNothing : List LineReply → List Epoch → Type 0
-IsNothing lines epochs = (lines ≡ []) × (epochs ≡ [])
-
--- 0 where no reply is a refusal, 1 where one is
-abbrev pub AreTold : ℕ → Bool → Type 0
-AreTold status refused = (status ≡ 0 → refused ≡ false) × (status ≡ 1 → refused ≡ true)
+-- no line was performed, no array was made, and nothing was shown
+pub record IsNothing (sunk : Sunk) (epochs : List Epoch) (lines : List LineReply) : Type 0 where
+  pub lines_are : lines ≡ []
+  pub epochs_are : epochs ≡ []
+  pub taken : sunk.tells → sunk.new ≡ sunk.old
+  pub shown : sunk.shown ≡ 0
 
 -- a command needs so many slots
 abbrev pub slots_for : Command → ℕ

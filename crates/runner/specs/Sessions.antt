@@ -35,7 +35,7 @@ pub record IsReplied {B : Type 0} (setting : Setting) (old new : State B) (numbe
   pub lane : reply.lane ≡ InScript
   pub end : IsEnd (histories_in new) reply reply.what
   pub at_end : IsEndNow setting.tells (length setting.tape) reply reply.what
-  pub refusal : refused ≡ is_refusal (histories_in new) reply.what
+  pub refusal : refused ≡ is_refusal (histories_in new) numbered.line reply.what
 
 -- no reply was made, for want of memory: the line was not performed, or it was the last one
 pub record IsUnreplied {B : Type 0} (setting : Setting) (old new : State B) (line : Line) : Type 0 where
@@ -45,7 +45,7 @@ pub record IsUnreplied {B : Type 0} (setting : Setting) (old new : State B) (lin
   pub course : IsCourseOrNext (histories_in new) (course_in old) line (course_in new)
 
 abbrev pub IsRepliedOrNot : {B : Type 0} → Setting → State B → State B → Numbered → List ℕ → Result Made NoMemory → Type 0
-IsRepliedOrNot setting old new numbered text (Ok made) = IsReplied setting old new numbered made.reply made.refused × (text ≡ reply_text (histories_in new) made.reply)
+IsRepliedOrNot setting old new numbered text (Ok made) = IsReplied setting old new numbered made.reply made.refused × (text ≡ reply_text (histories_in new) numbered.line made.reply)
 IsRepliedOrNot setting old new numbered text (Err fault) = IsUnreplied setting old new numbered.line
 
 -- one reply more, which the sink was to take
@@ -58,12 +58,12 @@ pub record IsReplyMore {B : Type 0} (setting : Setting) (old new : Session B) (n
 -- what one line does to a session, by whether it stops there; the sink had taken `old_taken`
 pub record IsShownWhole {B : Type 0} (tells : Type 0) (setting : Setting) (old new : Session B) (numbered : Numbered) (old_taken new_taken : List ℕ) : Type 0 where
   pub reply : IsReplyMore setting old new numbered
-  pub taken : tells → new_taken ≡ old_taken ++ reply_text (histories_in new.state) reply.made.reply
-  pub shown : new.shown ≡ counted (old.shown + length (reply_text (histories_in new.state) reply.made.reply))
+  pub taken : tells → new_taken ≡ old_taken ++ reply_text (histories_in new.state) numbered.line reply.made.reply
+  pub shown : new.shown ≡ counted (old.shown + length (reply_text (histories_in new.state) numbered.line reply.made.reply))
 
 pub record IsShownInPart {B : Type 0} (tells : Type 0) (setting : Setting) (old new : Session B) (numbered : Numbered) (old_taken new_taken : List ℕ) : Type 0 where
   pub reply : IsReplyMore setting old new numbered
-  pub taken : tells → (n : ℕ) × (new_taken ≡ old_taken ++ take n (reply_text (histories_in new.state) reply.made.reply))
+  pub taken : tells → (n : ℕ) × (new_taken ≡ old_taken ++ take n (reply_text (histories_in new.state) numbered.line reply.made.reply))
   pub shown : new.shown ≡ old.shown
 
 pub record IsUnshown {B : Type 0} (tells : Type 0) (setting : Setting) (old new : Session B) (numbered : Numbered) (old_taken new_taken : List ℕ) : Type 0 where
@@ -119,11 +119,11 @@ pub record IsPerformed {B : Type 0} (setting : Setting) (lines : List Numbered) 
       (course_of (histories_in session.state) (at_rest 0) (take (length session.replies.items) lines) session.replies.items) (course_in session.state)
   pub losses : AreLossesFrom setting [] (histories_in session.state)
   pub ends : setting.tells → AreInOrder setting.began (length setting.tape) session.replies.items
-  pub refused : session.refused ≡ has_refusal (histories_in session.state) session.replies.items
+  pub refused : session.refused ≡ has_refusal (histories_in session.state) lines session.replies.items
 
 -- their text went to the sink
-pub record IsShownTo {B : Type 0} (tells : Type 0) (session : Session B) (old new : List ℕ) (old_faults new_faults : ℕ) : Type 0 where
-  pub taken : tells → IsTaken session.stopped old new (report_text (histories_in session.state) session.replies.items)
-  pub shown : session.shown ≡ counted (length (report_text (histories_in session.state) (taken_whole session.stopped session.replies.items)))
+pub record IsShownTo {B : Type 0} (tells : Type 0) (lines : List Numbered) (session : Session B) (old new : List ℕ) (old_faults new_faults : ℕ) : Type 0 where
+  pub taken : tells → IsTaken session.stopped old new (report_text (histories_in session.state) lines session.replies.items)
+  pub shown : session.shown ≡ counted (length (report_text (histories_in session.state) lines (taken_whole session.stopped session.replies.items)))
   pub cause : IsStopCause session.stopped old_faults new_faults
   pub never_falls : old_faults ≤ new_faults

@@ -1,10 +1,13 @@
 -- The text of the replies, and whether one of them is a refusal.
-use Rattle.std.specs.Prelude.{ℕ, Bool, true, false, List, [], ◌++◌, Some, codes}
-use Rattle.std.specs.List.{flat_map, list_any}
+use Rattle.std.specs.Prelude.{ℕ, Bool, true, false, ◌||◌, List, [], ◌∷◌, ◌++◌, Some, codes}
 use Rattle.std.specs.Option.{option_map_or}
+use Rattle.md_base.specs.declared.answers.Refusal.TheVariants.{Nothing}
 use Rattle.flat_history.specs.declared.events.Event.{Event}
 use Rattle.flat_history.specs.declared.events.Event.TheVariants.{Refused as IsRefused, Stepped}
-use Rattle.script.specs.Texts.{created_text, assembled_text, refusal_text, event_text, lane_text}
+use Rattle.script.specs.declared.lines.Line.{Line}
+use Rattle.script.specs.declared.lines.Line.TheVariants.{Wait}
+use Rattle.script.specs.declared.lines.Numbered.{Numbered}
+use Rattle.script.specs.Texts.{created_text, assembled_text, refusal_text, event_text, waited_text, lane_text}
 use Rattle.runner.specs.declared.report.Outside.{Outside}
 use Rattle.runner.specs.declared.report.Outside.TheVariants.{Created, Assembled, Refused}
 use Rattle.runner.specs.declared.report.Answered.{Answered}
@@ -17,32 +20,44 @@ outside_text Created = created_text
 outside_text (Assembled epoch status) = assembled_text status
 outside_text (Refused refusal) = refusal_text refusal
 
+-- the event of an entry that answers a line; a wait has a text of its own
+abbrev pub entry_text : Line → Event → List ℕ
+entry_text Wait event = waited_text event
+entry_text line event = event_text event
+
 -- an answer by an entry is shown as the entry's event
-abbrev pub answer_text : List History → Answered → List ℕ
-answer_text histories (Inside epoch at) = option_map_or (λ e. event_text e.event) (entry_at histories epoch at) []
-answer_text histories (IsOutside outside) = outside_text outside
+abbrev pub answer_text : List History → Line → Answered → List ℕ
+answer_text histories line (Inside epoch at) = option_map_or (λ e. entry_text line e.event) (entry_at histories epoch at) []
+answer_text histories line (IsOutside outside) = outside_text outside
 
 -- a reply is one line
-abbrev pub reply_text : List History → LineReply → List ℕ
-reply_text histories reply = lane_text reply.lane ++ answer_text histories reply.what ++ codes "\n"
+abbrev pub reply_text : List History → Line → LineReply → List ℕ
+reply_text histories line reply = lane_text reply.lane ++ answer_text histories line reply.what ++ codes "\n"
 
-abbrev pub report_text : List History → List LineReply → List ℕ
-report_text histories replies = flat_map (λ reply. reply_text histories reply) replies
+-- the replies to these lines, one after another
+abbrev pub report_text : List History → List Numbered → List LineReply → List ℕ
+report_text histories lines [] = []
+report_text histories [] (reply ∷ replies) = []
+report_text histories (line ∷ lines) (reply ∷ replies) = reply_text histories line.line reply ++ report_text histories lines replies
 
--- the events that tell a refusal
-abbrev pub tells_refusal : Event → Bool
-tells_refusal (IsRefused refusal) = true
-tells_refusal (Stepped done left (Some refusal)) = true
-tells_refusal event = false
+-- the events that tell a refusal; that nothing is left to do is none in the reply of a wait
+abbrev pub tells_refusal : Line → Event → Bool
+tells_refusal Wait (IsRefused Nothing) = false
+tells_refusal line (IsRefused refusal) = true
+tells_refusal line (Stepped done left (Some refusal)) = true
+tells_refusal line event = false
 
 abbrev pub is_refused_outside : Outside → Bool
 is_refused_outside Created = false
 is_refused_outside (Assembled epoch status) = false
 is_refused_outside (Refused refusal) = true
 
-abbrev pub is_refusal : List History → Answered → Bool
-is_refusal histories (Inside epoch at) = option_map_or (λ e. tells_refusal e.event) (entry_at histories epoch at) false
-is_refusal histories (IsOutside outside) = is_refused_outside outside
+abbrev pub is_refusal : List History → Line → Answered → Bool
+is_refusal histories line (Inside epoch at) = option_map_or (λ e. tells_refusal line e.event) (entry_at histories epoch at) false
+is_refusal histories line (IsOutside outside) = is_refused_outside outside
 
-abbrev pub has_refusal : List History → List LineReply → Bool
-has_refusal histories replies = list_any (λ reply. is_refusal histories reply.what) replies
+-- one of the replies to these lines is a refusal
+abbrev pub has_refusal : List History → List Numbered → List LineReply → Bool
+has_refusal histories lines [] = false
+has_refusal histories [] (reply ∷ replies) = false
+has_refusal histories (line ∷ lines) (reply ∷ replies) = is_refusal histories line.line reply.what || has_refusal histories lines replies

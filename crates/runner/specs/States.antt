@@ -13,7 +13,7 @@ use Rattle.array.specs.Parts.{Parts}
 use Rattle.array.specs.Whole.{list_size}
 use Rattle.array.specs.Placed.{places_of}
 use Rattle.script.specs.declared.lines.Line.{Line}
-use Rattle.script.specs.declared.lines.Line.TheVariants.{Assemble}
+use Rattle.script.specs.declared.lines.Line.TheVariants.{Wait, Assemble}
 use Rattle.runner.specs.declared.report.Answered.{Answered}
 use Rattle.runner.specs.declared.report.Answered.TheVariants.{Inside, Outside}
 use Rattle.runner.specs.declared.states.State.{State}
@@ -121,6 +121,11 @@ AreLossesFrom setting [] (new ∷ news) = AreLossesSince setting [] new × AreLo
 AreLossesFrom setting (old ∷ olds) [] = ⊥
 AreLossesFrom setting (old ∷ olds) (new ∷ news) = AreLossesSince setting old.entries new × AreLossesFrom setting olds news
 
+-- the call of this number may be the last of a line's, where the script has made so many calls before it
+abbrev pub IsCallFor : Line → ℕ → ℕ → Type 0
+IsCallFor Wait calls number = calls ≤ number
+IsCallFor line calls number = number ≡ calls
+
 -- the entry that an answer names is there
 abbrev pub IsNamed : List History → Answered → Type 0
 IsNamed histories (Inside epoch at) = IsSome (entry_at histories epoch at)
@@ -131,10 +136,15 @@ abbrev pub IsFoundUntold : Course → Line → Course → Type 0
 IsFoundUntold old (Assemble uuid) new = IsFalse old.running × ((size : ℕ) × (new ≡ begun old.opened 0 size))
 IsFoundUntold old line new = ⊥
 
+-- an answer names an entry of a call of the line
+abbrev pub IsCallNamed : List History → Course → Line → Answered → Type 0
+IsCallNamed histories course line (Inside epoch at) = MatchOption (entry_at histories epoch at) ⊥ (λ e. IsCallFor line course.calls e.number)
+IsCallNamed histories course line (Outside outside) = ⊤
+
 -- where the run stands after some answer to a line, or with an array that it found
 abbrev pub IsNextCourse : List History → Course → Line → Course → Type 0
 IsNextCourse histories old line new =
-    ((what : Answered) × IsNamed histories what × (new ≡ course_after histories old line what)) ⊎ IsFoundUntold old line new
+    ((what : Answered) × IsCallNamed histories old line what × (new ≡ course_after histories old line what)) ⊎ IsFoundUntold old line new
 
 -- where the run stood before a line, or where it stands after it
 abbrev pub IsCourseOrNext : List History → Course → Line → Course → Type 0

@@ -1,21 +1,29 @@
 //! One request of the script to a running array.
 
-ghost use Rattle.std.specs.Prelude.{◌≡◌, ◌≢◌, ◌+◌, ◌*◌, ◌/◌, ◌<◌, ◌≤◌, ◌^◌, ℕ, length, Err, IfOk, IfErr, IsTrue, IsFalse};
+ghost use Rattle.std.specs.Prelude.{◌≡◌, ◌≢◌, ◌+◌, ◌*◌, ◌/◌, ◌<◌, ◌≤◌, ◌^◌, ℕ, length, slice_get, Err, IfOk, IfErr, IsTrue, IsFalse, IsSome};
 ghost use Rattle.md_base.specs.declared.answers.Fault.TheVariants.{NoMemory as WantsMemory};
 ghost use Rattle.bank.specs.Given.{NeverFalls};
 ghost use Rattle.md_base.specs.Sectors.{IsWhole};
 ghost use Rattle.array.specs.Whole.{list_size};
 ghost use Rattle.array.specs.Placed.{places_of, AreStillHeld};
+ghost use Rattle.array.specs.Status.{left_of};
 ghost use Rattle.array.specs.Calls.{IsSameArray, AreLossesOf, IsEndOf, world_for};
 ghost use Rattle.array.specs.Moving.{Grows};
-ghost use Rattle.runner.specs.Asked.{IsAsked, script_who};
-ghost use Rattle.script.specs.declared.lines.Line.TheVariants.{Read as ReadLine, Write as WriteLine, Flush as FlushLine, Fail as FailLine};
+ghost use Rattle.shared_array.specs.Steps.{HasGoneOn};
+ghost use Rattle.runner.specs.Asked.{IsAsked, IsCountedAt, IsWaited, script_who};
+ghost use Rattle.runner.specs.Replies.{leaves_more_at};
+ghost use Rattle.script.specs.declared.lines.Line.TheVariants.{Read as ReadLine, Write as WriteLine, Flush as FlushLine, Fail as FailLine, Step as StepLine};
 
 use array::Array;
 use bank::Bank;
+use flat_history::Event;
 use md_base::{Fault, NoMemory, Who};
 use script::seed_sectors;
+use shared_array::steps;
 use std::alloc::Global;
+
+// How many steps a wait asks for at a time.
+const STEPS_AT_ONCE: u32 = 4_096;
 
 // The script's next call.
 pub fn script_call<B: Bank>(array: &Array<B>) -> Who
@@ -146,4 +154,53 @@ pub fn ask_fail<B: Bank>(array: &mut Array<B>, role: u32) -> Result<u64, NoMemor
         return Err(NoMemory {});
     }
     Ok(last_place(array))
+}
+
+/// Asks for at most so many steps. Ok is the place of the reply entry.
+pub fn ask_steps<B: Bank>(array: &mut Array<B>, most: u32) -> Result<u64, NoMemory>
+    requires some { 1 ≤ most }
+    ensures asked { IsAsked (list_size (places_of array.old.members)) (StepLine most) array.old.entries array.new.entries result }
+    ensures counted { IfOk result (λ place. IsCountedAt (left_of array.old.resync array.old.members) (left_of array.new.resync array.new.members) array.new.entries place) }
+    ensures ended { IfOk result (λ place. IsEndOf B.tells array.new.first array.new.entries (B.tape array.new.bank)) }
+    ensures unchanged { IfErr result (λ none. array.new ≡ array.old) }
+    ensures went { HasGoneOn B.tells B.given B.tape B.faults_of array.old array.new }
+{
+    let who = script_call(array);
+    match steps(array, who, u64::from(most)) {
+        Ok(_) => Ok(last_place(array)),
+        Err(none) => Err(none),
+    }
+}
+
+// Whether the reply at this place leaves steps to do, of which none was refused.
+fn leaves_more<B: Bank>(array: &Array<B>, at: u64) -> bool
+    requires there { IsSome (slice_get array.now.entries at) }
+    ensures { result ≡ leaves_more_at array.now.entries at }
+{
+    match &array.epoch().entries.get(at as usize).event {
+        Event::Stepped {
+            left,
+            ended: None,
+            ..
+        } => *left > 0,
+        _ => false,
+    }
+}
+
+/// Asks for steps again and again, until none is left or one is refused. Ok is the place of the last reply entry.
+pub fn ask_wait<B: Bank>(array: &mut Array<B>) -> Result<u64, NoMemory>
+    requires ended { IsEndOf B.tells array.old.first array.old.entries (B.tape array.old.bank) }
+    ensures asked { IsWaited (list_size (places_of array.old.members)) array.old.entries array.new.entries result }
+    ensures ended { IsEndOf B.tells array.new.first array.new.entries (B.tape array.new.bank) }
+    ensures went { HasGoneOn B.tells B.given B.tape B.faults_of array.old array.new }
+{
+    loop {
+        let at = match ask_steps(array, STEPS_AT_ONCE) {
+            Ok(at) => at,
+            Err(none) => return Err(none),
+        };
+        if !leaves_more(array, at) {
+            return Ok(at);
+        }
+    }
 }

@@ -12,7 +12,7 @@ mod tests;
 mod text;
 mod words;
 
-pub use asks::{ask_flush, ask_read, ask_write};
+pub use asks::{ask_flush, ask_read, ask_steps, ask_wait, ask_write};
 pub use pace::Pace;
 pub use report::{Answered, LineReply, Outside, Report};
 pub use runs::run;

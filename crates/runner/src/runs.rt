@@ -9,9 +9,9 @@ ghost use Rattle.script.specs.Script.{script_of, is_within_limits};
 ghost use Rattle.runner.specs.Pace.{AnswersSteps, asked_by};
 ghost use Rattle.runner.specs.Ended.{IsRunKept, AreLegal, AreRight, AreFormer};
 ghost use Rattle.runner.specs.Histories.{history_of, histories_of};
-ghost use Rattle.runner.specs.Kept.{AreListsKept};
+ghost use Rattle.runner.specs.Kept.{AreKept};
 ghost use Rattle.runner.specs.Making.{setting_of};
-ghost use Rattle.runner.specs.Runs.{mark_behind, status_for, stop_of, slots_for, IsAfterLines, IsBeforeLines, IsNothing, AreTold, AreLinesPerformed, IsScriptPerformed, IsScriptBad, AreLossesFailed, AreEndedAt, IsEnded};
+ghost use Rattle.runner.specs.Runs.{mark_behind, status_for, stop_of, slots_for, IsAfterLines, IsBeforeLines, IsNothing, sunk_of, AreLinesPerformed, IsScriptPerformed, IsScriptBad, AreLossesFailed, AreEndedAt, IsEnded};
 ghost use Rattle.runner.specs.Sessions.{counted, taken_whole, IsTaken};
 ghost use Rattle.runner.specs.Shown.{report_text, has_refusal};
 ghost use Rattle.runner.specs.Source.{IsTextOf};
@@ -117,7 +117,7 @@ fn end_run<B: Bank>(state: State<B>, backup: Option<u32>) -> (B, Vec<Epoch>)
     ensures ended { IsEnded (setting_of B.tells (B.given (bank_in state)) (B.tape result.0) (B.tape result.0) backup (B.faults_of result.0) (B.faults_of result.0)) state result.0 result.1.items }
     ensures legal { B.tells → AreLegal (B.given (bank_in state)) (B.tape result.0) backup result.1.items }
     ensures right { B.tells → AreRight (B.given (bank_in state)) (B.tape result.0) backup result.1.items }
-    ensures kept { B.tells → AreListsKept (B.given (bank_in state)) (B.tape result.0) backup result.1.items }
+    ensures kept { B.tells → AreKept (B.given (bank_in state)) (B.tape result.0) backup result.1.items }
     ensures marks { B.tells → AreEndedAt (length (B.tape result.0)) result.1.items }
 {
     let (bank, mut epochs) = halt(state, backup);
@@ -155,15 +155,15 @@ fn run_lines<B: Bank, K: Sink>(
 ) -> Report<B>
     requires limits { AllPass (λ numbered. is_within_limits numbered.line) lines.now }
     requires bank { IsFitBank (B.given bank) backup }
-    ensures status { result.status ≡ status_for (stop_of result.status) (has_refusal (histories_of result.epochs.items) result.lines.items) }
+    ensures status { result.status ≡ status_for (stop_of result.status) (has_refusal (histories_of result.epochs.items) lines.now result.lines.items) }
     ensures performed { AreLinesPerformed (setting_of B.tells (B.given bank) (B.tape bank) (B.tape result.bank) backup (B.faults_of bank) (B.faults_of result.bank)) lines.now (stop_of result.status) result.epochs.items result.lines.items }
-    ensures taken { K.tells → IsTaken (stop_of result.status) (K.taken out.old) (K.taken out.new) (report_text (histories_of result.epochs.items) result.lines.items) }
-    ensures shown { result.shown ≡ counted (length (report_text (histories_of result.epochs.items) (taken_whole (stop_of result.status) result.lines.items))) }
+    ensures taken { K.tells → IsTaken (stop_of result.status) (K.taken out.old) (K.taken out.new) (report_text (histories_of result.epochs.items) lines.now result.lines.items) }
+    ensures shown { result.shown ≡ counted (length (report_text (histories_of result.epochs.items) lines.now (taken_whole (stop_of result.status) result.lines.items))) }
     ensures write_fault { result.status ≡ 5 → HasRisen (K.faults_of out.old) (K.faults_of out.new) }
     ensures sink_never_falls { K.faults_of out.old ≤ K.faults_of out.new }
     ensures legal { B.tells → AreLegal (B.given bank) (B.tape result.bank) backup result.epochs.items }
     ensures right { B.tells → AreRight (B.given bank) (B.tape result.bank) backup result.epochs.items }
-    ensures kept { B.tells → AreListsKept (B.given bank) (B.tape result.bank) backup result.epochs.items }
+    ensures kept { B.tells → AreKept (B.given bank) (B.tape result.bank) backup result.epochs.items }
     ensures ended { B.tells → AreEndedAt (length (B.tape result.bank)) result.epochs.items }
     ensures losses { AreLossesFailed (setting_of B.tells (B.given bank) (B.tape bank) (B.tape result.bank) backup (B.faults_of bank) (B.faults_of result.bank)) result.epochs.items }
     ensures never_falls { NeverFalls (B.faults_of bank) (B.faults_of result.bank) }
@@ -202,17 +202,14 @@ fn run_script<B: Bank, S: Source, K: Sink>(
     ensures bad_line { result.status ≡ 3 → IsScriptBad S.tells (S.left script.old) (S.left script.new) result.bad_line }
     ensures read_fault { result.status ≡ 4 → HasRisen (S.faults_of script.old) (S.faults_of script.new) }
     ensures write_fault { result.status ≡ 5 → HasRisen (K.faults_of out.old) (K.faults_of out.new) }
-    ensures performed { IsAfterLines result.status → IsScriptPerformed S.tells (S.left script.old) (S.left script.new) (setting_of B.tells (B.given bank) (B.tape bank) (B.tape result.bank) (Some 7) (B.faults_of bank) (B.faults_of result.bank)) (stop_of result.status) result.epochs.items result.lines.items }
-    ensures short { result.status ≡ 6 → IsScriptPerformed S.tells (S.left script.old) (S.left script.new) (setting_of B.tells (B.given bank) (B.tape bank) (B.tape result.bank) (Some 7) (B.faults_of bank) (B.faults_of result.bank)) (stop_of result.status) result.epochs.items result.lines.items
-        ⊎ IsNothing result.lines.items result.epochs.items }
-    ensures nothing { IsBeforeLines result.status → IsNothing result.lines.items result.epochs.items }
+    ensures performed { IsAfterLines result.status → IsScriptPerformed S.tells (S.left script.old) (S.left script.new) (setting_of B.tells (B.given bank) (B.tape bank) (B.tape result.bank) (Some 7) (B.faults_of bank) (B.faults_of result.bank)) (sunk_of K.tells (K.taken out.old) (K.taken out.new) result.shown) result.status result.epochs.items result.lines.items }
+    ensures short { result.status ≡ 6 → IsScriptPerformed S.tells (S.left script.old) (S.left script.new) (setting_of B.tells (B.given bank) (B.tape bank) (B.tape result.bank) (Some 7) (B.faults_of bank) (B.faults_of result.bank)) (sunk_of K.tells (K.taken out.old) (K.taken out.new) result.shown) result.status result.epochs.items result.lines.items
+        ⊎ IsNothing (sunk_of K.tells (K.taken out.old) (K.taken out.new) result.shown) result.epochs.items result.lines.items }
+    ensures nothing { IsBeforeLines result.status → IsNothing (sunk_of K.tells (K.taken out.old) (K.taken out.new) result.shown) result.epochs.items result.lines.items }
     ensures untouched { IsBeforeLines result.status → result.bank ≡ bank }
-    ensures refusals { AreTold result.status (has_refusal (histories_of result.epochs.items) result.lines.items) }
-    ensures taken { K.tells → IsTaken (stop_of result.status) (K.taken out.old) (K.taken out.new) (report_text (histories_of result.epochs.items) result.lines.items) }
-    ensures shown { result.shown ≡ counted (length (report_text (histories_of result.epochs.items) (taken_whole (stop_of result.status) result.lines.items))) }
     ensures legal { B.tells → AreLegal (B.given bank) (B.tape result.bank) (Some 7) result.epochs.items }
     ensures right { B.tells → AreRight (B.given bank) (B.tape result.bank) (Some 7) result.epochs.items }
-    ensures kept { B.tells → AreListsKept (B.given bank) (B.tape result.bank) (Some 7) result.epochs.items }
+    ensures kept { B.tells → AreKept (B.given bank) (B.tape result.bank) (Some 7) result.epochs.items }
     ensures ended { B.tells → AreEndedAt (length (B.tape result.bank)) result.epochs.items }
     ensures losses { AreLossesFailed (setting_of B.tells (B.given bank) (B.tape bank) (B.tape result.bank) (Some 7) (B.faults_of bank) (B.faults_of result.bank)) result.epochs.items }
     ensures never_falls { NeverFalls (B.faults_of bank) (B.faults_of result.bank) }
@@ -260,17 +257,14 @@ pub fn run<
     ensures bad_line { result.status ≡ 3 → IsScriptBad S.tells (S.left script.old) (S.left script.new) result.bad_line }
     ensures read_fault { result.status ≡ 4 → HasRisen (S.faults_of script.old) (S.faults_of script.new) }
     ensures write_fault { result.status ≡ 5 → HasRisen (K.faults_of out.old) (K.faults_of out.new) }
-    ensures performed { IsAfterLines result.status → IsScriptPerformed S.tells (S.left script.old) (S.left script.new) (setting_of B.tells (B.given bank) (B.tape bank) (B.tape result.bank) (Some 7) (B.faults_of bank) (B.faults_of result.bank)) (stop_of result.status) result.epochs.items result.lines.items }
-    ensures short { result.status ≡ 6 → IsScriptPerformed S.tells (S.left script.old) (S.left script.new) (setting_of B.tells (B.given bank) (B.tape bank) (B.tape result.bank) (Some 7) (B.faults_of bank) (B.faults_of result.bank)) (stop_of result.status) result.epochs.items result.lines.items
-        ⊎ IsNothing result.lines.items result.epochs.items }
-    ensures nothing { IsBeforeLines result.status → IsNothing result.lines.items result.epochs.items }
+    ensures performed { IsAfterLines result.status → IsScriptPerformed S.tells (S.left script.old) (S.left script.new) (setting_of B.tells (B.given bank) (B.tape bank) (B.tape result.bank) (Some 7) (B.faults_of bank) (B.faults_of result.bank)) (sunk_of K.tells (K.taken out.old) (K.taken out.new) result.shown) result.status result.epochs.items result.lines.items }
+    ensures short { result.status ≡ 6 → IsScriptPerformed S.tells (S.left script.old) (S.left script.new) (setting_of B.tells (B.given bank) (B.tape bank) (B.tape result.bank) (Some 7) (B.faults_of bank) (B.faults_of result.bank)) (sunk_of K.tells (K.taken out.old) (K.taken out.new) result.shown) result.status result.epochs.items result.lines.items
+        ⊎ IsNothing (sunk_of K.tells (K.taken out.old) (K.taken out.new) result.shown) result.epochs.items result.lines.items }
+    ensures nothing { IsBeforeLines result.status → IsNothing (sunk_of K.tells (K.taken out.old) (K.taken out.new) result.shown) result.epochs.items result.lines.items }
     ensures untouched { IsBeforeLines result.status → result.bank ≡ bank }
-    ensures refusals { AreTold result.status (has_refusal (histories_of result.epochs.items) result.lines.items) }
-    ensures taken { K.tells → IsTaken (stop_of result.status) (K.taken out.old) (K.taken out.new) (report_text (histories_of result.epochs.items) result.lines.items) }
-    ensures shown { result.shown ≡ counted (length (report_text (histories_of result.epochs.items) (taken_whole (stop_of result.status) result.lines.items))) }
     ensures legal { B.tells → AreLegal (B.given bank) (B.tape result.bank) (Some 7) result.epochs.items }
     ensures right { B.tells → AreRight (B.given bank) (B.tape result.bank) (Some 7) result.epochs.items }
-    ensures kept { B.tells → AreListsKept (B.given bank) (B.tape result.bank) (Some 7) result.epochs.items }
+    ensures kept { B.tells → AreKept (B.given bank) (B.tape result.bank) (Some 7) result.epochs.items }
     ensures ended { B.tells → AreEndedAt (length (B.tape result.bank)) result.epochs.items }
     ensures losses { AreLossesFailed (setting_of B.tells (B.given bank) (B.tape bank) (B.tape result.bank) (Some 7) (B.faults_of bank) (B.faults_of result.bank)) result.epochs.items }
     ensures never_falls { NeverFalls (B.faults_of bank) (B.faults_of result.bank) }

@@ -6,7 +6,7 @@ ghost use Rattle.bank.specs.Given.{NeverFalls};
 ghost use Rattle.array.specs.Moving.{Grows};
 ghost use Rattle.text_io.specs.Causes.{HasRisen};
 ghost use Rattle.script.specs.Script.{is_within_limits};
-ghost use Rattle.runner.specs.Shown.{outside_text, answer_text, reply_text, is_refused_outside, is_refusal, tells_refusal};
+ghost use Rattle.runner.specs.Shown.{outside_text, entry_text, answer_text, reply_text, is_refused_outside, is_refusal, tells_refusal};
 ghost use Rattle.runner.specs.States.{histories_in, bank_in, RunsOwn, IsFitBank, IsNamed};
 ghost use Rattle.runner.specs.Sessions.{IsEndNow, IsRepliedOrNot, IsStep, IsStopCause, IsPerformed, IsShownTo};
 ghost use Rattle.runner.specs.Ended.{IsRunKept};
@@ -18,8 +18,11 @@ use crate::report::{Answered, LineReply, Outside};
 use crate::states::{State, answer, entry_of};
 use bank::Bank;
 use flat_history::Event;
-use md_base::NoMemory;
-use script::{Lane, Numbered, push_assembled, push_created, push_event, push_lane, push_refusal};
+use md_base::{NoMemory, Refusal};
+use script::{
+    Lane, Line, Numbered, push_assembled, push_created, push_event, push_lane, push_refusal,
+    push_waited,
+};
 use std::alloc::{AllocError, Global};
 use text_io::Sink;
 
@@ -49,14 +52,30 @@ pub struct Session<B: Bank> {
     pub stopped: Option<Stop>,
 }
 
-// Whether an event tells a refusal.
-fn is_refused(event: &Event) -> bool
-    ensures { result ≡ tells_refusal event.now }
+// Whether an event tells a refusal in the reply to a line. A wait with nothing to do isn't refused.
+fn is_refused(line: Line, event: &Event) -> bool
+    ensures { result ≡ tells_refusal line event.now }
 {
-    match event {
-        Event::Refused { .. } => true,
-        Event::Stepped { ended, .. } => ended.is_some(),
+    match (line, event) {
+        (
+            Line::Wait,
+            Event::Refused {
+                refusal: Refusal::Nothing,
+            },
+        ) => false,
+        (_, Event::Refused { .. }) => true,
+        (_, Event::Stepped { ended, .. }) => ended.is_some(),
         _ => false,
+    }
+}
+
+// Appends the text of an entry that answers a line.
+fn push_entry(text: &mut Vec<u8>, line: Line, event: &Event) -> Result<(), AllocError>
+    ensures { OnOk result (text.new.items ≡ text.old.items ++ entry_text line event.now) }
+{
+    match line {
+        Line::Wait => push_waited(text, event),
+        _ => push_event(text, event),
     }
 }
 
@@ -74,24 +93,27 @@ fn push_outside(text: &mut Vec<u8>, outside: &Outside) -> Result<(), AllocError>
 fn push_answer<B: Bank>(
     text: &mut Vec<u8>,
     state: &State<B>,
+    line: Line,
     what: &Answered,
 ) -> Result<(), AllocError>
     requires named { IsNamed (histories_in state.now) what.now }
-    ensures { OnOk result (text.new.items ≡ text.old.items ++ answer_text (histories_in state.now) what.now) }
+    ensures { OnOk result (text.new.items ≡ text.old.items ++ answer_text (histories_in state.now) line what.now) }
 {
     match what {
-        Answered::Inside { epoch, at } => push_event(text, &entry_of(state, *epoch, *at).event),
+        Answered::Inside { epoch, at } => {
+            push_entry(text, line, &entry_of(state, *epoch, *at).event)
+        }
         Answered::Outside(outside) => push_outside(text, outside),
     }
 }
 
 // Whether an answer is a refusal.
-fn is_answer_refused<B: Bank>(state: &State<B>, what: &Answered) -> bool
+fn is_answer_refused<B: Bank>(state: &State<B>, line: Line, what: &Answered) -> bool
     requires named { IsNamed (histories_in state.now) what.now }
-    ensures { result ≡ is_refusal (histories_in state.now) what.now }
+    ensures { result ≡ is_refusal (histories_in state.now) line what.now }
 {
     match what {
-        Answered::Inside { epoch, at } => is_refused(&entry_of(state, *epoch, *at).event),
+        Answered::Inside { epoch, at } => is_refused(line, &entry_of(state, *epoch, *at).event),
         Answered::Outside(Outside::Refused { .. }) => true,
         Answered::Outside(_) => false,
     }
@@ -123,14 +145,15 @@ fn reply_of<B: Bank>(state: &State<B>, line: u64, what: Answered) -> LineReply
 fn put_text<B: Bank>(
     text: &mut Vec<u8>,
     state: &State<B>,
+    line: Line,
     reply: &LineReply,
 ) -> Result<(), AllocError>
     requires named { IsNamed (histories_in state.now) reply.now.what }
-    ensures { OnOk result (text.new.items ≡ reply_text (histories_in state.now) reply.now) }
+    ensures { OnOk result (text.new.items ≡ reply_text (histories_in state.now) line reply.now) }
 {
     text.clear();
     push_lane(text, reply.lane)?;
-    push_answer(text, state, &reply.what)?;
+    push_answer(text, state, line, &reply.what)?;
     text.push(b'\n')?;
     Ok(())
 }
@@ -158,9 +181,9 @@ fn reply_to<B: Bank>(
         Ok(what) => what,
         Err(fault) => return (state, Err(fault)),
     };
-    let refused = is_answer_refused(&state, &what);
+    let refused = is_answer_refused(&state, numbered.line, &what);
     let reply = reply_of(&state, numbered.number, what);
-    match put_text(text, &state, &reply) {
+    match put_text(text, &state, numbered.line, &reply) {
         Ok(()) => (state, Ok(Made { reply, refused })),
         Err(_) => (state, Err(NoMemory {})),
     }
@@ -270,7 +293,7 @@ pub fn perform<B: Bank, K: Sink>(
     ensures former { IsRunKept B.tells (B.given bank) (B.tape (bank_in result.state)) backup result.state }
     ensures performed { IsPerformed (setting_of B.tells (B.given bank) (B.tape bank) (B.tape (bank_in result.state)) backup (B.faults_of bank) (B.faults_of (bank_in result.state))) lines.now result }
     ensures all { result.stopped ≡ None → length result.replies.items ≡ length lines.now }
-    ensures shown { IsShownTo K.tells result (K.taken out.old) (K.taken out.new) (K.faults_of out.old) (K.faults_of out.new) }
+    ensures shown { IsShownTo K.tells lines.now result (K.taken out.old) (K.taken out.new) (K.faults_of out.old) (K.faults_of out.new) }
     ensures never_falls { NeverFalls (B.faults_of bank) (B.faults_of (bank_in result.state)) }
     ensures grows { Grows B.tells (B.tape bank) (B.tape (bank_in result.state)) }
     ensures given { B.given (bank_in result.state) ≡ B.given bank }

@@ -15,7 +15,9 @@ ghost use Rattle.runner.specs.declared.report.Answered.TheVariants.{Inside as An
 ghost use Rattle.runner.specs.declared.report.Outside.TheVariants.{Refused as IsRefused};
 ghost use Rattle.runner.specs.declared.states.State.TheVariants.{Idle as IsIdle, Running as IsRunning};
 
-use crate::asks::{ask_fail, ask_flush, ask_read, ask_write, last_place, script_call};
+use crate::asks::{
+    ask_fail, ask_flush, ask_read, ask_steps, ask_wait, ask_write, last_place, script_call,
+};
 use crate::report::{Answered, Outside};
 use array::{Array, CreateSpec};
 use assemble::{assemble, create};
@@ -165,6 +167,14 @@ fn answer_running<B: Bank>(
             let place = ask_fail(&mut array, role);
             goes_on(array, epochs, place)
         }
+        Line::Step { most } => {
+            let place = ask_steps(&mut array, most);
+            goes_on(array, epochs, place)
+        }
+        Line::Wait => {
+            let place = ask_wait(&mut array);
+            goes_on(array, epochs, place)
+        }
         Line::Stop => stop_array(array, epochs, backup),
         Line::Halt => halt_array(array, epochs, backup),
         Line::Create(_) => (State::Running(array, epochs), Ok(refused(Refusal::Running))),
@@ -293,6 +303,8 @@ fn answer_idle<B: Bank>(
         Line::Write { .. } => (State::Idle(bank, epochs), Ok(refused(Refusal::NotRunning))),
         Line::Flush => (State::Idle(bank, epochs), Ok(refused(Refusal::NotRunning))),
         Line::Fail { .. } => (State::Idle(bank, epochs), Ok(refused(Refusal::NotRunning))),
+        Line::Step { .. } => (State::Idle(bank, epochs), Ok(refused(Refusal::NotRunning))),
+        Line::Wait => (State::Idle(bank, epochs), Ok(refused(Refusal::NotRunning))),
         Line::Stop => (State::Idle(bank, epochs), Ok(refused(Refusal::NotRunning))),
         Line::Halt => (State::Idle(bank, epochs), Ok(refused(Refusal::NotRunning))),
     }

@@ -133,7 +133,7 @@ fn lines_are_answered_in_their_order(rt: HostRuntime) -> Result<(), Fail> {
 // The lines of a script without that `create`, the status and the replies.
 #[test]
 fn arrays_come_and_go(rt: HostRuntime) -> Result<(), Fail> {
-    let rows: [(&str, u8, &[u8]); 11] = [
+    let rows: [(&str, u8, &[u8]); 16] = [
         // a dirty array is found with its resync to do, one step for each of five stripes and one for its end
         (
             "create 6ba7b810-9dad-11d1-80b4-00c04fd430c8 level=5 disks=3 chunk=8 size=40 offset=16\nwrite 0 1 7\nflush\nwrite 0 1 7\nhalt\nassemble\nread 0 1\n",
@@ -188,6 +188,35 @@ fn arrays_come_and_go(rt: HostRuntime) -> Result<(), Fail> {
             "create 6ba7b810-9dad-11d1-80b4-00c04fd430c8 level=5 disks=3 chunk=8 size=40 offset=16 layout=parity-last\nfail 2\nwrite 0 1 7\nflush\nwrite 0 1 7\nhalt\nassemble\nread 0 1\n",
             0,
             b"created\nfailed 2\nwrote 0 1\nflushed\nwrote 0 1\nhalted\nassembled level 5 disks 3 chunk 8 size 40 layout parity-last visible 80 left 6\nread 0 1: seed 7 x1\n",
+        ),
+        // the resync is done by one wait
+        (
+            "create 6ba7b810-9dad-11d1-80b4-00c04fd430c8 level=5 disks=3 chunk=8 size=40 offset=16\nwrite 0 1 7\nflush\nwrite 0 1 7\nhalt\nassemble\nwait\nread 0 1\n",
+            0,
+            b"created\nwrote 0 1\nflushed\nwrote 0 1\nhalted\nassembled level 5 disks 3 chunk 8 size 40 layout left-symmetric visible 80 left 6\nwaited left 0\nread 0 1: seed 7 x1\n",
+        ),
+        // a role is missing before its resync
+        (
+            "create 6ba7b810-9dad-11d1-80b4-00c04fd430c8 level=5 disks=3 chunk=8 size=40 offset=16\nwrite 0 1 7\nhalt\nassemble\nfail 0\nread 0 1\nread 8 1\nwrite 0 1 5\nstep 1\n",
+            1,
+            b"created\nwrote 0 1\nhalted\nassembled level 5 disks 3 chunk 8 size 40 layout left-symmetric visible 80 left 6\nfailed 0\nrefused 3 NotResynced 0\nread 8 1: zero x1\nrefused 3 NotResynced 0\nstepped 0 left 6 refused 3 NotResynced 0\n",
+        ),
+        // a wait with nothing to do isn't refused
+        (
+            "create 6ba7b810-9dad-11d1-80b4-00c04fd430c8 level=5 disks=3 chunk=8 size=40 offset=16\nstep 1\nwait\n",
+            1,
+            b"created\nrefused 19 Nothing\nwaited left 0\n",
+        ),
+        (
+            "create 6ba7b810-9dad-11d1-80b4-00c04fd430c8 level=5 disks=3 chunk=8 size=40 offset=16\nwait\n",
+            0,
+            b"created\nwaited left 0\n",
+        ),
+        // steps are counted, and a wait ends where one is refused
+        (
+            "create 6ba7b810-9dad-11d1-80b4-00c04fd430c8 level=5 disks=3 chunk=8 size=40 offset=16\nwrite 0 1 7\nhalt\nassemble\nstep 2\nfail 1\nwait\nstop\nwait\nstep 1\n",
+            1,
+            b"created\nwrote 0 1\nhalted\nassembled level 5 disks 3 chunk 8 size 40 layout left-symmetric visible 80 left 6\nstepped 2 left 4\nfailed 1\nwaited left 4 refused 3 NotResynced 1\nstopped\nrefused 28 NotRunning\nrefused 28 NotRunning\n",
         ),
         (
             "assemble\nread 0 1\nstop\n",

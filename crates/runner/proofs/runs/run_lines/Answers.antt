@@ -2,7 +2,7 @@ use Rattle.std.proofs.Common.{sym, subst}
 use Rattle.bank.specs.Given.{Given, NeverFalls}
 use Rattle.runner.specs.Ended.{AreLegal, AreRight}
 use Rattle.array.specs.Moving.{Grows}
-use Rattle.runner.specs.Kept.{AreListsKept}
+use Rattle.runner.specs.Kept.{AreKept}
 use Rattle.runner.specs.Making.{setting_of}
 use Rattle.runner.specs.Runs.{IsEnded}
 use Rattle.runner.specs.Sessions.{IsPerformed}
@@ -62,7 +62,7 @@ returns-clause-right g c =
 
 pub returns-clause-kept : goal.returns-clause-kept
 returns-clause-kept g c =
-    subst (λ (known : Given). g.B.Bank.tells → AreListsKept known (g.B.Bank.tape c.end_run-bank.result.0) c.args.backup c.end_run-bank.result.1.items) c.perform-state.ensures.given c.end_run-bank.ensures.kept
+    subst (λ (known : Given). g.B.Bank.tells → AreKept known (g.B.Bank.tape c.end_run-bank.result.0) c.args.backup c.end_run-bank.result.1.items) c.perform-state.ensures.given c.end_run-bank.ensures.kept
 
 pub returns-clause-grows : goal.returns-clause-grows
 returns-clause-grows g c =

@@ -13,7 +13,7 @@ invariant-loop-i g l = record {
   going : l.session.stopped ≡ None;
   count : length l.session.replies.items ≡ l.i;
   performed : IsPerformed (setting_of g.B.Bank.tells (g.B.Bank.given l.fn.bank) (g.B.Bank.tape l.fn.bank) (g.B.Bank.tape (bank_in l.session.state)) l.backup (g.B.Bank.faults_of l.fn.bank) (g.B.Bank.faults_of (bank_in l.session.state))) l.lines l.session;
-  shown : IsShownTo g.K.Sink.tells l.session (g.K.Sink.taken l.fn.out) (g.K.Sink.taken l.out) (g.K.Sink.faults_of l.fn.out) (g.K.Sink.faults_of l.out);
+  shown : IsShownTo g.K.Sink.tells l.lines l.session (g.K.Sink.taken l.fn.out) (g.K.Sink.taken l.out) (g.K.Sink.faults_of l.fn.out) (g.K.Sink.faults_of l.out);
   former : IsRunKept g.B.Bank.tells (g.B.Bank.given l.fn.bank) (g.B.Bank.tape (bank_in l.session.state)) l.backup l.session.state;
   never_falls : NeverFalls (g.B.Bank.faults_of l.fn.bank) (g.B.Bank.faults_of (bank_in l.session.state));
   grows : Grows g.B.Bank.tells (g.B.Bank.tape l.fn.bank) (g.B.Bank.tape (bank_in l.session.state));

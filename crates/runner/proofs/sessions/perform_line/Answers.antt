@@ -31,7 +31,7 @@ returns-in-Ok-push-clause-step g c =
     let replied = subst (λ (r : Result Made NoMemory). IsRepliedOrNot setting c.args.session.state c.reply_to-state.result.0 c.args.numbered c.reply_to-state.new.text.items r) c.in-Ok.is c.reply_to-state.ensures.replied in
     let items : c.push.new.self.items ≡ c.args.session.replies.items ++ made.reply ∷ [] =
     c.push.ensures.items ∙ ap (λ (b : Bool). if b then c.reserve.new.self.items ++ made.reply ∷ [] else c.reserve.new.self.items) c.if-is_err-2.ensures.negation ∙ ap (λ (l : List LineReply). l ++ made.reply ∷ []) c.reserve.ensures.items in
-    let piece : c.as_slice-text.result.now ≡ reply_text (histories_in c.reply_to-state.result.0) made.reply = c.as_slice-text.ensures.value ∙ replied.1 in
+    let piece : c.as_slice-text.result.now ≡ reply_text (histories_in c.reply_to-state.result.0) c.args.numbered.line made.reply = c.as_slice-text.ensures.value ∙ replied.1 in
     record {
       reply = record { made = made; replied = replied.0; more = items; refused = refl };
       taken = λ told. c.in-Ok-push.ensures.pushed.whole told ∙ ap (λ (t : List ℕ). g.K.Sink.taken c.args.out.now ++ t) piece;
@@ -45,7 +45,7 @@ returns-in-Err-clause-step g c =
     let replied = subst (λ (r : Result Made NoMemory). IsRepliedOrNot setting c.args.session.state c.reply_to-state.result.0 c.args.numbered c.reply_to-state.new.text.items r) c.in-Ok.is c.reply_to-state.ensures.replied in
     let items : c.push.new.self.items ≡ c.args.session.replies.items ++ made.reply ∷ [] =
     c.push.ensures.items ∙ ap (λ (b : Bool). if b then c.reserve.new.self.items ++ made.reply ∷ [] else c.reserve.new.self.items) c.if-is_err-2.ensures.negation ∙ ap (λ (l : List LineReply). l ++ made.reply ∷ []) c.reserve.ensures.items in
-    let piece : c.as_slice-text.result.now ≡ reply_text (histories_in c.reply_to-state.result.0) made.reply = c.as_slice-text.ensures.value ∙ replied.1 in
+    let piece : c.as_slice-text.result.now ≡ reply_text (histories_in c.reply_to-state.result.0) c.args.numbered.line made.reply = c.as_slice-text.ensures.value ∙ replied.1 in
     record {
       reply = record { made = made; replied = replied.0; more = items; refused = refl };
       taken = λ told. let part = c.in-Err.ensures.pushed.front told in (part.0, part.1 ∙ ap (λ (t : List ℕ). g.K.Sink.taken c.args.out.now ++ take part.0 t) piece);

@@ -1,7 +1,8 @@
 use Rattle.std.proofs.Common.{true, length, Result, refl, sym, subst}
+use Rattle.bank.specs.Given.{NeverFalls}
 use Rattle.md_base.specs.declared.answers.NoMemory.{NoMemory}
 use Rattle.script.specs.declared.lines.Line.{Line}
-use Rattle.script.specs.declared.lines.Line.TheVariants.{Read, Write, Flush, Fail}
+use Rattle.script.specs.declared.lines.Line.TheVariants.{Read, Write, Flush, Fail, Step, Wait}
 use Rattle.md_base.specs.declared.answers.Refusal.TheVariants.{Running as RefusedRunning}
 use Rattle.runner.specs.Making.{setting_of}
 use Rattle.runner.specs.Replies.{IsRefusedOutside}
@@ -11,9 +12,9 @@ use Rattle.runner.specs.declared.states.State.{State}
 use Rattle.runner.specs.declared.states.State.TheVariants.{Running as IsRunning}
 use Rattle.runner.specs.Ended.{IsRunKept}
 use Rattle.std.proofs.Common.{arith}
-use Rattle.runner.proofs.Legal.{grows_longer, going_asked}
+use Rattle.runner.proofs.Legal.{grows_longer, going_grown, going_asked}
 use Rattle.runner.proofs.Losses.{losses-of, held-later}
-use Rattle.runner.proofs.Turns.{turn_of_ask, turn_refused, going_read, going_write, going_flush, going_fail}
+use Rattle.runner.proofs.Turns.{turn_of_ask, turn_of_wait, turn_refused, going_read, going_write, going_flush, going_fail, going_steps}
 use Rattle.runner.proofs.states.answer_running.Goals as goal
 
 pub returns-in-Read-clause-answered : goal.returns-in-Read-clause-answered
@@ -68,6 +69,34 @@ returns-in-Fail-clause-answered g c =
     (turn_of_ask (setting_of g.B.Bank.tells (g.B.Bank.given array.bank) (g.B.Bank.tape array.bank) (g.B.Bank.tape new.bank) c.args.backup (g.B.Bank.faults_of array.bank) (g.B.Bank.faults_of new.bank)) array new c.args.epochs c.requires.own (losses-of (setting_of g.B.Bank.tells (g.B.Bank.given array.bank) (g.B.Bank.tape array.bank) (g.B.Bank.tape new.bank) c.args.backup (g.B.Bank.faults_of array.bank) (g.B.Bank.faults_of new.bank)) (running_history new) (held-later (g.B.Bank.given array.bank) c.args.backup (running_history array) (running_history new) array.members did.grows (record { uuid = same.uuid; given = same.given; first = same.first }) c.requires.former.held) did.losses) same.uuid same.given same.first same.shape same.size
     (Fail c.in-Fail.role) c.ask_fail-place.result (λ p asked. going_fail c.in-Fail.role asked) (grows_longer did.grows) did.ended did.asked)))
 
+pub returns-in-Step-clause-answered : goal.returns-in-Step-clause-answered
+returns-in-Step-clause-answered g c =
+    let array = c.args.array in
+    let new = c.ask_steps-place.new.array in
+    let did = c.ask_steps-place.ensures in
+    let went = did.went in
+    let same = went.same in
+    let on = c.goes_on-in-Step in
+    subst (λ (l : Line). IsTurnOrNone (setting_of g.B.Bank.tells (g.B.Bank.given array.bank) (g.B.Bank.tape array.bank) (g.B.Bank.tape (bank_in on.result.0)) c.args.backup (g.B.Bank.faults_of array.bank) (g.B.Bank.faults_of (bank_in on.result.0))) (IsRunning array c.args.epochs) on.result.0 l on.result.1) (sym c.in-Step.is)
+    (subst (λ (s : State g.row.B.Denot). IsTurnOrNone (setting_of g.B.Bank.tells (g.B.Bank.given array.bank) (g.B.Bank.tape array.bank) (g.B.Bank.tape (bank_in s)) c.args.backup (g.B.Bank.faults_of array.bank) (g.B.Bank.faults_of (bank_in s))) (IsRunning array c.args.epochs) s (Step c.in-Step.most) on.result.1) (sym on.ensures.state)
+    (subst (λ (r : Result Answered NoMemory). IsTurnOrNone (setting_of g.B.Bank.tells (g.B.Bank.given array.bank) (g.B.Bank.tape array.bank) (g.B.Bank.tape new.bank) c.args.backup (g.B.Bank.faults_of array.bank) (g.B.Bank.faults_of new.bank)) (IsRunning array c.args.epochs) (IsRunning new c.args.epochs) (Step c.in-Step.most) r) (sym on.ensures.answer)
+    (turn_of_ask (setting_of g.B.Bank.tells (g.B.Bank.given array.bank) (g.B.Bank.tape array.bank) (g.B.Bank.tape new.bank) c.args.backup (g.B.Bank.faults_of array.bank) (g.B.Bank.faults_of new.bank)) array new c.args.epochs c.requires.own (losses-of (setting_of g.B.Bank.tells (g.B.Bank.given array.bank) (g.B.Bank.tape array.bank) (g.B.Bank.tape new.bank) c.args.backup (g.B.Bank.faults_of array.bank) (g.B.Bank.faults_of new.bank)) (running_history new) (held-later (g.B.Bank.given array.bank) c.args.backup (running_history array) (running_history new) array.members went.grows (record { uuid = same.uuid; given = same.given; first = same.first }) c.requires.former.held) went.losses) same.uuid same.given same.first same.shape same.size
+    (Step c.in-Step.most) c.ask_steps-place.result (λ p asked. going_steps c.in-Step.most asked) (grows_longer went.grows) did.ended did.asked)))
+
+pub returns-in-Wait-clause-answered : goal.returns-in-Wait-clause-answered
+returns-in-Wait-clause-answered g c =
+    let array = c.args.array in
+    let new = c.ask_wait-place.new.array in
+    let did = c.ask_wait-place.ensures in
+    let went = did.went in
+    let same = went.same in
+    let on = c.goes_on-in-Wait in
+    subst (λ (l : Line). IsTurnOrNone (setting_of g.B.Bank.tells (g.B.Bank.given array.bank) (g.B.Bank.tape array.bank) (g.B.Bank.tape (bank_in on.result.0)) c.args.backup (g.B.Bank.faults_of array.bank) (g.B.Bank.faults_of (bank_in on.result.0))) (IsRunning array c.args.epochs) on.result.0 l on.result.1) (sym c.in-Wait.is)
+    (subst (λ (s : State g.row.B.Denot). IsTurnOrNone (setting_of g.B.Bank.tells (g.B.Bank.given array.bank) (g.B.Bank.tape array.bank) (g.B.Bank.tape (bank_in s)) c.args.backup (g.B.Bank.faults_of array.bank) (g.B.Bank.faults_of (bank_in s))) (IsRunning array c.args.epochs) s Wait on.result.1) (sym on.ensures.state)
+    (subst (λ (r : Result Answered NoMemory). IsTurnOrNone (setting_of g.B.Bank.tells (g.B.Bank.given array.bank) (g.B.Bank.tape array.bank) (g.B.Bank.tape new.bank) c.args.backup (g.B.Bank.faults_of array.bank) (g.B.Bank.faults_of new.bank)) (IsRunning array c.args.epochs) (IsRunning new c.args.epochs) Wait r) (sym on.ensures.answer)
+    (turn_of_wait (setting_of g.B.Bank.tells (g.B.Bank.given array.bank) (g.B.Bank.tape array.bank) (g.B.Bank.tape new.bank) c.args.backup (g.B.Bank.faults_of array.bank) (g.B.Bank.faults_of new.bank)) array new c.args.epochs c.requires.own (losses-of (setting_of g.B.Bank.tells (g.B.Bank.given array.bank) (g.B.Bank.tape array.bank) (g.B.Bank.tape new.bank) c.args.backup (g.B.Bank.faults_of array.bank) (g.B.Bank.faults_of new.bank)) (running_history new) (held-later (g.B.Bank.given array.bank) c.args.backup (running_history array) (running_history new) array.members went.grows (record { uuid = same.uuid; given = same.given; first = same.first }) c.requires.former.held) went.losses) same.uuid same.given same.first same.shape same.size
+    c.ask_wait-place.result (grows_longer went.grows) did.ended did.asked)))
+
 pub returns-in-Create-clause-answered : goal.returns-in-Create-clause-answered
 returns-in-Create-clause-answered g c =
     let array = c.args.array in
@@ -113,3 +142,29 @@ returns-in-Fail-clause-former g c =
     let did = c.ask_fail-place.ensures in
     subst (λ (s : State g.row.B.Denot). IsRunKept g.B.Bank.tells (g.B.Bank.given array.bank) (g.B.Bank.tape (bank_in s)) c.args.backup s) (sym c.goes_on-in-Fail.ensures.state)
     (going_asked (g.B.Bank.given array.bank) (λ (b : g.row.B.Denot). g.B.Bank.tape b) c.args.backup array new c.args.epochs.items c.ask_fail-place.result did.grows did.same.first did.same.backup did.same.uuid did.same.given did.held did.ended did.unchanged c.requires.former)
+
+pub returns-in-Step-clause-former : goal.returns-in-Step-clause-former
+returns-in-Step-clause-former g c =
+    let array = c.args.array in
+    let new = c.ask_steps-place.new.array in
+    let did = c.ask_steps-place.ensures in
+    let went = did.went in
+    subst (λ (s : State g.row.B.Denot). IsRunKept g.B.Bank.tells (g.B.Bank.given array.bank) (g.B.Bank.tape (bank_in s)) c.args.backup s) (sym c.goes_on-in-Step.ensures.state)
+    (going_asked (g.B.Bank.given array.bank) (λ (b : g.row.B.Denot). g.B.Bank.tape b) c.args.backup array new c.args.epochs.items c.ask_steps-place.result went.grows went.same.first went.same.backup went.same.uuid went.same.given went.held did.ended did.unchanged c.requires.former)
+
+pub returns-in-Wait-clause-former : goal.returns-in-Wait-clause-former
+returns-in-Wait-clause-former g c =
+    let array = c.args.array in
+    let new = c.ask_wait-place.new.array in
+    let did = c.ask_wait-place.ensures in
+    let went = did.went in
+    subst (λ (s : State g.row.B.Denot). IsRunKept g.B.Bank.tells (g.B.Bank.given array.bank) (g.B.Bank.tape (bank_in s)) c.args.backup s) (sym c.goes_on-in-Wait.ensures.state)
+    (going_grown (g.B.Bank.given array.bank) c.args.backup array new c.args.epochs.items went.grows went.same.first went.same.backup went.same.uuid went.same.given went.held did.ended c.requires.former)
+
+pub returns-in-Step-clause-never_falls : goal.returns-in-Step-clause-never_falls
+returns-in-Step-clause-never_falls g c =
+    subst (λ (s : State g.row.B.Denot). NeverFalls (g.B.Bank.faults_of c.args.array.bank) (g.B.Bank.faults_of (bank_in s))) (sym c.goes_on-in-Step.ensures.state) c.ask_steps-place.ensures.went.never_falls
+
+pub returns-in-Wait-clause-never_falls : goal.returns-in-Wait-clause-never_falls
+returns-in-Wait-clause-never_falls g c =
+    subst (λ (s : State g.row.B.Denot). NeverFalls (g.B.Bank.faults_of c.args.array.bank) (g.B.Bank.faults_of (bank_in s))) (sym c.goes_on-in-Wait.ensures.state) c.ask_wait-place.ensures.went.never_falls

@@ -1,0 +1,100 @@
+-- The calls of a wait, one after another.
+use Rattle.std.proofs.Common.{◌≡◌, ◌⊎◌, inl, inr, ℕ, ◌*◌, ◌<◌, ◌≤◌, Bool, true, false, Option, None, List, [], ◌∷◌, ◌++◌, refl, sym, ◌∙◌, ap, subst, arith}
+use Rattle.std.specs.Prelude.{MatchOption, IsTrue, IsFalse}
+use Rattle.std.specs.Option.{option_map_or}
+use Rattle.md_base.specs.declared.places.Shape.{Shape}
+use Rattle.md_base.specs.Shapes.{data_disks}
+use Rattle.superblocks.specs.declared.members.Members.{Members}
+use Rattle.superblocks.specs.Reading.{shape_of}
+use Rattle.flat_history.specs.declared.events.Entry.{Entry}
+use Rattle.flat_history.specs.declared.events.Event.{Event}
+use Rattle.flat_history.specs.declared.events.Event.TheVariants.{Stepped}
+use Rattle.flat_history.specs.declared.events.Request.TheVariants.{Steps as AsksSteps}
+use Rattle.flat_history.specs.Flat.{next_number}
+use Rattle.flat_history.specs.OneShape.{OneShapeAnswers}
+use Rattle.array.specs.Whole.{list_size}
+use Rattle.array.specs.Placed.{places_of}
+use Rattle.shared_array.specs.Steps.{IsStepCount}
+use Rattle.script.specs.declared.lines.Line.TheVariants.{Step, Wait}
+use Rattle.runner.specs.Asked.{IsAskedAt, IsCountedAt, IsStillWaiting, IsWaitedFor}
+use Rattle.runner.specs.Replies.{steps_at_once, leaves_more, leaves_more_at, IsReplyAt, IsWaitedAt, IsRepliedAt}
+use Rattle.runner.specs.States.{AreByScript}
+use Rattle.runner.proofs.AskLaws.{entry_there, reply_at}
+use Rattle.runner.proofs.Called.{HasCalled, called_none, called_then, called_once, called_apart, called_own, number_more}
+use Rattle.runner.proofs.Growth.{reply_longer, leaves_longer}
+
+-- what the reply of a call leaves to do
+pub leaves_at : {size most place : ℕ} {old new : List Entry} (asked : IsAskedAt size (Step most) old new place) → leaves_more_at new place ≡ leaves_more asked.event
+leaves_at asked = ap (λ (o : Option Entry). option_map_or (λ e. leaves_more e.event) o false) (entry_there asked)
+
+-- one call more
+pub waiting_more : {size place : ℕ} {between new : List Entry} (old : List Entry) (earlier : List ℕ) → IsStillWaiting size old earlier between → (asked : IsAskedAt size (Step steps_at_once) between new place) → IsTrue (leaves_more asked.event)
+    → IsStillWaiting size old (earlier ++ place ∷ []) new
+waiting_more {size = size} {place = place} {new = new} old [] same asked going =
+    subst (λ (l : List Entry). (asked : IsAskedAt size (Step steps_at_once) l new place) → IsTrue (leaves_more asked.event) → IsStillWaiting size old (place ∷ []) new) (sym same) (λ asked going. (new, asked, going, refl)) asked going
+waiting_more old (first ∷ others) (mid, one, more, rest) asked going = (mid, one, more, waiting_more mid others rest asked going)
+
+pub waiting_called : (size : ℕ) (old new : List Entry) (earlier : List ℕ) → IsStillWaiting size old earlier new → HasCalled old new
+waiting_called size old new [] same = called_none same
+waiting_called size old new (first ∷ others) (mid, one, more, rest) = called_then (called_once one) (waiting_called size mid new others rest)
+
+pub waited_called : {size place : ℕ} {old new : List Entry} → IsWaitedFor size old new place → HasCalled old new
+waited_called {size = size} {old = old} was = called_then (waiting_called size old was.between was.earlier was.waiting) (called_once was.asked)
+
+-- the last of the calls so far, if there was one
+pub last_waited : (size : ℕ) (old new : List Entry) (earlier : List ℕ) → IsStillWaiting size old earlier new
+    → (new ≡ old) ⊎ ((before : List Entry) × (place : ℕ) × IsAskedAt size (Step steps_at_once) before new place × (next_number 0 old ≤ next_number 0 before))
+last_waited size old new [] same = inl same
+last_waited size old new (first ∷ others) (mid, one, more, rest) = inr (by_last (last_waited size mid new others rest))
+  where
+    by_last : ((new ≡ mid) ⊎ ((before : List Entry) × (place : ℕ) × IsAskedAt size (Step steps_at_once) before new place × (next_number 0 mid ≤ next_number 0 before)))
+        → (before : List Entry) × (place : ℕ) × IsAskedAt size (Step steps_at_once) before new place × (next_number 0 old ≤ next_number 0 before)
+    by_last (inl same) = (old, first, subst (λ (l : List Entry). IsAskedAt size (Step steps_at_once) old l first) (sym same) one, omega arith)
+    by_last (inr (before, place, asked, le)) = (before, place, asked, omega (arith, le, number_more one))
+
+-- the replies to its calls, over the whole history
+waited_at : {size place : ℕ} {between new : List Entry} (old : List Entry) (earlier : List ℕ) → AreByScript (next_number 0 old) old → IsStillWaiting size old earlier between
+    → (asked : IsAskedAt size (Step steps_at_once) between new place) → IsFalse (leaves_more asked.event) → IsWaitedAt size new earlier place (next_number 0 old)
+waited_at {size = size} {place = place} {new = new} old [] own same asked done = (
+  subst (λ (l : List Entry). IsReplyAt size new place (next_number 0 l) (Step steps_at_once)) same (reply_at asked),
+  subst (λ (b : Bool). IsFalse b) (sym (leaves_at asked)) done,
+)
+waited_at {size = size} {place = place} {between = between} {new = new} old (first ∷ others) own (mid, one, more, rest) asked done =
+    let so_far = called_own (called_once one) own in
+    let later = called_then (waiting_called size mid between others rest) (called_once asked) in (
+      subst (λ (l : List Entry). IsReplyAt size l first (next_number 0 old) (Step steps_at_once)) (sym later.grown) (reply_longer later.more (called_apart later so_far) (reply_at one)),
+      subst (λ (b : Bool). IsTrue b) (sym (ap (λ (l : List Entry). leaves_more_at l first) later.grown ∙ leaves_longer mid later.more first _ (entry_there one) ∙ leaves_at one)) more,
+      subst (λ (n : ℕ). IsWaitedAt size new others place n) (number_more one) (waited_at mid others so_far rest asked done),
+    )
+
+pub waited_reply : {size place : ℕ} {old new : List Entry} → AreByScript (next_number 0 old) old → IsWaitedFor size old new place → IsRepliedAt size new place (next_number 0 old) Wait
+waited_reply {old = old} own was = (was.earlier, waited_at old was.earlier own was.waiting was.asked was.done)
+
+-- ---- the array that is waited for
+
+-- its list keeps its size
+pub size_same : (old new : Members) → shape_of new.newest ≡ shape_of old.newest → new.newest.size ≡ old.newest.size → list_size (places_of new) ≡ list_size (places_of old)
+size_same old new shape rows = ap (λ (s : Shape). data_disks s * new.newest.size) shape ∙ ap (λ (n : ℕ). data_disks (shape_of old.newest) * n) rows
+
+-- a call ended the wait, or didn't
+module _ {size now place : ℕ} {old mid new : List Entry} (same : now ≡ size) (so_far : (earlier : List ℕ) × IsStillWaiting size old earlier mid) (was : IsAskedAt now (Step steps_at_once) mid new place) where
+  asked : IsAskedAt size (Step steps_at_once) mid new place
+  asked = subst (λ (n : ℕ). IsAskedAt n (Step steps_at_once) mid new place) same was
+
+  pub waited_done : leaves_more_at new place ≡ false → IsWaitedFor size old new place
+  waited_done done = record { earlier = so_far.0; between = mid; waiting = so_far.1; asked = asked; done = sym (leaves_at asked) ∙ done }
+
+  pub waiting_on : leaves_more_at new place ≡ true → (earlier : List ℕ) × IsStillWaiting size old earlier new
+  waiting_on more = (so_far.0 ++ place ∷ [], waiting_more old so_far.0 (so_far.1) asked (sym (leaves_at asked) ∙ more))
+
+-- a call that leaves more to do has done some
+pub less_left : {size before after place : ℕ} {old new : List Entry} → IsAskedAt size (Step steps_at_once) old new place → IsCountedAt before after new place → leaves_more_at new place ≡ true → after < before
+less_left {size = size} {before = before} {after = after} {old = old} asked counted more =
+    less (old ++ asked.inner) _ asked.event (subst (λ (o : Option Entry). MatchOption o ⊥ (λ e. IsStepCount before after e.event)) (entry_there asked) counted) (sym (leaves_at asked) ∙ more) asked.fits.answers
+  where
+    less : (entries call : List Entry) (event : Event) → IsStepCount before after event → leaves_more event ≡ true → OneShapeAnswers size entries call (AsksSteps steps_at_once) event → after < before
+    less entries call (Stepped done left None) (told, sum, some) more (did, ends) = elim did.some_done [
+      | inl one ↦ omega (arith, sum, one)
+      | inr none ↦ absurd (cc)
+    ]
+    less entries call event count more answers = absurd (cc)
