@@ -13,7 +13,7 @@ use Rattle.superblocks.specs.declared.members.Members.{Members}
 use Rattle.superblocks.specs.Reading.{Reading, role_state, rows_held, holder}
 use Rattle.superblocks.proofs.SlotSets.{same_set, none_there}
 use Rattle.row_io.specs.Rows.{reading_of, is_held, role_without, members_without, IsRow, IsTolerated}
-use Rattle.row_io.proofs.Losses.{holder-after, state_after}
+use Rattle.row_io.proofs.Losses.{holder-after, state_after, state_kept}
 use Rattle.row_io.proofs.Tables.{length-mapped}
 use Rattle.row_io.proofs.Written.{members_without-none}
 use Rattle.list_io.specs.Calls.{HasRows, AreLost}
@@ -157,6 +157,14 @@ lacks_by r lost row Missing lacks = lacks
 pub lacks_after : (m : Members) (lost role row : ℕ) → is_held (reading_of m) role row ≡ false → is_held (reading_of (members_without lost m)) role row ≡ false
 lacks_after m lost role row lacks =
     ap (λ (s : Role). nat_lt row (rows_held (reading_of m) s)) (state_after m lost role) ∙ lacks_by (reading_of m) lost row (role_state (reading_of m) role) lacks
+
+-- a slot that is recovering afterwards was so before, and isn't lost
+pub recovering-after : (m : Members) (lost role slot : ℕ) → role_state (reading_of (members_without lost m)) role ≡ Recovering slot
+    → (role_state (reading_of m) role ≡ Recovering slot) × (has_slot lost slot ≡ false)
+recovering-after m lost role slot is =
+    let left : role_without lost (role_state (reading_of m) role) ≡ Recovering slot = sym (state_after m lost role) ∙ is in
+    let kept = state_kept lost slot (role_state (reading_of m) role) (ap holder left) in
+    (sym kept.same ∙ left, kept.here)
 
 -- no loss leaves no more missing
 pub tolerated_by : (shape : Shape) (old new : Members) → new ≡ members_without 0 old → IsTolerated (reading_of old) shape → IsTolerated (reading_of new) shape

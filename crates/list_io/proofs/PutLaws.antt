@@ -15,12 +15,13 @@ use Rattle.superblocks.specs.declared.members.Members.{Members}
 use Rattle.superblocks.specs.Reading.{Reading, data_offset_of}
 use Rattle.row_io.specs.Rows.{reading_of, members_without}
 use Rattle.row_io.specs.Writes.{AreApart}
-use Rattle.row_io.proofs.Losses.{holder-of, held_slot-after}
+use Rattle.row_io.proofs.Losses.{held_slot-after}
 use Rattle.row_io.proofs.Turns.{marks_last}
 use Rattle.row_io.proofs.Written.{members_without-none}
+use Rattle.list_io.proofs.LossLaws.{recovering-after}
 use Rattle.list_io.specs.Full.{full_sector, DataStands, ParityStands}
 use Rattle.list_io.specs.Buffers.{AreDistinct, AreStanding}
-use Rattle.list_io.specs.Writing.{AreDataOf, IsFull, IsRowKept, MayHaveFull, IsPutting, AreSuperblocksKept, AreBehind}
+use Rattle.list_io.specs.Writing.{AreDataOf, IsFull, StaysRebuilt, IsRowKept, MayHaveFull, IsPutting, AreSuperblocksKept, AreBehind}
 
 -- ---- what a stop may leave
 
@@ -46,7 +47,7 @@ two_values r shape list touched s k old mid now apart one two = record {
     same_row = cancel (data_offset_of r s) one.row two.row (sym one.place ∙ two.place)
 
     same_role : one.role ≡ two.role
-    same_role = apart one.role two.role s (holder-of r one.role one.row s one.held) (holder-of r two.role two.row s two.held)
+    same_role = apart one.role two.role s one.held two.held
 
 pub putting_then : (r : Reading) (shape : Shape) (list : ℕ → Sector) (touched : ℕ → Type 0) (d e f : ℕ → ℕ → List Sector) → AreApart r
     → IsPutting r shape list touched d e → IsPutting r shape list touched e f → IsPutting r shape list touched d f
@@ -92,7 +93,7 @@ superblocks_kept r shape list touched d e behind putting slot at low = by (putti
     by : (e slot at ≡ d slot at) ⊎ MayHaveFull r shape list touched slot at (d slot at) (e slot at) → e slot at ≡ d slot at
     by (inl same) = same
     by (inr has) = absurd (
-        let begins = behind has.role slot (holder-of r has.role has.row slot has.held) in
+        let begins = behind has.role slot has.held in
         let there = has.place in
         omega (arith, low, begins, there)
         )
@@ -118,6 +119,21 @@ pub kept_then : (mid new : Members) (lost : ℕ) (a b c : Contents) (row : ℕ) 
     → IsRowKept (reading_of new) a c row
 kept_then mid new lost a b c row is one two = subst (λ (m : Members). IsRowKept (reading_of m) a c row) (sym is) (λ slot. two slot ∙ one slot)
 
+-- a row that stays rebuilt does so while it is kept, before and after, whatever is lost
+pub rebuilt_later : (mid new : Members) (lost : ℕ) (before between after : Contents) (shape : Shape) (list list' : ℕ → Sector) (row : ℕ) → new ≡ members_without lost mid
+    → IsRowKept (reading_of mid) between after row → StaysRebuilt (reading_of mid) before between shape list list' row → StaysRebuilt (reading_of new) before after shape list list' row
+rebuilt_later mid new lost before between after shape list list' row is kept was =
+    subst (λ (m : Members). StaysRebuilt (reading_of m) before after shape list list' row) (sym is)
+    (λ role slot lt recovers full. kept slot ∙ was role slot lt (recovering-after mid lost role slot recovers).0 full)
+
+pub rebuilt_since : (mid new : Members) (lost : ℕ) (before between after : Contents) (shape : Shape) (list list' : ℕ → Sector) (row : ℕ) → new ≡ members_without lost mid
+    → IsRowKept (reading_of mid) before between row → StaysRebuilt (reading_of new) between after shape list list' row → StaysRebuilt (reading_of new) before after shape list list' row
+rebuilt_since mid new lost before between after shape list list' row is kept did role slot lt recovers full =
+    did role slot lt recovers (here slot ∙ full)
+  where
+    here : (slot : ℕ) → between slot (data_offset_of (reading_of new) slot + row) ≡ before slot (data_offset_of (reading_of new) slot + row)
+    here = subst (λ (m : Members). IsRowKept (reading_of m) before between row) (sym is) kept
+
 pub none_then : (mid new : Members) (lost : ℕ) → new ≡ members_without lost mid → lost ≡ 0 → new ≡ mid
 none_then mid new lost is none = is ∙ ap (λ (n : ℕ). members_without n mid) none ∙ sym (members_without-none mid)
 
@@ -131,6 +147,18 @@ module _ (mid new : Members) (lost : ℕ) (is : new ≡ members_without lost mid
     | inr ne ↦
         let below : j < i = omega (arith, high, ne) in
         full_later mid new lost between after shape list (slice_index rows j) is (others (slice_index rows j) (once j i below lt)) (was j low below)
+  ]
+
+  pub rebuilt_more : (list list' : ℕ → Sector) → start ≤ i → ((row : ℕ) → ((j : ℕ) → start ≤ j → j < i → slice_index rows j ≢ row) → IsRowKept (reading_of mid) before between row)
+      → ((j : ℕ) → start ≤ j → j < i → StaysRebuilt (reading_of mid) before between shape list list' (slice_index rows j))
+      → StaysRebuilt (reading_of new) between after shape list list' (slice_index rows i)
+      → (j : ℕ) → start ≤ j → j < i + 1 → StaysRebuilt (reading_of new) before after shape list list' (slice_index rows j)
+  rebuilt_more list list' from_start kept was here j low high = elim (cases_eq j i) [
+    | inl same ↦ subst (λ (n : ℕ). StaysRebuilt (reading_of new) before after shape list list' (slice_index rows n)) (sym same)
+        (rebuilt_since mid new lost before between after shape list list' (slice_index rows i) is (kept (slice_index rows i) (λ k l h. once k i h lt)) here)
+    | inr ne ↦
+        let below : j < i = omega (arith, high, ne) in
+        rebuilt_later mid new lost before between after shape list list' (slice_index rows j) is (others (slice_index rows j) (once j i below lt)) (was j low below)
   ]
 
   pub kept_more : start ≤ i → ((row : ℕ) → ((j : ℕ) → start ≤ j → j < i → slice_index rows j ≢ row) → IsRowKept (reading_of mid) before between row)

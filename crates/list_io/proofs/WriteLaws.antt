@@ -14,15 +14,16 @@ use Rattle.parity.specs.Parity.{fill}
 use Rattle.parity.specs.Rows.{sector_of, row_without}
 use Rattle.parity.proofs.Columns.{bool_cases}
 use Rattle.superblocks.specs.declared.members.Members.{Members}
-use Rattle.superblocks.specs.Reading.{Reading, data_offset_of}
+use Rattle.superblocks.specs.Reading.{Reading, role_state, holder, data_offset_of}
 use Rattle.row_io.specs.Rows.{present, reading_of, held_slot, members_without}
 use Rattle.row_io.specs.Writes.{is_parity, is_due, due_slot, new_sector, place_on, AreApart, HasNew, IsWriting, AreWritten, OthersStand}
 use Rattle.row_io.proofs.Losses.{some_slot, chosen, holder-of, held_slot-after}
 use Rattle.row_io.proofs.Written.{present-is, present-same}
 use Rattle.list_io.specs.Full.{full_sector}
 use Rattle.list_io.specs.Buffers.{AreStanding}
-use Rattle.list_io.specs.Writing.{IsOther, HasOther, IsChanged, IsWritten, AreDataOf, IsFull, IsRowKept, MayHaveFull, IsPutting}
-use Rattle.list_io.proofs.FullLaws.{new-full}
+use Rattle.list_io.specs.Writing.{IsOther, HasOther, IsChanged, IsWritten, AreDataOf, IsFull, StaysRebuilt, IsRowKept, MayHaveFull, IsPutting}
+use Rattle.list_io.proofs.FullLaws.{full-data, new-full}
+use Rattle.list_io.proofs.LossLaws.{recovering-after}
 
 -- The bytes of a row, with its sectors of the write put in their places, and the set of the roles that have one.
 pub record IsRowChange (shape : Shape) (row first : ℕ) (from old bytes : List ℕ) (changed : ℕ) : Type 0 where
@@ -72,6 +73,15 @@ module _ (shape : Shape) (valid : is_valid_shape shape ≡ true) (row first : �
   pub new_full : (role : ℕ) → role < shape.disks → new_sector shape row bytes role ≡ full_sector shape list' row role
   new_full = new-full shape list' row bytes valid new_data
 
+-- what isn't written has the same full sector by both lists
+pub full_unwritten : (shape : Shape) → is_valid_shape shape ≡ true → (row first : ℕ) (from old bytes : List ℕ) (changed : ℕ) → IsRowChange shape row first from old bytes changed
+    → (list list' : ℕ → Sector) → IsWritten list list' first from
+    → (role : ℕ) → role < shape.disks → is_due shape row changed role ≡ false → full_sector shape list row role ≡ full_sector shape list' row role
+full_unwritten shape valid row first from old bytes changed change list list' written role lt kept =
+    let no = both_false (has_slot changed role) (is_parity (row_roles shape row) role) kept in
+    let other = change.left role lt no.0 no.1 in
+    full-data shape list role row other.0 valid other.1 ∙ sym (written.other other.0 other.2) ∙ sym (full-data shape list' role row other.0 valid other.1)
+
 -- what isn't written stands
 pub others_stand : (shape : Shape) → is_valid_shape shape ≡ true → (row first : ℕ) (from old bytes : List ℕ) (changed : ℕ) → IsRowChange shape row first from old bytes changed
     → (r : Reading) (c : Contents) → AreStanding r c shape row (sector_of old) → OthersStand c r shape row bytes changed
@@ -94,7 +104,7 @@ putting r shape row bytes changed list d e full writing s k = at (writing s k)
       role = has.role;
       among = refl;
       within = has.within;
-      held = some_slot (is_due shape row changed has.role) (held_slot r has.role row) s has.slot;
+      held = some_slot (is_due shape row changed has.role) (holder (role_state r has.role)) s has.slot;
       place = has.place;
       values = λ v there. elim (in_more (e s k) (d s k) (new_sector shape row bytes has.role) v has.value there) [
         | inl new ↦ inr (new ∙ full has.role has.within)
@@ -119,38 +129,67 @@ others_kept r shape row bytes changed given given' old new same writing other ne
 -- ---- and after it
 
 module _ (members : Members) (lost : ℕ) (given : Given) (old new : List Operation) (shape : Shape) (row : ℕ) (bytes : List ℕ) (changed : ℕ) where
+  -- a role that is written, and whose slot isn't lost, has its sector of the new row there
+  written_here : AreWritten (reading_of members) shape row bytes changed lost (disk given.start old) (disk given.start new)
+      → (role slot : ℕ) → role < shape.disks → is_due shape row changed role ≡ true → holder (role_state (reading_of members) role) ≡ Some slot → has_slot lost slot ≡ false
+      → present given new slot (place_on (reading_of members) row slot) ≡ new_sector shape row bytes role
+  written_here written role slot lt due held here =
+      let r = reading_of members in
+      present-is given new slot (place_on r row slot) (new_sector shape row bytes role) (disk given.start old slot (place_on r row slot))
+      (written role slot lt (chosen (is_due shape row changed role) (holder (role_state r role)) slot due held) here)
+
+  -- one that isn't written is as it was
+  kept_here : AreApart (reading_of members) → IsWriting (reading_of members) shape row bytes changed (disk given.start old) (disk given.start new)
+      → (role slot : ℕ) → is_due shape row changed role ≡ false → holder (role_state (reading_of members) role) ≡ Some slot
+      → present given new slot (place_on (reading_of members) row slot) ≡ present given old slot (place_on (reading_of members) row slot)
+  kept_here apart writing role slot kept held =
+      present-same given old new slot (place_on (reading_of members) row slot) (same (writing slot (place_on (reading_of members) row slot)))
+    where
+      same : (disk given.start new slot (place_on (reading_of members) row slot) ≡ disk given.start old slot (place_on (reading_of members) row slot))
+          ⊎ HasNew shape.disks (due_slot (reading_of members) shape row changed) (place_on (reading_of members) row) (new_sector shape row bytes) slot (place_on (reading_of members) row slot)
+          (disk given.start old slot (place_on (reading_of members) row slot)) (disk given.start new slot (place_on (reading_of members) row slot))
+          → disk given.start new slot (place_on (reading_of members) row slot) ≡ disk given.start old slot (place_on (reading_of members) row slot)
+      same (inl is) = is
+      same (inr has) = absurd (
+          let r = reading_of members in
+          let due = due_true (is_due shape row changed has.role) (holder (role_state r has.role)) slot has.slot in
+          let own = some_slot (is_due shape row changed has.role) (holder (role_state r has.role)) slot has.slot in
+          let is = apart has.role role slot own held in
+          let due' = subst (λ (x : ℕ). is_due shape row changed x ≡ true) is due in
+          cc
+          )
+
   -- each role whose slot holds it afterwards has its sector of the new row there
   has_new : AreApart (reading_of members) → OthersStand (present given old) (reading_of members) shape row bytes changed
       → IsWriting (reading_of members) shape row bytes changed (disk given.start old) (disk given.start new)
       → AreWritten (reading_of members) shape row bytes changed lost (disk given.start old) (disk given.start new)
       → (role slot : ℕ) → role < shape.disks → held_slot (reading_of (members_without lost members)) role row ≡ Some slot
-      → new_sector shape row bytes role ≡ present given new slot (place_on (reading_of (members_without lost members)) row slot)
+      → present given new slot (place_on (reading_of (members_without lost members)) row slot) ≡ new_sector shape row bytes role
   has_new apart others writing written role slot lt held_after =
       let r = reading_of members in
       let before = held_slot-after members lost role row slot held_after in
+      let held = holder-of r role row slot before.0 in
       elim (bool_cases (is_due shape row changed role)) [
-        | inl due ↦ sym (present-is given new slot (place_on r row slot) (new_sector shape row bytes role) (disk given.start old slot (place_on r row slot))
-            (written role slot lt (chosen (is_due shape row changed role) (held_slot r role row) slot due before.0) before.1))
+        | inl due ↦ written_here written role slot lt due held before.1
         | inr kept ↦
-            let stands = others role slot lt kept before.0 in
             let plain : new_sector shape row bytes role ≡ sector_of bytes role = ap (λ (b : Bool). if b then fill (row_roles shape row) (row_without (is_parity (row_roles shape row)) shape.disks (sector_of bytes)) role else sector_of bytes role) (both_false (has_slot changed role) (is_parity (row_roles shape row) role) kept).1 in
-            plain ∙ stands ∙ sym (present-same given old new slot (place_on r row slot) (same kept before.0 (writing slot (place_on r row slot))))
+            kept_here apart writing role slot kept held ∙ sym (plain ∙ others role slot lt kept before.0)
       ]
-    where
-      same : is_due shape row changed role ≡ false → held_slot (reading_of members) role row ≡ Some slot
-          → (disk given.start new slot (place_on (reading_of members) row slot) ≡ disk given.start old slot (place_on (reading_of members) row slot))
-          ⊎ HasNew shape.disks (due_slot (reading_of members) shape row changed) (place_on (reading_of members) row) (new_sector shape row bytes) slot (place_on (reading_of members) row slot)
-          (disk given.start old slot (place_on (reading_of members) row slot)) (disk given.start new slot (place_on (reading_of members) row slot))
-          → disk given.start new slot (place_on (reading_of members) row slot) ≡ disk given.start old slot (place_on (reading_of members) row slot)
-      same kept held (inl is) = is
-      same kept held (inr has) = absurd (
-          let r = reading_of members in
-          let due = due_true (is_due shape row changed has.role) (held_slot r has.role row) slot has.slot in
-          let own = some_slot (is_due shape row changed has.role) (held_slot r has.role row) slot has.slot in
-          let is = apart has.role role slot (holder-of r has.role row slot own) (holder-of r role row slot held) in
-          let due' = subst (λ (x : ℕ). is_due shape row changed x ≡ true) is due in
-          cc
-          )
+
+  -- each recovering slot that had its full sector has that of the new list
+  new_rebuilt : (list list' : ℕ → Sector) → AreApart (reading_of members)
+      → IsWriting (reading_of members) shape row bytes changed (disk given.start old) (disk given.start new)
+      → AreWritten (reading_of members) shape row bytes changed lost (disk given.start old) (disk given.start new)
+      → ((role : ℕ) → role < shape.disks → new_sector shape row bytes role ≡ full_sector shape list' row role)
+      → ((role : ℕ) → role < shape.disks → is_due shape row changed role ≡ false → full_sector shape list row role ≡ full_sector shape list' row role)
+      → StaysRebuilt (reading_of (members_without lost members)) (present given old) (present given new) shape list list' row
+  new_rebuilt list list' apart writing written full same role slot lt recovers was =
+      let before = recovering-after members lost role slot recovers in
+      let held : holder (role_state (reading_of members) role) ≡ Some slot = ap holder before.0 in
+      elim (bool_cases (is_due shape row changed role)) [
+        | inl due ↦ written_here written role slot lt due held before.1 ∙ full role lt
+        | inr kept ↦ kept_here apart writing role slot kept held ∙ was ∙ same role lt kept
+      ]
 
 pub row_full : (members m : Members) (lost : ℕ) (given given' : Given) (old new : List Operation) (shape : Shape) (row : ℕ) (bytes : List ℕ) (changed : ℕ) (list : ℕ → Sector)
     → m ≡ members_without lost members → given' ≡ given → AreApart (reading_of members) → OthersStand (present given old) (reading_of members) shape row bytes changed
@@ -161,4 +200,16 @@ pub row_full : (members m : Members) (lost : ℕ) (given given' : Given) (old ne
 row_full members m lost given given' old new shape row bytes changed list is same apart others writing written full =
     subst (λ (g : Given). IsFull (reading_of m) (present g new) shape list row) (sym same)
     (subst (λ (n : Members). IsFull (reading_of n) (present given new) shape list row) (sym is)
-    (λ role slot lt held. sym (has_new members lost given old new shape row bytes changed apart others writing written role slot lt held) ∙ full role lt))
+    (λ role slot lt held. has_new members lost given old new shape row bytes changed apart others writing written role slot lt held ∙ full role lt))
+
+pub row_rebuilt : (members m : Members) (lost : ℕ) (given given' : Given) (old new : List Operation) (shape : Shape) (row : ℕ) (bytes : List ℕ) (changed : ℕ) (list list' : ℕ → Sector)
+    → m ≡ members_without lost members → given' ≡ given → AreApart (reading_of members)
+    → IsWriting (reading_of members) shape row bytes changed (disk given.start old) (disk given.start new)
+    → AreWritten (reading_of members) shape row bytes changed lost (disk given.start old) (disk given.start new)
+    → ((role : ℕ) → role < shape.disks → new_sector shape row bytes role ≡ full_sector shape list' row role)
+    → ((role : ℕ) → role < shape.disks → is_due shape row changed role ≡ false → full_sector shape list row role ≡ full_sector shape list' row role)
+    → StaysRebuilt (reading_of m) (present given old) (present given' new) shape list list' row
+row_rebuilt members m lost given given' old new shape row bytes changed list list' is same apart writing written full kept =
+    subst (λ (g : Given). StaysRebuilt (reading_of m) (present given old) (present g new) shape list list' row) (sym same)
+    (subst (λ (n : Members). StaysRebuilt (reading_of n) (present given old) (present given new) shape list list' row) (sym is)
+    (new_rebuilt members lost given old new shape row bytes changed list list' apart writing written full kept))

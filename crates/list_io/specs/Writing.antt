@@ -1,6 +1,7 @@
 -- A write of some sectors, from a place of the list on, row by row.
 use Rattle.std.specs.Prelude.{◌≡◌, ◌⊎◌, ℕ, ◌+◌, ◌-◌, ◌/◌, ◌<◌, ◌≤◌, List, length, slice_index, Some}
 use Rattle.md_base.specs.declared.places.Shape.{Shape}
+use Rattle.md_base.specs.declared.status.Role.TheVariants.{Recovering}
 use Rattle.md_base.specs.Sectors.{Sector}
 use Rattle.bank.specs.Tape.{Contents, IsIn}
 use Rattle.layout.specs.Layout.{place}
@@ -45,6 +46,15 @@ AreDataFrom start shape list rows buffer = (i : ℕ) → start ≤ i → i < len
 abbrev pub IsFull : Reading → Contents → Shape → (ℕ → Sector) → ℕ → Type 0
 IsFull r c shape list row = (role slot : ℕ) → role < shape.disks → held_slot r role row ≡ Some slot → c slot (data_offset_of r slot + row) ≡ full_sector shape list row role
 
+-- this slot has the role's full sector of the row
+abbrev pub HasFull : Reading → Contents → Shape → (ℕ → Sector) → ℕ → ℕ → ℕ → Type 0
+HasFull r c shape list row role slot = c slot (data_offset_of r slot + row) ≡ full_sector shape list row role
+
+-- A row that was rebuilt stays so: each recovering slot that had its role's full sector by the one list has it by the other afterwards.
+abbrev pub StaysRebuilt : Reading → Contents → Contents → Shape → (ℕ → Sector) → (ℕ → Sector) → ℕ → Type 0
+StaysRebuilt r before after shape list list' row = (role slot : ℕ) → role < shape.disks → role_state r role ≡ Recovering slot
+    → HasFull r before shape list row role slot → HasFull r after shape list' row role slot
+
 -- what each slot has of this row is as it was
 abbrev pub IsRowKept : Reading → Contents → Contents → ℕ → Type 0
 IsRowKept r before after row = (slot : ℕ) → after slot (data_offset_of r slot + row) ≡ before slot (data_offset_of r slot + row)
@@ -57,7 +67,7 @@ pub record MayHaveFull (r : Reading) (shape : Shape) (list : ℕ → Sector) (to
   pub role : ℕ
   pub among : touched row
   pub within : role < shape.disks
-  pub held : held_slot r role row ≡ Some s
+  pub held : holder (role_state r role) ≡ Some s
   pub place : k ≡ data_offset_of r s + row
   pub values : (v : Sector) → IsIn now v → IsIn old v ⊎ (v ≡ full_sector shape list row role)
 

@@ -7,7 +7,7 @@ ghost use Rattle.row_io.specs.Rows.{present, reading_of, IsTolerated};
 ghost use Rattle.row_io.specs.Writes.{AreApart};
 ghost use Rattle.list_io.specs.Calls.{HasRows, AreLost, IsAnswer};
 ghost use Rattle.list_io.specs.Buffers.{buffered, AreDistinct, AreStanding};
-ghost use Rattle.list_io.specs.Writing.{IsWritten, AreDataFrom, IsFull, IsRowKept, IsPutting, AreSuperblocksKept, AreBehind};
+ghost use Rattle.list_io.specs.Writing.{IsWritten, AreDataFrom, IsFull, StaysRebuilt, IsRowKept, IsPutting, AreSuperblocksKept, AreBehind};
 
 use crate::buffers::ROW_BYTES;
 use crate::outcome::{Unavailable, are_too_many};
@@ -70,6 +70,9 @@ fn write_rows<B: Bank>(
         (IsPutting (reading_of members.old) shape.now list' (Contains rows.now) (disk start (B.tape bank.old))) }
     ensures full { (list list' : ℕ → Sector) → IsWritten list list' first from.now → B.tells → AreDataFrom from_row shape.now list rows.now buffer.old
         → (i : ℕ) → from_row ≤ i → i < result.next_row → IsFull (reading_of members.new) (present (B.given bank.new) (B.tape bank.new)) shape.now list' (slice_index rows.now i) }
+    ensures rebuilt { (list list' : ℕ → Sector) → IsWritten list list' first from.now → B.tells → AreDataFrom from_row shape.now list rows.now buffer.old
+        → (i : ℕ) → from_row ≤ i → i < result.next_row → StaysRebuilt (reading_of members.new)
+        (present (B.given bank.old) (B.tape bank.old)) (present (B.given bank.new) (B.tape bank.new)) shape.now list list' (slice_index rows.now i) }
     ensures others { B.tells → (row : ℕ) → ((i : ℕ) → from_row ≤ i → i < result.next_row → slice_index rows.now i ≢ row)
         → IsRowKept (reading_of members.new) (present (B.given bank.old) (B.tape bank.old)) (present (B.given bank.new) (B.tape bank.new)) row }
     ensures rest { (i role : ℕ) → result.next_row ≤ i → i < length rows.now → role < shape.now.disks → buffered buffer.new i role ≡ buffered buffer.old i role }
@@ -128,6 +131,9 @@ pub fn write_touched<B: Bank>(
         (λ e. IsPutting (reading_of members.old) shape.now list' (Contains rows.now) (disk start (B.tape bank.old)) e × AreSuperblocksKept (disk start (B.tape bank.old)) e) }
     ensures full { (list list' : ℕ → Sector) → IsWritten list list' first from.now → B.tells → AreDataFrom from_row shape.now list rows.now buffer.old.items
         → (i : ℕ) → from_row ≤ i → i < result.next_row → IsFull (reading_of members.new) (present (B.given bank.new) (B.tape bank.new)) shape.now list' (slice_index rows.now i) }
+    ensures rebuilt { (list list' : ℕ → Sector) → IsWritten list list' first from.now → B.tells → AreDataFrom from_row shape.now list rows.now buffer.old.items
+        → (i : ℕ) → from_row ≤ i → i < result.next_row → StaysRebuilt (reading_of members.new)
+        (present (B.given bank.old) (B.tape bank.old)) (present (B.given bank.new) (B.tape bank.new)) shape.now list list' (slice_index rows.now i) }
     ensures others { B.tells → (row : ℕ) → ((i : ℕ) → from_row ≤ i → i < result.next_row → slice_index rows.now i ≢ row)
         → IsRowKept (reading_of members.new) (present (B.given bank.old) (B.tape bank.old)) (present (B.given bank.new) (B.tape bank.new)) row }
     ensures rest { (i role : ℕ) → result.next_row ≤ i → i < length rows.now → role < shape.now.disks → buffered buffer.new.items i role ≡ buffered buffer.old.items i role }

@@ -10,7 +10,7 @@ ghost use Rattle.row_io.specs.Rows.{present, reading_of, lost_of, IsRow, IsToler
 ghost use Rattle.row_io.specs.Writes.{is_parity, AreApart};
 ghost use Rattle.list_io.specs.Calls.{AreLost};
 ghost use Rattle.list_io.specs.Buffers.{AreStanding};
-ghost use Rattle.list_io.specs.Writing.{IsOther, HasOther, IsChanged, IsWritten, AreDataOf, IsFull, IsRowKept, IsPutting};
+ghost use Rattle.list_io.specs.Writing.{IsOther, HasOther, IsChanged, IsWritten, AreDataOf, IsFull, StaysRebuilt, IsRowKept, IsPutting};
 
 use crate::sectors::copy_sector;
 use bank::Bank;
@@ -141,6 +141,8 @@ pub fn rewrite_row<B: Bank>(
         (IsPutting (reading_of members.old) shape.now list' (λ other. other ≡ row) (disk start (B.tape bank.old))) }
     ensures full { (list list' : ℕ → Sector) → IsWritten list list' first from.now → B.tells → AreDataOf shape.now list row (sector_of bytes.old)
         → IsFull (reading_of members.new) (present (B.given bank.new) (B.tape bank.new)) shape.now list' row }
+    ensures rebuilt { (list list' : ℕ → Sector) → IsWritten list list' first from.now → B.tells → AreDataOf shape.now list row (sector_of bytes.old)
+        → StaysRebuilt (reading_of members.new) (present (B.given bank.old) (B.tape bank.old)) (present (B.given bank.new) (B.tape bank.new)) shape.now list list' row }
     ensures others { B.tells → (other : ℕ) → other ≢ row → IsRowKept (reading_of members.old)
         (present (B.given bank.old) (B.tape bank.old)) (present (B.given bank.new) (B.tape bank.new)) other }
     ensures given { B.given bank.new ≡ B.given bank.old }

@@ -393,6 +393,62 @@ fn try_layout(rt: &impl Abort, alloc: Global, level: u32, layout: u32) -> Result
     Ok(())
 }
 
+// What a slot has at a place.
+fn stored<B: Bank>(bank: &mut B, slot: u32, at: u64) -> Option<[u8; 512]> {
+    if slot >= bank.slots() || at >= bank.len(slot) {
+        return None;
+    }
+    let mut sector = [0u8; 512];
+    match bank.read(slot, at, &mut sector) {
+        Ok(()) => Some(sector),
+        Err(_) => None,
+    }
+}
+
+// Whether two banks have the same rows on a role's slot.
+fn are_alike<B: Bank>(one: &mut B, other: &mut B, role: u32) -> bool
+    requires { role < 5 }
+{
+    let slot = slot_of(role);
+    for row in 0..ROWS {
+        let at = 16 + slot as u64 + row;
+        if stored(one, slot, at) != stored(other, slot, at) {
+            return false;
+        }
+    }
+    true
+}
+
+// A recovering slot with no row by its superblock, whose rows are right as they are, has in the end what a whole one has.
+fn try_recovering(rt: &impl Abort, alloc: Global, level: u32, layout: u32) -> Result<(), Fail>
+    requires { IsTrue (is_valid_shape (record { level = level; layout = layout; chunk = 8; disks = 5 })) }
+{
+    let shape = Shape {
+        level,
+        layout,
+        chunk: 8,
+        disks: 5,
+    };
+    let mut room = room_of(alloc)?;
+    for role in 0..5u32 {
+        let mut bank = bank_of(alloc, &[])?;
+        let mut members = members_of(alloc, 1 << role, Some(0))?;
+        try_members(rt, &mut bank, &mut members, &shape, 3, &mut room);
+        let mut other = bank_of(alloc, &[])?;
+        let mut whole = members_of(alloc, 0, None)?;
+        try_members(rt, &mut other, &mut whole, &shape, 3, &mut room);
+        assert!(rt; are_alike(&mut bank, &mut other, role), "{role}");
+    }
+    Ok(())
+}
+
+#[test]
+fn recovering_slots_are_written(rt: HostRuntime) -> Result<(), Fail> {
+    try_recovering(&rt, rt.alloc(), 5, 2)?;
+    try_recovering(&rt, rt.alloc(), 6, 2)?;
+    try_recovering(&rt, rt.alloc(), 6, 19)
+}
+
 // A slot fails in one of the first calls, and at level 6 another one later.
 fn try_failures(rt: &impl Abort, alloc: Global, level: u32, layout: u32) -> Result<(), Fail>
     requires { IsTrue (is_valid_shape (record { level = level; layout = layout; chunk = 8; disks = 5 })) }

@@ -10,10 +10,9 @@ use Rattle.std.proofs.lemmas.List.{take_all}
 use Rattle.bank.proofs.Laws.{choices_after-write_here, choices_after-write_other, disk-written, disk-unwritten}
 use Rattle.bank.proofs.Marks.{Along, each_mark-along, each_mark-map, each_mark-then, each_mark-told}
 use Rattle.parity.proofs.Columns.{bool_cases}
-use Rattle.superblocks.specs.Reading.{Reading}
-use Rattle.row_io.specs.Rows.{held_slot}
+use Rattle.superblocks.specs.Reading.{Reading, role_state, holder}
 use Rattle.row_io.specs.Writes.{HasNew, IsWritingTo, AreWrittenTo, IsTurn, AreApart, slot_in}
-use Rattle.row_io.proofs.Losses.{holder-of, some_slot}
+use Rattle.row_io.proofs.Losses.{some_slot}
 
 -- ---- one turn
 
@@ -47,10 +46,10 @@ turn_failed slot_of at new lost after s k n old tape is place here gone did = (
     some_of (suc m) = inr (s, is, ap (λ (l : List Operation). Write s k new ∷ l) (none_of m) ∙ ap (λ (j : ℕ). Write s j new ∷ []) place)
 
 -- no slot is written to for two roles
-pub slots_apart : (r : Reading) (row due : ℕ) → AreApart r → (a b s : ℕ) → slot_in r row due a ≡ Some s → slot_in r row due b ≡ Some s → a ≡ b
-slots_apart r row due apart a b s one two = apart a b s
-    (holder-of r a row s (some_slot (has_slot due a) (held_slot r a row) s one))
-    (holder-of r b row s (some_slot (has_slot due b) (held_slot r b row) s two))
+pub slots_apart : (r : Reading) (due : ℕ) → AreApart r → (a b s : ℕ) → slot_in r due a ≡ Some s → slot_in r due b ≡ Some s → a ≡ b
+slots_apart r due apart a b s one two = apart a b s
+    (some_slot (has_slot due a) (holder (role_state r a)) s one)
+    (some_slot (has_slot due b) (holder (role_state r b)) s two)
 
 -- ---- what a stop may leave
 

@@ -19,7 +19,7 @@ use Rattle.parity.specs.Fills.{IsGoodBut}
 use Rattle.parity.proofs.Columns.{bool_cases}
 use Rattle.parity.proofs.OwnFills.{fills-are-own, good-rows-stay-good}
 use Rattle.superblocks.specs.declared.members.Members.{Members}
-use Rattle.superblocks.specs.Reading.{Reading, data_offset_of}
+use Rattle.superblocks.specs.Reading.{Reading, role_state, holder, data_offset_of}
 use Rattle.row_io.specs.Rows.{present, reading_of, is_held, held_slot, held_row, standing_sector, role_without, members_without, IsTolerated}
 use Rattle.row_io.specs.Writes.{is_parity, is_due, due_slot, new_sector, place_on, AreApart, OthersStand, HasNew, IsWriting, AreWritten, IsGoodRow}
 use Rattle.row_io.proofs.Losses.{some_slot, chosen, holder-of, held_slot-after, row_is, all_stand}
@@ -83,7 +83,7 @@ module _ (members : Members) (lost : ℕ) (given : Given) (old new : List Operat
       let before = held_slot-after members lost role row slot held_after in
       elim (bool_cases (is_due shape row changed role)) [
         | inl due ↦ sym (present-is given new slot (place_on r row slot) (new_sector shape row bytes role) (disk given.start old slot (place_on r row slot))
-            (written role slot lt (chosen (is_due shape row changed role) (held_slot r role row) slot due before.0) before.1))
+            (written role slot lt (chosen (is_due shape row changed role) (holder (role_state r role)) slot due (holder-of r role row slot before.0)) before.1))
         | inr kept ↦
             let stands = others role slot lt kept before.0 in
             let plain : new_sector shape row bytes role ≡ sector_of bytes role = ap (λ (b : Bool). if b then fill (row_roles shape row) (row_without (is_parity (row_roles shape row)) shape.disks (sector_of bytes)) role else sector_of bytes role) (neither (has_slot changed role) (is_parity (row_roles shape row) role) kept) in
@@ -98,9 +98,9 @@ module _ (members : Members) (lost : ℕ) (given : Given) (old new : List Operat
       same kept held (inl is) = is
       same kept held (inr has) = absurd (
           let r = reading_of members in
-          let due = some_test (is_due shape row changed has.role) (held_slot r has.role row) slot has.slot in
-          let own = some_slot (is_due shape row changed has.role) (held_slot r has.role row) slot has.slot in
-          let is = apart has.role role slot (holder-of r has.role row slot own) (holder-of r role row slot held) in
+          let due = some_test (is_due shape row changed has.role) (holder (role_state r has.role)) slot has.slot in
+          let own = some_slot (is_due shape row changed has.role) (holder (role_state r has.role)) slot has.slot in
+          let is = apart has.role role slot own (holder-of r role row slot held) in
           let due' = subst (λ (x : ℕ). is_due shape row changed x ≡ true) is due in
           cc
           )

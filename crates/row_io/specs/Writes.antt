@@ -28,9 +28,9 @@ new_sector shape row bytes role = filled_sector (row_roles shape row) (is_parity
 abbrev pub is_due : Shape → ℕ → ℕ → ℕ → Bool
 is_due shape row changed role = has_slot changed role || is_parity (row_roles shape row) role
 
--- the slot to which it is written
+-- the slot to which it is written, also one that is still recovering
 abbrev pub due_slot : Reading → Shape → ℕ → ℕ → ℕ → Option ℕ
-due_slot r shape row changed role = if is_due shape row changed role then held_slot r role row else None
+due_slot r shape row changed role = if is_due shape row changed role then holder (role_state r role) else None
 
 -- ---- what a call takes
 
@@ -75,9 +75,9 @@ AreWritten r shape row bytes changed lost d e = AreWrittenTo shape.disks (due_sl
 
 -- ---- inside
 
--- a role of this set is written to the slot that holds it
-abbrev pub slot_in : Reading → ℕ → ℕ → ℕ → Option ℕ
-slot_in r row due role = if has_slot due role then held_slot r role row else None
+-- a role of this set is written to its slot, also one that is still recovering
+abbrev pub slot_in : Reading → ℕ → ℕ → Option ℕ
+slot_in r due role = if has_slot due role then holder (role_state r role) else None
 
 -- One role's turn: nothing, or the write of its sector, which a slot does that isn't lost.
 pub record IsTurn (slot_of : Option ℕ) (at : ℕ → ℕ) (new : Sector) (lost after : ℕ) (ops : List Operation) : Type 0 where

@@ -22,6 +22,14 @@ pub fn holder(state: Role) -> Option<u32>
     }
 }
 
+/// The slot that has a role, whole or recovering.
+pub fn holder_of(members: &Members, role: u32) -> Option<u32>
+    requires { role < length members.now.roles }
+    ensures { result ≡ holder (role_state (reading_of members.now) role) }
+{
+    holder(members.roles.get(role))
+}
+
 // The state of a role, where these slots are lost.
 fn role_without(lost: u32, state: Role) -> Role
     requires { (slot : ℕ) → holder state ≡ Some slot → slot < 32 }

@@ -14,7 +14,7 @@ use crate::lose::holder;
 use crate::sets::with;
 use crate::{read_row, write_row};
 use bank::{Bank, MemoryBank};
-use layout::place;
+use layout::{place, row_of};
 use md_base::{Place, Role, RoleList, Shape, SlotList};
 use sb1::{Sb, fields_of};
 use std::alloc::Global;
@@ -304,6 +304,71 @@ fn try_failures(rt: &impl Abort, alloc: Global, level: u32, layout: u32) -> Resu
         assert_eq!(rt; members.lost.count_ones(), tolerated, "{first}");
     }
     Ok(())
+}
+
+// What a slot has at a place.
+fn stored<B: Bank>(bank: &mut B, slot: u32, at: u64) -> Option<[u8; 512]> {
+    if slot >= bank.slots() || at >= bank.len(slot) {
+        return None;
+    }
+    let mut sector = [0u8; 512];
+    match bank.read(slot, at, &mut sector) {
+        Ok(()) => Some(sector),
+        Err(_) => None,
+    }
+}
+
+// What a role's slot has of a row in which one sector was written. The role is recovering, and has no row yet, or all
+// are whole.
+fn written_on(
+    rt: &impl Abort,
+    alloc: Global,
+    shape: &Shape,
+    at: Place,
+    role: u32,
+    is_recovering: bool,
+) -> Result<Option<[u8; 512]>, Fail>
+    requires shape { IsTrue (is_valid_shape shape.now) }
+    requires disks { shape.now.disks ≡ 5 }
+    requires at { at.role < 5 }
+    requires row { at.row < 40 }
+    requires role { role < 5 }
+{
+    let missing = if is_recovering { 1 << role } else { 0 };
+    let mut bank = bank_of(alloc, &[])?;
+    let mut members = members_of(alloc, missing, Some(0))?;
+    assert!(rt; put(&mut bank, &mut members, shape, at, &sector_from(next(9))));
+    let slot = slot_of(role);
+    Ok(stored(&mut bank, slot, 16 + slot as u64 + at.row))
+}
+
+// A recovering slot without a row gets the sectors that a whole one gets: the one that is written, and the parity.
+fn try_recovering(rt: &impl Abort, alloc: Global, level: u32, layout: u32) -> Result<(), Fail>
+    requires { IsTrue (is_valid_shape (record { level = level; layout = layout; chunk = 8; disks = 5 })) }
+{
+    let shape = Shape {
+        level,
+        layout,
+        chunk: 8,
+        disks: 5,
+    };
+    let at = place(&shape, 77);
+    assert!(rt; at.row < ROWS);
+    let roles = row_of(&shape, at.row);
+    for role in 0..5u32 {
+        let there = written_on(rt, alloc, &shape, at, role, true)?;
+        assert_eq!(rt; there, written_on(rt, alloc, &shape, at, role, false)?);
+        let is_due = role == at.role || role == roles.p || roles.q == Some(role);
+        assert_eq!(rt; there != Some([0; 512]), is_due, "{role}");
+    }
+    Ok(())
+}
+
+#[test]
+fn recovering_slots_are_written(rt: HostRuntime) -> Result<(), Fail> {
+    try_recovering(&rt, rt.alloc(), 5, 2)?;
+    try_recovering(&rt, rt.alloc(), 6, 2)?;
+    try_recovering(&rt, rt.alloc(), 6, 19)
 }
 
 #[test]

@@ -11,8 +11,8 @@ ghost use Rattle.parity.specs.Rows.{IsRowOf, sector_of};
 ghost use Rattle.row_io.specs.Rows.{present, reading_of, held_row, standing_sector, missing_count, lost_of, members_without, IsRow, IsTolerated, IsLoss, HaveFailed};
 ghost use Rattle.row_io.specs.Writes.{new_sector, slot_in, place_on, AreApart, OthersStand, IsWriting, AreWritten, IsWritingTo, AreWrittenTo, IsTurn, IsGoodRow};
 
-use crate::held::{data_offset, held_slot};
-use crate::lose::{lose_slots, missing_count};
+use crate::held::data_offset;
+use crate::lose::{holder_of, lose_slots, missing_count};
 use crate::new_row::{due_roles, set_parity};
 use crate::read::tolerance;
 use crate::sets::{contains, with};
@@ -23,7 +23,8 @@ use superblocks::Members;
 /// The bytes of a row of sixteen disks.
 const MOST: usize = 8192;
 
-// Writes a role's sector of a row, if it is one of these and a slot holds it that wasn't lost. The lost slots after it.
+// Writes a role's sector of a row, if it is one of these and has a slot that wasn't lost, whole or recovering. The lost
+// slots after it.
 fn write_role<B: Bank>(
     members: &Members,
     bank: &mut B,
@@ -38,7 +39,7 @@ fn write_role<B: Bank>(
     requires role { role < shape.now.disks }
     requires whole { IsRowOf shape.now.disks bytes.now }
     ensures tape { B.tells → (ops : List Operation) × (B.tape bank.new ≡ B.tape bank.old ++ ops)
-        × IsTurn (slot_in (reading_of members.now) row due role) (place_on (reading_of members.now) row) (sector_of bytes.now role) lost result ops }
+        × IsTurn (slot_in (reading_of members.now) due role) (place_on (reading_of members.now) row) (sector_of bytes.now role) lost result ops }
     ensures stay { (s : ℕ) → has_slot lost s ≡ true → has_slot result s ≡ true }
     ensures loss { IsLoss (reading_of members.now) role lost result (B.faults_of bank.old) (B.faults_of bank.new) }
     ensures given { B.given bank.new ≡ B.given bank.old }
@@ -47,7 +48,7 @@ fn write_role<B: Bank>(
     if !contains(due, role) {
         return lost;
     }
-    let Some(slot) = held_slot(members, role, row) else {
+    let Some(slot) = holder_of(members, role) else {
         return lost;
     };
     if contains(lost, slot) {
@@ -74,9 +75,9 @@ fn write_roles<B: Bank>(
     requires apart { AreApart (reading_of members.now) }
     requires whole { IsRowOf shape.now.disks bytes.now }
     ensures each_mark { let start = (B.given bank.old).start in let r = reading_of members.now in EachMark B.tells start (B.tape bank.old) (B.tape bank.new)
-        (IsWritingTo shape.now.disks (slot_in r row due) (place_on r row) (sector_of bytes.now) (disk start (B.tape bank.old))) }
+        (IsWritingTo shape.now.disks (slot_in r due) (place_on r row) (sector_of bytes.now) (disk start (B.tape bank.old))) }
     ensures written { B.tells → let start = (B.given bank.old).start in let r = reading_of members.now in
-        AreWrittenTo shape.now.disks (slot_in r row due) (place_on r row) (sector_of bytes.now) result (disk start (B.tape bank.old)) (disk start (B.tape bank.new)) }
+        AreWrittenTo shape.now.disks (slot_in r due) (place_on r row) (sector_of bytes.now) result (disk start (B.tape bank.old)) (disk start (B.tape bank.new)) }
     ensures failed { HaveFailed (reading_of members.now) shape.now.disks result (B.faults_of bank.old) (B.faults_of bank.new) }
     ensures given { B.given bank.new ≡ B.given bank.old }
     ensures never_falls { NeverFalls (B.faults_of bank.old) (B.faults_of bank.new) }
@@ -118,10 +119,10 @@ fn write_new<B: Bank>(
 }
 
 /// Writes a row of a shape in force with its parity: the sectors of the changed roles, one bit for each, and those of the
-/// parity roles, where a slot holds them. `from` is the row, 512 bytes for each disk, role after role; its parity sectors
-/// don't count. A slot that fails is lost, and so is its role; the others go on. The answer is the set of the slots that
-/// were lost in this call: an Err exactly where more roles are missing than the shape tolerates, and before anything is
-/// written where they are so at the start.
+/// parity roles, to the slots that have these roles, also one that is still recovering. `from` is the row, 512 bytes for
+/// each disk, role after role; its parity sectors don't count. A slot that fails is lost, and so is its role; the others
+/// go on. The answer is the set of the slots that were lost in this call: an Err exactly where more roles are missing than
+/// the shape tolerates, and before anything is written where they are so at the start.
 pub fn write_row<B: Bank>(
     members: &mut Members,
     bank: &mut B,

@@ -11,7 +11,7 @@ use Rattle.list_io.specs.Writing.{AreDataOf, AreDataFrom}
 use Rattle.list_io.proofs.Elements.{contains-at}
 use Rattle.list_io.proofs.LossLaws.{none_lost, rows_by, row_in}
 use Rattle.list_io.proofs.PartBytes.{sector-part, sector-part_other}
-use Rattle.list_io.proofs.PutLaws.{marks_more, standing_later, data_same, none_then, full_more, kept_more}
+use Rattle.list_io.proofs.PutLaws.{marks_more, standing_later, data_same, none_then, full_more, rebuilt_more, kept_more}
 use Rattle.row_io.proofs.Written.{members_without-none}
 use Rattle.list_io.proofs.puts.write_rows.Goals as goal
 
@@ -74,6 +74,21 @@ returns-then-lost-ne0-clause-full g c = λ list list' written told own.
     (did.full list list' written told (data_same shape list (slice_index rows i) (buffered c.args.buffer.now i) (sector_of (take (8192 * i + 512 * shape.disks - 8192 * i) (drop (8192 * i) c.loop-i.buffer))) c.requires.rows.valid
     (λ role lt. part_is c.loop-i.buffer c.args.buffer.now i shape.disks role lt (was.ahead i role (omega arith) c.loop-i-test.true lt)) (own i c.loop-i.auto.i c.loop-i-test.true)))
 
+pub returns-then-lost-ne0-clause-rebuilt : goal.returns-then-lost-ne0-clause-rebuilt
+returns-then-lost-ne0-clause-rebuilt g c = λ list list' written told own.
+    let was = c.loop-i.invariant in
+    let did = c.rewrite_row-lost.ensures in
+    let shape = c.args.shape.now in
+    let i = c.loop-i.i in
+    let rows = c.args.rows.now in
+    let before = present (g.B.Bank.given c.args.bank.now) (g.B.Bank.tape c.args.bank.now) in
+    let between = present (g.B.Bank.given c.loop-i.bank) (g.B.Bank.tape c.loop-i.bank) in
+    let after = present (g.B.Bank.given c.rewrite_row-lost.new.bank) (g.B.Bank.tape c.rewrite_row-lost.new.bank) in
+    rebuilt_more c.loop-i.members c.rewrite_row-lost.new.members c.rewrite_row-lost.result did.lost.members before between after shape rows c.requires.once c.args.from_row i c.loop-i-test.true
+    (did.others told) list list' c.loop-i.auto.i (was.others told) (was.rebuilt list list' written told own)
+    (did.rebuilt list list' written told (data_same shape list (slice_index rows i) (buffered c.args.buffer.now i) (sector_of (take (8192 * i + 512 * shape.disks - 8192 * i) (drop (8192 * i) c.loop-i.buffer))) c.requires.rows.valid
+    (λ role lt. part_is c.loop-i.buffer c.args.buffer.now i shape.disks role lt (was.ahead i role (omega arith) c.loop-i-test.true lt)) (own i c.loop-i.auto.i c.loop-i-test.true)))
+
 pub returns-then-lost-ne0-clause-others : goal.returns-then-lost-ne0-clause-others
 returns-then-lost-ne0-clause-others g c = λ told.
     let before = present (g.B.Bank.given c.args.bank.now) (g.B.Bank.tape c.args.bank.now) in
@@ -120,6 +135,8 @@ loop-i-preserved g c =
           (did.each_mark list list' written (λ told. own_row list (own told)));
       done = λ list list' written told own. full_more mid new lost did.lost.members before between after shape rows c.requires.once c.args.from_row i c.loop-i-test.true
           (did.others told) list' (was.done list list' written told own) (did.full list list' written told (own_row list own));
+      rebuilt = λ list list' written told own. rebuilt_more mid new lost did.lost.members before between after shape rows c.requires.once c.args.from_row i c.loop-i-test.true
+          (did.others told) list list' c.loop-i.auto.i (was.others told) (was.rebuilt list list' written told own) (did.rebuilt list list' written told (own_row list own));
       others = λ told. kept_more mid new lost did.lost.members before between after shape rows c.requires.once c.args.from_row i c.loop-i-test.true
           (did.others told) c.loop-i.auto.i (was.others told);
       ahead = λ j role le lt is.
@@ -138,6 +155,9 @@ returns-clause-lost g c =
 
 pub returns-clause-full : goal.returns-clause-full
 returns-clause-full g c = λ list list' written told own i low lt. c.loop-i.invariant.done list list' written told own i low (omega (arith, lt, c.loop-i-test.false))
+
+pub returns-clause-rebuilt : goal.returns-clause-rebuilt
+returns-clause-rebuilt g c = λ list list' written told own i low lt. c.loop-i.invariant.rebuilt list list' written told own i low (omega (arith, lt, c.loop-i-test.false))
 
 pub returns-clause-others : goal.returns-clause-others
 returns-clause-others g c = λ told row apart. c.loop-i.invariant.others told row (λ j low lt. apart j low (omega (arith, lt, c.loop-i.auto.i-end c.requires.start)))

@@ -5,7 +5,7 @@ use Rattle.bank.specs.Tape.{EachMark, disk}
 use Rattle.md_base.specs.Sectors.{Sector}
 use Rattle.row_io.specs.Rows.{present, reading_of}
 use Rattle.list_io.specs.Buffers.{buffered}
-use Rattle.list_io.specs.Writing.{IsWritten, AreDataFrom, IsFull, IsRowKept, IsPutting}
+use Rattle.list_io.specs.Writing.{IsWritten, AreDataFrom, IsFull, StaysRebuilt, IsRowKept, IsPutting}
 use Rattle.list_io.proofs.puts.write_rows.Given as goal
 
 abbrev pub invariant-loop-i : goal.invariant-loop-i
@@ -15,6 +15,9 @@ invariant-loop-i g l = record {
       (IsPutting (reading_of l.fn.members) l.shape list' (Contains l.rows) (disk (g.B.Bank.given l.fn.bank).start (g.B.Bank.tape l.fn.bank)));
   done : (list list' : ℕ → Sector) → IsWritten list list' l.first l.from → g.B.Bank.tells → AreDataFrom l.from_row l.shape list l.rows l.fn.buffer
       → (i : ℕ) → l.from_row ≤ i → i < l.i → IsFull (reading_of l.members) (present (g.B.Bank.given l.bank) (g.B.Bank.tape l.bank)) l.shape list' (slice_index l.rows i);
+  rebuilt : (list list' : ℕ → Sector) → IsWritten list list' l.first l.from → g.B.Bank.tells → AreDataFrom l.from_row l.shape list l.rows l.fn.buffer
+      → (i : ℕ) → l.from_row ≤ i → i < l.i → StaysRebuilt (reading_of l.members)
+      (present (g.B.Bank.given l.fn.bank) (g.B.Bank.tape l.fn.bank)) (present (g.B.Bank.given l.bank) (g.B.Bank.tape l.bank)) l.shape list list' (slice_index l.rows i);
   others : g.B.Bank.tells → (row : ℕ) → ((i : ℕ) → l.from_row ≤ i → i < l.i → slice_index l.rows i ≢ row)
       → IsRowKept (reading_of l.members) (present (g.B.Bank.given l.fn.bank) (g.B.Bank.tape l.fn.bank)) (present (g.B.Bank.given l.bank) (g.B.Bank.tape l.bank)) row;
   ahead : (i role : ℕ) → l.i ≤ i → i < length l.rows → role < l.shape.disks → buffered l.buffer i role ≡ buffered l.fn.buffer i role;

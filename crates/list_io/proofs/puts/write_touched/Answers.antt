@@ -26,6 +26,10 @@ pub returns-clause-full : goal.returns-clause-full
 returns-clause-full g c = λ list list' written told own.
     c.write_rows-lost.ensures.full list list' written told (subst (λ (l : List ℕ). AreDataFrom c.args.from_row c.args.shape.now list c.args.rows.now l) (sym c.as_mut_slice.ensures.value) own)
 
+pub returns-clause-rebuilt : goal.returns-clause-rebuilt
+returns-clause-rebuilt g c = λ list list' written told own.
+    c.write_rows-lost.ensures.rebuilt list list' written told (subst (λ (l : List ℕ). AreDataFrom c.args.from_row c.args.shape.now list c.args.rows.now l) (sym c.as_mut_slice.ensures.value) own)
+
 -- what is written back is the whole buffer
 written_back : (n : ℕ) (xs ys : List ℕ) → length xs ≡ n → take n (xs ++ ys) ≡ xs
 written_back n xs ys size = take-append-le n xs ys (omega (arith, size)) ∙ take_all n xs (omega (arith, size))

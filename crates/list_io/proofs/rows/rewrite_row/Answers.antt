@@ -6,7 +6,7 @@ use Rattle.row_io.specs.Writes.{IsWriting}
 use Rattle.row_io.proofs.Turns.{marks_last}
 use Rattle.list_io.specs.Calls.{AreLost}
 use Rattle.list_io.specs.Writing.{IsPutting}
-use Rattle.list_io.proofs.WriteLaws.{IsRowChange, new_full, others_stand, putting, others_kept, row_full}
+use Rattle.list_io.proofs.WriteLaws.{IsRowChange, new_full, full_unwritten, others_stand, putting, others_kept, row_full, row_rebuilt}
 use Rattle.list_io.proofs.rows.rewrite_row.Goals as goal
 
 pub write_row-requires-clause-others : goal.write_row-requires-clause-others
@@ -47,6 +47,20 @@ returns-clause-full g c = λ list list' written told own.
     (marks_last {P = IsWriting (reading_of c.args.members.now) c.args.shape.now c.args.row c.change_row.new.bytes c.changed_roles-changed.result (disk given.start old)} did.each_mark told)
     (did.written told c.requires.tolerated)
     (new_full c.args.shape.now c.requires.row.valid c.args.row c.args.first c.args.from.now c.args.bytes.now c.change_row.new.bytes c.changed_roles-changed.result change list list' written own)
+
+pub returns-clause-rebuilt : goal.returns-clause-rebuilt
+returns-clause-rebuilt g c = λ list list' written told own.
+    let given = g.B.Bank.given c.args.bank.now in
+    let old = g.B.Bank.tape c.args.bank.now in
+    let did = c.write_row.ensures in
+    let change : IsRowChange c.args.shape.now c.args.row c.args.first c.args.from.now c.args.bytes.now c.change_row.new.bytes c.changed_roles-changed.result =
+    record { put = c.change_row.ensures.changed; kept = c.change_row.ensures.kept; there = c.changed_roles-changed.ensures.changed; left = c.changed_roles-changed.ensures.left } in
+    row_rebuilt c.args.members.now c.write_row.new.members (lost_of c.write_row.result) given (g.B.Bank.given c.write_row.new.bank) old (g.B.Bank.tape c.write_row.new.bank)
+    c.args.shape.now c.args.row c.change_row.new.bytes c.changed_roles-changed.result list list' did.members did.given c.requires.apart
+    (marks_last {P = IsWriting (reading_of c.args.members.now) c.args.shape.now c.args.row c.change_row.new.bytes c.changed_roles-changed.result (disk given.start old)} did.each_mark told)
+    (did.written told c.requires.tolerated)
+    (new_full c.args.shape.now c.requires.row.valid c.args.row c.args.first c.args.from.now c.args.bytes.now c.change_row.new.bytes c.changed_roles-changed.result change list list' written own)
+    (full_unwritten c.args.shape.now c.requires.row.valid c.args.row c.args.first c.args.from.now c.args.bytes.now c.change_row.new.bytes c.changed_roles-changed.result change list list' written)
 
 pub returns-clause-others : goal.returns-clause-others
 returns-clause-others g c = λ told.

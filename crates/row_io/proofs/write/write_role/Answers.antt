@@ -1,42 +1,38 @@
 use Rattle.std.proofs.Common.{◌≡◌, ℕ, ◌+◌, [], Some, append-nil, ◌==◌, refl, sym, ap, ◌∙◌, arith, lit<}
 use Rattle.md_base.specs.Shapes.{has_slot}
-use Rattle.row_io.specs.Rows.{reading_of, held_slot}
+use Rattle.superblocks.specs.Reading.{role_state, holder}
+use Rattle.row_io.specs.Rows.{reading_of}
 use Rattle.parity.specs.Rows.{sector_of}
 use Rattle.row_io.specs.Writes.{slot_in, place_on}
 use Rattle.row_io.proofs.Lacks.{or_right, equal}
-use Rattle.row_io.proofs.Losses.{holder-of, chosen}
+use Rattle.row_io.proofs.Losses.{chosen}
 use Rattle.row_io.proofs.Turns.{turn_skipped, turn_failed}
 use Rattle.row_io.proofs.write.write_role.Goals as goal
 
-pub held_slot-requires-clause-small : goal.held_slot-requires-clause-small
-held_slot-requires-clause-small g c = λ slot is. (c.requires.row.holders c.args.role slot is).small
-
 pub contains-requires-2 : goal.contains-requires-2
-contains-requires-2 g c =
-    (c.requires.row.holders c.args.role c.in-Some.slot (holder-of (reading_of c.args.members.now) c.args.role c.args.row c.in-Some.slot (sym c.held_slot.ensures ∙ c.in-Some.is))).small
+contains-requires-2 g c = (c.requires.row.holders c.args.role c.in-Some.slot (sym c.holder_of.ensures ∙ c.in-Some.is)).small
 
 pub returns-then-contains-clause-tape : goal.returns-then-contains-clause-tape
 returns-then-contains-clause-tape g c = λ told.
     let r = reading_of c.args.members.now in
-    let due : slot_in r c.args.row c.args.due c.args.role ≡ Some c.in-Some.slot = chosen (has_slot c.args.due c.args.role) (held_slot r c.args.role c.args.row) c.in-Some.slot
-    (sym c.contains.ensures ∙ c.if-not-contains.false) (sym c.held_slot.ensures ∙ c.in-Some.is) in (
+    let due : slot_in r c.args.due c.args.role ≡ Some c.in-Some.slot = chosen (has_slot c.args.due c.args.role) (holder (role_state r c.args.role)) c.in-Some.slot
+    (sym c.contains.ensures ∙ c.if-not-contains.false) (sym c.holder_of.ensures ∙ c.in-Some.is) in (
       [],
       sym (append-nil (g.B.Bank.tape c.args.bank.now)),
-      turn_skipped (slot_in r c.args.row c.args.due c.args.role) (place_on r c.args.row) (sector_of c.args.bytes.now c.args.role) c.args.lost c.in-Some.slot due (sym c.contains-2.ensures ∙ c.if-contains.true),
+      turn_skipped (slot_in r c.args.due c.args.role) (place_on r c.args.row) (sector_of c.args.bytes.now c.args.role) c.args.lost c.in-Some.slot due (sym c.contains-2.ensures ∙ c.if-contains.true),
     )
 
 pub data_offset-requires : goal.data_offset-requires
-data_offset-requires g c =
-    (c.requires.row.holders c.args.role c.in-Some.slot (holder-of (reading_of c.args.members.now) c.args.role c.args.row c.in-Some.slot (sym c.held_slot.ensures ∙ c.in-Some.is))).small
+data_offset-requires g c = (c.requires.row.holders c.args.role c.in-Some.slot (sym c.holder_of.ensures ∙ c.in-Some.is)).small
 
 pub overflow_add-at : goal.overflow_add-at
 overflow_add-at g c =
-    let has = c.requires.row.holders c.args.role c.in-Some.slot (holder-of (reading_of c.args.members.now) c.args.role c.args.row c.in-Some.slot (sym c.held_slot.ensures ∙ c.in-Some.is)) in
+    let has = c.requires.row.holders c.args.role c.in-Some.slot (sym c.holder_of.ensures ∙ c.in-Some.is) in
     omega (arith, has.short, has.within, c.data_offset.ensures, c.requires.row.below)
 
 pub write_sector-requires-clause-place : goal.write_sector-requires-clause-place
 write_sector-requires-clause-place g c =
-    let has = c.requires.row.holders c.args.role c.in-Some.slot (holder-of (reading_of c.args.members.now) c.args.role c.args.row c.in-Some.slot (sym c.held_slot.ensures ∙ c.in-Some.is)) in
+    let has = c.requires.row.holders c.args.role c.in-Some.slot (sym c.holder_of.ensures ∙ c.in-Some.is) in
     record {
       known = has.known;
       some = lit< tt;
@@ -45,16 +41,15 @@ write_sector-requires-clause-place g c =
     }
 
 pub with-requires : goal.with-requires
-with-requires g c =
-    (c.requires.row.holders c.args.role c.in-Some.slot (holder-of (reading_of c.args.members.now) c.args.role c.args.row c.in-Some.slot (sym c.held_slot.ensures ∙ c.in-Some.is))).small
+with-requires g c = (c.requires.row.holders c.args.role c.in-Some.slot (sym c.holder_of.ensures ∙ c.in-Some.is)).small
 
 pub returns-in-Err-clause-tape : goal.returns-in-Err-clause-tape
 returns-in-Err-clause-tape g c = λ told.
     let r = reading_of c.args.members.now in
     let slot = c.in-Some.slot in
-    let due : slot_in r c.args.row c.args.due c.args.role ≡ Some slot = chosen (has_slot c.args.due c.args.role) (held_slot r c.args.role c.args.row) slot
-    (sym c.contains.ensures ∙ c.if-not-contains.false) (sym c.held_slot.ensures ∙ c.in-Some.is) in
+    let due : slot_in r c.args.due c.args.role ≡ Some slot = chosen (has_slot c.args.due c.args.role) (holder (role_state r c.args.role)) slot
+    (sym c.contains.ensures ∙ c.if-not-contains.false) (sym c.holder_of.ensures ∙ c.in-Some.is) in
     let did = c.write_sector.ensures.did.some told in
-    turn_failed (slot_in r c.args.row c.args.due c.args.role) (place_on r c.args.row) (sector_of c.args.bytes.now c.args.role) c.args.lost c.with.result slot (c.data_offset.result + c.args.row) did.0
+    turn_failed (slot_in r c.args.due c.args.role) (place_on r c.args.row) (sector_of c.args.bytes.now c.args.role) c.args.lost c.with.result slot (c.data_offset.result + c.args.row) did.0
     (g.B.Bank.tape c.args.bank.now) (g.B.Bank.tape c.write_sector.new.bank) due (ap (λ (x : ℕ). x + c.args.row) c.data_offset.ensures) (sym c.contains-2.ensures ∙ c.if-contains.false)
     (c.with.ensures slot ∙ or_right (has_slot c.args.lost slot) (slot == slot) (equal slot slot refl)) did.1
