@@ -8,7 +8,7 @@ use Rattle.std.specs.List.{list_any, All}
 use Rattle.md_base.specs.declared.answers.Who.{Who}
 use Rattle.flat_history.specs.declared.events.Entry.{Entry}
 use Rattle.flat_history.specs.declared.events.Event.{Event}
-use Rattle.flat_history.specs.declared.events.Event.TheVariants.{Lost, SpareLost, Step, Refused}
+use Rattle.flat_history.specs.declared.events.Event.TheVariants.{Lost, SpareLost, Rebuilt, Step, Refused}
 use Rattle.flat_history.specs.declared.events.LostCause.TheVariants.{Fault}
 use Rattle.flat_history.specs.Flat.{is_same_call, rest_of_call, last_of, next_number}
 use Rattle.flat_history.specs.Legal.{GoesOn, IsNumbered, IsInnerOrLast, call_before, told_left, known_left, disturbs}
@@ -113,6 +113,7 @@ event-longer : (opening : ShapeOpening) (before : List Entry) (e : Entry) (xs ad
 event-longer opening before e xs added (Step kind left) goes is = (is.0, known-longer before e xs added (λ n. left + 1 ≡ n) is.1)
 event-longer opening before e xs added (Lost role Fault) goes is = tt
 event-longer opening before e xs added (SpareLost slot) goes is = tt
+event-longer opening before e xs added (Rebuilt role) goes is = tt
 event-longer opening before e xs added (Refused refusal) goes is = is
 event-longer opening before e xs added event goes is = absurd goes
 
@@ -121,6 +122,7 @@ inner-longer event [] goes = tt
 inner-longer (Step kind left) (x ∷ rest) goes = tt
 inner-longer (Lost role Fault) (x ∷ rest) goes = tt
 inner-longer (SpareLost slot) (x ∷ rest) goes = tt
+inner-longer (Rebuilt role) (x ∷ rest) goes = tt
 inner-longer (Refused refusal) (x ∷ rest) goes = tt
 inner-longer event (x ∷ rest) goes = absurd goes
 

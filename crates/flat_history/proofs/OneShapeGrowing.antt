@@ -4,7 +4,7 @@ use Rattle.std.proofs.lemmas.Bool.Decides.{nat_tests}
 use Rattle.std.proofs.lemmas.Bool.{cases_lt}
 use Rattle.std.proofs.lemmas.List.{length-append, reverse-append}
 use Rattle.std.proofs.lemmas.List.Folds.{list_any-append, list_all-append}
-use Rattle.std.specs.Prelude.{fold, map, reverse, IsTrue, IsFalse, ⊤}
+use Rattle.std.specs.Prelude.{fold, map, reverse, not, IsTrue, IsFalse, ⊤}
 use Rattle.std.specs.Option.{option_map_or}
 use Rattle.std.specs.List.{list_any, list_all}
 use Rattle.md_base.specs.Search.{count_below}
@@ -20,10 +20,10 @@ use Rattle.flat_history.specs.Flat.{is_same_call, rest_of_call, last_of, next_nu
 use Rattle.flat_history.specs.Transfers.{last_end_from}
 use Rattle.flat_history.specs.Legal.{IsNumbered, GoesOn, MayBeInner, IsInnerOrLast, IsOfOpening, is_lost_by_command, IsFailed, IsFailedByCall, call_before}
 use Rattle.flat_history.specs.Growing.{grown, EndBy, BeginAnother}
-use Rattle.flat_history.specs.Plain.{lost_count, entries_of}
-use Rattle.flat_history.specs.OneShape.{ShapeOpening, opening_in, is_lost, AreTooManyLost, IsOneShapeEvent, IsOneShapeEntry, AreOneShape, IsOneShapeLegal, OneShapeHistoriesGrow}
+use Rattle.flat_history.specs.Plain.{entries_of}
+use Rattle.flat_history.specs.OneShape.{ShapeOpening, opening_in, gives_role, is_gone_now, AreTooManyLost, IsOneShapeEvent, IsOneShapeEntry, AreOneShape, IsOneShapeLegal, OneShapeHistoriesGrow}
 use Rattle.flat_history.proofs.LegalLaws.{rest-apart, another-behind}
-use Rattle.flat_history.proofs.OneShapeGone.{is_lost-both}
+use Rattle.flat_history.proofs.OneShapeGone.{is_gone-both}
 use Rattle.flat_history.proofs.OneShapeLegal.{last-snoc, opening-grown}
 
 -- ---- more operations, and another call
@@ -304,14 +304,20 @@ module _ (opening : ShapeOpening) (who : Who) (end : ℕ) (caller : who.caller �
   found-legal ops found rises within missing =
       call-one_shape opening ops [] who end (loss_events found) (found_enter found missing) (λ event. inr number) rises within (found_call [] found missing refl)
 
--- ---- what is told lost
+-- ---- what is gone
 
-pub lost-more : (role : ℕ) (entries added : List Entry) → IsTrue (is_lost entries role) → IsTrue (is_lost (entries ++ added) role)
-lost-more role entries added lost = is_lost-both entries added role ∙ ap (λ (b : Bool). b || is_lost added role) lost
+-- what is gone is gone still, where no entry gives it back
+pub gone-more : (role : ℕ) (entries added : List Entry) → IsFalse (list_any (λ e. gives_role role e.event) added) → IsTrue (is_gone_now entries role)
+    → IsTrue (is_gone_now (entries ++ added) role)
+gone-more role entries added none gone = is_gone-both entries added role ∙ ap₂ (λ a b. a && not b || is_gone_now added role) gone none
 
-pub lost-behind : (role : ℕ) (entries added : List Entry) → IsTrue (is_lost added role) → IsTrue (is_lost (entries ++ added) role)
-lost-behind role entries added lost = is_lost-both entries added role ∙ ap (λ (b : Bool). is_lost entries role || b) lost ∙ last (is_lost entries role)
+pub gone-behind : (role : ℕ) (entries added : List Entry) → IsTrue (is_gone_now added role) → IsTrue (is_gone_now (entries ++ added) role)
+gone-behind role entries added gone =
+    is_gone-both entries added role ∙ ap (λ b. still || b) gone ∙ last still
   where
+    still : Bool
+    still = is_gone_now entries role && not (list_any (λ e. gives_role role e.event) added)
+
     last : (b : Bool) → (b || true) ≡ true
     last true = refl
     last false = refl
@@ -335,15 +341,15 @@ count-longer n (suc m) g le = elim (cases_lt m n) [
   | inr below ↦ let rest : count_below n g ≤ count_below m g = count-longer n m g below in omega (arith, rest)
 ]
 
--- where each missing role is told, no more are missing than are lost
-pub few_missing : (entries : List Entry) (disks : ℕ) (missing : ℕ → Bool) → disks ≤ 32
-    → ((role : ℕ) → role < disks → missing role ≡ true → IsTrue (is_lost entries role)) → count_below disks missing ≤ lost_count entries
-few_missing entries disks missing few told =
-    let one : count_below disks missing ≤ count_below disks (is_lost entries) = count-implied disks missing (is_lost entries) told in
-    let two : count_below disks (is_lost entries) ≤ count_below 32 (is_lost entries) = count-longer disks 32 (is_lost entries) few in
+-- where each missing role is gone, no more are missing than are gone
+pub few_missing : (gone : ℕ → Bool) (disks : ℕ) (missing : ℕ → Bool) → disks ≤ 32
+    → ((role : ℕ) → role < disks → missing role ≡ true → IsTrue (gone role)) → count_below disks missing ≤ count_below 32 gone
+few_missing gone disks missing few told =
+    let one : count_below disks missing ≤ count_below disks gone = count-implied disks missing gone told in
+    let two : count_below disks gone ≤ count_below 32 gone = count-longer disks 32 gone few in
     omega (arith, one, two)
 
 pub too_many_missing : (opening : ShapeOpening) (entries : List Entry) (disks : ℕ) (missing : ℕ → Bool) → disks ≤ 32
-    → ((role : ℕ) → role < disks → missing role ≡ true → IsTrue (is_lost entries role)) → opening.tolerance < count_below disks missing
+    → ((role : ℕ) → role < disks → missing role ≡ true → IsTrue (is_gone_now entries role)) → opening.tolerance < count_below disks missing
     → AreTooManyLost opening entries (count_below disks missing) opening.tolerance
-too_many_missing opening entries disks missing few told above = record { above = above; lost = few_missing entries disks missing few told; tolerated = refl }
+too_many_missing opening entries disks missing few told above = record { above = above; lost = few_missing (is_gone_now entries) disks missing few told; tolerated = refl }

@@ -16,11 +16,11 @@ use Rattle.bank.specs.declared.bank.Operation.{Operation}
 use Rattle.superblocks.specs.Reading.{Reading, reading, is_clean, is_whole, role_state, role_count}
 use Rattle.flat_history.specs.declared.events.Entry.{Entry}
 use Rattle.flat_history.specs.declared.events.Event.{Event}
-use Rattle.flat_history.specs.declared.events.Event.TheVariants.{Read, Wrote, Torn, Flushed, Lost, SpareLost, Failed, Step, Stepped, Shown, Stopped, Halted, Refused}
+use Rattle.flat_history.specs.declared.events.Event.TheVariants.{Read, Wrote, Torn, Flushed, Lost, SpareLost, Rebuilt, Added, Failed, Step, Stepped, Shown, Stopped, Halted, Refused}
 use Rattle.flat_history.specs.declared.events.LostCause.{LostCause}
 use Rattle.flat_history.specs.declared.events.LostCause.TheVariants.{Absent, Recovering, Command, Fault}
 use Rattle.flat_history.specs.declared.events.StepKind.{StepKind}
-use Rattle.flat_history.specs.declared.events.StepKind.TheVariants.{ResyncStripe, ResyncEnded}
+use Rattle.flat_history.specs.declared.events.StepKind.TheVariants.{ResyncStripe, ResyncEnded, RebuildTaken, RebuildStripe, RebuildEnded}
 use Rattle.flat_history.specs.World.{World, until, contents_at, reading_at, opening_list}
 use Rattle.flat_history.specs.Stands.{stands}
 use Rattle.flat_history.specs.Flat.{is_same_call, rest_of_call, last_of, length_after, length_of, limit_after, limit_of, visible_of}
@@ -29,8 +29,8 @@ use Rattle.flat_history.specs.Legal.{call_end, known_left, IsLost, IsStep, IsRef
 use Rattle.flat_history.specs.Losses.{is_resync_end, is_unsynced}
 use Rattle.flat_history.specs.Reshaped.{AreReshaped, is_done, is_planned, behind, comes_with_finish, comes_with_step, plans_after, IsFinishedRight, ArePlansDone, open_plans}
 use Rattle.flat_history.specs.Growing.{grown}
-use Rattle.flat_history.specs.OneShape.{ShapeOpening, IsFoundAs, opening_in, is_resyncing, IsResyncStep, keeps_shape, keeps_losses, KeepLosses, IsOneShapeLost, IsOneShapeRefusal, IsOneShapeEvent, AreOneShape, IsOneShapeLegal, OneShapeHistoriesAreLegal}
-use Rattle.flat_history.proofs.OneShapeGone.{keep-both, after-lost, after-count, same-level}
+use Rattle.flat_history.specs.OneShape.{ShapeOpening, IsFoundAs, opening_in, is_resyncing, IsIdleStep, keeps_shape, keeps_shape_event, KeepShape, IsOneShapeLost, IsOneShapeRefusal, IsOneShapeEvent, AreOneShape, IsOneShapeLegal, OneShapeHistoriesAreLegal}
+use Rattle.flat_history.proofs.OneShapeGone.{keep-both, after-gone, after-count, same-level}
 
 -- ---- where the entries of a call end
 
@@ -134,23 +134,28 @@ found-in world = record {
 
 -- ---- the entries
 
--- the steps of a resync neither begin a reshape nor take a level over
-resync-keeps : (kind : StepKind) → IsResyncStep kind → keeps_shape kind ≡ true
-resync-keeps ResyncStripe is = refl
-resync-keeps ResyncEnded is = refl
-resync-keeps kind is = absurd is
+-- such a step neither begins a reshape nor takes a level over
+idle-keeps : (kind : StepKind) → IsIdleStep kind → keeps_shape kind ≡ true
+idle-keeps ResyncStripe is = refl
+idle-keeps ResyncEnded is = refl
+idle-keeps RebuildTaken is = refl
+idle-keeps RebuildStripe is = refl
+idle-keeps RebuildEnded is = refl
+idle-keeps kind is = absurd is
 
--- no event of such a history gives a role back
+-- no event of such a history does
 pub event-keeps : (opening : ShapeOpening) (before : List Entry) (e : Entry) (rest : List Entry) (event : Event)
-    → IsOneShapeEvent opening before e rest event → keeps_losses event ≡ true
+    → IsOneShapeEvent opening before e rest event → keeps_shape_event event ≡ true
 event-keeps opening before e rest (Read at body) is = refl
 event-keeps opening before e rest (Wrote at body) is = refl
 event-keeps opening before e rest (Torn at body) is = refl
 event-keeps opening before e rest Flushed is = refl
 event-keeps opening before e rest (Lost role cause) is = refl
 event-keeps opening before e rest (SpareLost slot) is = refl
+event-keeps opening before e rest (Rebuilt role) is = refl
+event-keeps opening before e rest (Added slot) is = refl
 event-keeps opening before e rest (Failed role) is = refl
-event-keeps opening before e rest (Step kind left) is = resync-keeps kind is.0
+event-keeps opening before e rest (Step kind left) is = idle-keeps kind is.0
 event-keeps opening before e rest (Stepped done left ended) is = refl
 event-keeps opening before e rest (Shown status) is = refl
 event-keeps opening before e rest Stopped is = refl
@@ -158,24 +163,27 @@ event-keeps opening before e rest Halted is = refl
 event-keeps opening before e rest (Refused refusal) is = refl
 event-keeps opening before e rest event is = absurd is
 
-pub entries-keep : (opening : ShapeOpening) (ops : ℕ) (before xs : List Entry) → AreOneShape opening ops before xs → KeepLosses xs
+pub entries-keep : (opening : ShapeOpening) (ops : ℕ) (before xs : List Entry) → AreOneShape opening ops before xs → KeepShape xs
 entries-keep opening ops before [] are = refl
 entries-keep opening ops before (x ∷ xs) are =
-    ap (λ b. b && list_all (λ e. keeps_losses e.event) xs) (event-keeps opening before x (rest_of_call x xs) x.event are.0.event)
+    ap (λ b. b && list_all (λ e. keeps_shape_event e.event) xs) (event-keeps opening before x (rest_of_call x xs) x.event are.0.event)
     ∙ entries-keep opening ops (before ++ x ∷ []) xs are.1
 
 -- the opening says what is unsynced
 pub unsynced-resyncing : (world : World) (opening : ShapeOpening) (before : List Entry) → IsFoundAs world opening → is_unsynced world before ≡ is_resyncing opening before
 unsynced-resyncing world opening before found = ap (λ b. b && not (list_any (λ e. is_resync_end e.event) before)) (sym found.dirty)
 
--- a step of a resync is no free one
+-- none of these steps is a free one
 legal_step : (world : World) (before : List Entry) (e : Entry) (rest : List Entry) (kind : StepKind) (left : ℕ)
-    → IsResyncStep kind → IfSome (known_left before e rest) (λ n. left + 1 ≡ n) → IsStep world before e rest kind left
+    → IsIdleStep kind → IfSome (known_left before e rest) (λ n. left + 1 ≡ n) → IsStep world before e rest kind left
 legal_step world before e rest ResyncStripe left is lowers = lowers
 legal_step world before e rest ResyncEnded left is lowers = lowers
+legal_step world before e rest RebuildTaken left is lowers = lowers
+legal_step world before e rest RebuildStripe left is lowers = lowers
+legal_step world before e rest RebuildEnded left is lowers = lowers
 legal_step world before e rest kind left is lowers = absurd is
 
-module _ (world : World) (opening : ShapeOpening) (found : IsFoundAs world opening) (before : List Entry) (keep : KeepLosses before) where
+module _ (world : World) (opening : ShapeOpening) (found : IsFoundAs world opening) (before : List Entry) (keep : KeepShape before) where
   legal_loss : (e : Entry) (rest : List Entry) (role : ℕ) (cause : LostCause) → IsOneShapeLost opening before e rest role cause → IsLost world before e rest role cause
   legal_loss e rest role Absent is = record { opening = is.caller; number = is.number; first = is.stands_first; missing = found.missing role is.was_missing }
   legal_loss e rest role Recovering is = record { opening = is.caller; number = is.number; first = is.stands_first; missing = found.missing role is.was_missing }
@@ -189,7 +197,7 @@ module _ (world : World) (opening : ShapeOpening) (found : IsFoundAs world openi
     gone = let same = after-count world before keep in omega (arith, same, is.lost);
     tolerated = is.tolerated ∙ found.tolerance ∙ ap tolerance_of (sym (same-level world before keep));
   }
-  legal_refusal (NotResynced role) is = (after-lost world role before keep ∙ is.0, unsynced-resyncing world opening before found ∙ is.1)
+  legal_refusal (NotResynced role) is = (after-gone world role before keep ∙ is.0, unsynced-resyncing world opening before found ∙ is.1)
   legal_refusal refusal is = tt
 
   legal_end : (ended : Option Refusal) → IfSome ended (IsOneShapeRefusal opening before) → IfSome ended (IsRefusedRight world before)
@@ -203,6 +211,8 @@ module _ (world : World) (opening : ShapeOpening) (found : IsFoundAs world openi
   legal_event e rest Flushed is = tt
   legal_event e rest (Lost role cause) is = legal_loss e rest role cause is
   legal_event e rest (SpareLost slot) is = tt
+  legal_event e rest (Rebuilt role) is = tt
+  legal_event e rest (Added slot) is = tt
   legal_event e rest (Failed role) is = is
   legal_event e rest (Step kind left) is = legal_step world before e rest kind left is.0 is.1
   legal_event e rest (Stepped done left ended) is = (is.0, legal_end ended is.1)
@@ -213,7 +223,7 @@ module _ (world : World) (opening : ShapeOpening) (found : IsFoundAs world openi
   legal_event e rest event is = absurd is
 
 legal_entries : (world : World) (opening : ShapeOpening) (before xs : List Entry) → IsFoundAs world opening
-    → world.first ≤ last_end_from opening.first before → KeepLosses before → AreOneShape opening (length world.tape) before xs → AreLegal world before xs
+    → world.first ≤ last_end_from opening.first before → KeepShape before → AreOneShape opening (length world.tape) before xs → AreLegal world before xs
 legal_entries world opening before [] found low keep are = tt
 legal_entries world opening before (e ∷ xs) found low keep are =
     let bounds : (e.end ≤ call_end e (rest_of_call e xs)) × (call_end e (rest_of_call e xs) ≤ length world.tape) =
@@ -221,7 +231,7 @@ legal_entries world opening before (e ∷ xs) found low keep are =
     let rises : last_end_from opening.first before ≤ e.end = are.0.timed.rises in
     let late : world.first ≤ call_end e (rest_of_call e xs) = omega (arith, low, rises, bounds.0) in
     let long : length (take (call_end e (rest_of_call e xs)) world.tape) ≡ call_end e (rest_of_call e xs) = length-take-le (call_end e (rest_of_call e xs)) world.tape bounds.1 in
-    let keeps : keeps_losses e.event ≡ true = event-keeps opening before e (rest_of_call e xs) e.event are.0.event in (
+    let keeps : keeps_shape_event e.event ≡ true = event-keeps opening before e (rest_of_call e xs) e.event are.0.event in (
       record {
         numbered = are.0.numbered;
         timed = record { rises = subst (λ n. last_end_from n before ≤ e.end) found.first rises; within = rw long bounds.0 };
@@ -244,6 +254,8 @@ length-stays opening before e rest n (Torn at body) is = refl
 length-stays opening before e rest n Flushed is = refl
 length-stays opening before e rest n (Lost role cause) is = refl
 length-stays opening before e rest n (SpareLost slot) is = refl
+length-stays opening before e rest n (Rebuilt role) is = refl
+length-stays opening before e rest n (Added slot) is = refl
 length-stays opening before e rest n (Failed role) is = refl
 length-stays opening before e rest n (Step kind left) is = refl
 length-stays opening before e rest n (Stepped done left ended) is = refl
@@ -261,6 +273,8 @@ limit-stays opening before e rest limit (Torn at body) is = refl
 limit-stays opening before e rest limit Flushed is = refl
 limit-stays opening before e rest limit (Lost role cause) is = refl
 limit-stays opening before e rest limit (SpareLost slot) is = refl
+limit-stays opening before e rest limit (Rebuilt role) is = refl
+limit-stays opening before e rest limit (Added slot) is = refl
 limit-stays opening before e rest limit (Failed role) is = refl
 limit-stays opening before e rest limit (Step kind left) is = refl
 limit-stays opening before e rest limit (Stepped done left ended) is = refl
@@ -289,11 +303,14 @@ visible-all opening ops n xs are =
 
 -- ---- no reshape
 
--- a step of a resync is no finish
+-- none of these steps is a finish
 step-finishes : (world : World) (before : List Entry) (e : Entry) (behind : List Entry) (kind : StepKind) (left : ℕ)
-    → IsResyncStep kind → IsFinishedRight world before e behind (Step kind left)
+    → IsIdleStep kind → IsFinishedRight world before e behind (Step kind left)
 step-finishes world before e behind ResyncStripe left is = tt
 step-finishes world before e behind ResyncEnded left is = tt
+step-finishes world before e behind RebuildTaken left is = tt
+step-finishes world before e behind RebuildStripe left is = tt
+step-finishes world before e behind RebuildEnded left is = tt
 step-finishes world before e behind kind left is = absurd is
 
 not_finished : (world : World) (opening : ShapeOpening) (before : List Entry) (e : Entry) (rest behind : List Entry) (event : Event)
@@ -304,6 +321,8 @@ not_finished world opening before e rest behind (Torn at body) is = (tt, refl)
 not_finished world opening before e rest behind Flushed is = (tt, refl)
 not_finished world opening before e rest behind (Lost role cause) is = (tt, refl)
 not_finished world opening before e rest behind (SpareLost slot) is = (tt, refl)
+not_finished world opening before e rest behind (Rebuilt role) is = (tt, refl)
+not_finished world opening before e rest behind (Added slot) is = (tt, refl)
 not_finished world opening before e rest behind (Failed role) is = (tt, refl)
 not_finished world opening before e rest behind (Step kind left) is = (step-finishes world before e behind kind left is.0, refl)
 not_finished world opening before e rest behind (Stepped done left ended) is = (tt, refl)

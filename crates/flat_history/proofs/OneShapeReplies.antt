@@ -1,6 +1,7 @@
 -- Replies of an array that keeps its shape fit their requests.
-use Rattle.std.proofs.Common.{◌≡◌, ℕ, ◌+◌, inl, inr, arith, Bool, true, false, nat_lt, List, [], ◌∷◌, ◌++◌, length, refl, sym, ap, ◌∙◌, subst, MatchBool, Option, Some, None, nat_le}
-use Rattle.std.specs.Prelude.{fold, IfSome, IsFalse, ⊤}
+use Rattle.std.proofs.Common.{◌≡◌, ℕ, ◌+◌, inl, inr, arith, Bool, true, false, nat_lt, List, [], ◌∷◌, ◌++◌, length, refl, sym, ap, ◌∙◌, subst, subst₂, MatchBool, Option, Some, None, nat_le}
+use Rattle.std.specs.Prelude.{◌||◌, fold, IfSome, IsFalse, ⊤}
+use Rattle.std.specs.List.{list_any}
 use Rattle.md_base.specs.declared.places.Shape.{Shape}
 use Rattle.md_base.specs.Shapes.{tolerance}
 use Rattle.md_base.specs.Search.{count_below}
@@ -8,21 +9,21 @@ use Rattle.md_base.proofs.Counted.{count_below-same}
 use Rattle.superblocks.specs.Reading.{Reading, is_reshaping}
 use Rattle.flat_history.specs.Losses.{is_gone_after, is_unsynced}
 use Rattle.md_base.specs.declared.answers.Refusal.{Refusal}
-use Rattle.md_base.specs.declared.answers.Refusal.TheVariants.{TooManyMissing, NotResynced, BackupFault, NoSuchRole, Nothing}
+use Rattle.md_base.specs.declared.answers.Refusal.TheVariants.{TooManyMissing, NotResynced, BackupFault, NoSuchRole, NoSuchSlot, SlotTaken, SlotTooSmall, SlotFault, Nothing}
 use Rattle.flat_history.specs.declared.events.Entry.{Entry}
 use Rattle.flat_history.specs.declared.events.Event.{Event}
-use Rattle.flat_history.specs.declared.events.Event.TheVariants.{Read, Wrote, Torn, Flushed, Lost, SpareLost, Failed, Step, Stepped, Shown, Stopped, Halted, Refused}
-use Rattle.flat_history.specs.declared.events.StepKind.TheVariants.{ResyncStripe, ResyncEnded}
+use Rattle.flat_history.specs.declared.events.Event.TheVariants.{Read, Wrote, Torn, Flushed, Lost, SpareLost, Rebuilt, Added, Failed, Step, Stepped, Shown, Stopped, Halted, Refused}
+use Rattle.flat_history.specs.declared.events.StepKind.TheVariants.{ResyncStripe, ResyncEnded, RebuildTaken, RebuildStripe, RebuildEnded}
 use Rattle.md_base.specs.declared.answers.BusyKind.TheVariants.{Reshape, Resync, Rebuild, Plan}
 use Rattle.flat_history.specs.declared.events.Request.{Request}
-use Rattle.flat_history.specs.declared.events.Request.TheVariants.{Read as AsksRead, Write as AsksWrite, Flush as AsksFlush, Fail as AsksFail, Steps as AsksSteps}
+use Rattle.flat_history.specs.declared.events.Request.TheVariants.{Read as AsksRead, Write as AsksWrite, Flush as AsksFlush, Fail as AsksFail, Add as AsksAdd, Steps as AsksSteps}
 use Rattle.flat_history.specs.World.{World, until, reading_at, opening_list}
 use Rattle.flat_history.specs.Flat.{rest_of_call, visible_of}
 use Rattle.flat_history.specs.Transfers.{IsRefusedAt, IsPastEnd}
 use Rattle.flat_history.specs.Legal.{call_before}
-use Rattle.flat_history.specs.Fits.{is_tolerable, is_asked, WhereAsked, phases_after, phases_left, is_rebuildable, IsIdle, IsNoRole, DidSteps, EndsSteps, IsReadRefused, IsWriteRefused, Answers}
-use Rattle.flat_history.specs.OneShape.{ShapeOpening, IsOneShapeEvent, AreOneShape, IsOneShapeLegal, is_lost, KeepLosses, DidOneShapeSteps, EndsResync, OneShapeAnswers, OneShapeRepliesFit}
-use Rattle.flat_history.proofs.OneShapeGone.{after-lost}
+use Rattle.flat_history.specs.Fits.{is_tolerable, is_asked, WhereAsked, phases_after, phases_left, is_rebuildable, IsIdle, IsNoRole, IsAddRefused, is_lost_event, may_cut_short, DidSteps, EndsSteps, IsReadRefused, IsWriteRefused, Answers}
+use Rattle.flat_history.specs.OneShape.{ShapeOpening, IsOneShapeEvent, AreOneShape, IsOneShapeLegal, is_gone_now, KeepShape, DidOneShapeSteps, EndsIdleSteps, OneShapeAnswers, IsAddRight, OneShapeRepliesFit}
+use Rattle.flat_history.proofs.OneShapeGone.{after-gone}
 use Rattle.flat_history.proofs.OneShapeLegal.{list-until}
 
 -- what a read may be refused with, a write may
@@ -43,16 +44,36 @@ module _ (world : World) (size : ℕ) (before : List Entry) (e : Entry) (same : 
       → IsRefusedAt (visible_of (length (opening_list world)) before) to Listed refusal
   over-bank to Listed refusal is = subst (λ n. IsRefusedAt (visible_of n before) to Listed refusal) same is
 
+  loss-cuts : (event : Event) → is_lost_event event ≡ true → may_cut_short world before event ≡ true
+  loss-cuts (Lost role cause) is = refl
+  loss-cuts event is = absurd (cc)
+
+  -- a loss may end a request for steps early
+  cut-short : (call : List Entry) → list_any (λ e. is_lost_event e.event) call ≡ true → list_any (λ e. may_cut_short world before e.event) call ≡ true
+  cut-short [] lost = absurd (cc)
+  cut-short (x ∷ call) lost = by (is_lost_event x.event) (may_cut_short world before x.event) (loss-cuts x.event) (cut-short call) lost
+    where
+      by : (lost cuts : Bool) → (lost ≡ true → cuts ≡ true) → (list_any (λ e. is_lost_event e.event) call ≡ true → list_any (λ e. may_cut_short world before e.event) call ≡ true)
+          → (lost || list_any (λ e. is_lost_event e.event) call) ≡ true → (cuts || list_any (λ e. may_cut_short world before e.event) call) ≡ true
+      by true cuts here later is = ap (λ b. b || list_any (λ e. may_cut_short world before e.event) call) (here refl)
+      by false true here later is = refl
+      by false false here later is = later is
+
   did-steps : (most done left : ℕ) (ended : Option Refusal) → DidOneShapeSteps (call_before before e) most done left ended → DidSteps world before (call_before before e) most done left ended
   did-steps most done left ended did = record {
     at_most = did.at_most;
-    all_done = elim did.all_done [ inl all ↦ inl all | inr (inl none) ↦ inr (inl none) | inr (inr refused) ↦ inr (inr (inl refused)) ];
+    all_done = elim did.all_done [
+      | inl all ↦ inl all
+      | inr (inl none) ↦ inr (inl none)
+      | inr (inr (inl refused)) ↦ inr (inr (inl refused))
+      | inr (inr (inr lost)) ↦ inr (inr (inr (cut-short (call_before before e) lost)))
+    ];
     some_done = did.some_done;
-    counted = omega (arith, did.counted);
-    not_more = omega (arith, did.counted);
+    counted = did.counted;
+    not_more = did.not_more;
   }
 
-  ended-steps : (ended : Option Refusal) → IfSome ended EndsResync → IfSome ended (EndsSteps world before e.end)
+  ended-steps : (ended : Option Refusal) → IfSome ended EndsIdleSteps → IfSome ended (EndsSteps world before e.end)
   ended-steps None is = tt
   ended-steps (Some (TooManyMissing count tolerance)) is = tt
   ended-steps (Some (NotResynced role)) is = tt
@@ -60,22 +81,36 @@ module _ (world : World) (size : ℕ) (before : List Entry) (e : Entry) (same : 
 
   answers-fit : (request : Request) (event : Event) → ((role : ℕ) → event ≡ Refused (NoSuchRole role) → WhereAsked world before e.end (IsNoRole role))
       → (event ≡ Refused Nothing → WhereAsked world before e.end (IsIdle world before))
+      → ((slot : ℕ) (refusal : Refusal) → request ≡ AsksAdd slot → event ≡ Refused refusal → IsAddRefused world before e.end slot refusal)
       → OneShapeAnswers size before (call_before before e) request event → Answers world before e request event
-  answers-fit (AsksRead at count) (Read a body) none idle is = is
-  answers-fit (AsksRead at count) (Refused refusal) none idle is = over-bank (at + count) IsReadRefused refusal is
-  answers-fit (AsksWrite at body) (Wrote a b) none idle is = is
-  answers-fit (AsksWrite at body) (Refused refusal) none idle is = over-bank (at + length body) IsWriteRefused refusal (refused-write (visible_of size before) (at + length body) refusal is)
-  answers-fit AsksFlush Flushed none idle is = tt
-  answers-fit AsksFlush (Refused (TooManyMissing count tolerance)) none idle is = tt
-  answers-fit (AsksFail role) (Failed failed) none idle is = is
-  answers-fit (AsksFail role) (Refused (NoSuchRole asked)) none idle is = (is, subst (λ r. WhereAsked world before e.end (IsNoRole r)) is (none asked refl))
-  answers-fit (AsksSteps most) (Stepped done left ended) none idle is = (did-steps most done left ended is.0, ended-steps ended is.1)
-  answers-fit (AsksSteps most) (Refused Nothing) none idle is = idle refl
-  answers-fit request event none idle is = absurd is
+  answers-fit (AsksRead at count) (Read a body) none idle add is = is
+  answers-fit (AsksRead at count) (Refused refusal) none idle add is = over-bank (at + count) IsReadRefused refusal is
+  answers-fit (AsksWrite at body) (Wrote a b) none idle add is = is
+  answers-fit (AsksWrite at body) (Refused refusal) none idle add is = over-bank (at + length body) IsWriteRefused refusal (refused-write (visible_of size before) (at + length body) refusal is)
+  answers-fit AsksFlush Flushed none idle add is = tt
+  answers-fit AsksFlush (Refused (TooManyMissing count tolerance)) none idle add is = tt
+  answers-fit (AsksFail role) (Failed failed) none idle add is = is
+  answers-fit (AsksFail role) (Refused (NoSuchRole asked)) none idle add is = (is, subst (λ r. WhereAsked world before e.end (IsNoRole r)) is (none asked refl))
+  answers-fit (AsksAdd slot) (Added added) none idle add is = is
+  answers-fit (AsksAdd slot) (Refused refusal) none idle add is = add slot refusal refl refl
+  answers-fit (AsksSteps most) (Stepped done left ended) none idle add is = (did-steps most done left ended is.0, ended-steps ended is.1)
+  answers-fit (AsksSteps most) (Refused Nothing) none idle add is = idle refl
+  answers-fit request event none idle add is = absurd is
+
+-- what an entry tells of a slot that isn't added
+add-refused : (world : World) (size : ℕ) (before : List Entry) (e : Entry) (slot : ℕ) (refusal : Refusal) → IsAddRight world before e slot → e.event ≡ Refused refusal
+    → OneShapeAnswers size before (call_before before e) (AsksAdd slot) (Refused refusal) → IsAddRefused (until e.end world) before e.end slot refusal
+add-refused world size before e slot (NoSuchSlot asked) right is answers = (answers, right.none (is ∙ ap (λ s. Refused (NoSuchSlot s)) answers))
+add-refused world size before e slot (SlotTaken taken) right is answers = (answers, right.taken (is ∙ ap (λ s. Refused (SlotTaken s)) answers))
+add-refused world size before e slot (SlotTooSmall have want) right is answers = ((right.small have want is).0, answers, (right.small have want is).1)
+add-refused world size before e slot (SlotFault failed) right is answers = answers
+add-refused world size before e slot (TooManyMissing count tolerance) right is answers = tt
+add-refused world size before e slot refusal right is answers = absurd answers
 
 pub one_shape-fit : OneShapeRepliesFit
-one_shape-fit world size before e request same late none idle fits = record {
-  answers = answers-fit (until e.end world) size before e (same ∙ ap length (sym (list-until world e.end late))) request e.event none idle fits.answers;
+one_shape-fit world size before e request same late none idle add fits = record {
+  answers = answers-fit (until e.end world) size before e (same ∙ ap length (sym (list-until world e.end late))) request e.event none idle
+      (λ slot refusal asks is. add-refused world size before e slot refusal (add slot asks) is (subst₂ (OneShapeAnswers size before (call_before before e)) asks is fits.answers)) fits.answers;
   torn = fits.torn;
 }
 
@@ -94,11 +129,11 @@ where-asked world before end Fact each = by (reading_at world end) refl
     by None is = tt
     by (Some r) is = asked r (is_asked world before r) refl (each r is)
 
--- the losses are tolerated by the entries alone
-pub tolerable-lost : (world : World) (before : List Entry) (shape : Shape) → KeepLosses before
-    → is_tolerable world before shape ≡ nat_le (count_below shape.disks (is_lost before)) (tolerance shape)
-tolerable-lost world before shape keep =
-    ap (λ n. nat_le n (tolerance shape)) (count_below-same shape.disks (is_gone_after world before) (is_lost before) (λ role. after-lost world role before keep))
+-- what is gone is tolerated by the entries alone
+pub tolerable-gone : (world : World) (before : List Entry) (shape : Shape) → KeepShape before
+    → is_tolerable world before shape ≡ nat_le (count_below shape.disks (is_gone_now before)) (tolerance shape)
+tolerable-gone world before shape keep =
+    ap (λ n. nat_le n (tolerance shape)) (count_below-same shape.disks (is_gone_after world before) (is_gone_now before) (λ role. after-gone world role before keep))
 
 -- ---- what is pending
 
@@ -111,9 +146,14 @@ phases-stay world opening before e rest n (Torn at body) is = refl
 phases-stay world opening before e rest n Flushed is = refl
 phases-stay world opening before e rest n (Lost role cause) is = refl
 phases-stay world opening before e rest n (SpareLost slot) is = refl
+phases-stay world opening before e rest n (Rebuilt role) is = refl
+phases-stay world opening before e rest n (Added slot) is = refl
 phases-stay world opening before e rest n (Failed role) is = refl
 phases-stay world opening before e rest n (Step ResyncStripe left) is = refl
 phases-stay world opening before e rest n (Step ResyncEnded left) is = refl
+phases-stay world opening before e rest n (Step RebuildTaken left) is = refl
+phases-stay world opening before e rest n (Step RebuildStripe left) is = refl
+phases-stay world opening before e rest n (Step RebuildEnded left) is = refl
 phases-stay world opening before e rest n (Step kind left) is = absurd is.0
 phases-stay world opening before e rest n (Stepped done left ended) is = refl
 phases-stay world opening before e rest n (Shown status) is = refl

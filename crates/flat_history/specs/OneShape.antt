@@ -1,23 +1,24 @@
 -- What a history must be for an array that keeps its shape and may lose members, over what its opening found: no bank occurs
 -- here. In each definition `before` are the entries before the entry, and `rest` are those behind it that are of the same call.
-use Rattle.std.specs.Prelude.{◌≡◌, ◌⊎◌, ℕ, ◌+◌, ◌<◌, ◌≤◌, Bool, true, false, not, ◌&&◌, ◌||◌, ◌==◌, nat_lt, List, [], ◌∷◌, ◌++◌, length, take, slice_range, count_by, Option, MatchOption, MatchBool, IfSome, IsSome, IsTrue, ⊤}
+use Rattle.std.specs.Prelude.{◌≡◌, ◌⊎◌, ℕ, ◌+◌, ◌<◌, ◌≤◌, Bool, true, false, not, ◌&&◌, ◌||◌, ◌==◌, nat_lt, List, [], ◌∷◌, ◌++◌, length, take, slice_range, fold, count_by, Option, MatchOption, MatchBool, IfSome, IsSome, IsTrue, ⊤}
 use Rattle.std.specs.Option.{option_map_or}
 use Rattle.std.specs.List.{list_any, list_all, All}
 use Rattle.md_base.specs.Sectors.{Sector}
+use Rattle.md_base.specs.Search.{count_below}
 use Rattle.md_base.specs.Shapes.{tolerance_of}
 use Rattle.md_base.specs.declared.answers.Refusal.{Refusal}
-use Rattle.md_base.specs.declared.answers.Refusal.TheVariants.{PastEnd, TooManyMissing, NotResynced, NoSuchRole, Nothing}
+use Rattle.md_base.specs.declared.answers.Refusal.TheVariants.{PastEnd, TooManyMissing, NotResynced, NoSuchRole, NoSuchSlot, SlotTaken, SlotTooSmall, SlotFault, Nothing}
 use Rattle.md_base.specs.declared.answers.Who.{Who}
 use Rattle.superblocks.specs.Reading.{is_whole, role_state, role_count}
 use Rattle.flat_history.specs.declared.events.Event.{Event}
-use Rattle.flat_history.specs.declared.events.Event.TheVariants.{Read, Wrote, Torn, Flushed, Lost, SpareLost, Rebuilt, Failed, Step, Stepped, Shown, Stopped, Halted, Refused}
+use Rattle.flat_history.specs.declared.events.Event.TheVariants.{Read, Wrote, Torn, Flushed, Lost, SpareLost, Rebuilt, Added, Failed, Step, Stepped, Shown, Stopped, Halted, Refused}
 use Rattle.flat_history.specs.declared.events.LostCause.{LostCause}
 use Rattle.flat_history.specs.declared.events.LostCause.TheVariants.{Absent, Recovering, Command, Fault}
 use Rattle.flat_history.specs.declared.events.StepKind.{StepKind}
-use Rattle.flat_history.specs.declared.events.StepKind.TheVariants.{ResyncStripe, ResyncEnded, Begun, TakenOver}
+use Rattle.flat_history.specs.declared.events.StepKind.TheVariants.{ResyncStripe, ResyncEnded, RebuildTaken, RebuildStripe, RebuildEnded, Begun, TakenOver}
 use Rattle.flat_history.specs.declared.events.Entry.{Entry}
 use Rattle.flat_history.specs.declared.events.Request.{Request}
-use Rattle.flat_history.specs.declared.events.Request.TheVariants.{Read as AsksRead, Write as AsksWrite, Flush as AsksFlush, Fail as AsksFail, Steps as AsksSteps}
+use Rattle.flat_history.specs.declared.events.Request.TheVariants.{Read as AsksRead, Write as AsksWrite, Flush as AsksFlush, Fail as AsksFail, Add as AsksAdd, Steps as AsksSteps}
 use Rattle.flat_history.specs.Flat.{rest_of_call, last_of, next_number, visible_of}
 use Rattle.flat_history.specs.Transfers.{IsTimedBetween, IsReadOver, EndsWithinOver, IsTornOver, IsRefusedAt}
 use Rattle.flat_history.specs.World.{World, until, reading_at, opening_list}
@@ -25,8 +26,8 @@ use Rattle.flat_history.specs.Losses.{was_dirty, is_gone, gone_count, unsettles,
 use Rattle.flat_history.specs.Legal.{IsNumbered, IsInnerOrLast, IsOfOpening, IsAbsentAtFirst, IsFailed, IsFailedByCall, call_before, known_left, KeepsLeft, level_at, IsLegal}
 use Rattle.flat_history.specs.Reshaped.{IsReshaped}
 use Rattle.flat_history.specs.Growing.{BeginAnother}
-use Rattle.flat_history.specs.Fits.{Fits, WhereAsked, IsIdle, IsNoRole, AreTornOf, IsReadRefused, is_step_event}
-use Rattle.flat_history.specs.Plain.{loses_role, lost_count}
+use Rattle.flat_history.specs.Fits.{Fits, WhereAsked, IsIdle, IsNoRole, IsTaken, IsDataEnd, slot_length, AreTornOf, IsReadRefused, is_lost_event, is_step_event}
+use Rattle.flat_history.specs.Plain.{loses_role}
 
 -- ---- the opening
 
@@ -61,11 +62,34 @@ opening_in world = record {
   missing = is_absent_at_first world;
 }
 
--- ---- losses
+-- ---- losses, and what is gone by the entries alone
 
 -- the role is lost in these entries
 abbrev pub is_lost : List Entry → ℕ → Bool
 is_lost entries role = list_any (λ e. loses_role role e.event) entries
+
+-- the event gives the role a whole holder
+abbrev pub gives_role : ℕ → Event → Bool
+gives_role role (Rebuilt rebuilt) = rebuilt == role
+gives_role role event = false
+
+-- the role is gone after one more entry
+abbrev pub is_gone_with : ℕ → Bool → Entry → Bool
+is_gone_with role gone e = gone && not (gives_role role e.event) || loses_role role e.event
+
+-- the role is gone after all of these entries: it was lost, and not rebuilt since
+abbrev pub is_gone_now : List Entry → ℕ → Bool
+is_gone_now entries role = fold (is_gone_with role) false entries
+
+abbrev pub gone_count_now : List Entry → ℕ
+gone_count_now entries = count_below 32 (is_gone_now entries)
+
+-- gone after the first k entries, or lost by one of those from there up to the first j
+abbrev pub is_gone_by : List Entry → ℕ → ℕ → ℕ → Bool
+is_gone_by entries k j role = is_gone_now (take k entries) role || is_lost (slice_range entries k j) role
+
+abbrev pub gone_count_by : List Entry → ℕ → ℕ → ℕ
+gone_count_by entries k j = count_below 32 (is_gone_by entries k j)
 
 -- a loss that the opening found stands first, under the number of the opening
 pub record IsFoundMissing (opening : ShapeOpening) (before : List Entry) (e : Entry) (role : ℕ) : Type 0 where
@@ -83,10 +107,10 @@ IsOneShapeLost opening before e rest role Fault = ⊤
 
 -- ---- refusals
 
--- more roles are lost than the level can do without
+-- more roles are gone than the level can do without
 pub record AreTooManyLost (opening : ShapeOpening) (before : List Entry) (count tolerance : ℕ) : Type 0 where
   pub above : tolerance < count
-  pub lost : count ≤ lost_count before
+  pub lost : count ≤ gone_count_now before
   pub tolerated : tolerance ≡ opening.tolerance
 
 -- opened dirty, and no resync has ended in these entries
@@ -96,20 +120,23 @@ is_resyncing opening before = opening.dirty && not (list_any (λ e. is_resync_en
 abbrev pub IsOneShapeRefusal : ShapeOpening → List Entry → Refusal → Type 0
 IsOneShapeRefusal opening before (PastEnd visible) = visible ≡ visible_of (length opening.list) before
 IsOneShapeRefusal opening before (TooManyMissing count tolerance) = AreTooManyLost opening before count tolerance
-IsOneShapeRefusal opening before (NotResynced role) = IsTrue (is_lost before role) × IsTrue (is_resyncing opening before)
+IsOneShapeRefusal opening before (NotResynced role) = IsTrue (is_gone_now before role) × IsTrue (is_resyncing opening before)
 IsOneShapeRefusal opening before refusal = ⊤
 
 -- ---- steps
 
--- the steps of a resync
-abbrev pub IsResyncStep : StepKind → Type 0
-IsResyncStep ResyncStripe = ⊤
-IsResyncStep ResyncEnded = ⊤
-IsResyncStep kind = ⊥
+-- the steps without a reshape: those of a resync and of a rebuild
+abbrev pub IsIdleStep : StepKind → Type 0
+IsIdleStep ResyncStripe = ⊤
+IsIdleStep ResyncEnded = ⊤
+IsIdleStep RebuildTaken = ⊤
+IsIdleStep RebuildStripe = ⊤
+IsIdleStep RebuildEnded = ⊤
+IsIdleStep kind = ⊥
 
 -- a step lowers the steps that are left by one
 abbrev pub IsOneShapeStep : List Entry → Entry → List Entry → StepKind → ℕ → Type 0
-IsOneShapeStep before e rest kind left = IsResyncStep kind × IfSome (known_left before e rest) (λ n. left + 1 ≡ n)
+IsOneShapeStep before e rest kind left = IsIdleStep kind × IfSome (known_left before e rest) (λ n. left + 1 ≡ n)
 
 -- a request for steps tells how many are left, and what refused one
 abbrev pub IsOneShapeStepped : ShapeOpening → List Entry → Entry → List Entry → ℕ → Option Refusal → Type 0
@@ -125,6 +152,8 @@ IsOneShapeEvent opening before e rest (Torn at body) = IsTornOver opening.list b
 IsOneShapeEvent opening before e rest Flushed = ⊤
 IsOneShapeEvent opening before e rest (Lost role cause) = IsOneShapeLost opening before e rest role cause
 IsOneShapeEvent opening before e rest (SpareLost slot) = ⊤
+IsOneShapeEvent opening before e rest (Rebuilt role) = ⊤
+IsOneShapeEvent opening before e rest (Added slot) = ⊤
 IsOneShapeEvent opening before e rest (Failed role) = IsFailedByCall before e role
 IsOneShapeEvent opening before e rest (Step kind left) = IsOneShapeStep before e rest kind left
 IsOneShapeEvent opening before e rest (Stepped done left ended) = IsOneShapeStepped opening before e rest left ended
@@ -169,6 +198,7 @@ abbrev pub GoesOnBehind : Event → Type 0
 GoesOnBehind (Step kind left) = ⊤
 GoesOnBehind (Lost role Fault) = ⊤
 GoesOnBehind (SpareLost slot) = ⊤
+GoesOnBehind (Rebuilt role) = ⊤
 GoesOnBehind (Refused refusal) = ⊤
 GoesOnBehind event = ⊥
 
@@ -194,7 +224,7 @@ OneShapeHistoriesGoOn = (opening : ShapeOpening) (ops more : ℕ) (entries added
     → IsCallOpen entries who → All (λ e. IsOfCall who e) added → IsOneShapeLegal opening ops entries → AreOneShape opening more entries added
     → IsOneShapeLegal opening more (entries ++ added)
 
--- ---- what is gone, and what is unclean, by the entries alone
+-- ---- what a bank says is gone or unclean
 
 -- neither a reshape begins nor a level is taken over
 abbrev pub keeps_shape : StepKind → Bool
@@ -202,14 +232,12 @@ keeps_shape Begun = false
 keeps_shape TakenOver = false
 keeps_shape kind = true
 
--- the event gives no role back, and takes none without a loss
-abbrev pub keeps_losses : Event → Bool
-keeps_losses (Step kind left) = keeps_shape kind
-keeps_losses (Rebuilt role) = false
-keeps_losses event = true
+abbrev pub keeps_shape_event : Event → Bool
+keeps_shape_event (Step kind left) = keeps_shape kind
+keeps_shape_event event = true
 
-abbrev pub KeepLosses : List Entry → Type 0
-KeepLosses entries = IsTrue (list_all (λ e. keeps_losses e.event) entries)
+abbrev pub KeepShape : List Entry → Type 0
+KeepShape entries = IsTrue (list_all (λ e. keeps_shape_event e.event) entries)
 
 -- written since the last flush or stop
 abbrev pub is_unsettled : List Entry → Bool
@@ -220,30 +248,32 @@ is_unsettled (e ∷ entries) = unsettles e.event && not (list_any (λ e. settles
 abbrev pub is_written : List Entry → ℕ → ℕ → Bool
 is_written entries k j = is_unsettled (take k entries) || list_any (λ e. unsettles e.event) (slice_range entries k j)
 
--- gone are the roles that the first j entries lose, and unclean is what is not resynced in the first k, or written
+-- a role is gone, and the array unclean, where the entries alone say so
 pub record AreLossesGone (world : World) (entries : List Entry) (k j : ℕ) : Type 0 where
-  pub gone : (role : ℕ) → is_gone world entries k j role ≡ is_lost (take j entries) role
-  pub count : gone_count world entries k j ≡ lost_count (take j entries)
+  pub gone : (role : ℕ) → is_gone world entries k j role ≡ is_gone_by entries k j role
+  pub count : gone_count world entries k j ≡ gone_count_by entries k j
   pub unclean : is_unclean world entries k j ≡ (is_unsynced world (take k entries) || is_written entries k j)
 
--- Where nothing gives a role back, what is lost stays gone.
+-- In an array of one shape what is lost is gone, until it is rebuilt.
 abbrev pub LossesAreGone : Type 0
-LossesAreGone = (world : World) (entries : List Entry) (k j : ℕ) → KeepLosses entries → k ≤ j → AreLossesGone world entries k j
+LossesAreGone = (world : World) (entries : List Entry) (k j : ℕ) → KeepShape entries → AreLossesGone world entries k j
 
 -- ---- replies
 
--- A request for at most so many steps did those that its call enters; it ends where so many are done, none is left, or one is refused.
+-- A request for at most so many steps did those that its call enters, and one for each loss at most that it doesn't enter. It
+-- ends where so many are done, none is left, one is refused, or a role was lost.
 pub record DidOneShapeSteps (call : List Entry) (most done left : ℕ) (ended : Option Refusal) : Type 0 where
   pub at_most : done ≤ most
-  pub all_done : (done ≡ most) ⊎ (left ≡ 0) ⊎ IsSome ended
+  pub all_done : (done ≡ most) ⊎ (left ≡ 0) ⊎ IsSome ended ⊎ IsTrue (list_any (λ e. is_lost_event e.event) call)
   pub some_done : (1 ≤ done) ⊎ IsSome ended
-  pub counted : done ≡ count_by (λ e. is_step_event e.event) call
+  pub counted : count_by (λ e. is_step_event e.event) call ≤ done
+  pub not_more : done ≤ count_by (λ e. is_step_event e.event) call + count_by (λ e. is_lost_event e.event) call
 
--- what refuses a step of a resync
-abbrev pub EndsResync : Refusal → Type 0
-EndsResync (TooManyMissing count tolerance) = ⊤
-EndsResync (NotResynced role) = ⊤
-EndsResync refusal = ⊥
+-- what refuses a step without a reshape
+abbrev pub EndsIdleSteps : Refusal → Type 0
+EndsIdleSteps (TooManyMissing count tolerance) = ⊤
+EndsIdleSteps (NotResynced role) = ⊤
+EndsIdleSteps refusal = ⊥
 
 -- the reply's event answers the request, over a list of so many sectors at the opening, behind these entries of its call
 abbrev pub OneShapeAnswers : ℕ → List Entry → List Entry → Request → Event → Type 0
@@ -255,7 +285,13 @@ OneShapeAnswers size before call AsksFlush Flushed = ⊤
 OneShapeAnswers size before call AsksFlush (Refused (TooManyMissing count tolerance)) = ⊤
 OneShapeAnswers size before call (AsksFail role) (Failed failed) = failed ≡ role
 OneShapeAnswers size before call (AsksFail role) (Refused (NoSuchRole asked)) = asked ≡ role
-OneShapeAnswers size before call (AsksSteps most) (Stepped done left ended) = DidOneShapeSteps call most done left ended × IfSome ended EndsResync
+OneShapeAnswers size before call (AsksAdd slot) (Added added) = added ≡ slot
+OneShapeAnswers size before call (AsksAdd slot) (Refused (NoSuchSlot asked)) = asked ≡ slot
+OneShapeAnswers size before call (AsksAdd slot) (Refused (SlotTaken taken)) = taken ≡ slot
+OneShapeAnswers size before call (AsksAdd slot) (Refused (SlotTooSmall have want)) = have < want
+OneShapeAnswers size before call (AsksAdd slot) (Refused (SlotFault failed)) = failed ≡ slot
+OneShapeAnswers size before call (AsksAdd slot) (Refused (TooManyMissing count tolerance)) = ⊤
+OneShapeAnswers size before call (AsksSteps most) (Stepped done left ended) = DidOneShapeSteps call most done left ended × IfSome ended EndsIdleSteps
 OneShapeAnswers size before call (AsksSteps most) (Refused Nothing) = ⊤
 OneShapeAnswers size before call request event = ⊥
 
@@ -272,7 +308,15 @@ IsNoneRight world before e = (role : ℕ) → e.event ≡ Refused (NoSuchRole ro
 abbrev pub IsIdleRight : World → List Entry → Entry → Type 0
 IsIdleRight world before e = e.event ≡ Refused Nothing → WhereAsked (until e.end world) before e.end (IsIdle (until e.end world) before)
 
+-- where the entry refuses to add this slot, the bank has no such slot, or the superblocks say that it is taken, or too small
+pub record IsAddRight (world : World) (before : List Entry) (e : Entry) (slot : ℕ) : Type 0 where
+  pub none : e.event ≡ Refused (NoSuchSlot slot) → world.scope.sizes.slots ≤ slot
+  pub taken : e.event ≡ Refused (SlotTaken slot) → WhereAsked (until e.end world) before e.end (IsTaken world slot)
+  pub small : (have want : ℕ) → e.event ≡ Refused (SlotTooSmall have want)
+      → (have ≡ slot_length world slot) × WhereAsked (until e.end world) before e.end (IsDataEnd want)
+
 -- Such a reply fits its request over a bank with a list of that size at the opening.
 abbrev pub OneShapeRepliesFit : Type 0
 OneShapeRepliesFit = (world : World) (size : ℕ) (before : List Entry) (e : Entry) (request : Request) → size ≡ length (opening_list world)
-    → world.first ≤ e.end → IsNoneRight world before e → IsIdleRight world before e → OneShapeFits size before e request → Fits world before e request
+    → world.first ≤ e.end → IsNoneRight world before e → IsIdleRight world before e → ((slot : ℕ) → request ≡ AsksAdd slot → IsAddRight world before e slot)
+    → OneShapeFits size before e request → Fits world before e request
