@@ -8,6 +8,7 @@ use Rattle.bank.specs.declared.bank.Operation.{Operation}
 use Rattle.superblocks.specs.declared.members.Members.{Members}
 use Rattle.superblocks.specs.Reading.{Scope, shape_of, is_clean, data_offset_of}
 use Rattle.row_io.specs.Rows.{reading_of, present}
+use Rattle.row_io.proofs.Losses.{holder-of}
 use Rattle.flat_history.specs.declared.events.Entry.{Entry}
 use Rattle.flat_history.specs.CrashSafe.{IsSafeAt}
 use Rattle.flat_history.specs.Sound.{OpensFit, FillsRight}
@@ -31,7 +32,6 @@ use Rattle.array.specs.Adopting.{opener, found_losses, IsAdoptable}
 use Rattle.layout.specs.Layout.{place}
 use Rattle.layout.proofs.Places.{place-role_below, place-row_below}
 use Rattle.list_io.proofs.FullLaws.{data_here, full-data}
-use Rattle.array.proofs.LackingWrites.{held-in}
 use Rattle.array.proofs.LedgerLaws.{newest-allowed}
 use Rattle.array.proofs.NowLaws.{values-more}
 use Rattle.array.proofs.RecordLaws.{ends-at}
@@ -100,13 +100,14 @@ module _ {tells : Type 0} {given : Given} {tape : List Operation} {scope : Scope
       let role = (place shape x).role in
       let row = (place shape x).row in
       let below : row < members.newest.size = place-row_below shape is.placed.valid x members.newest.size is.placed.multiple lt in
-      let behind = is.placed.behind role slot held in
+      let own = holder-of (reading_of members) role row slot held in
+      let behind = is.placed.behind role slot own in
       let k = data_offset_of (reading_of members) slot + row in
       let here : present given tape slot k ≡ now list [] x =
-      is.holds t row below role slot (place-role_below shape is.placed.valid x) (data_here shape role row x is.placed.valid refl) (held-in given members is.placed role row slot held below)
+      is.holds t row below role slot (place-role_below shape is.placed.valid x) (data_here shape role row x is.placed.valid refl) held
       ∙ full-data shape (now list []) role row x is.placed.valid refl in
       let only : v ≡ present given tape slot k =
-      alone v (present given tape slot k) (subst (λ (l : List Sector). IsIn l v) (is.flushed t role slot k held (λ e. absurd (omega (arith, behind, e)))) may) in
+      alone v (present given tape slot k) (subst (λ (l : List Sector). IsIn l v) (is.flushed t role slot k own (λ e. absurd (omega (arith, behind, e)))) may) in
       subst (λ (w : Sector). IsIn (values_of list entries x) w) (sym (only ∙ here)) (found-allowed x lt)
     where
       alone : (v w : Sector) → IsIn (w ∷ []) v → v ≡ w

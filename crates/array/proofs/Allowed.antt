@@ -1,7 +1,6 @@
 -- The sectors of a view that is right, and does without what it misses, have allowed values.
-use Rattle.std.proofs.Common.{◌≡◌, ℕ, ◌+◌, ◌<◌, ◌⊎◌, inl, inr, Bool, true, false, not, ◌&&◌, List, Option, None, unwrap_or, refl, sym, ◌∙◌, ap, subst}
+use Rattle.std.proofs.Common.{◌≡◌, ℕ, ◌+◌, ◌<◌, ◌⊎◌, inl, inr, Bool, true, false, not, ◌&&◌, List, Option, Some, None, unwrap_or, refl, sym, ◌∙◌, ap, subst}
 use Rattle.md_base.specs.declared.places.Shape.{Shape}
-use Rattle.md_base.specs.declared.status.Role.TheVariants.{Whole}
 use Rattle.md_base.specs.Sectors.{Sector}
 use Rattle.bank.specs.Given.{Given}
 use Rattle.bank.specs.Tape.{Contents, IsDrawn, IsIn}
@@ -10,16 +9,18 @@ use Rattle.layout.proofs.OnlyParity.{parity_only-all}
 use Rattle.layout.proofs.Places.{place-role_below, place-row_below}
 use Rattle.parity.specs.Parity.{fill}
 use Rattle.superblocks.specs.declared.members.Members.{Members}
-use Rattle.superblocks.specs.Reading.{is_clean, is_whole, shape_of, role_state, holder, data_offset_of}
+use Rattle.superblocks.specs.Reading.{is_clean, shape_of, data_offset_of}
 use Rattle.superblocks.proofs.ReadAlike.{none_below}
-use Rattle.row_io.specs.Rows.{reading_of, is_missing, held_row}
+use Rattle.row_io.specs.Rows.{reading_of, is_missing, held_slot, held_row}
+use Rattle.row_io.proofs.Lacks.{lacking-missing}
 use Rattle.list_io.proofs.FullLaws.{places-are-full, standing-is-full}
 use Rattle.array.specs.Whole.{list_size}
 use Rattle.array.specs.Placed.{places_of}
 use Rattle.array.specs.Lacking.{DoesWithout}
 use Rattle.array.specs.Refusals.{lowest_missing}
 use Rattle.array.specs.Views.{Ledger, IsSettled, IsViewRight}
-use Rattle.array.proofs.Standing.{standing_at, whole-held}
+use Rattle.array.proofs.HeldRows.{held-or-lacking, sector-held}
+use Rattle.array.proofs.Standing.{standing_at}
 
 module _ (sound : Type 0) (given : Given) (size : ℕ) (told : Ledger) (m : Members) (d : ℕ → ℕ → List Sector) (right : IsViewRight sound given size told m d) (few : DoesWithout m) (c : Contents) (drawn : IsDrawn d c) where
   abbrev shape : Shape
@@ -32,14 +33,14 @@ module _ (sound : Type 0) (given : Given) (size : ℕ) (told : Ledger) (m : Memb
   role_below x = place-role_below shape right.placed.valid x
 
   -- what a slot holds is allowed
-  slot-allowed : (x slot : ℕ) → x < list_size (places_of m) → role_state (reading_of m) (place shape x).role ≡ Whole slot → IsIn (told.values x) (standing_at m c x)
-  slot-allowed x slot below is =
+  slot-allowed : (x slot : ℕ) → x < list_size (places_of m) → held_slot (reading_of m) (place shape x).role (place shape x).row ≡ Some slot → IsIn (told.values x) (standing_at m c x)
+  slot-allowed x slot below holds =
       let row : ℕ = (place shape x).row in
       let role : ℕ = (place shape x).role in
       subst (λ (v : Sector). IsIn (told.values x) v)
       (sym (ap (λ (held : Option Sector). unwrap_or held (fill (row_roles shape row) (held_row c (reading_of m) shape row) role))
-      (whole-held c (reading_of m) role slot row is (row_below x below))))
-      (right.held x slot below (ap holder is) (c slot (data_offset_of (reading_of m) slot + row)) (drawn slot (data_offset_of (reading_of m) slot + row)))
+      (sector-held c (reading_of m) role row slot holds)))
+      (right.held x slot below holds (c slot (data_offset_of (reading_of m) slot + row)) (drawn slot (data_offset_of (reading_of m) slot + row)))
 
   -- what is filled in of settled rows is allowed
   filled-allowed : IsSettled m told.values d → (x : ℕ) → x < list_size (places_of m) → IsIn (told.values x) (standing_at m c x)
@@ -67,9 +68,9 @@ module _ (sound : Type 0) (given : Given) (size : ℕ) (told : Ledger) (m : Memb
   -- so each sector of the list has an allowed value
   pub sector-allowed : ((role : ℕ) → role < shape.disks → is_missing (reading_of m) role ≡ true → sound) → (is_clean m.newest ≡ true) ⊎ (lowest_missing m ≡ None)
       → (x : ℕ) → x < list_size (places_of m) → IsIn (told.values x) (standing_at m c x)
-  sector-allowed fills state x below = elim (right.placed.states (place shape x).role) [
-    | inl missing ↦
-        let gone : is_missing (reading_of m) (place shape x).role ≡ true = ap (λ s. not (is_whole s)) missing in
+  sector-allowed fills state x below = elim (held-or-lacking (reading_of m) (place shape x).role (place shape x).row) [
+    | inl held ↦ slot-allowed x held.0 below held.1
+    | inr lacks ↦
+        let gone : is_missing (reading_of m) (place shape x).role ≡ true = lacking-missing (reading_of m) (place shape x).role (place shape x).row (row_below x below) lacks in
         filled-allowed (right.settled (clean-there state x gone) few (fills (place shape x).role (role_below x) gone)) x below
-    | inr whole ↦ slot-allowed x whole.0 below whole.1
   ]

@@ -33,8 +33,8 @@ module _ {tells : Type 0} {given : Given} {tape : List Operation} {scope : Scope
 
   pub kept-answered : (event : Event) → IsStepsReply resync members entries event → IsKept tells given tape scope first (entries ++ entries_of who end (event ∷ [])) members resync
   kept-answered (Refused Nothing) reply =
-      kept-alone who end was opens caller at_end (Refused Nothing) (record { length = λ n. refl; limit = refl }) (λ left is. is) (λ x values. refl) (λ x values v may. may) refl refl (λ t fills. (tt, tt, tt))
+      kept-alone who end was opens caller at_end (Refused Nothing) (record { length = λ n. refl; limit = refl }) (λ left is. is) (λ x values. refl) (λ x values v may. may) refl refl (λ role. refl) (λ t fills. (tt, tt, tt))
   kept-answered (Stepped done left ended) reply =
-      kept-alone who end was opens caller at_end (Stepped done left ended) (record { length = λ n. refl; limit = refl }) (λ before is. reply.0) (λ x values. refl) (λ x values v may. may) refl refl
+      kept-alone who end was opens caller at_end (Stepped done left ended) (record { length = λ n. refl; limit = refl }) (λ before is. reply.0) (λ x values. refl) (λ x values v may. may) refl refl (λ role. refl)
       (λ t fills. ((keeps-left (left_of resync members) entries (one who end (Stepped done left ended)) [] left was.left reply.0, ended-right ended reply.1 t fills), tt, tt))
   kept-answered event reply = absurd reply

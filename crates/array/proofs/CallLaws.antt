@@ -21,6 +21,7 @@ use Rattle.flat_history.specs.Transfers.{last_end_from}
 use Rattle.flat_history.specs.Losses.{is_resync_end}
 use Rattle.flat_history.specs.Fits.{IsTornOf, AreTornOf}
 use Rattle.flat_history.specs.Plain.{loses_role, entries_of}
+use Rattle.flat_history.specs.OneShape.{gives_role, is_lost}
 use Rattle.array.specs.Losing.{role_loss, role_losses, spare_loss, spare_losses, losses_of}
 use Rattle.array.proofs.PlainLaws.{one, last_end-call}
 use Rattle.array.proofs.LosingLaws.{entries-both}
@@ -89,6 +90,17 @@ ends-losses who end (Lost role Fault ∷ xs) tail are = ends-losses who end xs t
 ends-losses who end (SpareLost slot ∷ xs) tail are = ends-losses who end xs tail are
 ends-losses who end (event ∷ xs) tail are = absurd are
 
+-- none of these entries gives a role back
+abbrev pub GivesNone : List Entry → Type 0
+GivesNone entries = (role : ℕ) → list_any (λ e. gives_role role e.event) entries ≡ false
+
+-- nor do losses
+pub gives-losses : (who : Who) (end : ℕ) (xs tail : List Event) → AreLossEvents xs → GivesNone (entries_of who end tail) → GivesNone (entries_of who end (xs ++ tail))
+gives-losses who end [] tail are none = none
+gives-losses who end (Lost role Fault ∷ xs) tail are none = gives-losses who end xs tail are none
+gives-losses who end (SpareLost slot ∷ xs) tail are none = gives-losses who end xs tail are none
+gives-losses who end (event ∷ xs) tail are none = absurd are
+
 -- ---- where a call ended
 
 pub last_end-behind : (first : ℕ) (entries : List Entry) (who : Who) (end : ℕ) (inner : List Event) (event : Event)
@@ -149,7 +161,7 @@ told-role role roles (suc n) who end lt has =
         ∙ itself role n same
 
 pub told-losses : (role roles spares : ℕ) (who : Who) (end : ℕ) (tail : List Event) → role < 16 → has_slot roles role ≡ true
-    → IsTrue (list_any (λ e. loses_role role e.event) (entries_of who end (losses_of roles spares ++ tail)))
+    → IsTrue (is_lost (entries_of who end (losses_of roles spares ++ tail)) role)
 told-losses role roles spares who end tail lt has =
     ap (λ (l : List Entry). list_any (λ e. loses_role role e.event) l) (entries-both who end (losses_of roles spares) tail)
     ∙ list_any-append (λ e. loses_role role e.event) (entries_of who end (losses_of roles spares)) (entries_of who end tail)

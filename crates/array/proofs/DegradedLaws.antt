@@ -1,5 +1,5 @@
 -- What an array keeps that may lack members, after a call.
-use Rattle.std.proofs.Common.{◌≡◌, ◌≢◌, ◌⊎◌, inl, inr, ℕ, ◌+◌, ◌-◌, ◌*◌, ◌/◌, ◌<◌, ◌≤◌, ◌==◌, ◌&&◌, ◌||◌, Bool, true, false, cond, not, Option, Some, None, List, [], ◌∷◌, ◌++◌, length, refl, sym, ◌∙◌, ap, subst, arith, length-append, append-nil, append_assoc}
+use Rattle.std.proofs.Common.{IsTrue, ◌≡◌, ◌≢◌, ◌⊎◌, inl, inr, ℕ, ◌+◌, ◌-◌, ◌*◌, ◌/◌, ◌<◌, ◌≤◌, ◌==◌, ◌&&◌, ◌||◌, Bool, true, false, cond, not, Option, Some, None, List, [], ◌∷◌, ◌++◌, length, refl, sym, ◌∙◌, ap, subst, arith, length-append, append-nil, append_assoc}
 use Rattle.std.proofs.lemmas.Bool.{cases_lt}
 use Rattle.std.proofs.lemmas.Bool.Decides.{nat_tests}
 use Rattle.std.specs.Prelude.{IsFalse, IfSome, IsSome, is_some, nat_le, slice_index_or, fold, ⊤}
@@ -7,7 +7,7 @@ use Rattle.std.specs.List.{list_any}
 use Rattle.md_base.specs.Sectors.{Sector, sectors_of}
 use Rattle.md_base.proofs.SectorLaws.{length-sectors_of}
 use Rattle.list_io.specs.Writing.{IsWritten}
-use Rattle.md_base.specs.Shapes.{tolerance}
+use Rattle.md_base.specs.Shapes.{has_slot, tolerance}
 use Rattle.md_base.specs.declared.places.Shape.{Shape}
 use Rattle.md_base.specs.declared.answers.Who.{Who}
 use Rattle.md_base.specs.declared.status.Status.{Status}
@@ -19,9 +19,7 @@ use Rattle.layout.proofs.Limits.{limited}
 use Rattle.layout.proofs.Places.{place-role_below, place-row_below}
 use Rattle.parity.specs.Rows.{IsSector, sector_of}
 use Rattle.superblocks.specs.declared.members.Members.{Members}
-use Rattle.superblocks.specs.Reading.{Scope, shape_of, is_clean, role_state, holder, is_whole}
-use Rattle.md_base.specs.declared.status.Role.{Role}
-use Rattle.md_base.specs.declared.status.Role.TheVariants.{Whole, Missing}
+use Rattle.superblocks.specs.Reading.{Scope, shape_of, is_clean}
 use Rattle.row_io.specs.Rows.{reading_of, present, is_missing, missing_count}
 use Rattle.flat_history.specs.declared.events.Entry.{Entry}
 use Rattle.flat_history.specs.declared.events.Event.{Event}
@@ -31,12 +29,14 @@ use Rattle.flat_history.specs.declared.events.LostCause.TheVariants.{Command}
 use Rattle.flat_history.specs.World.{World, opening_list}
 use Rattle.flat_history.specs.Flat.{covers, sector_at, behind, now, length_of, visible_of, length_after, limit_after, values_after, values_of}
 use Rattle.flat_history.specs.Growing.{grown}
-use Rattle.flat_history.specs.Plain.{entries_of, loses_role, lost_count}
-use Rattle.flat_history.specs.OneShape.{ShapeOpening, opening_in, is_resyncing, is_unsettled, keeps_losses, KeepLosses, IsCallOpen, IsOneShapeRefusal, AreTooManyLost}
+use Rattle.flat_history.specs.Plain.{entries_of, loses_role}
+use Rattle.flat_history.specs.OneShape.{ShapeOpening, opening_in, is_resyncing, is_gone_now, gone_count_now, is_unsettled, keeps_shape_event, KeepShape, IsCallOpen, IsOneShapeRefusal, AreTooManyLost}
 use Rattle.flat_history.proofs.OneShapeLegal.{opening-grown, entries-keep}
 use Rattle.flat_history.proofs.OneShapeGrowing.{one, IsOneShapeCall, call-faults, call-fails, too_many_missing}
 use Rattle.array.specs.Whole.{list_size}
-use Rattle.array.specs.Placed.{places_of, AreWhole, IsPlaced}
+use Rattle.array.specs.Placed.{places_of, is_vacant, AreWhole, IsPlaced}
+use Rattle.array.proofs.HeldRows.{missing-moved, missing-before, vacant-missing}
+use Rattle.array.proofs.LackingLaws.{since-missing}
 use Rattle.array.specs.Losing.{losses_of}
 use Rattle.array.specs.Moving.{Grows, IsMoved}
 use Rattle.array.specs.Marking.{AreOthersPresent}
@@ -65,9 +65,9 @@ use Rattle.array.proofs.LeftLaws.{TellLeft, left-more, left-behind, keeps-left}
 use Rattle.array.proofs.NowLaws.{wrote-is, now-quiet, length-more, limit-more, visible-is}
 use Rattle.array.proofs.LackingLists.{list-moved, among-moved, row-sector}
 use Rattle.array.proofs.MadeLaws.{opening-grown as list-grown}
-use Rattle.array.proofs.CallLaws.{losses-are, told-losses, last_end-behind, length-losses, limit-losses, values-losses, ends-losses}
+use Rattle.array.proofs.CallLaws.{GivesNone, gives-losses, losses-are, told-losses, last_end-behind, length-losses, limit-losses, values-losses, ends-losses}
 use Rattle.array.proofs.StepLaws.{faults-are, record-goes_on}
-use Rattle.array.proofs.RecordLaws.{AreSilent, ends-call, told-more, any-behind, count-implied}
+use Rattle.array.proofs.RecordLaws.{AreSilent, ends-call, told-more, gone-lately, count-implied}
 
 -- What a call leaves: the array is marked by what the history tells, and by whether a resync is pending, and it is safe.
 pub record LeavesSafe (tells : Type 0) (given : Given) (tape : List Operation) (scope : Scope) (first : ℕ) (entries : List Entry) (members : Members) (pending : Bool) : Type 0 where
@@ -126,13 +126,13 @@ recorded-after {resync = resync} {resync' = resync'} {old = old} {new = new} {en
 
 -- ---- what is told
 
--- behind the entries of a call's losses each missing role is told lost
-pub told-since : (old new : Members) (entries : List Entry) (who : Who) (end roles spares : ℕ) (tail : List Event) (before after : ℕ → ℕ) → (shape_of new.newest).disks ≤ 16
-    → shape_of new.newest ≡ shape_of old.newest → AreTold old entries → AreLostSince old new roles spares before after
+-- behind the entries of a call's losses each missing role is told gone, where none is given back
+pub told-since : (given : Given) (old new : Members) (entries : List Entry) (who : Who) (end roles spares : ℕ) (tail : List Event) (before after : ℕ → ℕ) → (shape_of new.newest).disks ≤ 16
+    → IsMoved given old new → AreTold old entries → AreLostSince old new roles spares before after → GivesNone (entries_of who end tail)
     → AreTold new (entries ++ entries_of who end (losses_of roles spares ++ tail))
-told-since old new entries who end roles spares tail before after few shape told since role lt missing = elim (since.missing role lt missing) [
-  | inl was ↦ told-more old entries (entries_of who end (losses_of roles spares ++ tail)) told role (subst (λ (s : Shape). role < s.disks) shape lt) was
-  | inr has ↦ any-behind role entries (entries_of who end (losses_of roles spares ++ tail)) (told-losses role roles spares who end tail (omega (arith, lt, few)) has)
+told-since given old new entries who end roles spares tail before after few moved told since none role lt missing = elim (since-missing moved since role lt missing) [
+  | inl was ↦ told-more old entries (entries_of who end (losses_of roles spares ++ tail)) (gives-losses who end (losses_of roles spares) tail (losses-are roles spares) none) told role (subst (λ (s : Shape). role < s.disks) moved.shape lt) was
+  | inr has ↦ gone-lately role entries (entries_of who end (losses_of roles spares ++ tail)) (gives-losses who end (losses_of roles spares) tail (losses-are roles spares) none) (told-losses role roles spares who end tail (omega (arith, lt, few)) has)
 ]
 
 -- a refusal is right by the entries before it
@@ -142,30 +142,18 @@ pub refusal-right : (world : World) (size visible : ℕ) (resync : Option ℕ) (
 refusal-right world size visible resync m before (PastEnd told) few tolerated dirty seen lost why = why ∙ seen
 refusal-right world size visible resync m before (TooManyMissing count most) few tolerated dirty seen lost why =
     let many = too_many_missing (opening_in world) before (shape_of m.newest).disks (is_missing (reading_of m)) (omega (arith, few)) lost (let above = why.0 in let is = why.1 in let t = why.2 in omega (arith, above, is, t, tolerated)) in
-    record { above = why.0; lost = subst (λ (n : ℕ). n ≤ lost_count before) (sym why.1) many.lost; tolerated = why.2 ∙ sym tolerated }
+    record { above = why.0; lost = subst (λ (n : ℕ). n ≤ gone_count_now before) (sym why.1) many.lost; tolerated = why.2 ∙ sym tolerated }
 refusal-right world size visible resync m before (NotResynced role) few tolerated dirty seen lost why = (lost role why.1 why.2, dirty ∙ why.0)
 refusal-right world size visible resync m before (NoSuchRole role) few tolerated dirty seen lost why = tt
 refusal-right world size visible resync m before refusal few tolerated dirty seen lost why = absurd why
 
 -- ---- members that moved
 
--- a role that was missing still is
-pub missing-still : (given : Given) (old new : Members) → IsPlaced given old → IsMoved given old new → (role : ℕ) → is_missing (reading_of old) role ≡ true → is_missing (reading_of new) role ≡ true
-missing-still given old new was moved role missing = by (moved.placed.states role)
-  where
-    former : (slot : ℕ) → holder (role_state (reading_of old) role) ≡ Some slot → (role_state (reading_of old) role ≡ Missing) ⊎ ((s : ℕ) × (role_state (reading_of old) role ≡ Whole s)) → is_missing (reading_of new) role ≡ true
-    former slot held (inl none) = absurd (let e : ◌≡◌ {A = Option ℕ} None (Some slot) = sym (ap holder none) ∙ held in cc)
-    former slot held (inr found) = absurd (let e = sym (ap (λ (s : Role). not (is_whole s)) found.1) ∙ missing in cc)
-
-    by : (role_state (reading_of new) role ≡ Missing) ⊎ ((s : ℕ) × (role_state (reading_of new) role ≡ Whole s)) → is_missing (reading_of new) role ≡ true
-    by (inl none) = ap (λ (s : Role). not (is_whole s)) none
-    by (inr found) = former found.0 (moved.held role found.0 (ap holder found.1)) (was.states role)
-
 -- an array that does without those that are missing did so before
 pub without-before : (given : Given) (old new : Members) → IsPlaced given old → IsMoved given old new → DoesWithout new → DoesWithout old
 without-before given old new was moved does =
     let more : missing_count (reading_of old) (shape_of old.newest) ≤ missing_count (reading_of new) (shape_of old.newest) =
-    count-implied (shape_of old.newest).disks (is_missing (reading_of old)) (is_missing (reading_of new)) (λ role lt missing. missing-still given old new was moved role missing) in
+    count-implied (shape_of old.newest).disks (is_missing (reading_of old)) (is_missing (reading_of new)) (λ role lt missing. missing-moved moved role missing) in
     let same : missing_count (reading_of new) (shape_of old.newest) ≤ tolerance (shape_of old.newest) = subst (λ (s : Shape). missing_count (reading_of new) s ≤ tolerance s) moved.shape does in
     omega (arith, more, same)
 
@@ -245,7 +233,7 @@ module _ {tells : Type 0} {given : Given} {tape tape' : List Operation} {scope :
       newest-allowed (opening_in (world_in given tape scope first)) (length tape) (opening_list (world_in given tape scope first)) entries (kept-legal was t (fills-before added fills)) x
       (subst (λ (n : ℕ). x < n) (sym (was.recorded t).opened) lt)
 
-  module _ (early late : List Event) (silent-early : AreSilent who end early) (silent : AreSilent who end (early ++ late)) (adds : OnlyAdd (entries_of who end early)) (keep : KeepLosses (entries_of who end (early ++ late)))
+  module _ (early late : List Event) (silent-early : AreSilent who end early) (silent : AreSilent who end (early ++ late)) (adds : OnlyAdd (entries_of who end early)) (keep : KeepShape (entries_of who end (early ++ late)))
       (rise : IsRisen tells members members' tape tape') where
     abbrev pub IsTold : Ledger → Members → List Operation → Type 0
     IsTold told m l = IsSafeOver (world_in given tape scope first) given (list_size (places_of members)) told m l
@@ -272,7 +260,7 @@ module _ {tells : Type 0} {given : Given} {tape tape' : List Operation} {scope :
         subst (λ (n : ℕ). IsSafe (world_in given tape' scope first) given n members' (entries ++ added)) (sym size-is)
         (safe-called given tape scope first size entries members members' who early late g.0 tape' end g.1 (at_end t ∙ ap (λ (l : List Operation). length l) g.1) was.sizes_are (begun-of world (was.recorded t)) old
         (length-more size entries (entries_of who end early) was.sized (silent-early.length size)) (length-more size entries added was.sized (silent.length size))
-        (keep-both entries added (entries-keep (opening_in world) (length tape) [] entries (kept-legal was t (fills-before added here))) keep) fills
+        (keep-both entries added (entries-keep (opening_in world) (length tape) [] entries (kept-legal was t (fills-before added here))) keep) adds.gives fills
         (record { left = rise.left; events = λ u live. rise.events t live }) (stretch t here left began) (last t here left began))
 
   -- a call that settles nothing
@@ -291,7 +279,7 @@ module _ {tells : Type 0} {given : Given} {tape tape' : List Operation} {scope :
         let told = told_by world entries (entries_of who end events) in
         subst (λ (l : List Event). FillsRight (world_in given tape' scope first) (entries ++ entries_of who end l) → HasRoomForEvents (world_in given tape' scope first) → OpensAlike (world_in given tape' scope first)
         → IsSafe (world_in given tape' scope first) given (list_size (places_of members')) members' (entries ++ entries_of who end l)) no_more
-        (safe-by events [] silent (subst (AreSilent who end) (sym no_more) silent) adds (subst (λ (l : List Event). KeepLosses (entries_of who end l)) (sym no_more) adds.keep) rise
+        (safe-by events [] silent (subst (AreSilent who end) (sym no_more) silent) adds (subst (λ (l : List Event). KeepShape (entries_of who end l)) (sym no_more) adds.keep) rise
         (λ t fills. stretch t (subst (λ (l : List Event). FillsRight world (entries ++ entries_of who end l)) no_more fills))
         (λ t fills room began. subst (λ (l : List Event). IsSafeOver world given size (ledger_now world (entries ++ entries_of who end l)) members' tape') (sym no_more)
         (more-safe (OpensFit world) scope given size told (ledger_now world (entries ++ entries_of who end events)) members' (disk given.start tape') (told-now world size entries (entries_of who end events) adds)
@@ -427,11 +415,11 @@ module _ {tells : Type 0} {given : Given} {tape tape' : List Operation} {scope :
       safe
 
   module _ (roles spares : ℕ) (before after : ℕ → ℕ) (since : AreLostSince members members' roles spares before after) where
-    pub told-behind : (tail : List Event) → AreTold members' (entries ++ entries_of who end (losses_of roles spares ++ tail))
-    told-behind tail = told-since members members' entries who end roles spares tail before after few moved.shape was.told since
+    pub told-behind : (tail : List Event) → GivesNone (entries_of who end tail) → AreTold members' (entries ++ entries_of who end (losses_of roles spares ++ tail))
+    told-behind tail none = told-since given members members' entries who end roles spares tail before after few moved was.told since none
 
     pub told-alone : AreTold members' (entries ++ entries_of who end (losses_of roles spares))
-    told-alone = subst (λ (l : List Event). AreTold members' (entries ++ entries_of who end l)) (append-nil (losses_of roles spares)) (told-behind [])
+    told-alone = subst (λ (l : List Event). AreTold members' (entries ++ entries_of who end l)) (append-nil (losses_of roles spares)) (told-behind [] (λ role. refl))
 
     -- the losses leave all of the list visible
     seen-behind : tells → visible_of (length (opening_list (world_in given tape scope first))) (entries ++ entries_of who end (losses_of roles spares)) ≡ list_size (places_of members)
@@ -462,13 +450,13 @@ module _ {tells : Type 0} {given : Given} {tape tape' : List Operation} {scope :
         ∙ (was.recorded t).dirty
 
     -- an event behind the losses of a call that names the missing members, and leaves the mark as it is
-    pub leaves-behind : (event : Event) → AreSilent who end (event ∷ []) → ((x : ℕ) (values : List Sector) (v : Sector) → IsIn values v → IsIn (values_after x values event) v) → settles event ≡ false → keeps_losses event ≡ true
-        → IsRisen tells members members' tape tape' → is_clean members'.newest ≡ is_clean members.newest
+    pub leaves-behind : (event : Event) → AreSilent who end (event ∷ []) → ((x : ℕ) (values : List Sector) (v : Sector) → IsIn values v → IsIn (values_after x values event) v) → settles event ≡ false → keeps_shape_event event ≡ true
+        → GivesNone (entries_of who end (event ∷ [])) → IsRisen tells members members' tape tape' → is_clean members'.newest ≡ is_clean members.newest
         → NamesSafe tells given members members' tape tape'
         → LeavesSafe tells given tape' scope first (entries ++ entries_of who end (losses_of roles spares ++ event ∷ [])) members' (is_some resync)
-    leaves-behind event silent adds settles keeps rise clean named =
+    leaves-behind event silent adds settles keeps none rise clean named =
         leaves-named (losses_of roles spares ++ event ∷ []) (silent-behind who end (losses_of roles spares) event (losses-are roles spares) silent)
-        (add-losses who end (losses_of roles spares) (event ∷ []) (losses-are roles spares) (add-one (one who end event) [] adds settles keeps add-none)) rise (told-behind (event ∷ [])) clean named
+        (add-losses who end (losses_of roles spares) (event ∷ []) (losses-are roles spares) (add-one (one who end event) [] adds settles keeps none add-none)) rise (told-behind (event ∷ []) none) clean named
 
     -- a refusal behind the losses is legal
     pub call-refused : (refusal : Refusal) → IsRefusedHere (list_size (places_of members)) resync members' refusal → tells
@@ -491,7 +479,7 @@ module _ {tells : Type 0} {given : Given} {tape tape' : List Operation} {scope :
         (left-behind (left_of resync members) who end (losses_of roles spares) (Refused refusal ∷ []) (losses-are roles spares) (λ left is. is))
         (none-ended (Refused refusal ∷ []) refl)
         (still-behind who end (losses_of roles spares) (Refused refusal) (losses-are roles spares) (λ x values. refl))
-        (told-behind (Refused refusal ∷ []))
+        (told-behind (Refused refusal ∷ []) (λ role. refl))
         (λ t fills. call-refused refusal why t) others safe
 
     -- after a read behind the losses
@@ -505,7 +493,7 @@ module _ {tells : Type 0} {given : Given} {tape tape' : List Operation} {scope :
         (left-behind (left_of resync members) who end (losses_of roles spares) (Read at body ∷ []) (losses-are roles spares) (λ left is. is))
         (none-ended (Read at body ∷ []) refl)
         (still-behind who end (losses_of roles spares) (Read at body) (losses-are roles spares) (λ x values. refl))
-        (told-behind (Read at body ∷ []))
+        (told-behind (Read at body ∷ []) (λ role. refl))
         (λ t fills.
         let had = read t fills in
         let list = opening_list (world_in given tape scope first) in
@@ -525,7 +513,7 @@ module _ {tells : Type 0} {given : Given} {tape tape' : List Operation} {scope :
         (left-behind (left_of resync members) who end (losses_of roles spares) (event ∷ []) (losses-are roles spares) (settles.left (left_of resync members) who end))
         (none-ended (event ∷ []) (ap (λ (b : Bool). b || false) settles.ends))
         (still-behind who end (losses_of roles spares) event (losses-are roles spares) (settles.still who end))
-        (told-behind (event ∷ []))
+        (told-behind (event ∷ []) (settles.gives who end))
         (λ t fills. call-faults (opening_in (world_in given tape scope first)) entries who end (losses_of roles spares) (event ∷ []) (faults-are (losses_of roles spares) (losses-are roles spares))
         (settles.call (opening_in (world_in given tape scope first)) (entries ++ entries_of who end (losses_of roles spares)) who end))
         others safe
@@ -542,7 +530,7 @@ module _ {tells : Type 0} {given : Given} {tape tape' : List Operation} {scope :
         (silent-behind who end (losses_of roles spares) (Wrote at (sectors_of from)) (losses-are roles spares) (record { length = λ n. refl; limit = refl }))
         (resync-stays (losses_of roles spares ++ Wrote at (sectors_of from) ∷ []) (left-behind (left_of resync members) who end (losses_of roles spares) (Wrote at (sectors_of from) ∷ []) (losses-are roles spares) (λ left is. is))
         (none-ended (Wrote at (sectors_of from) ∷ []) refl))
-        (told-behind (Wrote at (sectors_of from) ∷ []))
+        (told-behind (Wrote at (sectors_of from) ∷ []) (λ role. refl))
         (λ t fills. call-faults (opening_in (world_in given tape scope first)) entries who end (losses_of roles spares) (Wrote at (sectors_of from) ∷ []) (faults-are (losses_of roles spares) (losses-are roles spares))
         (let all = seen-behind t in let n = length-sectors_of from in omega (arith, within, all, n), tt, tt))
         (λ t does. put t list list' written (was.holds t (without-before given members members' was.placed moved does)))
@@ -580,7 +568,7 @@ module _ {tells : Type 0} {given : Given} {tape tape' : List Operation} {scope :
         (left-behind (left_of resync members) who end (losses_of roles spares) (Torn at body ∷ Refused (TooManyMissing count most) ∷ []) (losses-are roles spares) (λ left is. is))
         (none-ended (Torn at body ∷ Refused (TooManyMissing count most) ∷ []) refl)))
         (subst (λ (l : List Event). AreTold members' (entries ++ entries_of who end l)) (assoc (losses_of roles spares) (Torn at body) (Refused (TooManyMissing count most)))
-        (told-behind (Torn at body ∷ Refused (TooManyMissing count most) ∷ [])))
+        (told-behind (Torn at body ∷ Refused (TooManyMissing count most) ∷ []) (λ role. refl)))
         (λ t fills. subst (λ (l : List Event). IsOneShapeCall (opening_in (world_in given tape scope first)) entries who end l) (assoc (losses_of roles spares) (Torn at body) (Refused (TooManyMissing count most)))
         (call-faults (opening_in (world_in given tape scope first)) entries who end (losses_of roles spares) (Torn at body ∷ Refused (TooManyMissing count most) ∷ []) (faults-are (losses_of roles spares) (losses-are roles spares)) (
           record { within = let all = seen-behind t in omega (arith, within, all); refused = tt },
@@ -610,22 +598,19 @@ module _ {tells : Type 0} {given : Given} {tape tape' : List Operation} {scope :
         refused t = refusal-right (world_in given tape scope first) 0 (visible_of (length (opening_list (world_in given tape scope first))) ((entries ++ entries_of who end (losses_of roles spares)) ++ one who end (Torn at body) ∷ [])) resync members'
             ((entries ++ entries_of who end (losses_of roles spares)) ++ one who end (Torn at body) ∷ []) (TooManyMissing count most) few
             ((was.recorded t).tolerated ∙ ap (λ (s : Shape). tolerance s) (sym moved.shape)) (pending-more (was_dirty (world_in given tape scope first)) (entries ++ entries_of who end (losses_of roles spares)) (one who end (Torn at body) ∷ []) refl ∙ unsynced-behind t) refl
-            (told-more members' (entries ++ entries_of who end (losses_of roles spares)) (one who end (Torn at body) ∷ []) told-alone) why
+            (told-more members' (entries ++ entries_of who end (losses_of roles spares)) (one who end (Torn at body) ∷ []) (λ role. refl) told-alone) why
 
   -- after a role was failed by command: its slot is taken out first, and others may be lost in the update that names it
   module _ (role : ℕ) (mid : Members) (roles spares : ℕ) (before after : ℕ → ℕ) (same : shape_of members'.newest ≡ shape_of mid.newest)
-      (out : (other : ℕ) → is_missing (reading_of mid) other ≡ true → (is_missing (reading_of members) other ≡ true) ⊎ (other ≡ role))
+      (out : (other : ℕ) → is_vacant (reading_of mid) other ≡ true → (is_vacant (reading_of members) other ≡ true) ⊎ (other ≡ role))
       (since : AreLostSince mid members' roles spares before after) where
+    gives-failed : GivesNone (entries_of who end (Lost role Command ∷ (losses_of roles spares ++ Failed role ∷ [])))
+    gives-failed = gives-losses who end (losses_of roles spares) (Failed role ∷ []) (losses-are roles spares) (λ other. refl)
+
     told-failed : AreTold members' (entries ++ entries_of who end (Lost role Command ∷ (losses_of roles spares ++ Failed role ∷ [])))
-    told-failed other lt missing = elim (since.missing other lt missing) [
-      | inr has ↦ any-behind other entries (entries_of who end (Lost role Command ∷ (losses_of roles spares ++ Failed role ∷ [])))
-          (behind (loses_role other (Lost role Command)) (list_any (λ e. loses_role other e.event) (entries_of who end (losses_of roles spares ++ Failed role ∷ [])))
-          (told-losses other roles spares who end (Failed role ∷ []) (omega (arith, lt, few)) has))
-      | inl was_missing ↦ elim (out other was_missing) [
-        | inl former ↦ told-more members entries (entries_of who end (Lost role Command ∷ (losses_of roles spares ++ Failed role ∷ []))) was.told other (subst (λ (s : Shape). other < s.disks) moved.shape lt) former
-        | inr own ↦ any-behind other entries (entries_of who end (Lost role Command ∷ (losses_of roles spares ++ Failed role ∷ [])))
-            (itself other (list_any (λ e. loses_role other e.event) (entries_of who end (losses_of roles spares ++ Failed role ∷ []))) own)
-      ]
+    told-failed other lt missing = elim (missing-before moved other missing) [
+      | inl former ↦ told-members other lt former
+      | inr vacant ↦ told-vacant other lt (since.vacant other lt vacant)
     ]
       where
         behind : (a b : Bool) → b ≡ true → (a || b) ≡ true
@@ -635,6 +620,21 @@ module _ {tells : Type 0} {given : Given} {tape tape' : List Operation} {scope :
         itself : (n : ℕ) (b : Bool) → n ≡ role → ((role == n) || b) ≡ true
         itself n b e = grind (arith, nat_tests, e)
 
+        told-members : (other : ℕ) → other < (shape_of members'.newest).disks → is_missing (reading_of members) other ≡ true
+            → IsTrue (is_gone_now (entries ++ entries_of who end (Lost role Command ∷ (losses_of roles spares ++ Failed role ∷ []))) other)
+        told-members other lt former = told-more members entries (entries_of who end (Lost role Command ∷ (losses_of roles spares ++ Failed role ∷ []))) gives-failed was.told other (subst (λ (s : Shape). other < s.disks) moved.shape lt) former
+
+        told-vacant : (other : ℕ) → other < (shape_of members'.newest).disks → (is_vacant (reading_of mid) other ≡ true) ⊎ (has_slot roles other ≡ true)
+            → IsTrue (is_gone_now (entries ++ entries_of who end (Lost role Command ∷ (losses_of roles spares ++ Failed role ∷ []))) other)
+        told-vacant other lt (inr has) = gone-lately other entries (entries_of who end (Lost role Command ∷ (losses_of roles spares ++ Failed role ∷ []))) gives-failed
+            (behind (loses_role other (Lost role Command)) (list_any (λ e. loses_role other e.event) (entries_of who end (losses_of roles spares ++ Failed role ∷ [])))
+            (told-losses other roles spares who end (Failed role ∷ []) (omega (arith, lt, few)) has))
+        told-vacant other lt (inl was_vacant) = elim (out other was_vacant) [
+          | inl former ↦ told-members other lt (vacant-missing (reading_of members) other former)
+          | inr own ↦ gone-lately other entries (entries_of who end (Lost role Command ∷ (losses_of roles spares ++ Failed role ∷ []))) gives-failed
+              (itself other (list_any (λ e. loses_role other e.event) (entries_of who end (losses_of roles spares ++ Failed role ∷ []))) own)
+        ]
+
     pub leaves-failed : IsRisen tells members members' tape tape' → is_clean members'.newest ≡ is_clean members.newest → NamesSafe tells given members members' tape tape'
         → LeavesSafe tells given tape' scope first (entries ++ entries_of who end ((Lost role Command ∷ losses_of roles spares) ++ Failed role ∷ [])) members' (is_some resync)
     leaves-failed rise clean named =
@@ -643,8 +643,8 @@ module _ {tells : Type 0} {given : Given} {tape tape' : List Operation} {scope :
           length = λ n. length-losses who end (losses_of roles spares) (Failed role ∷ []) (losses-are roles spares) n;
           limit = limit-losses who end (losses_of roles spares) (Failed role ∷ []) (losses-are roles spares) None;
         })
-        (add-one (one who end (Lost role Command)) (entries_of who end (losses_of roles spares ++ Failed role ∷ [])) (λ x values v may. may) refl refl
-        (add-losses who end (losses_of roles spares) (Failed role ∷ []) (losses-are roles spares) (add-one (one who end (Failed role)) [] (λ x values v may. may) refl refl add-none)))
+        (add-one (one who end (Lost role Command)) (entries_of who end (losses_of roles spares ++ Failed role ∷ [])) (λ x values v may. may) refl refl (λ other. refl)
+        (add-losses who end (losses_of roles spares) (Failed role ∷ []) (losses-are roles spares) (add-one (one who end (Failed role)) [] (λ x values v may. may) refl refl (λ other. refl) add-none)))
         rise told-failed clean named
 
     pub degraded-failed : (tells → AreOthersPresent (present given tape) (present given tape'))
@@ -671,16 +671,16 @@ module _ {tells : Type 0} {given : Given} {tape : List Operation} {scope : Scope
   -- where its event leaves what each sector may hold
   pub kept-alone : (event : Event) → AreSilent who end (event ∷ []) → TellLeft (left_of resync members) who end (event ∷ [])
       → ((x : ℕ) (values : List Sector) → fold (λ values e. values_after x values e.event) values (entries_of who end (event ∷ [])) ≡ values)
-      → ((x : ℕ) (values : List Sector) (v : Sector) → IsIn values v → IsIn (values_after x values event) v) → settles event ≡ false → keeps_losses event ≡ true
+      → ((x : ℕ) (values : List Sector) (v : Sector) → IsIn values v → IsIn (values_after x values event) v) → settles event ≡ false → keeps_shape_event event ≡ true → GivesNone (entries_of who end (event ∷ []))
       → (tells → AreFillsRight (world_in given tape scope first) resync members → IsOneShapeCall (opening_in (world_in given tape scope first)) entries who end (event ∷ []))
       → IsKept tells given tape scope first (entries ++ entries_of who end (event ∷ [])) members resync
-  kept-alone event silent left still adds settles keeps call =
+  kept-alone event silent left still adds settles keeps none call =
       let moved = moved-same given given members members refl refl was.placed was.unlost in
       let grows : Grows tells tape tape = grows-none (λ t. refl) in
       degraded-quiet who end was opens caller at_end moved grows [] event silent left (ap (λ (b : Bool). b || false) (ends-nothing event settles)) (λ x values. ap (λ (l : List Sector). slice_index_or l 0 []) (still x values))
-      (told-more members entries (entries_of who end (event ∷ [])) was.told) call (λ t s k apart. refl)
-      (leaves-named who end was opens caller at_end moved grows (event ∷ []) silent (add-one (one who end event) [] adds settles keeps add-none) (risen-still members tape)
-      (told-more members entries (entries_of who end (event ∷ [])) was.told) refl
+      (told-more members entries (entries_of who end (event ∷ [])) none was.told) call (λ t s k apart. refl)
+      (leaves-named who end was opens caller at_end moved grows (event ∷ []) silent (add-one (one who end event) [] adds settles keeps none add-none) (risen-still members tape)
+      (told-more members entries (entries_of who end (event ∷ [])) none was.told) refl
       (λ t world size told room gone unclean safe. keeps-still world given size told members tape safe))
 
   -- all of the list is visible
@@ -689,7 +689,7 @@ module _ {tells : Type 0} {given : Given} {tape : List Operation} {scope : Scope
 
   pub kept-refused : (refusal : Refusal) → IsRefusedHere (list_size (places_of members)) resync members refusal → IsKept tells given tape scope first (entries ++ entries_of who end (Refused refusal ∷ [])) members resync
   kept-refused refusal why =
-      kept-alone (Refused refusal) (record { length = λ n. refl; limit = refl }) (λ left is. is) (λ x values. refl) (λ x values v may. may) refl refl
+      kept-alone (Refused refusal) (record { length = λ n. refl; limit = refl }) (λ left is. is) (λ x values. refl) (λ x values v may. may) refl refl (λ role. refl)
       (λ t fills. (
         refusal-right (world_in given tape scope first) 0 (list_size (places_of members)) resync members entries refusal (limited (shape_of members.newest) was.placed.valid).most
             (was.recorded t).tolerated (was.recorded t).dirty (sym (seen-before t)) was.told why,
@@ -700,12 +700,12 @@ module _ {tells : Type 0} {given : Given} {tape : List Operation} {scope : Scope
   -- after what it tells of itself
   pub kept-shown : (status : Status) → status.left ≡ left_of resync members → IsKept tells given tape scope first (entries ++ entries_of who end (Shown status ∷ [])) members resync
   kept-shown status steps =
-      kept-alone (Shown status) (record { length = λ n. refl; limit = refl }) (λ left is. steps) (λ x values. refl) (λ x values v may. may) refl refl
+      kept-alone (Shown status) (record { length = λ n. refl; limit = refl }) (λ left is. steps) (λ x values. refl) (λ x values v may. may) refl refl (λ role. refl)
       (λ t fills. (keeps-left (left_of resync members) entries (one who end (Shown status)) [] status.left was.left steps, tt, tt))
 
   -- after its end
   pub kept-halted : IsKept tells given tape scope first (entries ++ entries_of who end (Halted ∷ [])) members resync
-  kept-halted = kept-alone Halted (record { length = λ n. refl; limit = refl }) (λ left is. is) (λ x values. refl) (λ x values v may. may) refl refl (λ t fills. (tt, tt, tt))
+  kept-halted = kept-alone Halted (record { length = λ n. refl; limit = refl }) (λ left is. is) (λ x values. refl) (λ x values v may. may) refl refl (λ role. refl) (λ t fills. (tt, tt, tt))
 
 -- ---- why calls are refused
 

@@ -89,7 +89,7 @@ module _ {tells : Type 0} {given : Given} {tape tape' : List Operation} {scope :
   degraded-ended others safe =
       degraded-after who end was opens caller at_end moved grows (losses_of roles spares) (Step ResyncEnded 0)
       (silent-behind who end (losses_of roles spares) (Step ResyncEnded 0) (losses-are roles spares) (end-silent who end 0)) resync-ends
-      (told-behind who end was opens caller at_end moved grows roles spares before after since (Step ResyncEnded 0 ∷ []))
+      (told-behind who end was opens caller at_end moved grows roles spares before after since (Step ResyncEnded 0 ∷ []) (λ role. refl))
       (λ t fills. call-stepped (opening_in (world_in given tape scope first)) (left_of resync members) entries who end (losses_of roles spares) ResyncEnded 0 (losses-are roles spares) tt (one-left members all) was.left)
       (holds-still who end was opens caller at_end moved grows ending still others)
       (whole-still who end was opens caller at_end moved grows ending still)

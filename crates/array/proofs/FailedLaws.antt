@@ -1,17 +1,17 @@
 -- A slot that is taken out of an array.
-use Rattle.std.proofs.Common.{◌≡◌, ◌⊎◌, inl, inr, ℕ, ◌+◌, ◌<◌, ◌≤◌, ◌==◌, ◌||◌, Bool, true, false, not, cond, List, length, Option, Some, refl, sym, ◌∙◌, ap, subst, arith}
+use Rattle.std.proofs.Common.{◌≡◌, ◌⊎◌, inl, inr, ℕ, ◌+◌, ◌<◌, ◌≤◌, ◌==◌, ◌||◌, Bool, true, false, not, cond, List, length, Option, Some, None, is_some, refl, sym, ◌∙◌, ap, subst, arith}
 use Rattle.std.proofs.lemmas.Bool.Decides.{nat_tests}
 use Rattle.std.proofs.lemmas.Bool.{eqb-true}
 use Rattle.std.specs.Option.{option_map_or}
 use Rattle.md_base.specs.Shapes.{has_slot}
 use Rattle.md_base.specs.declared.status.Role.{Role}
-use Rattle.md_base.specs.declared.status.Role.TheVariants.{Whole, Missing}
+use Rattle.md_base.specs.declared.status.Role.TheVariants.{Missing}
 use Rattle.bank.specs.Given.{Given}
 use Rattle.superblocks.specs.declared.members.Members.{Members}
-use Rattle.superblocks.specs.Reading.{is_clean, role_state, holder, is_whole}
-use Rattle.row_io.specs.Rows.{reading_of, is_missing, role_without, members_without}
+use Rattle.superblocks.specs.Reading.{is_clean, role_state, holder}
+use Rattle.row_io.specs.Rows.{reading_of, role_without, members_without}
 use Rattle.row_io.proofs.Losses.{state_after}
-use Rattle.array.specs.Placed.{IsPlaced, AreUnlost}
+use Rattle.array.specs.Placed.{is_vacant, IsPlaced, AreUnlost}
 use Rattle.array.specs.Moving.{IsMoved}
 use Rattle.array.proofs.MemberLaws.{placed-without, less-without, unlost-without}
 use Rattle.array.proofs.MovedLaws.{moved-less}
@@ -21,6 +21,7 @@ use Rattle.flat_history.specs.Sound.{OpensFit}
 use Rattle.array.specs.Safety.{HasLiveSlot, IsRisen}
 use Rattle.array.specs.Steady.{IsSafeOver}
 use Rattle.array.proofs.DegradedLaws.{NamesSafe}
+use Rattle.array.proofs.LackingLaws.{holder-without}
 use Rattle.array.proofs.Steady.{losing-stays-safe}
 use Rattle.array.proofs.Without.{in-both, live-before}
 use Rattle.std.specs.Prelude.{◌^◌}
@@ -39,29 +40,29 @@ module _ (given : Given) (m mid : Members) (lost slot role : ℕ) (was : IsPlace
   itself : (n : ℕ) → (n == n) ≡ true
   itself n = grind (arith, nat_tests)
 
-  -- its role is missing
-  pub out-missing : is_missing (reading_of mid) role ≡ true
-  out-missing = subst (λ (x : Members). is_missing (reading_of x) role ≡ true) (sym is)
-      (ap (λ (s : Role). not (is_whole s)) (state_after m lost role ∙ ap (λ (h : Option ℕ). cond (option_map_or (has_slot lost) h false) Missing (role_state (reading_of m) role)) held
+  -- no slot holds its role
+  pub out-vacant : is_vacant (reading_of mid) role ≡ true
+  out-vacant = subst (λ (x : Members). is_vacant (reading_of x) role ≡ true) (sym is)
+      (ap (λ (s : Role). not (is_some (holder s))) (state_after m lost role ∙ ap (λ (h : Option ℕ). cond (option_map_or (has_slot lost) h false) Missing (role_state (reading_of m) role)) held
       ∙ ap (λ (b : Bool). cond b Missing (role_state (reading_of m) role)) (alone slot ∙ itself slot)))
 
-  -- and of the others those that were
-  pub out-only : (other : ℕ) → is_missing (reading_of mid) other ≡ true → (is_missing (reading_of m) other ≡ true) ⊎ (other ≡ role)
-  out-only other missing = by (was.states other)
+  -- and of the others those alone that had none before
+  pub out-only : (other : ℕ) → is_vacant (reading_of mid) other ≡ true → (is_vacant (reading_of m) other ≡ true) ⊎ (other ≡ role)
+  out-only other none = by (holder (role_state (reading_of m) other)) refl
     where
-      now : not (is_whole (role_without lost (role_state (reading_of m) other))) ≡ true
-      now = ap (λ (s : Role). not (is_whole s)) (sym (state_after m lost other)) ∙ subst (λ (x : Members). is_missing (reading_of x) other ≡ true) is missing
+      now : not (is_some (holder (role_without lost (role_state (reading_of m) other)))) ≡ true
+      now = ap (λ (s : Role). not (is_some (holder s))) (sym (state_after m lost other)) ∙ subst (λ (x : Members). is_vacant (reading_of x) other ≡ true) is none
 
-      whole : (s : ℕ) → role_state (reading_of m) other ≡ Whole s → (b : Bool) → has_slot lost s ≡ b → (is_missing (reading_of m) other ≡ true) ⊎ (other ≡ role)
-      whole s state true gone =
-          let same : slot ≡ s = eqb-true slot s (sym (alone s) ∙ gone) in
-          inr (was.apart other role slot (ap holder state ∙ ap (λ (n : ℕ). Some n) (sym same)) held)
-      whole s state false kept = absurd (
-          let e = ap (λ (b : Bool). not (is_whole (cond b Missing (Whole s)))) (sym kept) ∙ ap (λ (r : Role). not (is_whole (role_without lost r))) (sym state) ∙ now in cc)
-
-      by : (role_state (reading_of m) other ≡ Missing) ⊎ ((s : ℕ) × (role_state (reading_of m) other ≡ Whole s)) → (is_missing (reading_of m) other ≡ true) ⊎ (other ≡ role)
-      by (inl none) = inl (ap (λ (s : Role). not (is_whole s)) none)
-      by (inr found) = whole found.0 found.1 (has_slot lost found.0) refl
+      by : (found : Option ℕ) → holder (role_state (reading_of m) other) ≡ found → (is_vacant (reading_of m) other ≡ true) ⊎ (other ≡ role)
+      by None state = inl (ap (λ (h : Option ℕ). not (is_some h)) state)
+      by (Some s) state = of (has_slot lost s) refl
+        where
+          of : (b : Bool) → has_slot lost s ≡ b → (is_vacant (reading_of m) other ≡ true) ⊎ (other ≡ role)
+          of true gone =
+              let same : slot ≡ s = eqb-true slot s (sym (alone s) ∙ gone) in
+              inr (was.apart other role slot (state ∙ ap (λ (n : ℕ). Some n) (sym same)) held)
+          of false kept = absurd (
+              let e = ap (λ (h : Option ℕ). not (is_some h)) (sym (holder-without lost s (role_state (reading_of m) other) state kept)) ∙ now in cc)
 
 -- ---- what naming it does
 

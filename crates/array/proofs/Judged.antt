@@ -20,10 +20,9 @@ use Rattle.flat_history.specs.Stands.{stands, verdict}
 use Rattle.flat_history.specs.World.{World, opening_list}
 use Rattle.flat_history.specs.Flat.{values_of}
 use Rattle.flat_history.specs.Losses.{gone_count}
-use Rattle.flat_history.specs.OneShape.{AreLossesGone}
-use Rattle.flat_history.specs.Plain.{lost_count}
+use Rattle.flat_history.specs.OneShape.{is_gone_by, gone_count_by, AreLossesGone}
 use Rattle.flat_history.specs.CrashSafe.{made_by, StandsFor, MayBeJudgedBy, IsRefusedDirty, IsRefusedMissing, IsRefusedRightly, IsJudged}
-use Rattle.flat_history.proofs.OneShapeGone.{losses-gone}
+use Rattle.flat_history.proofs.OneShapeGone.{losses-gone, never-gone_by}
 use Rattle.flat_history.proofs.OneShapeGrowing.{few_missing}
 use Rattle.array.specs.Whole.{list_size}
 use Rattle.array.specs.Placed.{places_of}
@@ -63,9 +62,9 @@ module _ (world : World) (given : Given) (entries : List Entry) (mark j size : �
   abbrev k : ℕ
   k = made_by mark entries
 
-  -- what the first j entries lose is gone
+  -- what is gone by the entries alone is gone
   losses : AreLossesGone world entries k j
-  losses = losses-gone world entries k j judged.keep judged.made
+  losses = losses-gone world entries k j judged.keep
 
   -- the image is refused as the view is
   verdict-by : (above clean : Bool) (lowest : Option ℕ) → nat_lt (tolerance shape) (lacking m) ≡ above → is_clean m.newest ≡ clean
@@ -79,9 +78,9 @@ module _ (world : World) (given : Given) (entries : List Entry) (mark j size : �
   missing-gone : lacking m ≤ gone_count world entries k j
   missing-gone =
       let most : shape.disks ≤ 16 = (limited shape seen.right.placed.valid).most in
-      let few : lacking m ≤ lost_count (take j entries) =
-      few_missing (take j entries) shape.disks (is_missing (reading_of m)) (omega (arith, most)) seen.right.gone in
-      let count : gone_count world entries k j ≡ lost_count (take j entries) = losses.count in
+      let few : lacking m ≤ gone_count_by entries k j =
+      few_missing (is_gone_by entries k j) shape.disks (is_missing (reading_of m)) (omega (arith, most)) seen.right.gone in
+      let count : gone_count world entries k j ≡ gone_count_by entries k j = losses.count in
       omega (arith, few, count)
 
   refused-missing : verdict world.scope c ≡ Some (MembersMissing (lacking m) (tolerance shape)) → IsRefusedMissing world entries k j c
@@ -98,10 +97,10 @@ module _ (world : World) (given : Given) (entries : List Entry) (mark j size : �
         unclean = losses.unclean ∙ seen.right.unclean dirty;
       }
 
-  -- a missing role is told lost, so that the array opened good
+  -- a missing role is gone, so that the array opened good
   opened-good : (role : ℕ) → role < shape.disks → is_missing (reading_of m) role ≡ true → OpensFit world
   opened-good role lt missing = elim judged.fills [
-    | inl none ↦ absurd (let told = seen.right.gone role lt missing in let not_told = none role in cc)
+    | inl none ↦ absurd (let told = seen.right.gone role lt missing in let not_told = never-gone_by entries k j role judged.made (none role) in cc)
     | inr good ↦ good
   ]
 

@@ -1,5 +1,5 @@
 -- Losses that add up over the parts of a call, and what a mark leaves of holders' sectors.
-use Rattle.std.proofs.Common.{◌≡◌, ◌⊎◌, inl, inr, ℕ, ◌<◌, ◌&&◌, ◌==◌, nat_lt, max, bit_or, Bool, true, false, not, cond, List, [], ◌∷◌, get_or, Option, Some, None, refl, sym, ◌∙◌, ap, ap₂, subst, arith}
+use Rattle.std.proofs.Common.{◌≡◌, ◌⊎◌, inl, inr, ℕ, ◌<◌, ◌&&◌, ◌==◌, nat_lt, max, bit_or, Bool, true, false, not, cond, List, [], ◌∷◌, get_or, Option, Some, None, is_some, refl, sym, ◌∙◌, ap, ap₂, subst, arith}
 use Rattle.std.proofs.lemmas.Bool.{cases_lt}
 use Rattle.std.proofs.lemmas.Bool.Decides.{nat_tests}
 use Rattle.std.specs.Option.{option_map_or}
@@ -7,21 +7,22 @@ use Rattle.md_base.specs.Sectors.{Sector}
 use Rattle.md_base.specs.Shapes.{has_slot}
 use Rattle.md_base.specs.declared.places.Shape.{Shape}
 use Rattle.md_base.specs.declared.status.Role.{Role}
-use Rattle.md_base.specs.declared.status.Role.TheVariants.{Whole, Missing}
+use Rattle.md_base.specs.declared.status.Role.TheVariants.{Missing}
 use Rattle.bank.specs.Given.{Given, IsFaulted, NeverFalls}
 use Rattle.bank.specs.declared.bank.Operation.{Operation}
 use Rattle.bank.specs.Tape.{disk}
 use Rattle.bank.proofs.Causes.{faulted_longer}
 use Rattle.superblocks.specs.declared.members.Members.{Members}
-use Rattle.superblocks.specs.Reading.{Reading, shape_of, role_state, holder, is_whole}
+use Rattle.superblocks.specs.Reading.{Reading, shape_of, role_state, holder}
 use Rattle.superblocks.proofs.SlotSets.{none_there}
 use Rattle.row_io.specs.Rows.{reading_of, present, is_missing, role_without}
-use Rattle.array.specs.Placed.{AreStillHeld, AreWhole, IsPlaced, AreLost, AreLess}
+use Rattle.array.specs.Placed.{is_vacant, AreStillHeld, AreWhole, IsPlaced, AreLost, AreLess}
 use Rattle.array.specs.Marking.{IsMarked}
 use Rattle.array.specs.Flushing.{AreMembersFlushed}
 use Rattle.array.specs.Moving.{IsMoved, AreFailed}
 use Rattle.row_io.proofs.Losses.{state_kept}
 use Rattle.std.proofs.lemmas.Nat.Bits.{bit_at_or}
+use Rattle.array.proofs.HeldRows.{missing-before, vacant-missing}
 use Rattle.array.proofs.MemberLaws.{less-without}
 use Rattle.array.specs.Lacking.{HaveFailedSince, AreLostSince, AreHoldersFlushed, AreTooMany, DoesWithout, lacking, refused_by, too_many}
 use Rattle.std.specs.Prelude.{MatchOption, ⊤, Result, Ok, Err}
@@ -90,21 +91,21 @@ since-then a b c s t u f g h early late one two either = record {
 pub since-held : (old new : Members) (spares : ℕ) (before after : ℕ → ℕ) → HaveFailedSince old new spares before after → HaveFailedSince old new 0 before after
 since-held old new spares before after since = record { roles = since.roles; spares_are = λ slot has. absurd (let e = none_there slot in cc) }
 
--- ---- the roles that are missing since
+-- ---- the roles that have lost their slots since
 
--- exactly the missing roles are in the set
-abbrev pub AreMissing : Members → ℕ → ℕ → Type 0
-AreMissing m disks roles = (role : ℕ) → has_slot roles role ≡ (nat_lt role disks && is_missing (reading_of m) role)
+-- exactly the vacant roles are in the set
+abbrev pub AreVacant : Members → ℕ → ℕ → Type 0
+AreVacant m disks roles = (role : ℕ) → has_slot roles role ≡ (nat_lt role disks && is_vacant (reading_of m) role)
 
--- these roles are missing, and weren't before
-abbrev pub AreNewlyMissing : Members → ℕ → ℕ → ℕ → Type 0
-AreNewlyMissing m disks before roles = (role : ℕ) → has_slot roles role ≡ ((nat_lt role disks && is_missing (reading_of m) role) && not (has_slot before role))
+-- these roles are vacant, and weren't before
+abbrev pub AreNewlyVacant : Members → ℕ → ℕ → ℕ → Type 0
+AreNewlyVacant m disks before roles = (role : ℕ) → has_slot roles role ≡ ((nat_lt role disks && is_vacant (reading_of m) role) && not (has_slot before role))
 
 pub lost-since : (given : Given) (old new : Members) (disks was roles spares : ℕ) (before after : ℕ → ℕ) → IsPlaced given old → IsMoved given old new → HaveFailedSince old new spares before after
-    → disks ≡ (shape_of old.newest).disks → AreMissing old disks was → AreNewlyMissing new disks was roles → AreLostSince old new roles spares before after
-lost-since given old new disks was roles spares before after placed moved failed same missing newly = record {
-  missing = λ role lt is. old-or role (is_missing (reading_of old) role) refl (subst (λ (n : ℕ). role < n) (sym same) (subst (λ (s : Shape). role < s.disks) moved.shape lt)) is;
-  held = λ role has. at role (parts (nat_lt role disks) (is_missing (reading_of new) role) (has_slot was role) (sym (newly role) ∙ has)) (placed.states role);
+    → disks ≡ (shape_of old.newest).disks → AreVacant old disks was → AreNewlyVacant new disks was roles → AreLostSince old new roles spares before after
+lost-since given old new disks was roles spares before after placed moved failed same vacant newly = record {
+  vacant = λ role lt is. old-or role (is_vacant (reading_of old) role) refl (subst (λ (n : ℕ). role < n) (sym same) (subst (λ (s : Shape). role < s.disks) moved.shape lt)) is;
+  held = λ role has. at role (parts (nat_lt role disks) (is_vacant (reading_of new) role) (has_slot was role) (sym (newly role) ∙ has)) (holder (role_state (reading_of old) role)) refl;
   failed = failed.spares_are;
 }
   where
@@ -117,37 +118,45 @@ lost-since given old new disks was roles spares before after placed moved failed
     parts true false c e = absurd (cc)
     parts false b c e = absurd (cc)
 
-    -- a role that was there before isn't in the set of those that were missing
-    old-or : (role : ℕ) (b : Bool) → is_missing (reading_of old) role ≡ b → role < disks → is_missing (reading_of new) role ≡ true
-        → (is_missing (reading_of old) role ≡ true) ⊎ (has_slot roles role ≡ true)
+    -- a role that had a slot before isn't in the set of those that were vacant
+    old-or : (role : ℕ) (b : Bool) → is_vacant (reading_of old) role ≡ b → role < disks → is_vacant (reading_of new) role ≡ true
+        → (is_vacant (reading_of old) role ≡ true) ⊎ (has_slot roles role ≡ true)
     old-or role true is lt now = inl is
     old-or role false is lt now =
-        let out : has_slot was role ≡ false = missing role ∙ ap (λ (b : Bool). nat_lt role disks && b) is ∙ none (nat_lt role disks) in
-        inr (newly role ∙ ap (λ (b : Bool). (nat_lt role disks && is_missing (reading_of new) role) && not b) out
+        let out : has_slot was role ≡ false = vacant role ∙ ap (λ (b : Bool). nat_lt role disks && b) is ∙ none (nat_lt role disks) in
+        inr (newly role ∙ ap (λ (b : Bool). (nat_lt role disks && is_vacant (reading_of new) role) && not b) out
         ∙ ap₂ (λ (a b : Bool). (a && b) && not false) (lt-is role disks lt) now)
       where
         none : (b : Bool) → (b && false) ≡ false
         none true = refl
         none false = refl
 
-    not-missing : (role : ℕ) → nat_lt role disks ≡ true → has_slot was role ≡ false → is_missing (reading_of old) role ≡ false
-    not-missing role lt out = by (is_missing (reading_of old) role) (ap (λ (b : Bool). b && is_missing (reading_of old) role) (sym lt) ∙ sym (missing role) ∙ out)
+    not-vacant : (role : ℕ) → nat_lt role disks ≡ true → has_slot was role ≡ false → is_vacant (reading_of old) role ≡ false
+    not-vacant role lt out = by (is_vacant (reading_of old) role) (ap (λ (b : Bool). b && is_vacant (reading_of old) role) (sym lt) ∙ sym (vacant role) ∙ out)
       where
         by : (b : Bool) → (true && b) ≡ false → b ≡ false
         by true e = absurd (cc)
         by false e = refl
 
-    gone : (role slot : ℕ) → is_missing (reading_of new) role ≡ true → (holder (role_state (reading_of new) role) ≡ Some slot) ⊎ IsFaulted slot before after
-        → (role_state (reading_of new) role ≡ Missing) ⊎ ((slot : ℕ) × (role_state (reading_of new) role ≡ Whole slot)) → IsFaulted slot before after
-    gone role slot is (inr did) state = did
-    gone role slot is (inl held) (inl none) = absurd (let e : ◌≡◌ {A = Option ℕ} None (Some slot) = sym (ap holder none) ∙ held in cc)
-    gone role slot is (inl held) (inr found) = absurd (let e = sym (ap (λ (s : Role). not (is_whole s)) found.1) ∙ is in cc)
+    gone : (role slot : ℕ) → is_vacant (reading_of new) role ≡ true → (holder (role_state (reading_of new) role) ≡ Some slot) ⊎ IsFaulted slot before after → IsFaulted slot before after
+    gone role slot is (inr did) = did
+    gone role slot is (inl held) = absurd (let e = sym (ap (λ (h : Option ℕ). not (is_some h)) held) ∙ is in cc)
 
-    at : (role : ℕ) → (nat_lt role disks ≡ true) × (is_missing (reading_of new) role ≡ true) × (has_slot was role ≡ false)
-        → (role_state (reading_of old) role ≡ Missing) ⊎ ((slot : ℕ) × (role_state (reading_of old) role ≡ Whole slot))
+    at : (role : ℕ) → (nat_lt role disks ≡ true) × (is_vacant (reading_of new) role ≡ true) × (has_slot was role ≡ false) → (held : Option ℕ) → holder (role_state (reading_of old) role) ≡ held
         → (slot : ℕ) × (holder (role_state (reading_of old) role) ≡ Some slot) × IsFaulted slot before after
-    at role are (inl none) = absurd (let e = sym (ap (λ (s : Role). not (is_whole s)) none) ∙ not-missing role are.0 are.2 in cc)
-    at role are (inr found) = (found.0, ap holder found.1, gone role found.0 are.1 (failed.roles role found.0 (ap holder found.1)) (moved.placed.states role))
+    at role are (Some slot) is = (slot, is, gone role slot are.1 (failed.roles role slot is))
+    at role are None is = absurd (let e = sym (ap (λ (h : Option ℕ). not (is_some h)) is) ∙ not-vacant role are.0 are.2 in cc)
+
+-- so each role that is missing was so before, or is one of them
+pub since-missing : {given : Given} {old new : Members} {roles spares : ℕ} {before after : ℕ → ℕ} → IsMoved given old new → AreLostSince old new roles spares before after
+    → (role : ℕ) → role < (shape_of new.newest).disks → is_missing (reading_of new) role ≡ true → (is_missing (reading_of old) role ≡ true) ⊎ (has_slot roles role ≡ true)
+since-missing {old = old} moved since role lt gone = elim (missing-before moved role gone) [
+  | inl was ↦ inl was
+  | inr none ↦ elim (since.vacant role lt none) [
+    | inl was ↦ inl (vacant-missing (reading_of old) role was)
+    | inr has ↦ inr has
+  ]
+]
 
 -- ---- what was flushed
 

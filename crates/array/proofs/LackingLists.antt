@@ -15,6 +15,7 @@ use Rattle.superblocks.specs.declared.members.Members.{Members}
 use Rattle.superblocks.specs.Reading.{shape_of, role_state, holder, data_offset_of}
 use Rattle.row_io.specs.Rows.{reading_of, held_slot}
 use Rattle.row_io.specs.Writes.{is_parity}
+use Rattle.row_io.proofs.Losses.{holder-of}
 use Rattle.row_io.proofs.NewRow.{whole_sector}
 use Rattle.list_io.specs.Full.{full_sector, AreWholeIn, DataStands, RowStands}
 use Rattle.list_io.specs.Buffers.{buffered, AreTouched, AreStanding, IsTouched}
@@ -29,7 +30,8 @@ use Rattle.array.specs.Moving.{IsMoved}
 use Rattle.array.specs.Lacking.{ListStands, RowsStand, RowsStandAmong, AreBytes, AreRowsRead, AreRowsWritten}
 use Rattle.array.proofs.Elements.{contains_or_not, contains-at}
 use Rattle.array.proofs.MovedLaws.{moved-then}
-use Rattle.array.proofs.LackingWrites.{held-out, held-in, held-before, list-in, list-in-is, list-with, list-with-is}
+use Rattle.array.proofs.LackingWrites.{list-in, list-in-is, list-with, list-with-is}
+use Rattle.array.proofs.HeldRows.{whole-held, held-moved}
 
 -- where a row stands among these
 index-of : (rows : List ℕ) (row : ℕ) → Contains rows row → (i : ℕ) × (i < length rows) × (slice_index rows i ≡ row)
@@ -47,20 +49,20 @@ module _ (given : Given) (old new : Members) (before after : Contents) (list : �
 
   pub data-moved : DataStands (reading_of old) before (shape_of old.newest) list row → DataStands (reading_of new) after (shape_of new.newest) list row
   data-moved stands role slot lt here held =
-      still-there role slot (held-out given new moved.placed role row slot held).0
+      still-there role slot (holder-of (reading_of new) role row slot held)
       ∙ subst (λ (s : Shape). before slot (data_offset_of (reading_of old) slot + row) ≡ full_sector s list row role) (sym moved.shape)
       (stands role slot (subst (λ (s : Shape). role < s.disks) moved.shape lt)
-      (subst (λ (s : Shape). is_parity (row_roles s row) role ≡ false) moved.shape here) (held-before given old new moved was role row slot held))
+      (subst (λ (s : Shape). is_parity (row_roles s row) role ≡ false) moved.shape here) (held-moved moved role row slot held))
 
   pub row-moved : RowStands (reading_of old) before (shape_of old.newest) list row → RowStands (reading_of new) after (shape_of new.newest) list row
   row-moved stands = record {
     whole = subst (λ (s : Shape). AreWholeIn s list row) (sym moved.shape) stands.whole;
     sectors = data-moved stands.sectors;
     parity = λ role slot lt here held.
-        still-there role slot (held-out given new moved.placed role row slot held).0
+        still-there role slot (holder-of (reading_of new) role row slot held)
         ∙ subst (λ (s : Shape). before slot (data_offset_of (reading_of old) slot + row) ≡ full_sector s list row role) (sym moved.shape)
         (stands.parity role slot (subst (λ (s : Shape). role < s.disks) moved.shape lt)
-        (subst (λ (s : Shape). is_parity (row_roles s row) role ≡ true) moved.shape here) (held-before given old new moved was role row slot held));
+        (subst (λ (s : Shape). is_parity (row_roles s row) role ≡ true) moved.shape here) (held-moved moved role row slot held));
   }
 
 -- and so do the list, and all rows, or those among some
@@ -112,7 +114,7 @@ module _ (given : Given) (old mid new : Members) (one : IsMoved given old mid) (
 
   module _ (row role slot : ℕ) (lt : role < (shape_of old.newest).disks) (held : held_slot (reading_of new) role row ≡ Some slot) where
     holds : holder (role_state (reading_of new) role) ≡ Some slot
-    holds = (held-out given new two.placed role row slot held).0
+    holds = holder-of (reading_of new) role row slot held
 
     -- where the row is touched, it has the full sector of any list that was read
     full-there : (has : Contains rows row) (list0 list0' : ℕ → Sector) → IsWritten list0 list0' first from → AreDataFrom 0 (shape_of old.newest) list0 rows buffer
@@ -138,7 +140,7 @@ module _ (given : Given) (old mid new : Members) (one : IsMoved given old mid) (
           let own : (place (shape_of old.newest) x).row ≡ slice_index rows at.0 = ap (λ (p : Place). p.row) there ∙ sym at.2 in
           sym (list-in-is (shape_of old.newest) rows buffer 0 touched.once at.0 (omega arith) at.1 x own)
           ∙ ap (λ (p : Place). buffered buffer at.0 p.role) there
-          ∙ read.held at.0 at.1 role slot lt (subst (λ (r : ℕ). held_slot (reading_of mid) role r ≡ Some slot) (sym at.2) (held-before given mid new two one.placed role row slot held))
+          ∙ read.held at.0 at.1 role slot lt (subst (λ (r : ℕ). held_slot (reading_of mid) role r ≡ Some slot) (sym at.2) (held-moved two role row slot held))
           ∙ ap (λ (r : ℕ). before slot (data_offset_of (reading_of mid) slot + r)) at.2
           ∙ ap (λ (n : ℕ). before slot (n + row)) (one.offsets slot)
           ∙ stands ∙ full-data (shape_of old.newest) list role row x valid there
@@ -167,7 +169,7 @@ module _ (given : Given) (old mid new : Members) (one : IsMoved given old mid) (
   list-written synced read stands row below = subst (λ (s : Shape). DataStands (reading_of new) after s list' row) (sym both.shape) (λ role slot lt here held.
       let low : row < old.newest.size = subst (λ (n : ℕ). row < n) both.size below in
       let found = sector_there (shape_of old.newest) role row valid lt here in
-      data-written row role slot lt held synced read found.0 found.1 (stands row low role slot lt here (held-before given old new both was role row slot held)))
+      data-written row role slot lt held synced read found.0 found.1 (stands row low role slot lt here (held-moved both role row slot held)))
 
   -- and a row with its parity, if it is touched or stood before, where its sectors are whole
   pub row-written : AreDataFrom 0 (shape_of old.newest) list rows buffer → ((x : ℕ) → first ≤ x → x < first + length from / 512 → IsSector (sector_of from (x - first)))
@@ -177,11 +179,11 @@ module _ (given : Given) (old mid new : Members) (one : IsMoved given old mid) (
     whole = whole_after;
     sectors = λ role slot lt here held. elim (contains_or_not rows row) [
       | inl there ↦ full-there row role slot lt held there list list' write has
-      | inr none ↦ still-full row role slot lt held none ((stood none which).sectors role slot lt here (held-before given old new both was role row slot held))
+      | inr none ↦ still-full row role slot lt held none ((stood none which).sectors role slot lt here (held-moved both role row slot held))
     ];
     parity = λ role slot lt here held. elim (contains_or_not rows row) [
       | inl there ↦ full-there row role slot lt held there list list' write has
-      | inr none ↦ still-full row role slot lt held none ((stood none which).parity role slot lt here (held-before given old new both was role row slot held))
+      | inr none ↦ still-full row role slot lt held none ((stood none which).parity role slot lt here (held-moved both role row slot held))
     ];
   }
     where
@@ -216,10 +218,11 @@ data-held given old mid moved was whole c rows buffer list below standing stands
     let there : place shape x ≡ record { role = role; row = row } = λ k. record { role = role; row = at k } in
     let role_lt : role < shape.disks = place-role_below shape was.valid x in
     let below_row = below row (contains-at rows i lt) in
-    let held = held-in given mid moved.placed role row slot (holder-is given mid moved.placed whole role (subst (λ (s : Shape). role < s.disks) (sym moved.shape) role_lt)) below_row in
+    let low : role < (shape_of mid.newest).disks = subst (λ (s : Shape). role < s.disks) (sym moved.shape) role_lt in
+    let held = whole-held (reading_of mid) role row slot (whole role low) (holder-is given mid moved.placed whole role low) below_row in
     standing i lt role slot role_lt held
     ∙ ap (λ (n : ℕ). c slot (n + row)) (moved.offsets slot)
-    ∙ stands row (subst (λ (n : ℕ). row < n) moved.size below_row) role slot role_lt (data_here shape role row x was.valid there) (held-before given old mid moved was role row slot held)
+    ∙ stands row (subst (λ (n : ℕ). row < n) moved.size below_row) role slot role_lt (data_here shape role row x was.valid there) (held-moved moved role row slot held)
     ∙ full-data shape list role row x was.valid there
 
 -- So the buffer has the list's data where every role is whole in the end, and, where parity is relied on, where the touched rows stood. Where it

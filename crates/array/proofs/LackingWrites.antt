@@ -1,13 +1,11 @@
 -- Rows that are written while members are lost.
-use Rattle.std.proofs.Common.{◌≡◌, ◌⊎◌, inl, inr, ℕ, ◌+◌, ◌-◌, ◌/◌, ◌<◌, ◌≤◌, ◌==◌, ◌&&◌, nat_lt, nat_le, Bool, true, false, if◌then◌else◌, List, [], append-nil, length, slice_index, Option, Some, None, unwrap_or, refl, sym, ◌∙◌, ap, ap₂, subst, arith, eq-eqb, eqb-true}
+use Rattle.std.proofs.Common.{◌≡◌, ◌⊎◌, inl, inr, ℕ, ◌+◌, ◌-◌, ◌/◌, ◌<◌, ◌≤◌, ◌==◌, ◌&&◌, nat_lt, nat_le, Bool, true, false, if◌then◌else◌, List, [], append-nil, length, slice_index, Option, Some, unwrap_or, refl, sym, ◌∙◌, ap, ap₂, subst, arith, eq-eqb, eqb-true}
 use Rattle.std.proofs.lemmas.Bool.Decides.{nat_tests}
 use Rattle.std.proofs.lemmas.Bool.{cases_lt}
 use Rattle.md_base.specs.Search.{least_below}
 use Rattle.md_base.proofs.Least.{least_below-only}
 use Rattle.md_base.specs.Sectors.{Sector}
 use Rattle.md_base.specs.declared.places.Shape.{Shape}
-use Rattle.md_base.specs.declared.status.Role.{Role}
-use Rattle.md_base.specs.declared.status.Role.TheVariants.{Whole, Missing}
 use Rattle.bank.specs.Given.{Given}
 use Rattle.bank.specs.declared.bank.Operation.{Operation}
 use Rattle.bank.specs.Tape.{Contents, EachMark, disk}
@@ -18,57 +16,28 @@ use Rattle.md_base.specs.Shapes.{is_valid_shape}
 use Rattle.std.specs.Prelude.{IsTrue}
 use Rattle.parity.specs.Rows.{sector_of}
 use Rattle.superblocks.specs.declared.members.Members.{Members}
-use Rattle.superblocks.specs.Reading.{Reading, shape_of, role_state, holder, rows_held, data_offset_of}
-use Rattle.row_io.specs.Rows.{reading_of, held_slot}
+use Rattle.superblocks.specs.Reading.{shape_of, role_state, holder, data_offset_of}
+use Rattle.row_io.specs.Rows.{reading_of}
+use Rattle.row_io.proofs.Losses.{holder-of}
 use Rattle.list_io.specs.Calls.{HasRows, AreLost as IsListLost}
 use Rattle.list_io.specs.Buffers.{buffered, AreDistinct, AreStanding}
 use Rattle.list_io.specs.Writing.{IsWritten, AreDataFrom}
 use Rattle.array.specs.Placed.{IsPlaced, AreLost}
 use Rattle.std.specs.Prelude.{Result, Ok, Err, OnOk, is_some}
 use Rattle.list_io.specs.declared.outcome.Unavailable.{Unavailable}
+use Rattle.array.proofs.HeldRows.{held-moved}
 use Rattle.array.proofs.MemberLaws.{are_lost}
 use Rattle.bank.proofs.Marks.{each_mark-along}
 use Rattle.array.specs.Marking.{AreOthersPresent}
 use Rattle.array.specs.Moving.{IsMoved}
 use Rattle.array.specs.Lacking.{AreRowsWritten, refused_by}
 
--- ---- which slot holds a role's row
-
-abbrev held-by : Reading → Role → ℕ → Option ℕ
-held-by r state row = if nat_lt row (rows_held r state) then holder state else None
-
-some-of : (b : Bool) (h : Option ℕ) (slot : ℕ) → (if b then h else None) ≡ Some slot → (b ≡ true) × (h ≡ Some slot)
-some-of true h slot e = (refl, e)
-some-of false h slot e = absurd (cc)
-
-lt-of : (a b : ℕ) → nat_lt a b ≡ true → a < b
-lt-of a b e = grind (arith, nat_tests, e)
+-- ---- the rows of the members
 
 lt-is : (a b : ℕ) → a < b → nat_lt a b ≡ true
 lt-is a b lt = grind (arith, nat_tests, lt)
 
 module _ (given : Given) (m : Members) (placed : IsPlaced given m) where
-  pub held-out : (role row slot : ℕ) → held_slot (reading_of m) role row ≡ Some slot → (holder (role_state (reading_of m) role) ≡ Some slot) × (row < m.newest.size)
-  held-out role row slot held = by (placed.states role) held
-    where
-      by : (role_state (reading_of m) role ≡ Missing) ⊎ ((s : ℕ) × (role_state (reading_of m) role ≡ Whole s)) → held_slot (reading_of m) role row ≡ Some slot
-          → (holder (role_state (reading_of m) role) ≡ Some slot) × (row < m.newest.size)
-      by (inl none) held =
-          let parts = some-of (nat_lt row (rows_held (reading_of m) (role_state (reading_of m) role))) (holder (role_state (reading_of m) role)) slot held in
-          absurd (let e : ◌≡◌ {A = Option ℕ} None (Some slot) = sym (ap holder none) ∙ parts.1 in cc)
-      by (inr found) held =
-          let parts = some-of (nat_lt row (rows_held (reading_of m) (role_state (reading_of m) role))) (holder (role_state (reading_of m) role)) slot held in
-          (parts.1, lt-of row m.newest.size (sym (ap (λ (s : Role). nat_lt row (rows_held (reading_of m) s)) found.1) ∙ parts.0))
-
-  pub held-in : (role row slot : ℕ) → holder (role_state (reading_of m) role) ≡ Some slot → row < m.newest.size → held_slot (reading_of m) role row ≡ Some slot
-  held-in role row slot held below = by (placed.states role)
-    where
-      by : (role_state (reading_of m) role ≡ Missing) ⊎ ((s : ℕ) × (role_state (reading_of m) role ≡ Whole s)) → held_slot (reading_of m) role row ≡ Some slot
-      by (inl none) = absurd (let e : ◌≡◌ {A = Option ℕ} None (Some slot) = sym (ap holder none) ∙ held in cc)
-      by (inr found) =
-          ap (λ (s : Role). held-by (reading_of m) s row) found.1 ∙ ap (λ (b : Bool). if b then Some found.0 else None) (lt-is row m.newest.size below)
-          ∙ sym (ap holder found.1) ∙ held
-
   pub has-rows : (shape : Shape) → shape ≡ shape_of m.newest → HasRows given (reading_of m) shape
   has-rows shape same = subst (HasRows given (reading_of m)) (sym same) (record {
     valid = placed.valid;
@@ -85,11 +54,6 @@ module _ (given : Given) (m : Members) (placed : IsPlaced given m) where
 -- ---- from one time to a later one
 
 module _ (given : Given) (mid new : Members) (moved : IsMoved given mid new) (was : IsPlaced given mid) where
-  pub held-before : (role row slot : ℕ) → held_slot (reading_of new) role row ≡ Some slot → held_slot (reading_of mid) role row ≡ Some slot
-  held-before role row slot held =
-      let out = held-out given new moved.placed role row slot held in
-      held-in given mid was role row slot (moved.held role slot out.0) (subst (λ (n : ℕ). row < n) moved.size out.1)
-
   -- a place that is held in the end, where no sector but superblocks has changed
   module _ (between after : Contents) (others : AreOthersPresent between after) where
     at-later : (role slot row : ℕ) → holder (role_state (reading_of new) role) ≡ Some slot → after slot (data_offset_of (reading_of new) slot + row) ≡ between slot (data_offset_of (reading_of mid) slot + row)
@@ -99,14 +63,14 @@ module _ (given : Given) (mid new : Members) (moved : IsMoved given mid new) (wa
 
     pub standing-later : (shape : Shape) (row : ℕ) (sectors : ℕ → Sector) → AreStanding (reading_of mid) between shape row sectors → AreStanding (reading_of new) after shape row sectors
     standing-later shape row sectors stands role slot lt held =
-        stands role slot lt (held-before role row slot held) ∙ sym (at-later role slot row (held-out given new moved.placed role row slot held).0)
+        stands role slot lt (held-moved moved role row slot held) ∙ sym (at-later role slot row (holder-of (reading_of new) role row slot held))
 
     pub written-later : (shape : Shape) (first : ℕ) (from rows : List ℕ) (start next : ℕ) (before : Contents) (buffer buffer' : List ℕ)
         → AreRowsWritten shape first from rows start next mid before between buffer buffer' → AreRowsWritten shape first from rows start next new before after buffer buffer'
     written-later shape first from rows start next before buffer buffer' did = record {
       full = λ list list' w has i from_start lt role slot l held.
-          at-later role slot (slice_index rows i) (held-out given new moved.placed role (slice_index rows i) slot held).0
-          ∙ did.full list list' w has i from_start lt role slot l (held-before role (slice_index rows i) slot held);
+          at-later role slot (slice_index rows i) (holder-of (reading_of new) role (slice_index rows i) slot held)
+          ∙ did.full list list' w has i from_start lt role slot l (held-moved moved role (slice_index rows i) slot held);
       others = λ row none role slot held.
           at-later role slot row held ∙ did.others row none role slot (moved.held role slot held)
           ∙ ap (λ (n : ℕ). before slot (n + row)) (sym (moved.offsets slot));
@@ -123,10 +87,10 @@ written-then given mid new moved was shape same first from rows once a b c ab wi
   full = λ list list' w has i from_a lt. elim (cases_lt i b) [
     | inl early ↦ (λ role slot l held.
         let row = slice_index rows i in
-        let holds = (held-out given new moved.placed role row slot held).0 in
+        let holds = holder-of (reading_of new) role row slot held in
         two.others row (λ j from_b lt' e. absurd (once i j (omega (arith, early, from_b)) (omega (arith, lt', within)) (sym e))) role slot holds
         ∙ ap (λ (n : ℕ). between slot (n + row)) (moved.offsets slot)
-        ∙ one.full list list' w has i from_a early role slot l (held-before given mid new moved was role row slot held))
+        ∙ one.full list list' w has i from_a early role slot l (held-moved moved role row slot held))
     | inr late ↦ two.full list list' w (λ j from_b l k there.
         one.rest j (place shape k).role from_b l (place-role_below shape (subst (λ (s : Shape). IsTrue (is_valid_shape s)) (sym same) was.valid) k) ∙ has j (omega (arith, ab, from_b)) l k there) i late lt
   ];

@@ -22,11 +22,13 @@ use Rattle.flat_history.specs.Flat.{values_after, values_of, first_values, now, 
 use Rattle.flat_history.specs.Losses.{was_dirty, is_resync_end, is_unsynced, settles, unsettles}
 use Rattle.flat_history.specs.Plain.{entries_of, loses_role}
 use Rattle.flat_history.specs.World.{World, opening_list}
-use Rattle.flat_history.specs.OneShape.{ShapeOpening, IsOneShapeEvent, AreOneShape, is_lost, is_unsettled, is_written, keeps_losses, KeepLosses}
+use Rattle.flat_history.specs.OneShape.{ShapeOpening, IsOneShapeEvent, AreOneShape, is_lost, is_gone_now, gives_role, is_gone_by, is_unsettled, is_written, keeps_shape_event, KeepShape}
+use Rattle.flat_history.proofs.OneShapeGone.{gone-or_lost}
+use Rattle.flat_history.proofs.OneShapeGrowing.{gone-more}
 use Rattle.array.specs.Kept.{ledger_now}
 use Rattle.array.specs.Views.{Ledger, ledger_of}
 use Rattle.array.specs.Steady.{IsSafeNow, IsMoreTold, settled_ledger}
-use Rattle.array.proofs.CallLaws.{AreLossEvents}
+use Rattle.array.proofs.CallLaws.{AreLossEvents, GivesNone}
 use Rattle.array.proofs.LackingLists.{row-sector}
 use Rattle.array.proofs.LosingLaws.{entries-both}
 use Rattle.array.proofs.MemberLaws.{without-none}
@@ -39,16 +41,16 @@ use Rattle.array.proofs.Steady.{losing-stays-safe}
 abbrev pub told_by : World → List Entry → List Entry → Ledger
 told_by world entries more = record {
   values = values_of (opening_list world) (entries ++ more);
-  gone = is_lost (entries ++ more);
+  gone = is_gone_now (entries ++ more);
   unclean = is_unsynced world entries || (is_unsettled entries || list_any (λ e. unsettles e.event) more);
 }
 
--- it judges a mark at which the call's entries aren't made yet
-pub told-ledger : (world : World) (entries more rest : List Entry) → ledger_of world (entries ++ (more ++ rest)) (length entries) (length (entries ++ more)) ≡ told_by world entries more
-told-ledger world entries more rest =
+-- it judges a mark at which the call's entries aren't made yet, where the first of them give no role back
+pub told-ledger : (world : World) (entries more rest : List Entry) → GivesNone more → ledger_of world (entries ++ (more ++ rest)) (length entries) (length (entries ++ more)) ≡ told_by world entries more
+told-ledger world entries more rest none =
     λ i. record {
       values = values_of (opening_list world) (first i);
-      gone = is_lost (first i);
+      gone = λ role. gone role i;
       unclean = is_unsynced world (take-append_seam entries (more ++ rest) i) || (is_unsettled (take-append_seam entries (more ++ rest) i) || list_any (λ e. unsettles e.event) (range i));
     }
   where
@@ -61,17 +63,20 @@ told-ledger world entries more rest =
     range : slice_range (entries ++ (more ++ rest)) (length entries) (length (entries ++ more)) ≡ more
     range = ap₂ (λ (n : ℕ) (l : List Entry). take n l) count (drop-append_seam entries (more ++ rest)) ∙ take-append_seam more rest
 
+    gone : (role : ℕ) → is_gone_by (entries ++ (more ++ rest)) (length entries) (length (entries ++ more)) role ≡ is_gone_now (entries ++ more) role
+    gone role = (λ i. is_gone_now (take-append_seam entries (more ++ rest) i) role || is_lost (range i) role) ∙ sym (gone-or_lost entries more role (none role))
+
 -- the whole history's judges one at which each entry is made
 pub now-ledger : (world : World) (entries : List Entry) → ledger_of world entries (length entries) (length entries) ≡ ledger_now world entries
 now-ledger world entries =
     λ i. record {
       values = values_of (opening_list world) (take-length entries i);
-      gone = is_lost (take-length entries i);
+      gone = λ role. gone role i;
       unclean = is_unsynced world (take-length entries i) || unwritten i;
     }
   where
-    none : (n : ℕ) (l : List Entry) → n ≡ 0 → list_any (λ e. unsettles e.event) (take n l) ≡ false
-    none n l is = ap (λ (m : ℕ). list_any (λ e. unsettles e.event) (take m l)) is
+    none : (test : Entry → Bool) (n : ℕ) (l : List Entry) → n ≡ 0 → list_any test (take n l) ≡ false
+    none test n l is = ap (λ (m : ℕ). list_any test (take m l)) is
 
     same : (n : ℕ) → n - n ≡ 0
     same n = omega arith
@@ -81,34 +86,45 @@ now-ledger world entries =
     or_none false b e = e
 
     unwritten : is_written entries (length entries) (length entries) ≡ is_unsettled entries
-    unwritten = or_none (is_unsettled (take (length entries) entries)) _ (none _ _ (same (length entries))) ∙ ap is_unsettled (take-length entries)
+    unwritten = or_none (is_unsettled (take (length entries) entries)) _ (none (λ e. unsettles e.event) _ _ (same (length entries))) ∙ ap is_unsettled (take-length entries)
+
+    gone : (role : ℕ) → is_gone_by entries (length entries) (length entries) role ≡ is_gone_now entries role
+    gone role =
+        or_none (is_gone_now (take (length entries) entries) role) _ (none (λ e. loses_role role e.event) _ _ (same (length entries)))
+        ∙ ap (λ (l : List Entry). is_gone_now l role) (take-length entries)
 
 -- ---- what more entries tell
 
--- These entries settle nothing and give no role back: whatever value a sector may have, it may have after them.
+neither : (a b : Bool) → (a || b) ≡ false → (a ≡ false) × (b ≡ false)
+neither true b e = absurd (cc)
+neither false b e = (refl, e)
+
+-- These entries settle nothing, keep the shape, and give no role back: whatever value a sector may have, it may have after them.
 pub record OnlyAdd (more : List Entry) : Type 0 where
   pub values : (x : ℕ) (values : List Sector) (v : Sector) → IsIn values v → IsIn (fold (λ values e. values_after x values e.event) values more) v
   pub settles : list_any (λ e. settles e.event) more ≡ false
-  pub keep : KeepLosses more
+  pub keep : KeepShape more
+  pub gives : GivesNone more
 
 pub add-none : OnlyAdd []
-add-none = record { values = λ x values v may. may; settles = refl; keep = refl }
+add-none = record { values = λ x values v may. may; settles = refl; keep = refl; gives = λ role. refl }
 
-pub add-one : (e : Entry) (more : List Entry) → ((x : ℕ) (values : List Sector) (v : Sector) → IsIn values v → IsIn (values_after x values e.event) v) → settles e.event ≡ false → keeps_losses e.event ≡ true
-    → OnlyAdd more → OnlyAdd (e ∷ more)
-add-one e more adds unsettled keeps rest = record {
+pub add-one : (e : Entry) (more : List Entry) → ((x : ℕ) (values : List Sector) (v : Sector) → IsIn values v → IsIn (values_after x values e.event) v) → settles e.event ≡ false → keeps_shape_event e.event ≡ true
+    → GivesNone (e ∷ []) → OnlyAdd more → OnlyAdd (e ∷ more)
+add-one e more adds unsettled keeps none rest = record {
   values = λ x values v may. rest.values x (values_after x values e.event) v (adds x values v may);
   settles = ap (λ (b : Bool). b || list_any (λ e. settles e.event) more) unsettled ∙ rest.settles;
-  keep = ap (λ (b : Bool). b && list_all (λ e. keeps_losses e.event) more) keeps ∙ rest.keep;
+  keep = ap (λ (b : Bool). b && list_all (λ e. keeps_shape_event e.event) more) keeps ∙ rest.keep;
+  gives = λ role. ap₂ (λ (a b : Bool). a || b) (neither (gives_role role e.event) false (none role)).0 (rest.gives role);
 }
 
 pub add-losses : (who : Who) (end : ℕ) (xs ys : List Event) → AreLossEvents xs → OnlyAdd (entries_of who end ys) → OnlyAdd (entries_of who end (xs ++ ys))
 add-losses who end [] ys are rest = rest
-add-losses who end (Lost role Fault ∷ xs) ys are rest = add-one _ _ (λ x values v may. may) refl refl (add-losses who end xs ys are rest)
-add-losses who end (SpareLost slot ∷ xs) ys are rest = add-one _ _ (λ x values v may. may) refl refl (add-losses who end xs ys are rest)
+add-losses who end (Lost role Fault ∷ xs) ys are rest = add-one _ _ (λ x values v may. may) refl refl (λ r. refl) (add-losses who end xs ys are rest)
+add-losses who end (SpareLost slot ∷ xs) ys are rest = add-one _ _ (λ x values v may. may) refl refl (λ r. refl) (add-losses who end xs ys are rest)
 add-losses who end (event ∷ xs) ys are rest = absurd are
 
-pub keep-losses : (who : Who) (end : ℕ) (xs ys : List Event) → AreLossEvents xs → KeepLosses (entries_of who end ys) → KeepLosses (entries_of who end (xs ++ ys))
+pub keep-losses : (who : Who) (end : ℕ) (xs ys : List Event) → AreLossEvents xs → KeepShape (entries_of who end ys) → KeepShape (entries_of who end (xs ++ ys))
 keep-losses who end [] ys are rest = rest
 keep-losses who end (Lost role Fault ∷ xs) ys are rest = keep-losses who end xs ys are rest
 keep-losses who end (SpareLost slot ∷ xs) ys are rest = keep-losses who end xs ys are rest
@@ -144,10 +160,6 @@ or_right false b e = e
 or_assoc : (a b c : Bool) → (a || (b || c)) ≡ ((a || b) || c)
 or_assoc true b c = refl
 or_assoc false b c = refl
-
-neither : (a b : Bool) → (a || b) ≡ false → (a ≡ false) × (b ≡ false)
-neither true b e = absurd (cc)
-neither false b e = (refl, e)
 
 -- where none settles, it is so if one of them is
 alone-unsettled : (more : List Entry) → list_any (λ e. settles e.event) more ≡ false → is_unsettled more ≡ list_any (λ e. unsettles e.event) more
@@ -213,9 +225,6 @@ unsynced-more world entries more none = pending-more (was_dirty world) entries m
 
 -- ---- more that is told
 
-lost-still : (entries more : List Entry) (role : ℕ) → is_lost entries role ≡ true → is_lost (entries ++ more) role ≡ true
-lost-still entries more role is = list_any-append (λ e. loses_role role e.event) entries more ∙ or_left (is_lost entries role) (is_lost more role) is
-
 -- where no role is told lost, none was before
 pub none-lost-before : (entries more : List Entry) → ((role : ℕ) → is_lost (entries ++ more) role ≡ false) → (role : ℕ) → is_lost entries role ≡ false
 none-lost-before entries more none role = (neither (is_lost entries role) (is_lost more role) (sym (list_any-append (λ e. loses_role role e.event) entries more) ∙ none role)).0
@@ -225,7 +234,7 @@ module _ (world : World) (size : ℕ) (entries more : List Entry) (adds : OnlyAd
   pub told-more : IsMoreTold size (ledger_now world entries) (told_by world entries more)
   told-more = record {
     values = λ x lt v may. subst (λ (l : List Sector). IsIn l v) (sym (values-more (opening_list world) entries more x)) (adds.values x (values_of (opening_list world) entries x) v may);
-    gone = λ role is. lost-still entries more role is;
+    gone = λ role is. gone-more role entries more (adds.gives role) is;
     unclean = λ is. by (is_unsynced world entries) (is_unsettled entries) is;
   }
     where
@@ -333,10 +342,10 @@ torn-in at body x values has is = subst (λ (b : Bool). IsIn (cond b (behind (se
 
 -- A flush or a stop behind the call's losses leaves each sector its newest value, and so does the end of a resync.
 pub settled-now : (world : World) (size : ℕ) (unsynced : Bool) (entries more rest : List Entry) → is_unsynced world (entries ++ (more ++ rest)) ≡ unsynced
-    → ((x : ℕ) → x < size → IsIn (values_of (opening_list world) (entries ++ (more ++ rest)) x) (now (opening_list world) entries x))
+    → ((x : ℕ) → x < size → IsIn (values_of (opening_list world) (entries ++ (more ++ rest)) x) (now (opening_list world) entries x)) → GivesNone rest
     → IsMoreTold size (settled_ledger unsynced (now (opening_list world) entries) (told_by world entries more)) (ledger_now world (entries ++ (more ++ rest)))
-settled-now world size unsynced entries more rest dirty newest = record {
+settled-now world size unsynced entries more rest dirty newest none = record {
   values = λ x lt v only. elim only [ inl same ↦ subst (λ (w : Sector). IsIn (values_of (opening_list world) (entries ++ (more ++ rest)) x) w) (sym same) (newest x lt) | inr none ↦ absurd none ];
-  gone = λ role is. subst (λ (l : List Entry). is_lost l role ≡ true) (append_assoc entries more rest) (lost-still (entries ++ more) rest role is);
+  gone = λ role is. subst (λ (l : List Entry). is_gone_now l role ≡ true) (append_assoc entries more rest) (gone-more role (entries ++ more) rest (none role) is);
   unclean = λ is. or_left (is_unsynced world (entries ++ (more ++ rest))) (is_unsettled (entries ++ (more ++ rest))) (dirty ∙ is);
 }

@@ -17,6 +17,7 @@ pub mod ReadyLaws
 pub mod MarkedLaws
 pub mod ReadWhole
 pub mod HeldKept
+mod HeldRows
 pub mod SafeLaws
 pub mod LackingLaws
 pub mod LackingWrites

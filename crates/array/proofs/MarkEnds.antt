@@ -22,9 +22,11 @@ use Rattle.superblocks.proofs.SaidSlots.{has-slots_below}
 use Rattle.superblocks.proofs.Taken.{taken_members}
 use Rattle.superblocks.proofs.LiveAfter.{live_after}
 use Rattle.superblocks.proofs.UpdateReads.{some-or-all}
+use Rattle.row_io.specs.Rows.{reading_of}
 use Rattle.array.specs.Placed.{IsPlaced, AreLess}
 use Rattle.array.specs.Marking.{marking, IsMarked}
 use Rattle.array.specs.Safety.{HasLiveSlot}
+use Rattle.array.proofs.HeldRows.{rows-same}
 use Rattle.array.proofs.MarkLaws.{give_of-same, roles-kept}
 use Rattle.array.proofs.PlacedLaws.{placed-less, marked-clean}
 use Rattle.array.proofs.MemberLaws.{placed-without}
@@ -66,10 +68,21 @@ count-is m still =
 
 -- ---- a round
 
--- its members are placed as before
+-- its members say the same
+pub round-less : (lost : ℕ) (old : Members) (clean : Bool) → AreLess lost old (marked_without lost old clean)
+round-less lost old clean = record {
+  still = refl;
+  shape = refl;
+  size = refl;
+  roles = refl;
+  offsets = λ slot. refl;
+  rows = rows-same (reading_of (marked_without lost old clean)) (reading_of old) refl refl (λ slot. refl);
+}
+
+-- and are placed as before
 pub round-placed : (given : Given) (lost : ℕ) (old : Members) (clean : Bool) → IsPlaced given old → IsPlaced given (marked_without lost old clean)
 round-placed given lost old clean placed =
-    placed-less given lost old (marked_without lost old clean) (record { still = refl; shape = refl; size = refl; roles = refl; offsets = λ slot. refl }) placed (placed-without given old lost placed).live
+    placed-less given lost old (marked_without lost old clean) (round-less lost old clean) placed (placed-without given old lost placed).live
 
 pub round-clean : (lost : ℕ) (old : Members) (clean : Bool) → is_clean (marked_without lost old clean).newest ≡ clean
 round-clean lost old true = refl

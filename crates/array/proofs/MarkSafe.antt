@@ -25,8 +25,8 @@ use Rattle.array.specs.Steady.{IsSafeNow, IsSteady, IsSpent, IsNamedNow, IsSafeS
 use Rattle.array.proofs.ReadOf.{disk-somewhere}
 use Rattle.array.proofs.Marked.{mark-read, mark-held}
 use Rattle.array.proofs.Since.{since-none}
-use Rattle.array.proofs.ViewsKept.{view-kept, list-same, held-less, settled-less, did-without, missing-in}
-use Rattle.array.proofs.MarkEnds.{some-or-none, live-either, round-placed, round-clean, left-in-mark, none-left, new-placed, new-clean, others-kept, nothing-marked}
+use Rattle.array.proofs.ViewsKept.{view-kept, list-same, allowed-less, settled-less, did-without, missing-in}
+use Rattle.array.proofs.MarkEnds.{some-or-none, live-either, round-less, round-placed, round-clean, left-in-mark, none-left, new-placed, new-clean, others-kept, nothing-marked}
 use Rattle.array.proofs.Steady.{safe-is-seen}
 
 abbrev Disk : Type 0
@@ -80,7 +80,7 @@ module _ (sound : Type 0) (scope : Scope) (given : Given) (size : ℕ) (told : L
 
     held-old : AreHeldAllowed old told.values (disk given.start before)
     held-old = subst (λ (o : Members). AreHeldAllowed o told.values (disk given.start before)) (sym since.since)
-        (held-less given since.gone former (members_without since.gone former) right.placed (less-without former since.gone) told.values (disk given.start before) right.held)
+        (allowed-less given since.gone former (members_without since.gone former) right.placed (less-without former since.gone) told.values (disk given.start before) right.held)
 
     -- marked members, of which no other slots are lost than at the end
     view-marked : (lost : ℕ) (view : Members) → AreLess lost old view → IsPlaced given view → is_clean view.newest ≡ clean → IsWithin lost new.lost
@@ -91,14 +91,14 @@ module _ (sound : Type 0) (scope : Scope) (given : Given) (size : ℕ) (told : L
       gone = λ role lt missing. markable.gone role (subst (λ (s : Shape). role < s.disks) (less.shape ∙ sym m.less.shape) lt)
           (missing-in given lost old view m.placed less new.lost new m.less within role missing);
       unclean = λ dirty. markable.unclean (sym marked ∙ dirty);
-      held = held-less given lost old view m.placed less told.values (disk given.start before) held-old;
+      held = allowed-less given lost old view m.placed less told.values (disk given.start before) held-old;
       settled = λ is does premise. settled-less given lost old view m.placed less told.values (disk given.start before)
           (markable.settled (sym marked ∙ is) (did-without given lost old view m.placed less does) premise);
     }
 
     view-round : (view : Members) → IsRoundOf old clean new.lost view → IsViewRight sound given size told view (disk given.start before)
     view-round view r = subst (λ (v : Members). IsViewRight sound given size told v (disk given.start before)) (sym r.is)
-        (view-marked r.lost (marked_without r.lost old clean) (record { still = refl; shape = refl; size = refl; roles = refl; offsets = λ slot. refl })
+        (view-marked r.lost (marked_without r.lost old clean) (round-less r.lost old clean)
         (round-placed given r.lost old clean m.placed) (round-clean r.lost old clean) r.within)
 
     -- it is so at each mark

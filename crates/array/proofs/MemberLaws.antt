@@ -10,14 +10,14 @@ use Rattle.std.proofs.lemmas.Nat.{mul-le}
 use Rattle.std.proofs.lemmas.Nat.Bits.{bit_at_or}
 use Rattle.md_base.specs.declared.places.Shape.{Shape}
 use Rattle.md_base.specs.declared.status.Role.{Role}
-use Rattle.md_base.specs.declared.status.Role.TheVariants.{Whole, Missing}
+use Rattle.md_base.specs.declared.status.Role.TheVariants.{Whole, Recovering, Missing}
 use Rattle.md_base.specs.Search.{count_below}
 use Rattle.md_base.specs.Shapes.{has_slot, data_disks}
 use Rattle.bank.specs.Given.{Given, NeverFalls}
 use Rattle.layout.proofs.Limits.{limited}
 use Rattle.parity.proofs.Columns.{bool_cases}
 use Rattle.superblocks.specs.declared.members.Members.{Members}
-use Rattle.superblocks.specs.Reading.{Reading, role_state, holder, shape_of, is_whole}
+use Rattle.superblocks.specs.Reading.{role_state, holder, shape_of, is_whole}
 use Rattle.superblocks.specs.Update.{is_held_by}
 use Rattle.superblocks.proofs.SlotSets.{same_set, none_there}
 use Rattle.row_io.specs.Rows.{reading_of, is_missing, missing_count, role_without, members_without, HaveFailed}
@@ -26,16 +26,18 @@ use Rattle.row_io.proofs.Written.{members_without-none}
 use Rattle.row_io.proofs.Tables.{count_below-above, length-mapped}
 use Rattle.array.specs.Whole.{AreFit, placed, list_size}
 use Rattle.array.specs.Placed.{places_of, AreWhole, IsPlaced, AreUnlost, AreLess, AreLost}
+use Rattle.array.proofs.HeldRows.{rows-same}
 
 -- ---- the roles
 
-whole_by : (r : Reading) (state : Role) → (state ≡ Missing) ⊎ ((slot : ℕ) × (state ≡ Whole slot)) → not (is_whole state) ≡ false → state ≡ Whole (unwrap_or (holder state) 0)
-whole_by r state (inl missing) not = absurd (let e = ap is_whole missing in cc)
-whole_by r state (inr held) not = held.1 ∙ ap (λ (o : Option ℕ). Whole (unwrap_or o 0)) (sym (ap holder held.1))
+whole_by : (state : Role) → not (is_whole state) ≡ false → state ≡ Whole (unwrap_or (holder state) 0)
+whole_by (Whole slot) not = refl
+whole_by (Recovering slot) not = absurd (cc)
+whole_by Missing not = absurd (cc)
 
 module _ (given : Given) (m : Members) (is : IsPlaced given m) (whole : AreWhole m) where
   pub state-is : (role : ℕ) → role < (shape_of m.newest).disks → role_state (reading_of m) role ≡ Whole ((places_of m).slot role)
-  state-is role lt = whole_by (reading_of m) (role_state (reading_of m) role) (is.states role) (whole role lt)
+  state-is role lt = whole_by (role_state (reading_of m) role) (whole role lt)
 
   pub holder-is : (role : ℕ) → role < (shape_of m.newest).disks → holder (role_state (reading_of m) role) ≡ Some ((places_of m).slot role)
   holder-is role lt = ap holder (state-is role lt)
@@ -116,13 +118,6 @@ any_before lost slot (state ∷ roles) held =
     or_more (is_held_by slot (role_without lost state)) (list_any (is_held_by slot) (map (role_without lost) roles)) (is_held_by slot state) (list_any (is_held_by slot) roles) held
     (held_before lost slot state) (any_before lost slot roles)
 
-state_either : (lost : ℕ) (state : Role) → (state ≡ Missing) ⊎ ((slot : ℕ) × (state ≡ Whole slot)) → (role_without lost state ≡ Missing) ⊎ ((slot : ℕ) × (role_without lost state ≡ Whole slot))
-state_either lost state either = by (option_map_or (has_slot lost) (holder state) false) refl
-  where
-    by : (b : Bool) → option_map_or (has_slot lost) (holder state) false ≡ b → (role_without lost state ≡ Missing) ⊎ ((slot : ℕ) × (role_without lost state ≡ Whole slot))
-    by true bit = inl (ap (λ (b : Bool). if b then Missing else state) bit)
-    by false bit = subst (λ (s : Role). (s ≡ Missing) ⊎ ((slot : ℕ) × (s ≡ Whole slot))) (sym (ap (λ (b : Bool). if b then Missing else state) bit)) either
-
 pub placed-without : (given : Given) (m : Members) (lost : ℕ) → IsPlaced given m → IsPlaced given (members_without lost m)
 placed-without given m lost is = record {
   still = is.still;
@@ -130,7 +125,6 @@ placed-without given m lost is = record {
   multiple = is.multiple;
   short = is.short;
   roles = length-mapped (role_without lost) m.roles ∙ is.roles;
-  states = λ role. subst (λ (s : Role). (s ≡ Missing) ⊎ ((slot : ℕ) × (s ≡ Whole slot))) (sym (state_after m lost role)) (state_either lost (role_state (reading_of m) role) (is.states role));
   holders = λ role slot held.
       let was = is.holders role slot (holder-after m lost role slot held) in
       record { small = was.small; known = was.known; short = was.short; within = was.within };
@@ -146,7 +140,14 @@ placed-without given m lost is = record {
 
 -- such members say the same of the array, but for the lost roles
 pub less-without : (m : Members) (lost : ℕ) → AreLess lost m (members_without lost m)
-less-without m lost = record { still = refl; shape = refl; size = refl; roles = refl; offsets = λ slot. refl }
+less-without m lost = record {
+  still = refl;
+  shape = refl;
+  size = refl;
+  roles = refl;
+  offsets = λ slot. refl;
+  rows = rows-same (reading_of (members_without lost m)) (reading_of m) refl refl (λ slot. refl);
+}
 
 neither : (m a b : ℕ) → m ≡ max a b → (a == 1) ≡ false → (b == 1) ≡ false → (m == 1) ≡ false
 neither m a b is no_a no_b = grind (arith, nat_tests)

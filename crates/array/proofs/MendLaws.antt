@@ -23,7 +23,7 @@ use Rattle.flat_history.specs.Flat.{now, values_after}
 use Rattle.flat_history.specs.Losses.{settles}
 use Rattle.flat_history.specs.Sound.{OpensFit, FillsRight}
 use Rattle.flat_history.specs.Plain.{entries_of}
-use Rattle.flat_history.specs.OneShape.{opening_in, is_unsettled, keeps_losses, IsCallOpen}
+use Rattle.flat_history.specs.OneShape.{opening_in, is_unsettled, keeps_shape_event, IsCallOpen}
 use Rattle.array.specs.Whole.{list_size}
 use Rattle.array.specs.Placed.{places_of, IsPlaced}
 use Rattle.array.specs.Losing.{losses_of}
@@ -37,7 +37,7 @@ use Rattle.array.specs.Kept.{world_in, AreSectorsWhole, IsKept}
 use Rattle.array.specs.Calls.{HasStripeLeft, IsRefusedHere}
 use Rattle.array.proofs.PlainLaws.{one}
 use Rattle.array.proofs.NowLaws.{now-quiet}
-use Rattle.array.proofs.CallLaws.{losses-are}
+use Rattle.array.proofs.CallLaws.{GivesNone, losses-are}
 use Rattle.array.proofs.LeftLaws.{left-behind}
 use Rattle.array.proofs.LedgerLaws.{told_by, OnlyAdd, add-none, add-one, add-losses, pending-more, told-more, told-unclean}
 use Rattle.array.proofs.RecordLaws.{AreSilent}
@@ -79,7 +79,8 @@ module _ {tells : Type 0} {given : Given} {tape tape' : List Operation} {scope :
   list = now (opening_list (world_in given tape scope first)) entries
 
   -- An event that gives no value and settles nothing, behind the losses.
-  module _ (event : Event) (silent : AreSilent who end (event ∷ [])) (still : (x : ℕ) (values : List Sector) → values_after x values event ≡ values) (settled : settles event ≡ false) (keeps : keeps_losses event ≡ true) where
+  module _ (event : Event) (silent : AreSilent who end (event ∷ [])) (still : (x : ℕ) (values : List Sector) → values_after x values event ≡ values) (settled : settles event ≡ false) (keeps : keeps_shape_event event ≡ true)
+      (gives : GivesNone (entries_of who end (event ∷ []))) where
     abbrev events : List Event
     events = losses_of roles spares ++ event ∷ []
 
@@ -90,7 +91,7 @@ module _ {tells : Type 0} {given : Given} {tape tape' : List Operation} {scope :
     still-all = still-behind who end losses event (losses-are roles spares) (λ x values. ap (λ (l : List Sector). slice_index_or l 0 []) (still x values))
 
     adds : OnlyAdd (entries_of who end events)
-    adds = add-losses who end losses (event ∷ []) (losses-are roles spares) (add-one (one who end event) [] (λ x values v may. subst (λ (l : List Sector). IsIn l v) (sym (still x values)) may) settled keeps add-none)
+    adds = add-losses who end losses (event ∷ []) (losses-are roles spares) (add-one (one who end event) [] (λ x values v may. subst (λ (l : List Sector). IsIn l v) (sym (still x values)) may) settled keeps gives add-none)
 
     same-now : now (opening_list (world_in given tape scope first)) (entries ++ entries_of who end events) ≡ list
     same-now = λ i x. now-quiet (opening_list (world_in given tape scope first)) entries (entries_of who end events) x (λ values. still-all x values) i
@@ -106,7 +107,7 @@ module _ {tells : Type 0} {given : Given} {tape tape' : List Operation} {scope :
             let world = world_in given tape scope first in
             let size = list_size (places_of members) in
             let added = entries_of who end events in
-            safe t world size (told_by world entries added) room (told-behind who end was opens caller at_end moved grows roles spares before after since (event ∷ []))
+            safe t world size (told_by world entries added) room (told-behind who end was opens caller at_end moved grows roles spares before after since (event ∷ []) gives)
             (told-unclean world size entries added adds (is_some resync) (was.recorded t).dirty (ap (λ (o : Option ℕ). is_some o || is_unsettled entries) pending))
             list (was.holds t does)
             (λ x lt. (told-more world size entries added adds).values x lt (list x) (newest-old who end was opens caller at_end moved grows added t fills x lt)) began
@@ -125,16 +126,16 @@ module _ {tells : Type 0} {given : Given} {tape tape' : List Operation} {scope :
 
   pub degraded-unmended : (refusal : Refusal) → IsUnwritten false members' refusal → IsKept tells given tape' scope first (entries ++ entries_of who end (losses_of roles spares ++ Refused refusal ∷ [])) members' resync
   degraded-unmended refusal why =
-      degraded-after who end was opens caller at_end moved grows losses (Refused refusal) (silent-all (Refused refusal) quiet none refl refl)
+      degraded-after who end was opens caller at_end moved grows losses (Refused refusal) (silent-all (Refused refusal) quiet none refl refl (λ role. refl))
       (resync-stays who end was opens caller at_end moved grows (losses ++ Refused refusal ∷ []) (left-behind (left_of resync members) who end losses (Refused refusal ∷ []) (losses-are roles spares) (λ left is. is))
       (none-ended who end was opens caller at_end moved grows roles spares before after since (Refused refusal ∷ []) refl))
-      (told-behind who end was opens caller at_end moved grows roles spares before after since (Refused refusal ∷ []))
+      (told-behind who end was opens caller at_end moved grows roles spares before after since (Refused refusal ∷ []) (λ role. refl))
       (λ t fills. call-refused who end was opens caller at_end moved grows roles spares before after since refusal here t)
-      (holds-mending (Refused refusal) quiet none refl refl)
-      (whole-still who end was opens caller at_end moved grows (losses ++ Refused refusal ∷ []) (still-all (Refused refusal) quiet none refl refl))
-      (λ t does' fit row below lt. subst (λ (l : ℕ → Sector). RowStands (reading_of members') (present given tape') (shape_of members'.newest) l row) (sym (same-now (Refused refusal) quiet none refl refl))
-      (row-kept (Refused refusal) quiet none refl refl t does' fit row (subst (λ (n : ℕ). row < n) (mended-are who end was opens caller at_end moved grows) below) (subst (λ (n : ℕ). row < n) moved.size lt)))
-      (leaves-mending (Refused refusal) quiet none refl refl)
+      (holds-mending (Refused refusal) quiet none refl refl (λ role. refl))
+      (whole-still who end was opens caller at_end moved grows (losses ++ Refused refusal ∷ []) (still-all (Refused refusal) quiet none refl refl (λ role. refl)))
+      (λ t does' fit row below lt. subst (λ (l : ℕ → Sector). RowStands (reading_of members') (present given tape') (shape_of members'.newest) l row) (sym (same-now (Refused refusal) quiet none refl refl (λ role. refl)))
+      (row-kept (Refused refusal) quiet none refl refl (λ role. refl) t does' fit row (subst (λ (n : ℕ). row < n) (mended-are who end was opens caller at_end moved grows) below) (subst (λ (n : ℕ). row < n) moved.size lt)))
+      (leaves-mending (Refused refusal) quiet none refl refl (λ role. refl))
     where
       quiet : AreSilent who end (Refused refusal ∷ [])
       quiet = record { length = λ n. refl; limit = refl }
@@ -182,7 +183,7 @@ module _ {tells : Type 0} {given : Given} {tape tape' : List Operation} {scope :
     row-mended : (t : tells) → DoesWithout members' → OpensFit (world_in given tape scope first) → (row : ℕ) → row < (mended + 1) * (shape_of members.newest).chunk → row < members.newest.size
         → RowStands (reading_of members') (present given tape') (shape_of members'.newest) list row
     row-mended t does' fit row high lt = elim (cases_lt row (mended * (shape_of members.newest).chunk)) [
-      | inl low ↦ row-kept (Step ResyncStripe steps) quiet-step none-step refl refl t does' fit row (subst (λ (o : Option ℕ). row < mended_rows o members) (sym pending) low) lt
+      | inl low ↦ row-kept (Step ResyncStripe steps) quiet-step none-step refl refl (λ role. refl) t does' fit row (subst (λ (o : Option ℕ). row < mended_rows o members) (sym pending) low) lt
       | inr low ↦ subst (λ (s : Shape). RowStands (reading_of members') (present given tape') s list row) (shape_is ∙ sym moved.shape)
           (mends t list (was.holds t does) row (subst (λ (s : Shape). IsOfStripe s mended row) (sym shape_is) (low, high))
           (subst (λ (s : Shape). AreWholeIn s list row) (sym shape_is) (whole-in given members was.placed list (was.whole t fit.1) row lt)))
@@ -190,12 +191,12 @@ module _ {tells : Type 0} {given : Given} {tape tape' : List Operation} {scope :
 
     pub degraded-mended : IsKept tells given tape' scope first (entries ++ entries_of who end (losses_of roles spares ++ Step ResyncStripe steps ∷ [])) members' (Some (mended + 1))
     degraded-mended =
-        degraded-after who end was opens caller at_end moved grows losses (Step ResyncStripe steps) (silent-all (Step ResyncStripe steps) quiet-step none-step refl refl) resync-mends
-        (told-behind who end was opens caller at_end moved grows roles spares before after since (Step ResyncStripe steps ∷ []))
+        degraded-after who end was opens caller at_end moved grows losses (Step ResyncStripe steps) (silent-all (Step ResyncStripe steps) quiet-step none-step refl refl (λ role. refl)) resync-mends
+        (told-behind who end was opens caller at_end moved grows roles spares before after since (Step ResyncStripe steps ∷ []) (λ role. refl))
         (λ t fills. call-stepped (opening_in (world_in given tape scope first)) (left_of resync members) entries who end losses ResyncStripe steps (losses-are roles spares) tt one-less was.left)
-        (holds-mending (Step ResyncStripe steps) quiet-step none-step refl refl)
-        (whole-still who end was opens caller at_end moved grows mending (still-all (Step ResyncStripe steps) quiet-step none-step refl refl))
-        (λ t does' fit row high lt. subst (λ (l : ℕ → Sector). RowStands (reading_of members') (present given tape') (shape_of members'.newest) l row) (sym (same-now (Step ResyncStripe steps) quiet-step none-step refl refl))
+        (holds-mending (Step ResyncStripe steps) quiet-step none-step refl refl (λ role. refl))
+        (whole-still who end was opens caller at_end moved grows mending (still-all (Step ResyncStripe steps) quiet-step none-step refl refl (λ role. refl)))
+        (λ t does' fit row high lt. subst (λ (l : ℕ → Sector). RowStands (reading_of members') (present given tape') (shape_of members'.newest) l row) (sym (same-now (Step ResyncStripe steps) quiet-step none-step refl refl (λ role. refl)))
         (row-mended t does' fit row (subst (λ (s : Shape). row < (mended + 1) * s.chunk) moved.shape high) (subst (λ (n : ℕ). row < n) moved.size lt)))
         (subst (λ (b : Bool). LeavesSafe tells given tape' scope first (entries ++ entries_of who end mending) members' b) (ap (λ (o : Option ℕ). is_some o) pending)
-        (leaves-mending (Step ResyncStripe steps) quiet-step none-step refl refl))
+        (leaves-mending (Step ResyncStripe steps) quiet-step none-step refl refl (λ role. refl)))

@@ -19,6 +19,7 @@ use Rattle.array.specs.Placed.{places_of, AreWhole, IsPlaced, AreLost, AreUnlost
 use Rattle.array.specs.Moving.{Grows, IsMoved}
 use Rattle.array.specs.Lacking.{lacking}
 use Rattle.array.proofs.PlacedLaws.{kept-roles, none-lost, places-same, state-without}
+use Rattle.array.proofs.HeldRows.{state-less}
 use Rattle.array.proofs.MemberLaws.{less-without, none_missing}
 
 -- ---- the tape
@@ -62,6 +63,7 @@ module _ (given : Given) (lost : ℕ) (old new : Members) (less : AreLess lost o
     size = less.size;
     roles = less.roles ∙ kept-roles lost old.roles kept ∙ sym (none-lost old.roles);
     offsets = less.offsets;
+    rows = less.rows;
   }
     where
       kept : (role slot : ℕ) → holder (get_or old.roles role Missing) ≡ Some slot → has_slot lost slot ≡ false
@@ -85,6 +87,8 @@ module _ (given : Given) (lost : ℕ) (old new : Members) (less : AreLess lost o
     placed = placed;
     unlost = unlost;
     held = still-held;
+    states = λ role slot held. state-less lost old new less role slot held;
+    rows = less.rows;
     spares = spares;
     shape = less.shape;
     size = less.size;
@@ -100,6 +104,8 @@ moved-same given given' old new same is placed unlost =
       placed = placed;
       unlost = unlost;
       held = λ role slot held. held;
+      states = λ role slot held. refl;
+      rows = λ state. refl;
       spares = λ few. few;
       shape = refl;
       size = refl;
@@ -117,6 +123,8 @@ moved-then given a b c one two = record {
   placed = two.placed;
   unlost = two.unlost;
   held = λ role slot held. one.held role slot (two.held role slot held);
+  states = λ role slot held. two.states role slot held ∙ one.states role slot (two.held role slot held);
+  rows = λ state. two.rows state ∙ one.rows state;
   spares = λ few. two.spares (one.spares few);
   shape = two.shape ∙ one.shape;
   size = two.size ∙ one.size;

@@ -1,5 +1,5 @@
 -- An array's places after slots were lost, and after its superblocks were marked.
-use Rattle.std.proofs.Common.{◌≡◌, ℕ, zero, suc, ◌-◌, ◌≤◌, ◌⊎◌, inl, inr, Bool, true, false, not, cond, ◌==◌, List, [], ◌∷◌, length, get_or, refl, sym, ap, ap₂, ◌∙◌, subst, arith, Option, Some, None, map, replicate, max, unwrap_or}
+use Rattle.std.proofs.Common.{◌≡◌, ℕ, zero, suc, ◌-◌, ◌≤◌, Bool, true, false, not, cond, ◌==◌, List, [], ◌∷◌, length, get_or, refl, sym, ap, ap₂, ◌∙◌, subst, arith, Option, Some, None, map, replicate, max, unwrap_or}
 use Rattle.std.specs.Prelude.{◌^◌, pos, ◌-ℤ◌}
 use Rattle.std.specs.Option.{option_map_or}
 use Rattle.std.proofs.lemmas.Bool.Decides.{nat_tests}
@@ -8,6 +8,7 @@ use Rattle.md_base.specs.declared.places.Shape.{Shape}
 use Rattle.md_base.specs.declared.status.Role.{Role}
 use Rattle.md_base.specs.declared.status.Role.TheVariants.{Whole, Recovering, Missing}
 use Rattle.bank.specs.Given.{Given}
+use Rattle.sb1.specs.Superblock.{checksum}
 use Rattle.sb1.specs.declared.sb.Sb.{Sb}
 use Rattle.superblocks.specs.declared.change.Give.TheVariants.{Same}
 use Rattle.superblocks.specs.declared.members.Members.{Members}
@@ -22,6 +23,7 @@ use Rattle.row_io.specs.Rows.{reading_of, role_without, IsHolder}
 use Rattle.array.specs.Placed.{places_of, IsPlaced, AreUnlost, AreLess}
 use Rattle.array.specs.Marking.{resync_of, marking}
 use Rattle.array.proofs.MarkLaws.{give_of-same, roles-kept}
+use Rattle.array.proofs.HeldRows.{rows-same}
 
 -- ---- a role whose slot may be lost
 
@@ -37,14 +39,6 @@ without-holder lost (Recovering s) slot is = by (has_slot lost s) is
     by true e = absurd (cc)
     by false e = e
 without-holder lost Missing slot is = is
-
-without-state : (lost : ℕ) (state : Role) → (state ≡ Missing) ⊎ ((slot : ℕ) × (state ≡ Whole slot)) → (role_without lost state ≡ Missing) ⊎ ((slot : ℕ) × (role_without lost state ≡ Whole slot))
-without-state lost state (inl is) = inl (ap (role_without lost) is)
-without-state lost state (inr found) = by (has_slot lost found.0) refl
-  where
-    by : (b : Bool) → has_slot lost found.0 ≡ b → (role_without lost state ≡ Missing) ⊎ ((slot : ℕ) × (role_without lost state ≡ Whole slot))
-    by true gone = inl (ap (role_without lost) found.1 ∙ ap (λ (b : Bool). cond b Missing (Whole found.0)) gone)
-    by false kept = inr (found.0, ap (role_without lost) found.1 ∙ ap (λ (b : Bool). cond b Missing (Whole found.0)) kept)
 
 pub state-without : (lost : ℕ) (roles : List Role) (role : ℕ) → get_or (map (role_without lost) roles) role Missing ≡ role_without lost (get_or roles role Missing)
 state-without lost [] role = refl
@@ -80,7 +74,6 @@ module _ (given : Given) (lost : ℕ) (old new : Members) (less : AreLess lost o
     multiple = ap₂ (λ (n : ℕ) (s : Shape). is_multiple n s.chunk) less.size less.shape ∙ placed.multiple;
     short = rw less.size placed.short;
     roles = ap length less.roles ∙ length-without lost old.roles ∙ placed.roles ∙ ap (λ (s : Shape). s.disks) (sym less.shape);
-    states = λ role. rw (state-is role) (without-state lost (role_state (reading_of old) role) (placed.states role));
     holders = λ role slot is.
         let was : IsHolder given (reading_of old) slot = placed.holders role slot (held-before role slot is) in
         record { small = was.small; known = was.known; short = was.short; within = rw (less.offsets slot) (rw less.size was.within) };
@@ -160,20 +153,20 @@ module _ (old new : Members) (clean : Bool) (kept : ℕ → Bool)
     disks = cond b (count_of (pos old.newest.raid_disks -ℤ old.newest.delta_disks)) old.newest.raid_disks;
   }) (sym says.reshaping)
 
-  -- the array's fields in the planned superblock of a slot are those of its own device
-  offset-kept : (slot : ℕ) → data_offset_of (reading_of new) slot ≡ data_offset_of (reading_of old) slot
-  offset-kept slot = by (kept slot) refl
+  -- a field of the planned superblock of a slot that is its own device's
+  own-kept : (f : Sb → ℕ) → ((sb : Sb) (csum : ℕ) → f (record (planned new.newest Same sb) { sb_csum = csum }) ≡ f sb)
+      → (slot : ℕ) → option_map_or f (own_in new.own slot) 0 ≡ option_map_or f (own_in old.own slot) 0
+  own-kept f same slot = by (kept slot) refl
     where
-      stored : (before after : Option Sb) → IsPlannedOwn new.newest Same before after → option_map_or (λ sb. sb.data_offset) after 0 ≡ option_map_or (λ sb. sb.data_offset) before 0
+      stored : (before after : Option Sb) → IsPlannedOwn new.newest Same before after → option_map_or f after 0 ≡ option_map_or f before 0
       stored None after is = absurd is
-      stored (Some sb) after is =
-          ap (λ (o : Option Sb). option_map_or (λ sb. sb.data_offset) o 0) is.own ∙ ap (λ (s : Sb). s.data_offset) is.fields
+      stored (Some sb) after is = ap (λ (o : Option Sb). option_map_or f o 0) is.own ∙ ap f is.fields ∙ same sb (checksum is.bytes)
 
-      by : (b : Bool) → kept slot ≡ b → data_offset_of (reading_of new) slot ≡ data_offset_of (reading_of old) slot
+      by : (b : Bool) → kept slot ≡ b → option_map_or f (own_in new.own slot) 0 ≡ option_map_or f (own_in old.own slot) 0
       by true is =
           stored (own_in old.own slot) (own_in new.own slot)
           (subst (λ g. IsPlannedOwn new.newest g (own_in old.own slot) (own_in new.own slot)) (give_of-same 32 slot) (own.written slot is))
-      by false is = ap (λ (o : Option Sb). option_map_or (λ sb. sb.data_offset) o 0) (own.others slot is)
+      by false is = ap (λ (o : Option Sb). option_map_or f o 0) (own.others slot is)
 
   size-same : new.newest.size ≡ old.newest.size
   size-same = ap (λ (s : Sb). s.size) later.same
@@ -204,7 +197,8 @@ module _ (old new : Members) (clean : Bool) (kept : ℕ → Bool)
     shape = same-shape;
     size = size-same;
     roles = roles ∙ roles-kept old.roles lost placed.apart (λ role slot is. (placed.holders role slot is).small) (role_count old.newest) (count-is placed.still ∙ sym placed.roles);
-    offsets = offset-kept;
+    offsets = own-kept (λ sb. sb.data_offset) (λ sb csum. refl);
+    rows = rows-same (reading_of new) (reading_of old) reshaping-same size-same (own-kept (λ sb. sb.recovery_offset) (λ sb csum. refl));
   }
 
 -- so the mark's update has no more roles

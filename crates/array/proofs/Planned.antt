@@ -1,5 +1,5 @@
 -- What a round of a mark plans says the array's roles without the slots that were lost, marked.
-use Rattle.std.proofs.Common.{◌≡◌, ⊎_elim, ℕ, ◌+◌, ◌-◌, ◌^◌, ◌<◌, ◌==◌, ◌||◌, ◌&&◌, Bool, true, false, not, cond, min, map, bit_or, max, List, ◌++◌, take, drop, length, get_or, Option, Some, None, unwrap_or, replicate, refl, sym, ◌∙◌, ap, subst, arith}
+use Rattle.std.proofs.Common.{◌≡◌, ⊎_elim, ℕ, ◌+◌, ◌-◌, ◌^◌, ◌<◌, ◌==◌, ◌||◌, ◌&&◌, Bool, true, false, not, cond, min, map, bit_or, max, List, ◌++◌, take, drop, length, get_or, Option, Some, None, unwrap_or, replicate, refl, sym, ◌∙◌, ap, ap₂, subst, arith}
 use Rattle.std.specs.Option.{option_map_or}
 use Rattle.std.proofs.lemmas.Bool.Decides.{nat_tests}
 use Rattle.md_base.specs.Sectors.{Sector}
@@ -14,12 +14,12 @@ use Rattle.bank.specs.Given.{Given}
 use Rattle.superblocks.specs.declared.change.Give.{Give}
 use Rattle.superblocks.specs.declared.change.Give.TheVariants.{Same}
 use Rattle.superblocks.specs.declared.members.Members.{Members}
-use Rattle.superblocks.specs.Reading.{Scope, is_reshaping, is_clean, is_fresh, entry_of, holds_role, state_of, shape_of, role_count, role_state, holder, holder_from, own_of, data_offset_of}
-use Rattle.superblocks.specs.Update.{give_of, planned_role, is_planned_spare, slot_entry, entry_for, with_entries, with_roles, faulty_role}
+use Rattle.superblocks.specs.Reading.{Scope, is_reshaping, is_clean, is_fresh, entry_of, holds_role, state_of, shape_of, role_count, role_state, rows_held, holder, holder_from, own_of, data_offset_of}
+use Rattle.superblocks.specs.Update.{planned as planned_by, give_of, own_in, planned_role, is_planned_spare, slot_entry, entry_for, with_entries, with_roles, faulty_role}
 use Rattle.superblocks.specs.Updating.{planned_newest, IsLater, AreNamed}
 use Rattle.superblocks.specs.Outcome.{live_set, planned_spares}
 use Rattle.superblocks.specs.Reads.{SaysSame, held_in, has_spare}
-use Rattle.superblocks.specs.Held.{said_by, known_of}
+use Rattle.superblocks.specs.Held.{IsStamped, said_by, known_of}
 use Rattle.superblocks.specs.Stages.{AreLeft, AreKept}
 use Rattle.superblocks.specs.Crash.{IsWithin}
 use Rattle.superblocks.specs.Said.{AreSaidAsPlanned}
@@ -35,7 +35,7 @@ use Rattle.array.specs.Held.{IsHeldBy}
 use Rattle.array.proofs.MarkLaws.{give_of-same, roles-kept}
 use Rattle.array.proofs.PlacedLaws.{state-without}
 use Rattle.array.specs.Rounds.{marked_without}
-use Rattle.array.proofs.ReadOf.{IsSaidOf}
+use Rattle.array.proofs.ReadOf.{IsSaidOf, said-recovering}
 use Rattle.array.proofs.Without.{from-without, without-twice, live-without}
 use Rattle.array.proofs.Ready.{says-at, count-next, Live, gone-lost, live-known, known-small, left-known, not-gone, holds-first, fits-of}
 
@@ -73,6 +73,13 @@ without-holder lost (Recovering s) slot is = by (has_slot lost s) is
     by true e = absurd (cc)
     by false e = e
 without-holder lost Missing slot is = is
+
+-- the recovery offset in what is kept of a slot is its own
+same-offset : (newest sb : Sb) (slot : ℕ) (found own before : Option Sb) → found ≡ own → IsStamped (planned_by newest (give_of (replicate 32 Same) slot) sb) own → before ≡ Some sb
+    → option_map_or (λ sb. sb.recovery_offset) found 0 ≡ option_map_or (λ sb. sb.recovery_offset) before 0
+same-offset newest sb slot found own before is stamped was =
+    ap (λ (o : Option Sb). option_map_or (λ sb. sb.recovery_offset) o 0) (is ∙ stamped.1) ∙ ap (λ (g : Give). (planned_by newest g sb).recovery_offset) (give_of-same 32 slot)
+    ∙ sym (ap (λ (o : Option Sb). option_map_or (λ sb. sb.recovery_offset) o 0) was)
 
 module _ (scope : Scope) (former : Members) (gone : ℕ) (clean : Bool) (d : ℕ → ℕ → List Sector) (held : IsHeldBy scope former d) where
   -- ---- the former roles
@@ -212,23 +219,37 @@ module _ (scope : Scope) (former : Members) (gone : ℕ) (clean : Bool) (d : ℕ
     state-is : (role : ℕ) → role_state (said_by scope left own newest) role ≡ role_state (reading_of After) role
     state-is role = ap (λ (l : List Role). get_or l role Missing) roles-are
 
+    was-held : (role slot : ℕ) → holder (role_state (reading_of After) role) ≡ Some slot → holder (get_or former.roles role Missing) ≡ Some slot
+    was-held role slot is =
+        without-holder gone (get_or former.roles role Missing) slot (ap holder (sym (state-without gone former.roles role))
+        ∙ without-holder lost (get_or (map (role_without gone) former.roles) role Missing) slot (ap holder (sym (state-without lost (map (role_without gone) former.roles) role)) ∙ is))
+
     -- a slot that still holds a role isn't lost, and it has what it had
     own-is : (role slot : ℕ) → holder (role_state (reading_of After) role) ≡ Some slot → (sb : Sb) × (own_of (said_by scope left own newest) slot ≡ Some sb) × (sb.data_offset ≡ data_offset_of (reading_of After) slot)
     own-is role slot is =
         let found = holder-own scope.sizes.sectors (known_of scope left own) newest role slot (ap holder (state-is role) ∙ is) in
         let there = listed scope left own slot found.0 found.1 in
-        let first = role-known scope held.known former held.said role slot (was-held is) in (
+        let first = role-known scope held.known former held.said role slot (was-held role slot is) in (
           found.0,
           found.1,
           sym (ap (λ (o : Option Sb). option_map_or (λ sb. sb.data_offset) o 0) found.1)
               ∙ said.starts slot there.0
               ∙ ap (λ (o : Option Sb). option_map_or (λ sb. sb.data_offset) o 0) (first.3 ∙ sym first.2),
         )
+
+    -- and as many rows of its role
+    rows-are : (role : ℕ) → rows_held (said_by scope left own newest) (role_state (reading_of After) role) ≡ rows_held (reading_of After) (role_state (reading_of After) role)
+    rows-are role = of (role_state (reading_of After) role) refl
       where
-        was-held : holder (role_state (reading_of After) role) ≡ Some slot → holder (get_or former.roles role Missing) ≡ Some slot
-        was-held is =
-            without-holder gone (get_or former.roles role Missing) slot (ap holder (sym (state-without gone former.roles role))
-            ∙ without-holder lost (get_or (map (role_without gone) former.roles) role Missing) slot (ap holder (sym (state-without lost (map (role_without gone) former.roles) role)) ∙ is))
+        of : (state : Role) → role_state (reading_of After) role ≡ state → rows_held (said_by scope left own newest) state ≡ rows_held (reading_of After) state
+        of (Whole slot) is = ap (λ (z : Sb). z.size) later.same
+        of Missing is = refl
+        of (Recovering slot) is =
+            let found = holder-own scope.sizes.sectors (known_of scope left own) newest role slot (ap holder (state-is role ∙ is)) in
+            let there = listed scope left own slot found.0 found.1 in
+            let first = role-known scope held.known former held.said role slot (was-held role slot (ap holder is)) in
+            ap₂ (λ (active : Bool) (n : ℕ). cond active 0 n) (ap is_reshaping later.same ∙ sym says.reshaping)
+            (same-offset newest first.1 slot (own_of (said_by scope left own newest) slot) (own_in own slot) (own_in former.own slot) (found.1 ∙ sym there.1) (kept slot first.1 there.0 first.2) first.2)
 
     pub said-after : IsSaidOf After (said_by scope left own newest)
     said-after = record {
@@ -237,5 +258,7 @@ module _ (scope : Scope) (former : Members) (gone : ℕ) (clean : Bool) (d : ℕ
       size = ap (λ (z : Sb). z.size) later.same;
       clean = ap is_clean later.same;
       states = λ role lt. state-is role;
+      rows = λ role lt. rows-are role;
       own = λ role slot lt is. own-is role slot is;
+      recovering = λ role slot sb is there. said-recovering scope.sizes.sectors (known_of scope left own) newest role slot sb is there;
     }

@@ -79,7 +79,7 @@ module _ {tells : Type 0} {given : Given} {tape tape' : List Operation} {scope :
       degraded-refused who end was opens caller at_end moved grows roles spares before after since refusal
       (unread-here given (list_size (places_of members)) at count mended resync members' refusal moved.placed (subst (λ (n : ℕ). at + count ≤ n) (sym (size-moved given members members' moved)) within)
       (λ none. same ∙ ap (λ (o : Option ℕ). mended_rows o members) none ∙ sym moved.size) why) others
-      (leaves-behind who end was opens caller at_end moved grows roles spares before after since (Refused refusal) (record { length = λ n. refl; limit = refl }) (λ x values v may. may) refl refl rise clean named)
+      (leaves-behind who end was opens caller at_end moved grows roles spares before after since (Refused refusal) (record { length = λ n. refl; limit = refl }) (λ x values v may. may) refl refl (λ role. refl) rise clean named)
 
   -- one that was done
   pub kept-read : (at : ℕ) (bytes : List ℕ) → at + length bytes / 512 ≤ list_size (places_of members)
@@ -90,4 +90,4 @@ module _ {tells : Type 0} {given : Given} {tape tape' : List Operation} {scope :
       (λ t fills. read_is (world_in given tape scope first) (list_size (places_of members)) entries at bytes (was.recorded t).opened
       (visible-is (list_size (places_of members)) entries was.sized was.unlimited) within (holds t fills))
       others
-      (leaves-behind who end was opens caller at_end moved grows roles spares before after since (Read at (sectors_of bytes)) (record { length = λ n. refl; limit = refl }) (λ x values v may. may) refl refl rise clean named)
+      (leaves-behind who end was opens caller at_end moved grows roles spares before after since (Read at (sectors_of bytes)) (record { length = λ n. refl; limit = refl }) (λ x values v may. may) refl refl (λ role. refl) rise clean named)

@@ -20,7 +20,7 @@ use Rattle.flat_history.specs.World.{World, opening_list, contents_at}
 use Rattle.flat_history.specs.Growing.{grown}
 use Rattle.flat_history.specs.Transfers.{IsReadOver}
 use Rattle.flat_history.specs.Plain.{entries_of}
-use Rattle.flat_history.specs.OneShape.{ShapeOpening, opening_in, IsOneShapeLegal, KeepLosses}
+use Rattle.flat_history.specs.OneShape.{ShapeOpening, opening_in, IsOneShapeLegal, KeepShape}
 use Rattle.flat_history.specs.Epochs.{HasRoomForEvents, OpensAlike, IsEpochRight, world_of}
 use Rattle.flat_history.proofs.NumberLaws.{safe-throughout}
 use Rattle.flat_history.proofs.SoundLaws.{stays-throughout}
@@ -36,7 +36,7 @@ use Rattle.flat_history.specs.Sound.{OpensFit, FillsRight}
 use Rattle.array.specs.Calls.{IsSettling}
 use Rattle.array.proofs.MadeLaws.{opening-grown}
 use Rattle.array.proofs.NowLaws.{sectors_of-at}
-use Rattle.array.proofs.CallLaws.{AreLossEvents, length-losses, limit-losses, values-losses}
+use Rattle.array.proofs.CallLaws.{AreLossEvents, GivesNone, length-losses, limit-losses, values-losses}
 use Rattle.array.proofs.LeftLaws.{TellLeft}
 use Rattle.array.proofs.LedgerLaws.{HasNewest}
 use Rattle.array.proofs.RecordLaws.{AreSilent, whole-told}
@@ -88,15 +88,16 @@ pub record Settles (event : Event) : Type 0 where
   pub left : (steps : ℕ) (who : Who) (end : ℕ) → TellLeft steps who end (event ∷ [])
   pub still : (who : Who) (end : ℕ) → AreStill who end (event ∷ [])
   pub call : (opening : ShapeOpening) (before : List Entry) (who : Who) (end : ℕ) → IsOneShapeCall opening before who end (event ∷ [])
-  pub keep : (who : Who) (end : ℕ) → KeepLosses (entries_of who end (event ∷ []))
+  pub keep : (who : Who) (end : ℕ) → KeepShape (entries_of who end (event ∷ []))
+  pub gives : (who : Who) (end : ℕ) → GivesNone (entries_of who end (event ∷ []))
   pub ends : is_resync_end event ≡ false
   pub newest : (who : Who) (end : ℕ) → KeepsNewest who end event
 
 pub flush-settles : Settles Flushed
-flush-settles = record { silent = λ who end. record { length = λ n. refl; limit = refl }; left = λ steps who end left is. is; still = λ who end x values. flushed-still values; call = λ opening before who end. (tt, tt, tt); keep = λ who end. refl; ends = refl; newest = λ who end x values has. first-stays values has }
+flush-settles = record { silent = λ who end. record { length = λ n. refl; limit = refl }; left = λ steps who end left is. is; still = λ who end x values. flushed-still values; call = λ opening before who end. (tt, tt, tt); keep = λ who end. refl; gives = λ who end role. refl; ends = refl; newest = λ who end x values has. first-stays values has }
 
 pub stop-settles : Settles Stopped
-stop-settles = record { silent = λ who end. record { length = λ n. refl; limit = refl }; left = λ steps who end left is. is; still = λ who end x values. flushed-still values; call = λ opening before who end. (tt, tt, tt); keep = λ who end. refl; ends = refl; newest = λ who end x values has. first-stays values has }
+stop-settles = record { silent = λ who end. record { length = λ n. refl; limit = refl }; left = λ steps who end left is. is; still = λ who end x values. flushed-still values; call = λ opening before who end. (tt, tt, tt); keep = λ who end. refl; gives = λ who end role. refl; ends = refl; newest = λ who end x values has. first-stays values has }
 
 pub settles-of : (event : Event) → IsSettling event → Settles event
 settles-of event (inl is) = subst Settles (sym is) flush-settles

@@ -1,9 +1,7 @@
 -- What is kept of the history after a call, by what the call entered.
 use Rattle.std.proofs.Common.{◌≡◌, ℕ, zero, suc, ◌+◌, ◌<◌, ◌≤◌, ◌||◌, Bool, true, false, cond, Option, None, List, [], ◌∷◌, ◌++◌, refl, sym, ◌∙◌, ap, arith}
 use Rattle.std.proofs.lemmas.Bool.Decides.{nat_tests}
-use Rattle.std.proofs.lemmas.List.Folds.{list_any-append}
 use Rattle.std.specs.Prelude.{fold, IsTrue}
-use Rattle.std.specs.List.{list_any}
 use Rattle.md_base.specs.Search.{count_below}
 use Rattle.md_base.specs.declared.answers.Who.{Who}
 use Rattle.superblocks.specs.declared.members.Members.{Members}
@@ -12,10 +10,14 @@ use Rattle.flat_history.specs.declared.events.Entry.{Entry}
 use Rattle.flat_history.specs.declared.events.Event.{Event}
 use Rattle.flat_history.specs.Flat.{length_after, limit_after}
 use Rattle.flat_history.specs.Growing.{EndBy}
-use Rattle.flat_history.specs.Plain.{loses_role, entries_of}
+use Rattle.flat_history.specs.Plain.{entries_of}
+use Rattle.flat_history.specs.OneShape.{is_lost, is_gone_now}
+use Rattle.flat_history.proofs.OneShapeGone.{never-gone, gone-or_lost}
+use Rattle.flat_history.proofs.OneShapeGrowing.{gone-more}
 use Rattle.array.specs.Placed.{AreWhole}
 use Rattle.array.specs.Kept.{AreTold}
 use Rattle.flat_history.specs.Sound.{LosesNoRole}
+use Rattle.array.proofs.CallLaws.{GivesNone}
 
 -- these events change neither the length nor the limit, nor what the list holds
 pub record AreSilent (who : Who) (end : ℕ) (events : List Event) : Type 0 where
@@ -38,21 +40,17 @@ ends-call ops entries who end events le ends = ends-more ops end entries (entrie
 
 -- ---- losses
 
-any-more : (role : ℕ) (entries added : List Entry) → IsTrue (list_any (λ e. loses_role role e.event) entries) → IsTrue (list_any (λ e. loses_role role e.event) (entries ++ added))
-any-more role entries added told =
-    list_any-append (λ e. loses_role role e.event) entries added ∙ ap (λ (b : Bool). b || list_any (λ e. loses_role role e.event) added) told
-
-pub any-behind : (role : ℕ) (entries added : List Entry) → IsTrue (list_any (λ e. loses_role role e.event) added) → IsTrue (list_any (λ e. loses_role role e.event) (entries ++ added))
-any-behind role entries added told =
-    list_any-append (λ e. loses_role role e.event) entries added ∙ ap (λ (b : Bool). list_any (λ e. loses_role role e.event) entries || b) told
-    ∙ last (list_any (λ e. loses_role role e.event) entries)
+-- a role is gone behind entries that lose it and give none back
+pub gone-lately : (role : ℕ) (entries added : List Entry) → GivesNone added → IsTrue (is_lost added role) → IsTrue (is_gone_now (entries ++ added) role)
+gone-lately role entries added none lost =
+    gone-or_lost entries added role (none role) ∙ ap (λ (b : Bool). is_gone_now entries role || b) lost ∙ last (is_gone_now entries role)
   where
     last : (b : Bool) → (b || true) ≡ true
     last b = grind (arith, nat_tests)
 
--- what was told stays so
-pub told-more : (members : Members) (entries added : List Entry) → AreTold members entries → AreTold members (entries ++ added)
-told-more members entries added told role lt missing = any-more role entries added (told role lt missing)
+-- what was told stays so, where no role is given back
+pub told-more : (members : Members) (entries added : List Entry) → GivesNone added → AreTold members entries → AreTold members (entries ++ added)
+told-more members entries added none told role lt missing = gone-more role entries added (none role) (told role lt missing)
 
 -- ---- where no role is told lost
 
@@ -62,7 +60,7 @@ whole-told members entries told none role lt = by (is_missing (reading_of member
   where
     by : (b : Bool) → is_missing (reading_of members) role ≡ b → b ≡ false
     by false is = refl
-    by true is = absurd (let e = sym (told role lt is) ∙ none role in cc)
+    by true is = absurd (let e = sym (told role lt is) ∙ never-gone entries role (none role) in cc)
 
 -- ---- counts
 

@@ -1,5 +1,5 @@
--- Where the newest superblock names no missing role, the superblocks are held as the members are.
-use Rattle.std.proofs.Common.{◌≡◌, ℕ, ◌<◌, ◌==◌, ◌&&◌, Bool, true, false, not, cond, map, List, length, get_or, Option, Some, None, refl, sym, ◌∙◌, ap, subst, arith}
+-- Where the newest superblock names no vacant role, the superblocks are held as the members are.
+use Rattle.std.proofs.Common.{◌≡◌, ℕ, ◌<◌, ◌==◌, ◌&&◌, Bool, true, false, not, cond, map, List, length, get_or, Option, Some, None, is_some, refl, sym, ◌∙◌, ap, subst, arith}
 use Rattle.std.specs.Option.{option_map_or}
 use Rattle.std.proofs.lemmas.Bool.Decides.{nat_tests}
 use Rattle.std.proofs.lemmas.List.{length-map}
@@ -11,23 +11,23 @@ use Rattle.md_base.specs.declared.status.Role.TheVariants.{Missing}
 use Rattle.sb1.specs.declared.sb.Sb.{Sb}
 use Rattle.bank.specs.Given.{Given}
 use Rattle.superblocks.specs.declared.members.Members.{Members}
-use Rattle.superblocks.specs.Reading.{Scope, is_whole, is_fresh, entry_of, shape_of, holder, holder_from, role_count, state_of}
+use Rattle.superblocks.specs.Reading.{Scope, is_fresh, entry_of, shape_of, holder, holder_from, role_count, state_of}
 use Rattle.superblocks.specs.Reads.{held_in}
 use Rattle.superblocks.specs.Update.{own_in}
 use Rattle.superblocks.specs.Held.{known_of, IsKnown}
 use Rattle.superblocks.proofs.ReadLists.{held-here}
 use Rattle.superblocks.proofs.SaidSlots.{below-length, role-below, role-known, role-said}
-use Rattle.row_io.specs.Rows.{reading_of, is_missing, role_without, members_without}
+use Rattle.row_io.specs.Rows.{reading_of, role_without, members_without}
 use Rattle.array.specs.Held.{IsHeldBy}
 use Rattle.array.specs.Lacking.{IsNamed}
-use Rattle.array.specs.Placed.{IsPlaced}
+use Rattle.array.specs.Placed.{is_vacant, IsPlaced}
 use Rattle.array.specs.Views.{Ledger}
 use Rattle.array.specs.Steady.{IsSteady, IsNamedNow}
 use Rattle.array.proofs.PlacedLaws.{state-without, kept-roles}
 
--- no missing role is named
+-- no vacant role is named
 abbrev pub AreUnnamed : Members → Type 0
-AreUnnamed m = (role : ℕ) → role < (shape_of m.newest).disks → is_missing (reading_of m) role ≡ true → IsNamed m.newest role → ⊥
+AreUnnamed m = (role : ℕ) → role < (shape_of m.newest).disks → is_vacant (reading_of m) role ≡ true → IsNamed m.newest role → ⊥
 
 -- a slot's superblock that holds a role has the role's entry
 holds-entry : (newest : Sb) (role slot : ℕ) (sb : Sb) (state : Role) → held_in newest role slot (Some sb) ≡ Some state → entry_of newest sb.dev_number ≡ role
@@ -77,7 +77,7 @@ module _ (scope : Scope) (given : Given) (former : Members) (gone : ℕ) (d : �
           ∙ ap (λ (b : Bool). cond b Missing (get_or former.roles role Missing)) is
 
       by : (b : Bool) → has_slot gone slot ≡ b → b ≡ false
-      by true is = absurd (unnamed role below (ap (λ (s : Role). not (is_whole s)) (lost is)) (held-named scope former d role slot held holds))
+      by true is = absurd (unnamed role below (ap (λ (s : Role). not (is_some (holder s))) (lost is)) (held-named scope former d role slot held holds))
       by false is = refl
 
   roles-same : former.roles ≡ map (role_without gone) former.roles

@@ -24,7 +24,7 @@ use Rattle.flat_history.specs.Sound.{OpensFit, FillsRight}
 use Rattle.flat_history.specs.CrashSafe.{made_by, may_be_made, first_call_len, IsSafeAt}
 use Rattle.flat_history.specs.Growing.{grown, EndBy}
 use Rattle.flat_history.specs.Epochs.{HasRoomForEvents, OpensAlike}
-use Rattle.flat_history.specs.OneShape.{ShapeOpening, is_lost, is_written, is_unsettled, KeepLosses}
+use Rattle.flat_history.specs.OneShape.{ShapeOpening, is_lost, is_gone_now, is_gone_by, is_written, is_unsettled, KeepShape}
 use Rattle.flat_history.specs.Plain.{entries_of}
 use Rattle.flat_history.proofs.GrowingLaws.{calls-owe}
 use Rattle.flat_history.proofs.OneShapeLegal.{opening-grown as shape-grown}
@@ -34,6 +34,7 @@ use Rattle.array.specs.Views.{Ledger, ledger_of, AreViewsRight, IsJudgedBy}
 use Rattle.array.specs.Steady.{IsSafeNow, IsSafeOver, KeepsSafe}
 use Rattle.array.proofs.Judged.{views-are-safe}
 use Rattle.array.proofs.LosingLaws.{entries-both}
+use Rattle.array.proofs.CallLaws.{GivesNone}
 use Rattle.array.proofs.LedgerLaws.{told_by, told-ledger, now-ledger, none-lost-before}
 use Rattle.array.proofs.MadeLaws.{made-past, made-both, made-before, length-entries, call-length, made-from, ends-by, opening-grown}
 use Rattle.array.proofs.SoundViews.{throughout-kept}
@@ -98,21 +99,21 @@ module _ (world : World) (ops : List Operation) (within : world.first ≤ length
   ledger-grown : (entries : List Entry) (k j : ℕ) → ledger_of (grown world ops) entries k j ≡ ledger_of world entries k j
   ledger-grown entries k j = λ i. record {
     values = values_of (opening-grown world ops within i) (take j entries);
-    gone = is_lost (take j entries);
+    gone = is_gone_by entries k j;
     unclean = unsynced-grown (take k entries) i || is_written entries k j;
   }
 
   now-grown : (entries : List Entry) → ledger_now (grown world ops) entries ≡ ledger_now world entries
   now-grown entries = λ i. record {
     values = values_of (opening-grown world ops within i) entries;
-    gone = is_lost entries;
+    gone = is_gone_now entries;
     unclean = unsynced-grown entries i || is_unsettled entries;
   }
 
 -- ---- the mark at which each entry is made
 
 module _ (world : World) (given : Given) (size : ℕ) (entries : List Entry) (start : given.start ≡ world.start) (sizes_are : world.scope.sizes ≡ sizes given) (ends : EndBy (length world.tape) entries)
-    (sized : length_of (length (opening_list world)) entries ≡ size) (keep : KeepLosses entries) (fills : FillsRight world entries) where
+    (sized : length_of (length (opening_list world)) entries ≡ size) (keep : KeepShape entries) (fills : FillsRight world entries) where
   made-all : made_by (length world.tape) entries ≡ length entries
   made-all = made-past (length world.tape) entries ends
 
@@ -153,7 +154,7 @@ module _ (given : Given) (tape : List Operation) (scope : Scope) (first size : �
     (sizes_are : scope.sizes ≡ sizes given) (begun : IsBegun (world_in given tape scope first) size entries)
     (sized : length_of size (entries ++ entries_of who (length (tape ++ ops)) early) ≡ size)
     (sized-all : length_of size (entries ++ entries_of who (length (tape ++ ops)) (early ++ late)) ≡ size)
-    (keep : KeepLosses (entries ++ entries_of who (length (tape ++ ops)) (early ++ late)))
+    (keep : KeepShape (entries ++ entries_of who (length (tape ++ ops)) (early ++ late))) (none : GivesNone (entries_of who (length (tape ++ ops)) early))
     (fills : FillsRight (grown (world_in given tape scope first) ops) (entries ++ entries_of who (length (tape ++ ops)) (early ++ late)))
     (was : IsSafe (world_in given tape scope first) given size old entries) (rise : IsRisen ⊤ old new tape (tape ++ ops))
     (stretch : KeepsSafe (world_in given tape scope first) given size (told_by (world_in given tape scope first) entries (entries_of who (length (tape ++ ops)) early)) new tape (tape ++ ops))
@@ -224,13 +225,13 @@ module _ (given : Given) (tape : List Operation) (scope : Scope) (first size : �
   }
     where
       fills-early : FillsRight later all → FillsRight later (entries ++ more)
-      fills-early (inl none) = inl (none-lost-before (entries ++ more) rest (λ role. ap (λ (l : List Entry). is_lost l role) (sym all-parts) ∙ none role))
+      fills-early (inl whole) = inl (none-lost-before (entries ++ more) rest (λ role. ap (λ (l : List Entry). is_lost l role) (sym all-parts) ∙ whole role))
       fills-early (inr good) = inr good
 
   ledger-early : (mark : ℕ) → length tape ≤ mark → mark < end → ledger_of later all (made_by mark all) (length (entries ++ more)) ≡ told_by world entries more
   ledger-early mark low high =
       ap (λ (k : ℕ). ledger_of later all k (length (entries ++ more))) (made-early mark low high) ∙ ledger-grown world ops begun.begun all (length entries) (length (entries ++ more))
-      ∙ ap (λ (l : List Entry). ledger_of world l (length entries) (length (entries ++ more))) all-is ∙ told-ledger world entries more rest
+      ∙ ap (λ (l : List Entry). ledger_of world l (length entries) (length (entries ++ more))) all-is ∙ told-ledger world entries more rest none
 
   safe-early : (mark : ℕ) → length tape ≤ mark → mark < end → IsSafeAt later all mark
   safe-early mark low high =
@@ -286,7 +287,7 @@ module _ (given : Given) (tape : List Operation) (scope : Scope) (first size : �
 abbrev pub IsSafeThen : Given → List Operation → Scope → ℕ → ℕ → List Entry → Members → Members → Who → List Event → List Event → List Operation → ℕ → Type 0
 IsSafeThen given tape scope first size entries old new who early late tape' end =
     length_of size (entries ++ entries_of who end early) ≡ size → length_of size (entries ++ entries_of who end (early ++ late)) ≡ size
-    → KeepLosses (entries ++ entries_of who end (early ++ late)) → FillsRight (world_in given tape' scope first) (entries ++ entries_of who end (early ++ late)) → IsRisen ⊤ old new tape tape'
+    → KeepShape (entries ++ entries_of who end (early ++ late)) → GivesNone (entries_of who end early) → FillsRight (world_in given tape' scope first) (entries ++ entries_of who end (early ++ late)) → IsRisen ⊤ old new tape tape'
     → KeepsSafe (world_in given tape scope first) given size (told_by (world_in given tape scope first) entries (entries_of who end early)) new tape tape'
     → IsSafeOver (world_in given tape scope first) given size (ledger_now (world_in given tape scope first) (entries ++ entries_of who end (early ++ late))) new tape'
     → IsSafe (world_in given tape' scope first) given size new (entries ++ entries_of who end (early ++ late))
@@ -297,4 +298,4 @@ pub safe-called : (given : Given) (tape : List Operation) (scope : Scope) (first
 safe-called given tape scope first size entries old new who early late ops tape' end grown_is end_is sizes_are begun was =
     subst (λ (l : List Operation). IsSafeThen given tape scope first size entries old new who early late l end) (sym grown_is)
     (subst (IsSafeThen given tape scope first size entries old new who early late (tape ++ ops)) (sym end_is)
-    (λ sized sized-all keep fills rise stretch last. safe-call given tape scope first size entries old new who early late ops sizes_are begun sized sized-all keep fills was rise stretch last))
+    (λ sized sized-all keep none fills rise stretch last. safe-call given tape scope first size entries old new who early late ops sizes_are begun sized sized-all keep none fills was rise stretch last))

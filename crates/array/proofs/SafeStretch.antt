@@ -1,19 +1,18 @@
 -- Stretches of calls that keep an array safe: one after another, with nothing done, and with rows written.
-use Rattle.std.proofs.Common.{◌≡◌, ◌⊎◌, inl, inr, ℕ, ◌<◌, ◌≤◌, Bool, true, false, not, List, length, take, take_all, le_refl, length-append, Option, Some, None, arith, sym, ◌∙◌, ap, subst}
+use Rattle.std.proofs.Common.{◌≡◌, ℕ, ◌<◌, ◌≤◌, false, List, length, take, take_all, le_refl, length-append, arith, sym, subst}
 use Rattle.std.specs.Prelude.{⊤}
 use Rattle.md_base.specs.Sectors.{Sector}
 use Rattle.md_base.specs.declared.places.Shape.{Shape}
-use Rattle.md_base.specs.declared.status.Role.{Role}
-use Rattle.md_base.specs.declared.status.Role.TheVariants.{Whole, Missing}
 use Rattle.bank.specs.declared.bank.Operation.{Operation}
 use Rattle.bank.specs.Given.{Given}
 use Rattle.bank.specs.Tape.{EachMark, disk}
 use Rattle.bank.proofs.Marks.{each_mark-then}
 use Rattle.superblocks.specs.declared.members.Members.{Members}
-use Rattle.superblocks.specs.Reading.{Scope, is_clean, is_whole, role_state, holder}
-use Rattle.row_io.specs.Rows.{reading_of, is_missing, members_without}
+use Rattle.superblocks.specs.Reading.{Scope, is_clean}
+use Rattle.row_io.specs.Rows.{members_without}
 use Rattle.flat_history.specs.World.{World}
 use Rattle.array.specs.Placed.{IsPlaced, AreUnlost}
+use Rattle.array.proofs.HeldRows.{missing-moved}
 use Rattle.array.specs.Moving.{Grows, IsMoved}
 use Rattle.array.specs.Lacking.{IsListPut}
 use Rattle.array.specs.Views.{Ledger}
@@ -26,20 +25,8 @@ use Rattle.array.proofs.MovedLaws.{size-moved}
 -- ---- what is told of the end is told of what was before
 
 module _ (given : Given) (old new : Members) (was : IsPlaced given old) (moved : IsMoved given old new) where
-  -- a role that was missing is missing
-  pub missing-later : (role : ℕ) → is_missing (reading_of old) role ≡ true → is_missing (reading_of new) role ≡ true
-  missing-later role gone = by (moved.placed.states role)
-    where
-      none : (slot : ℕ) → holder (role_state (reading_of old) role) ≡ Some slot → (role_state (reading_of old) role ≡ Missing) ⊎ ((s : ℕ) × (role_state (reading_of old) role ≡ Whole s)) → ⊥
-      none slot held (inl missing) = absurd (let e : ◌≡◌ {A = Option ℕ} None (Some slot) = sym (ap holder missing) ∙ held in cc)
-      none slot held (inr whole) = absurd (let e : ◌≡◌ {A = Bool} false true = sym (ap (λ (s : Role). not (is_whole s)) whole.1) ∙ gone in cc)
-
-      by : (role_state (reading_of new) role ≡ Missing) ⊎ ((s : ℕ) × (role_state (reading_of new) role ≡ Whole s)) → is_missing (reading_of new) role ≡ true
-      by (inl missing) = ap (λ (s : Role). not (is_whole s)) missing
-      by (inr whole) = absurd (none whole.0 (moved.held role whole.0 (ap holder whole.1)) (was.states role))
-
   pub gone-before : (told : Ledger) → AreGoneTold told new → AreGoneTold told old
-  gone-before told gone role lt missing = gone role (subst (λ (s : Shape). role < s.disks) (sym moved.shape) lt) (missing-later role missing)
+  gone-before told gone role lt missing = gone role (subst (λ (s : Shape). role < s.disks) (sym moved.shape) lt) (missing-moved moved role missing)
 
 -- ---- one after another
 

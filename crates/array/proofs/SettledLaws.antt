@@ -1,23 +1,23 @@
 -- What a flush or a stop leaves, and that it leaves an array safe.
-use Rattle.std.proofs.Common.{◌≡◌, ◌≢◌, ◌⊎◌, inl, inr, ℕ, ◌<◌, ◌≤◌, ◌||◌, Bool, true, false, not, Option, Some, None, get_or, List, length, [], ◌∷◌, ◌++◌, refl, sym, ◌∙◌, ap, subst, arith, append-nil}
+use Rattle.std.proofs.Common.{◌≡◌, ◌≢◌, inl, inr, ℕ, ◌<◌, ◌≤◌, ◌||◌, Bool, true, false, not, Option, Some, None, get_or, List, length, [], ◌∷◌, ◌++◌, refl, sym, ◌∙◌, ap, subst, arith, append-nil}
 use Rattle.std.proofs.lemmas.Bool.{cases_lt}
 use Rattle.std.proofs.lemmas.List.{get_or_past}
 use Rattle.md_base.specs.Sectors.{Sector}
 use Rattle.md_base.specs.declared.places.Shape.{Shape}
 use Rattle.md_base.specs.declared.status.Role.{Role}
-use Rattle.md_base.specs.declared.status.Role.TheVariants.{Whole, Missing}
+use Rattle.md_base.specs.declared.status.Role.TheVariants.{Whole, Recovering, Missing}
 use Rattle.md_base.specs.declared.answers.Refusal.{Refusal}
 use Rattle.md_base.specs.declared.answers.Who.{Who}
 use Rattle.bank.specs.Given.{Given}
 use Rattle.bank.specs.declared.bank.Operation.{Operation}
 use Rattle.superblocks.specs.declared.members.Members.{Members}
 use Rattle.superblocks.specs.Reading.{Scope, shape_of, is_clean, role_state, holder, is_whole}
-use Rattle.row_io.specs.Rows.{reading_of, present, is_missing}
+use Rattle.row_io.specs.Rows.{reading_of, present}
 use Rattle.flat_history.specs.declared.events.Entry.{Entry}
 use Rattle.flat_history.specs.declared.events.Event.{Event}
 use Rattle.flat_history.specs.World.{World, opening_list}
 use Rattle.flat_history.specs.Losses.{was_dirty, is_resync_end, is_unsynced, unsettles}
-use Rattle.flat_history.specs.OneShape.{is_unsettled, KeepLosses, IsCallOpen}
+use Rattle.flat_history.specs.OneShape.{is_unsettled, KeepShape, IsCallOpen}
 use Rattle.flat_history.specs.Sound.{OpensFit, FillsRight}
 use Rattle.flat_history.specs.declared.events.Event.TheVariants.{Refused}
 use Rattle.bank.specs.Tape.{IsIn, disk}
@@ -36,7 +36,7 @@ use Rattle.array.specs.Lacking.{AreTooMany, DoesWithout, ListStands, RowsStand, 
 use Rattle.array.specs.Kept.{world_in, ledger_now, AreTold, IsKept}
 use Rattle.array.specs.Calls.{AreLeftFlushed}
 use Rattle.array.proofs.NowLaws.{values-more}
-use Rattle.array.proofs.CallLaws.{losses-are, length-losses, limit-losses, values-losses}
+use Rattle.array.proofs.CallLaws.{GivesNone, losses-are, length-losses, limit-losses, values-losses}
 use Rattle.array.proofs.LosingLaws.{entries-both}
 use Rattle.array.proofs.LedgerLaws.{told_by, HasNewest, pending-more, OnlyAdd, add-none, add-one, add-losses, keep-losses, told-more, told-unclean, more-safe, settled-now, unsettles-behind}
 use Rattle.array.proofs.PlainLaws.{one}
@@ -46,10 +46,10 @@ use Rattle.array.proofs.DegradedLaws.{LeavesSafe, without-before, newest-old, sa
 
 -- ---- what was told
 
--- Each missing role is told lost, so that a role that isn't has the slot that it had, which is flushed.
+-- Each missing role is told gone, so that a role that isn't has the slot that it had, which is flushed.
 pub left-flushed : (given : Given) (old new : Members) (entries : List Entry) (tape : List Operation) → IsPlaced given old → IsMoved given old new → AreTold new entries → AreHoldersFlushed (reading_of new) given tape
     → AreLeftFlushed old entries given tape
-left-flushed given old new entries tape was moved told flushed role slot k held kept other = flushed role slot k (at (is_missing (reading_of new) role) refl (moved.placed.states role)) other
+left-flushed given old new entries tape was moved told flushed role slot k held kept other = flushed role slot k (at (role_state (reading_of new) role) refl) other
   where
     below : role < (shape_of old.newest).disks
     below = elim (cases_lt role (shape_of old.newest).disks) [
@@ -58,10 +58,10 @@ left-flushed given old new entries tape was moved told flushed role slot k held 
           let no : ◌≡◌ {A = Option ℕ} None (Some slot) = sym (ap holder past) ∙ held in cc)
     ]
 
-    at : (b : Bool) → is_missing (reading_of new) role ≡ b → (role_state (reading_of new) role ≡ Missing) ⊎ ((s : ℕ) × (role_state (reading_of new) role ≡ Whole s)) → holder (role_state (reading_of new) role) ≡ Some slot
-    at b is (inr found) = ap holder found.1 ∙ sym (moved.held role found.0 (ap holder found.1)) ∙ held
-    at true is (inl none) = absurd (let e = sym (told role (subst (λ (s : Shape). role < s.disks) (sym moved.shape) below) is) ∙ kept in cc)
-    at false is (inl none) = absurd (let e = sym is ∙ ap (λ (s : Role). not (is_whole s)) none in cc)
+    at : (state : Role) → role_state (reading_of new) role ≡ state → holder (role_state (reading_of new) role) ≡ Some slot
+    at (Whole s) is = ap holder (moved.states role s (ap holder is)) ∙ held
+    at (Recovering s) is = ap holder (moved.states role s (ap holder is)) ∙ held
+    at Missing is = absurd (let e = sym (told role (subst (λ (s : Shape). role < s.disks) (sym moved.shape) below) (ap (λ (s : Role). not (is_whole s)) is)) ∙ kept in cc)
 
 -- where no resync is pending, every row is mended
 pub all-mended : (m : Members) (resync : Option ℕ) (unsynced : Bool) → unsynced ≡ is_some resync → unsynced ≡ false → m.newest.size ≤ mended_rows resync m
@@ -105,13 +105,13 @@ module _ {tells : Type 0} {given : Given} {tape tape' : List Operation} {scope :
       leaves-unsettled who end was opens caller at_end moved grows (losses ++ Refused refusal ∷ [])
       (silent-behind who end losses (Refused refusal) (losses-are roles spares) (record { length = λ n. refl; limit = refl })) adds rise
       (λ t fills room began. safe t (world_in given tape scope first) (list_size (places_of members)) (told_by (world_in given tape scope first) entries (entries_of who end (losses ++ Refused refusal ∷ []))) room
-      (told-behind who end was opens caller at_end moved grows roles spares before after since (Refused refusal ∷ [])) (unclean-told (losses ++ Refused refusal ∷ []) adds t)
+      (told-behind who end was opens caller at_end moved grows roles spares before after since (Refused refusal ∷ []) (λ role. refl)) (unclean-told (losses ++ Refused refusal ∷ []) adds t)
       (now (opening_list (world_in given tape scope first)) entries) (was.holds t) (rows-old t)
       (newest-told (losses ++ Refused refusal ∷ []) (entries_of who end (losses ++ Refused refusal ∷ [])) adds t fills) began)
       (λ does. absurd (let above = many.above in omega (arith, does, above))) (λ synced. unsettles-behind who end losses (Refused refusal ∷ []) (subst (λ (r : Refusal). list_any (λ e. unsettles e.event) (entries_of who end (Refused r ∷ [])) ≡ true) (sym many.told) refl))
     where
       adds : OnlyAdd (entries_of who end (losses ++ Refused refusal ∷ []))
-      adds = add-losses who end losses (Refused refusal ∷ []) (losses-are roles spares) (add-one (one who end (Refused refusal)) [] (λ x values v may. may) refl refl add-none)
+      adds = add-losses who end losses (Refused refusal ∷ []) (losses-are roles spares) (add-one (one who end (Refused refusal)) [] (λ x values v may. may) refl refl (λ role. refl) add-none)
 
   -- an event that ends no resync leaves the array as unsynced as it was
   pub unsynced-as : (event : Event) → is_resync_end event ≡ false → tells → is_unsynced (world_in given tape scope first) (entries ++ entries_of who end (losses_of roles spares ++ event ∷ [])) ≡ is_some resync
@@ -121,7 +121,7 @@ module _ {tells : Type 0} {given : Given} {tape tape' : List Operation} {scope :
       ∙ (was.recorded t).dirty
 
   -- An event behind the losses that leaves each sector its newest value: a flush, a stop, or the end of a resync.
-  pub leaves-settled : (event : Event) → AreSilent who end (event ∷ []) → KeepLosses (entries_of who end (event ∷ [])) → KeepsNewest who end event
+  pub leaves-settled : (event : Event) → AreSilent who end (event ∷ []) → KeepShape (entries_of who end (event ∷ [])) → GivesNone (entries_of who end (event ∷ [])) → KeepsNewest who end event
       → (tells → is_unsynced (world_in given tape scope first) (entries ++ entries_of who end (losses_of roles spares ++ event ∷ [])) ≡ unsynced)
       → (unsynced ≡ true → IsSome resync) → (unsynced ≡ true → is_clean members'.newest ≡ is_clean members.newest) → (unsynced ≡ false → is_clean members'.newest ≡ true)
       → (tells → (world : World) → (size : ℕ) → (told : Ledger) → HasRoomLeft members tape tape' → AreGoneTold told members' → IsUncleanTold told members
@@ -130,7 +130,7 @@ module _ {tells : Type 0} {given : Given} {tape tape' : List Operation} {scope :
       → AreWritesAllowed members told.values list → IsSafeOver world given size told members tape
       → IsSafeOver world given size (settled_ledger unsynced list told) members' tape')
       → LeavesSafe tells given tape' scope first (entries ++ entries_of who end (losses_of roles spares ++ event ∷ [])) members' unsynced
-  leaves-settled event silent keep newest unsynced_is pending stays clean settled = record {
+  leaves-settled event silent keep none newest unsynced_is pending stays clean settled = record {
     dirty = λ does is. stays is ∙ was.dirty (without-before given members members' was.placed moved does) (pending is);
     unclean = λ is. by unsynced clean is;
     safe = safe-by who end was opens caller at_end moved grows losses (event ∷ [])
@@ -149,7 +149,7 @@ module _ {tells : Type 0} {given : Given} {tape tape' : List Operation} {scope :
         (settled-now world size unsynced entries (entries_of who end losses) (entries_of who end (event ∷ []))
         (subst (λ (l : List Entry). is_unsynced world (entries ++ l) ≡ unsynced) (entries-both who end losses (event ∷ [])) (unsynced_is t))
         (λ x lt. subst (λ (l : List Entry). IsIn (values_of (opening_list world) (entries ++ l) x) (list x)) (entries-both who end losses (event ∷ []))
-        (newest-stays x (newest-old who end was opens caller at_end moved grows (entries_of who end (losses ++ event ∷ [])) t fills x lt))))
+        (newest-stays x (newest-old who end was opens caller at_end moved grows (entries_of who end (losses ++ event ∷ [])) t fills x lt))) none)
         (settled t world size told room gone (unclean-told losses adds t) (λ does is. was.dirty does (pending is)) list (was.holds t) (rows-old t)
         (newest-told losses (entries_of who end (losses ++ event ∷ [])) adds t fills) began)));
   }
@@ -181,4 +181,4 @@ module _ {tells : Type 0} {given : Given} {tape tape' : List Operation} {scope :
       → LeavesSafe tells given tape' scope first (entries ++ entries_of who end (losses_of roles spares ++ event ∷ [])) members' (is_some resync)
   leaves-flushed event settles same stays clean settled =
       subst (LeavesSafe tells given tape' scope first (entries ++ entries_of who end (losses_of roles spares ++ event ∷ [])) members') same
-      (leaves-settled event (settles.silent who end) (settles.keep who end) (settles.newest who end) (λ t. unsynced-as event settles.ends t ∙ sym same) (λ is. sym same ∙ is) stays clean settled)
+      (leaves-settled event (settles.silent who end) (settles.keep who end) (settles.gives who end) (settles.newest who end) (λ t. unsynced-as event settles.ends t ∙ sym same) (λ is. sym same ∙ is) stays clean settled)

@@ -7,8 +7,9 @@ use Rattle.bank.specs.Tape.{Contents, IsIn, IsDrawn, disk}
 use Rattle.layout.specs.Layout.{place}
 use Rattle.layout.proofs.Places.{place-role_below, place-row_below}
 use Rattle.superblocks.specs.declared.members.Members.{Members}
-use Rattle.superblocks.specs.Reading.{Scope, Reading, is_clean, shape_of, role_state, holder, data_offset_of}
-use Rattle.row_io.specs.Rows.{reading_of, present, IsTolerated}
+use Rattle.superblocks.specs.Reading.{Scope, Reading, is_clean, shape_of, data_offset_of}
+use Rattle.row_io.specs.Rows.{reading_of, present, held_slot, IsTolerated}
+use Rattle.row_io.proofs.Losses.{holder-of}
 use Rattle.list_io.specs.Full.{RowStands}
 use Rattle.list_io.proofs.FullLaws.{data_here, full-data}
 use Rattle.array.specs.Whole.{list_size}
@@ -16,7 +17,6 @@ use Rattle.array.specs.Placed.{places_by, IsPlaced}
 use Rattle.array.specs.Lacking.{DoesWithout, AreHoldersFlushed, ListStands, RowsStand}
 use Rattle.array.specs.Views.{Ledger, AreHeldAllowed, IsSettled}
 use Rattle.array.specs.Steady.{IsSafeNow, IsNamedNow, settled_ledger}
-use Rattle.array.proofs.LackingWrites.{held-in}
 use Rattle.array.proofs.Steady.{flushed-is-settled}
 
 -- a sector that a slot holds has the list's value alone
@@ -27,9 +27,10 @@ holds-alone given m tape list placed flushed stands x slot lt holds v may =
     let role = (place shape x).role in
     let row = (place shape x).row in
     let below : row < m.newest.size = place-row_below shape placed.valid x m.newest.size placed.multiple lt in
+    let own = holder-of (reading_of m) role row slot holds in
     inl (only (present given tape slot (data_offset_of (reading_of m) slot + row)) (subst (λ (values : List Sector). IsIn values v)
-    (flushed role slot (data_offset_of (reading_of m) slot + row) holds (λ e. absurd (let far = placed.behind role slot holds in omega (arith, e, far)))) may)
-    ∙ stands row below role slot (place-role_below shape placed.valid x) (data_here shape role row x placed.valid refl) (held-in given m placed role row slot holds below)
+    (flushed role slot (data_offset_of (reading_of m) slot + row) own (λ e. absurd (let far = placed.behind role slot own in omega (arith, e, far)))) may)
+    ∙ stands row below role slot (place-role_below shape placed.valid x) (data_here shape role row x placed.valid refl) holds
     ∙ full-data shape list role row x placed.valid refl)
   where
     only : (w : Sector) → (v ≡ w) ⊎ ⊥ → v ≡ w
@@ -39,7 +40,7 @@ holds-alone given m tape list placed flushed stands x slot lt holds v may =
 -- ---- the same by what is read of the members
 
 abbrev IsHeldBy : Reading → (ℕ → List Sector) → (ℕ → ℕ → List Sector) → Type 0
-IsHeldBy r values d = (x slot : ℕ) → x < list_size (places_by r) → holder (role_state r (place (shape_of r.newest) x).role) ≡ Some slot
+IsHeldBy r values d = (x slot : ℕ) → x < list_size (places_by r) → held_slot r (place (shape_of r.newest) x).role (place (shape_of r.newest) x).row ≡ Some slot
     → (v : Sector) → IsIn (d slot (data_offset_of r slot + (place (shape_of r.newest) x).row)) v → IsIn (values x) v
 
 abbrev AreSettledBy : Reading → (ℕ → Sector) → (ℕ → ℕ → List Sector) → Type 0

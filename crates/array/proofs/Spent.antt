@@ -15,7 +15,6 @@ use Rattle.superblocks.specs.Updating.{IsSomeLeft}
 use Rattle.superblocks.specs.Outcome.{live_set}
 use Rattle.superblocks.specs.Reads.{has_spare}
 use Rattle.row_io.specs.Rows.{reading_of}
-use Rattle.row_io.proofs.Losses.{holder-of}
 use Rattle.list_io.specs.Writing.{MayHaveFull, IsPutting}
 use Rattle.array.specs.Placed.{IsPlaced, AreUnlost}
 use Rattle.array.specs.Marking.{marking}
@@ -49,6 +48,4 @@ nothing-put given m shape list touched d e placed unlost none putting s k = by (
   where
     by : (e s k ≡ d s k) ⊎ MayHaveFull (reading_of m) shape list touched s k (d s k) (e s k) → e s k ≡ d s k
     by (inl same) = same
-    by (inr full) =
-        let holds = holder-of (reading_of m) full.role full.row s full.held in
-        absurd (none (s, live-holder given m false full.role s placed holds, unlost full.role s holds))
+    by (inr full) = absurd (none (s, live-holder given m false full.role s placed full.held, unlost full.role s full.held))

@@ -1,12 +1,11 @@
 -- What an image stands for that is read of members: at each place what stands there by what they say.
-use Rattle.std.proofs.Common.{◌≡◌, ℕ, ◌+◌, ◌*◌, ◌<◌, inl, inr, Bool, true, false, cond, nat_lt, min, List, [], length, get_or, Option, Some, None, unwrap_or, option_map, refl, sym, ◌∙◌, ap, ap₂, arith}
+use Rattle.std.proofs.Common.{◌≡◌, ℕ, ◌+◌, ◌*◌, ◌<◌, Bool, true, false, cond, nat_lt, min, List, [], length, get_or, Option, Some, None, unwrap_or, option_map, refl, ◌∙◌, ap, ap₂, arith}
 use Rattle.std.specs.Prelude.{slice_index_or}
 use Rattle.std.specs.Option.{option_map_or}
 use Rattle.std.proofs.lemmas.Bool.Decides.{nat_tests}
 use Rattle.md_base.specs.declared.answers.Refusal.TheVariants.{NoSuperblock}
 use Rattle.md_base.specs.declared.places.Shape.{Shape}
 use Rattle.md_base.specs.declared.status.Role.{Role}
-use Rattle.md_base.specs.declared.status.Role.TheVariants.{Whole, Missing}
 use Rattle.md_base.specs.Sectors.{Sector}
 use Rattle.md_base.specs.Shapes.{data_disks}
 use Rattle.md_base.proofs.Tabulated.{length-tabulate, get_or-tabulate}
@@ -32,33 +31,14 @@ use Rattle.array.proofs.Refused.{final-is, refused-for}
 -- ---- one sector, by the state of its role
 
 -- what a role in this state has of a row
-held_as : Contents → Reading → Role → ℕ → Option Sector
+abbrev held_as : Contents → Reading → Role → ℕ → Option Sector
 held_as c r state row = cond (nat_lt row (rows_held r state)) (option_map (λ slot. c slot (data_offset_of r slot + row)) (holder state)) None
 
-missing-has : (c : Contents) (r : Reading) (row : ℕ) → held_as c r Missing row ≡ None
-unfolding held_as
-missing-has c r row = either (nat_lt row 0)
-  where
-    either : (b : Bool) → ◌≡◌ {A = Option Sector} (cond b None None) None
-    either true = refl
-    either false = refl
-
-whole-has : (c : Contents) (r : Reading) (slot row : ℕ) → row < r.newest.size → held_as c r (Whole slot) row ≡ Some (c slot (data_offset_of r slot + row))
-unfolding held_as
-whole-has c r slot row lt = ap (λ (b : Bool). cond b (Some (c slot (data_offset_of r slot + row))) None) (within row r.newest.size lt)
-  where
-    within : (a b : ℕ) → a < b → nat_lt a b ≡ true
-    within a b lt = grind (arith, nat_tests, lt)
-
--- a role that is missing has nothing there
-pub missing-held : (c : Contents) (r : Reading) (role row : ℕ) → role_state r role ≡ Missing → rows.held_sector c r role row ≡ None
-unfolding held_as
-missing-held c r role row is = ap (λ (state : Role). held_as c r state row) is ∙ missing-has c r row
-
--- a whole one has its slot's sector
-pub whole-held : (c : Contents) (r : Reading) (role slot row : ℕ) → role_state r role ≡ Whole slot → row < r.newest.size → rows.held_sector c r role row ≡ Some (c slot (data_offset_of r slot + row))
-unfolding held_as
-whole-held c r role slot row is lt = ap (λ (state : Role). held_as c r state row) is ∙ whole-has c r slot row lt
+-- the slot's sector, where its rows begin alike
+held-alike : (c : Contents) (q r : Reading) (h : Option ℕ) (row : ℕ) → ((slot : ℕ) → h ≡ Some slot → data_offset_of q slot ≡ data_offset_of r slot)
+    → option_map (λ slot. c slot (data_offset_of q slot + row)) h ≡ option_map (λ slot. c slot (data_offset_of r slot + row)) h
+held-alike c q r (Some slot) row offsets = ap (λ (at : ℕ). Some (c slot (at + row))) (offsets slot refl)
+held-alike c q r None row offsets = refl
 
 -- what stands at the place of a sector of the list, by what the members say
 abbrev pub standing_at : Members → Contents → ℕ → Sector
@@ -98,13 +78,11 @@ module _ (scope : Scope) (given : Given) (m : Members) (placed : IsPlaced given 
 
   -- each role has what it has by the members
   pub held-same : (role row : ℕ) → role < shape.disks → row < m.newest.size → held_sector c r role row ≡ rows.held_sector c (reading_of m) role row
-  held-same role row lt below = elim (placed.states role) [
-    | inl missing ↦ missing-held c r role row (read.states role lt ∙ missing) ∙ sym (missing-held c (reading_of m) role row missing)
-    | inr whole ↦
-        whole-held c r role whole.0 row (read.states role lt ∙ whole.1) (rw read.size below)
-        ∙ ap (λ (at : ℕ). Some (c whole.0 (at + row))) (read.offsets role whole.0 lt (ap holder whole.1))
-        ∙ sym (whole-held c (reading_of m) role whole.0 row whole.1 below)
-  ]
+  held-same role row lt below =
+      let state = role_state (reading_of m) role in
+      ap (λ (s : Role). held_as c r s row) (read.states role lt)
+      ∙ ap (λ (n : ℕ). cond (nat_lt row n) (option_map (λ slot. c slot (data_offset_of r slot + row)) (holder state)) None) (read.rows role lt)
+      ∙ ap (λ (o : Option Sector). cond (nat_lt row (rows_held (reading_of m) state)) o None) (held-alike c r (reading_of m) (holder state) row (λ slot held. read.offsets role slot lt held))
 
   placed-same : (x : ℕ) → x < list_size (places_of m) → placed_sector c r shape x ≡ standing_at m c x
   placed-same x below =

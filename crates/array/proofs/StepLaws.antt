@@ -23,12 +23,12 @@ use Rattle.flat_history.specs.World.{World}
 use Rattle.flat_history.specs.Growing.{grown}
 use Rattle.flat_history.specs.Legal.{told_left, call_before, disturbs}
 use Rattle.flat_history.specs.Losses.{was_dirty, is_resync_end, is_unsynced}
-use Rattle.flat_history.specs.Plain.{lost_count, entries_of}
-use Rattle.flat_history.specs.OneShape.{ShapeOpening, opening_in, is_lost, IsOneShapeEvent, AreOneShape, IsOneShapeLegal, IsOneShapeRefusal, IsOneShapeStep, IsResyncStep, GoesOnBehind, IsOfCall, IsCallOpen}
+use Rattle.flat_history.specs.Plain.{entries_of}
+use Rattle.flat_history.specs.OneShape.{ShapeOpening, opening_in, gives_role, is_gone_now, gone_count_now, IsOneShapeEvent, AreOneShape, IsOneShapeLegal, IsOneShapeRefusal, IsOneShapeStep, IsIdleStep, GoesOnBehind, IsOfCall, IsCallOpen}
 use Rattle.flat_history.proofs.OneShapeLegal.{opening-grown}
-use Rattle.flat_history.proofs.OneShapeGrowing.{one, IsOneShapeCall, AreFaults, others-enter, call-one_shape, call-faults, lost-more}
+use Rattle.flat_history.proofs.OneShapeGrowing.{one, IsOneShapeCall, AreFaults, others-enter, call-one_shape, call-faults, gone-more}
 use Rattle.flat_history.proofs.OneShapeGoing.{open-more, open-numbered, going-on}
-use Rattle.array.proofs.CallLaws.{AreLossEvents, ends-losses}
+use Rattle.array.proofs.CallLaws.{AreLossEvents, GivesNone, ends-losses}
 use Rattle.array.proofs.LosingLaws.{entries-both}
 use Rattle.array.proofs.LeftLaws.{TellLeft, fold-left, left-behind, left-more}
 use Rattle.array.proofs.RecordLaws.{count-implied}
@@ -119,7 +119,7 @@ faults-are (SpareLost slot ∷ xs) are = faults-are xs are
 faults-are (event ∷ xs) are = absurd are
 
 -- a step is legal where the steps left as last told are one more
-step-legal : (steps : ℕ) (before : List Entry) (e : Entry) (kind : StepKind) (left : ℕ) → IsResyncStep kind → left + 1 ≡ steps → IfSome (told_left before) (λ n. n ≡ steps) → IsOneShapeStep before e [] kind left
+step-legal : (steps : ℕ) (before : List Entry) (e : Entry) (kind : StepKind) (left : ℕ) → IsIdleStep kind → left + 1 ≡ steps → IfSome (told_left before) (λ n. n ≡ steps) → IsOneShapeStep before e [] kind left
 step-legal steps before e kind left is less told = (is, by (list_any (λ e. disturbs e.event) (call_before before e ++ [])) (told_left before) told)
   where
     by : (b : Bool) (o : Option ℕ) → IfSome o (λ n. n ≡ steps) → IfSome (cond b None o) (λ n. left + 1 ≡ n)
@@ -128,7 +128,7 @@ step-legal steps before e kind left is less told = (is, by (list_any (λ e. dist
     by false (Some n) told = less ∙ sym told
 
 -- A step behind the losses of its call is legal where the history tells one more step left, or none.
-pub call-stepped : (opening : ShapeOpening) (steps : ℕ) (entries : List Entry) (who : Who) (end : ℕ) (losses : List Event) (kind : StepKind) (left : ℕ) → AreLossEvents losses → IsResyncStep kind
+pub call-stepped : (opening : ShapeOpening) (steps : ℕ) (entries : List Entry) (who : Who) (end : ℕ) (losses : List Event) (kind : StepKind) (left : ℕ) → AreLossEvents losses → IsIdleStep kind
     → left + 1 ≡ steps → IfSome (told_left entries) (λ n. n ≡ steps) → IsOneShapeCall opening entries who end (losses ++ Step kind left ∷ [])
 call-stepped opening steps entries who end losses kind left are is less told =
     call-faults opening entries who end losses (Step kind left ∷ []) (faults-are losses are) (
@@ -167,6 +167,10 @@ synced-behind world entries who end losses left are =
 
 -- ---- a reply to a request for steps
 
+-- a refusal gives no role back
+refusal-gives : (e : Entry) (refusal : Refusal) → e.event ≡ Refused refusal → GivesNone (e ∷ [])
+refusal-gives e refusal is role = ap (λ (event : Event). gives_role role event || false) is
+
 -- a refusal is right too behind an entry that tells it
 refused-still : (opening : ShapeOpening) (before : List Entry) (e : Entry) (refusal : Refusal) → e.event ≡ Refused refusal → IsOneShapeRefusal opening before refusal → IsOneShapeRefusal opening (before ++ e ∷ []) refusal
 refused-still opening before e (PastEnd visible) is was = was ∙ sym (ap₂ (λ (n : ℕ) (limit : Option ℕ). option_map_or (λ l. min l n) limit n) long limit)
@@ -177,11 +181,12 @@ refused-still opening before e (PastEnd visible) is was = was ∙ sym (ap₂ (λ
     limit : limit_of (before ++ e ∷ []) ≡ limit_of before
     limit = fold-append (λ (limit : Option ℕ) e. limit_after limit e.event) None before (e ∷ []) ∙ ap (limit_after (limit_of before)) is
 refused-still opening before e (TooManyMissing count tolerance) is was =
-    let more : lost_count before ≤ lost_count (before ++ e ∷ []) = count-implied 32 (is_lost before) (is_lost (before ++ e ∷ [])) (λ role lt lost. lost-more role before (e ∷ []) lost) in
+    let more : gone_count_now before ≤ gone_count_now (before ++ e ∷ []) =
+    count-implied 32 (is_gone_now before) (is_gone_now (before ++ e ∷ [])) (λ role lt gone. gone-more role before (e ∷ []) (refusal-gives e (TooManyMissing count tolerance) is role) gone) in
     let lost = was.lost in
     record { above = was.above; lost = omega (arith, lost, more); tolerated = was.tolerated }
 refused-still opening before e (NotResynced role) is was = (
-  lost-more role before (e ∷ []) was.0,
+  gone-more role before (e ∷ []) (refusal-gives e (NotResynced role) is role) was.0,
   ap (λ (b : Bool). opening.dirty && not b) (list_any-append (λ e. is_resync_end e.event) before (e ∷ []) ∙ ap (λ (event : Event). list_any (λ e. is_resync_end e.event) before || (is_resync_end event || false)) is
       ∙ or_none (list_any (λ e. is_resync_end e.event) before)) ∙ was.1,
 )

@@ -1,5 +1,5 @@
 -- A view stays right where only superblocks are written, and for members that lost roles which are told.
-use Rattle.std.proofs.Common.{◌≡◌, ◌≢◌, ◌⊎◌, inl, inr, ℕ, zero, suc, ◌+◌, ◌*◌, ◌<◌, ◌≤◌, ◌==◌, Bool, true, false, not, cond, nat_lt, List, get_or, Some, None, refl, sym, ◌∙◌, ap, subst, arith}
+use Rattle.std.proofs.Common.{◌≡◌, ◌≢◌, ℕ, zero, suc, ◌+◌, ◌*◌, ◌<◌, ◌≤◌, ◌==◌, Bool, true, false, not, cond, List, get_or, Some, refl, sym, ◌∙◌, ap, subst, arith}
 use Rattle.std.proofs.lemmas.Bool.Decides.{nat_tests}
 use Rattle.md_base.specs.Sectors.{Sector}
 use Rattle.md_base.specs.Search.{count_below}
@@ -12,14 +12,15 @@ use Rattle.bank.specs.Tape.{Contents, IsIn, IsDrawn, Kept}
 use Rattle.bank.proofs.Laws.{kept_in}
 use Rattle.layout.specs.Layout.{place}
 use Rattle.superblocks.specs.declared.members.Members.{Members}
-use Rattle.superblocks.specs.Reading.{is_whole, shape_of, role_state, rows_held, holder, data_offset_of}
+use Rattle.superblocks.specs.Reading.{is_whole, shape_of, role_state, holder, data_offset_of}
 use Rattle.superblocks.specs.Crash.{IsWithin}
 use Rattle.row_io.specs.Rows.{reading_of, is_missing, missing_count, held_slot, role_without}
-use Rattle.row_io.proofs.Losses.{holder-of, state_kept}
+use Rattle.row_io.proofs.Losses.{holder-of}
 use Rattle.list_io.specs.Full.{RowStands}
 use Rattle.array.specs.Whole.{list_size}
 use Rattle.array.specs.Placed.{places_of, IsPlaced, AreLess}
 use Rattle.array.specs.Lacking.{DoesWithout}
+use Rattle.array.proofs.HeldRows.{held-less}
 use Rattle.array.proofs.PlacedLaws.{state-without}
 use Rattle.array.proofs.ReadWhole.{IsSomewhere}
 use Rattle.array.specs.Views.{Ledger, AreHeldAllowed, AreRowsSettled, IsSettled, IsViewRight}
@@ -76,7 +77,8 @@ module _ (given : Given) (d e : Disk) (some : IsSomewhere d) (kept : AreOthersKe
     held = λ x slot lt holds v may.
         let k = data_offset_of (reading_of m) slot + (place (shape_of m.newest) x).row in
         right.held x slot lt holds v
-        (kept_in (d slot k) (e slot k) v (kept slot k (behind m right.placed (place (shape_of m.newest) x).role slot (place (shape_of m.newest) x).row holds)) may);
+        (kept_in (d slot k) (e slot k) v (kept slot k (behind m right.placed (place (shape_of m.newest) x).role slot (place (shape_of m.newest) x).row
+        (holder-of (reading_of m) (place (shape_of m.newest) x).role (place (shape_of m.newest) x).row slot holds))) may);
     settled = λ clean does premise.
         let settled = right.settled clean does premise in
         record { list = settled.list; allowed = settled.allowed; rows = rows-kept m settled.list right.placed settled.rows };
@@ -125,9 +127,6 @@ module _ (given : Given) (lost : ℕ) (old m : Members) (placed : IsPlaced given
   state-is : (role : ℕ) → role_state (reading_of m) role ≡ role_without lost (role_state (reading_of old) role)
   state-is role = ap (λ (l : List Role). get_or l role Missing) less.roles ∙ state-without lost old.roles role
 
-  held-before : (role slot : ℕ) → holder (role_state (reading_of m) role) ≡ Some slot → holder (role_state (reading_of old) role) ≡ Some slot
-  held-before role slot holds = (state_kept lost slot (role_state (reading_of old) role) (ap holder (sym (state-is role)) ∙ holds)).holder
-
   pub list-same : list_size (places_of m) ≡ list_size (places_of old)
   list-same = λ i. data_disks (less.shape i) * less.size i
 
@@ -137,10 +136,11 @@ module _ (given : Given) (lost : ℕ) (old m : Members) (placed : IsPlaced given
       ap (λ (s : Role). not (is_whole s)) (ap (λ (l : List Role). get_or l role Missing) ends.roles ∙ state-without last old.roles role)
       ∙ missing-more lost last within (role_state (reading_of old) role) (ap (λ (s : Role). not (is_whole s)) (sym (state-is role)) ∙ missing)
 
-  pub held-less : (values : ℕ → List Sector) (d : Disk) → AreHeldAllowed old values d → AreHeldAllowed m values d
-  held-less values d held x slot lt holds v may =
+  pub allowed-less : (values : ℕ → List Sector) (d : Disk) → AreHeldAllowed old values d → AreHeldAllowed m values d
+  allowed-less values d held x slot lt holds v may =
       held x slot (subst (λ (n : ℕ). x < n) list-same lt)
-      (held-before (place (shape_of old.newest) x).role slot ((λ i. holder (role_state (reading_of m) (place (sym less.shape i) x).role)) ∙ holds)) v
+      (held-less lost old m less (place (shape_of old.newest) x).role (place (shape_of old.newest) x).row slot
+      ((λ i. held_slot (reading_of m) (place (sym less.shape i) x).role (place (sym less.shape i) x).row) ∙ holds)) v
       (subst (λ (l : List Sector). IsIn l v) (λ i. d slot (less.offsets slot i + (place (less.shape i) x).row)) may)
 
   -- it can do without no fewer
@@ -151,26 +151,11 @@ module _ (given : Given) (lost : ℕ) (old m : Members) (placed : IsPlaced given
       (λ role missing. ap (λ (s : Role). not (is_whole s)) (state-is role) ∙ missing-still lost (role_state (reading_of old) role) missing) in
       omega (arith, here, more)
 
-  -- a slot that still holds a role has all its rows
-  still-held : (role row slot : ℕ) → row < old.newest.size → held_slot (reading_of m) role row ≡ Some slot → held_slot (reading_of old) role row ≡ Some slot
-  still-held role row slot lt held = by (placed.states role) (held-before role slot (holder-of (reading_of m) role row slot held))
-    where
-      there : nat_lt row old.newest.size ≡ true
-      there = grind (arith, nat_tests, lt)
-
-      by : (role_state (reading_of old) role ≡ Missing) ⊎ ((slot : ℕ) × (role_state (reading_of old) role ≡ Whole slot)) → holder (role_state (reading_of old) role) ≡ Some slot
-          → held_slot (reading_of old) role row ≡ Some slot
-      by (inl none) holds = absurd (let e = ap holder none in cc)
-      by (inr found) holds =
-          ap (λ (s : Role). cond (nat_lt row (rows_held (reading_of old) s)) (holder s) None) found.1
-          ∙ ap (λ (b : Bool). cond b (Some found.0) None) there
-          ∙ sym (ap holder found.1) ∙ holds
-
   rows-less : (list : ℕ → Sector) (d : Disk) → AreRowsSettled old list d → AreRowsSettled m list d
   rows-less list d settled c drawn row lt = subst (λ (s : Shape). RowStands (reading_of m) c s list row) (sym less.shape) (record {
     whole = stands.whole;
-    sectors = λ role slot below part held. at role slot held ∙ stands.sectors role slot below part (still-held role row slot short held);
-    parity = λ role slot below part held. at role slot held ∙ stands.parity role slot below part (still-held role row slot short held);
+    sectors = λ role slot below part held. at role slot held ∙ stands.sectors role slot below part (held-less lost old m less role row slot held);
+    parity = λ role slot below part held. at role slot held ∙ stands.parity role slot below part (held-less lost old m less role row slot held);
   })
     where
       short : row < old.newest.size

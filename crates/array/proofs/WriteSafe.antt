@@ -38,7 +38,8 @@ module _ (given : Given) (former : Members) (gone : ℕ) (values : ℕ → List 
         where
           role-is : full.role ≡ (place (shape_of former.newest) x).role
           role-is = placed.apart full.role (place (shape_of former.newest) x).role slot
-              (holder-after former gone full.role slot (holder-of (reading_of (members_without gone former)) full.role full.row slot full.held)) holds
+              (holder-after former gone full.role slot full.held)
+              (holder-of (reading_of former) (place (shape_of former.newest) x).role (place (shape_of former.newest) x).row slot holds)
 
           row-is : full.row ≡ (place (shape_of former.newest) x).row
           row-is = let at = full.place in omega (arith, at)

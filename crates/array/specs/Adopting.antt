@@ -6,11 +6,13 @@ use Rattle.bank.specs.declared.bank.Operation.{Operation}
 use Rattle.bank.specs.Given.{Given, sizes}
 use Rattle.bank.specs.Tape.{disk}
 use Rattle.superblocks.specs.declared.members.Members.{Members}
-use Rattle.superblocks.specs.Reading.{Scope, Reading, reading, is_clean, shape_of}
+use Rattle.md_base.specs.declared.status.Role.{Role}
+use Rattle.md_base.specs.declared.status.Role.TheVariants.{Whole, Recovering, Missing}
+use Rattle.superblocks.specs.Reading.{Scope, Reading, reading, is_clean, shape_of, role_state}
 use Rattle.row_io.specs.Rows.{reading_of, present, is_missing}
 use Rattle.flat_history.specs.declared.events.Event.{Event}
 use Rattle.flat_history.specs.declared.events.Event.TheVariants.{Lost}
-use Rattle.flat_history.specs.declared.events.LostCause.TheVariants.{Absent}
+use Rattle.flat_history.specs.declared.events.LostCause.TheVariants.{Absent, Recovering as ByRecovering}
 use Rattle.flat_history.specs.World.{opening_list}
 use Rattle.flat_history.specs.Flat.{now}
 use Rattle.flat_history.specs.Losses.{was_dirty}
@@ -29,10 +31,16 @@ use Rattle.array.specs.Parts.{Parts}
 abbrev pub opener : Who
 opener = record { caller = 254; number = 0 }
 
-abbrev pub absent_loss : Reading → ℕ → List Event
-absent_loss r role = if is_missing r role then Lost role Absent ∷ [] else []
+-- what an opening tells of a role by its state: that no slot holds it, or that one recovers it
+abbrev pub found_loss : ℕ → Role → List Event
+found_loss role (Whole slot) = []
+found_loss role (Recovering slot) = Lost role ByRecovering ∷ []
+found_loss role Missing = Lost role Absent ∷ []
 
--- a loss for each missing role below n, in order
+abbrev pub absent_loss : Reading → ℕ → List Event
+absent_loss r role = found_loss role (role_state r role)
+
+-- a loss for each role below n that isn't whole, in order
 unfoldable pub absent_losses : Reading → ℕ → List Event
 absent_losses r zero = []
 absent_losses r (suc n) = absent_losses r n ++ absent_loss r n
@@ -41,7 +49,7 @@ absent_losses r (suc n) = absent_losses r n ++ absent_loss r n
 abbrev pub found_losses : Reading → List Event
 found_losses r = absent_losses r (shape_of r.newest).disks
 
--- What an array needs that begins here: the members are read from its slots, each role whole or missing; its list stands on them, and
+-- What an array needs that begins here: the members are read from its slots; its list stands on them, and
 -- its rows where the opening finds them good; a stop leaves what is there, and the next update may start.
 pub record IsAdoptable (tells : Type 0) (given : Given) (tape : List Operation) (scope : Scope) (members : Members) : Type 0 where
   pub slots : given.slots ≤ 32

@@ -23,7 +23,8 @@ use Rattle.flat_history.specs.World.{World, opening_list}
 use Rattle.flat_history.specs.Transfers.{last_end_from}
 use Rattle.flat_history.specs.Flat.{last_of}
 use Rattle.flat_history.specs.Plain.{entries_of}
-use Rattle.flat_history.specs.OneShape.{is_lost, OneShapeFits}
+use Rattle.flat_history.specs.OneShape.{is_gone_now, OneShapeFits}
+use Rattle.array.specs.Placed.{is_vacant}
 use Rattle.array.specs.Losing.{losses_of}
 use Rattle.array.specs.Lacking.{lacking}
 use Rattle.array.specs.Parts.{Parts}
@@ -115,13 +116,13 @@ abbrev pub IsRefusalOf : ℕ → ℕ → (Members → Refusal → Type 0) → Me
 IsRefusalOf visible to why members None = (to ≤ visible) × ((refusal : Refusal) → why members refusal → ⊥)
 IsRefusalOf visible to why members (Some refusal) = IsRefusedFor visible to why members members refusal
 
--- a role is whole in this array
+-- a slot holds this role of the array, whole or in part
 abbrev pub HasRole : Members → ℕ → Type 0
-HasRole members role = (role < (shape_of members.newest).disks) × (is_missing (reading_of members) role ≡ false)
+HasRole members role = (role < (shape_of members.newest).disks) × (is_vacant (reading_of members) role ≡ false)
 
--- a fail is answered Ok exactly where the role is whole, and refused, with nothing changed, exactly where it isn't
+-- a fail is answered Ok exactly where a slot holds the role, which it loses, and refused, with nothing changed, exactly where none does
 abbrev pub IsFailedFor : {T : Type 0} → ℕ → Members → Members → Result T Fault → Type 0
-IsFailedFor role old new (Ok x) = HasRole old role × (is_missing (reading_of new) role ≡ true)
+IsFailedFor role old new (Ok x) = HasRole old role × (is_vacant (reading_of new) role ≡ true)
 IsFailedFor role old new (Err (IsRefusedWith refusal)) = (refusal ≡ NoSuchRole role) × (new ≡ old) × (HasRole old role → ⊥)
 IsFailedFor role old new (Err NoMemory) = new ≡ old
 
@@ -175,9 +176,9 @@ pub record AreLossesOf (members : Members) (before now : ℕ → ℕ) (old new :
   pub grown : new ≡ old ++ more
   pub failed : All (λ e. IsLossOf members before now e.event) more
 
--- What a stop leaves of the slots that held a role and aren't told lost: all is as it is, and nothing else, but for the superblocks.
+-- What a stop leaves of the slots that held a role that isn't gone: all is as it is, and nothing else, but for the superblocks.
 abbrev pub AreLeftFlushed : Members → List Entry → Given → List Operation → Type 0
-AreLeftFlushed members entries given tape = (role slot k : ℕ) → holder (role_state (reading_of members) role) ≡ Some slot → is_lost entries role ≡ false → (k ≡ 8 → ⊥)
+AreLeftFlushed members entries given tape = (role slot k : ℕ) → holder (role_state (reading_of members) role) ≡ Some slot → is_gone_now entries role ≡ false → (k ≡ 8 → ⊥)
     → disk given.start tape slot k ≡ present given tape slot k ∷ []
 
 -- ---- what no call changes

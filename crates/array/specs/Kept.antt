@@ -1,6 +1,5 @@
 -- What an array keeps that may lack members, over plain data.
 use Rattle.std.specs.Prelude.{◌≡◌, ◌⊎◌, ℕ, ◌+◌, ◌*◌, ◌<◌, ◌≤◌, ◌||◌, true, false, List, length, Option, Some, None, is_some, IsTrue, IsSome, IfSome}
-use Rattle.std.specs.List.{list_any}
 use Rattle.md_base.specs.Shapes.{tolerance}
 use Rattle.md_base.specs.Sectors.{Sector}
 use Rattle.parity.specs.Rows.{IsSector}
@@ -19,8 +18,7 @@ use Rattle.flat_history.specs.Opened.{OpensWhole}
 use Rattle.flat_history.specs.Sound.{FillsRight, OpensFit, LeavesSoundThroughout}
 use Rattle.flat_history.specs.Epochs.{HasRoomForEvents, OpensAlike}
 use Rattle.flat_history.specs.Growing.{EndBy, IsSafeThroughout}
-use Rattle.flat_history.specs.Plain.{loses_role}
-use Rattle.flat_history.specs.OneShape.{opening_in, is_lost, is_unsettled, IsOneShapeLegal}
+use Rattle.flat_history.specs.OneShape.{opening_in, is_gone_now, is_unsettled, IsOneShapeLegal}
 use Rattle.array.specs.Whole.{list_size}
 use Rattle.array.specs.Views.{Ledger}
 use Rattle.array.specs.Steady.{IsSafeOver}
@@ -37,10 +35,10 @@ scope_in given uuid slots backup = record { uuid = uuid; given = slots; backup =
 abbrev pub world_in : Given → List Operation → Scope → ℕ → World
 world_in given tape scope first = record { start = given.start; tape = tape; scope = scope; first = first }
 
--- each missing role is told lost
+-- each missing role is told gone
 abbrev pub AreTold : Members → List Entry → Type 0
 AreTold members entries = (role : ℕ) → role < (shape_of members.newest).disks → is_missing (reading_of members) role ≡ true
-    → IsTrue (list_any (λ e. loses_role role e.event) entries)
+    → IsTrue (is_gone_now entries role)
 
 -- What was filled in is right: none is missing, or the epoch opened sound, in whole sectors. Before a pending resync has mended a stripe
 -- nothing is filled in.
@@ -67,11 +65,11 @@ pub record IsCounted (world : World) (members : Members) : Type 0 where
   pub is : reading_at world world.first ≡ Some found
   pub events : members.newest.events + world.first ≤ found.newest.events + length world.tape
 
--- what the whole history tells: the values of each sector, the roles that are lost, and whether a write may be unsettled
+-- what the whole history tells: the values of each sector, the roles that are gone, and whether a write may be unsettled
 abbrev pub ledger_now : World → List Entry → Ledger
 ledger_now world entries = record {
   values = values_of (opening_list world) entries;
-  gone = is_lost entries;
+  gone = is_gone_now entries;
   unclean = is_unsynced world entries || is_unsettled entries;
 }
 

@@ -13,6 +13,7 @@ use Rattle.superblocks.specs.declared.members.Members.{Members}
 use Rattle.sb1.specs.declared.sb.Sb.{Sb}
 use Rattle.superblocks.specs.Reading.{Reading, shape_of, role_state, holder, data_offset_of, entry_of}
 use Rattle.row_io.specs.Rows.{reading_of, present, is_missing, missing_count, IsTolerated}
+use Rattle.array.specs.Placed.{is_vacant}
 use Rattle.list_io.specs.declared.outcome.Unavailable.{Unavailable}
 use Rattle.list_io.specs.declared.outcome.Unavailable.TheVariants.{TooManyMissing, NotResynced}
 use Rattle.list_io.specs.Full.{DataStands, RowStands}
@@ -87,9 +88,9 @@ pub record HaveFailedSince (old new : Members) (spares : ℕ) (before after : �
   pub roles : (role slot : ℕ) → holder (role_state (reading_of old) role) ≡ Some slot → (holder (role_state (reading_of new) role) ≡ Some slot) ⊎ IsFaulted slot before after
   pub spares_are : (slot : ℕ) → has_slot spares slot ≡ true → IsFaulted slot before after
 
--- Each role that is missing now was so before, or is one of these, the slot of each of which has failed since, as have these spares.
+-- Each role that no slot holds now had none before, or is one of these, the slot of each of which has failed since, as have these spares.
 pub record AreLostSince (old new : Members) (roles spares : ℕ) (before after : ℕ → ℕ) : Type 0 where
-  pub missing : (role : ℕ) → role < (shape_of new.newest).disks → is_missing (reading_of new) role ≡ true → (is_missing (reading_of old) role ≡ true) ⊎ (has_slot roles role ≡ true)
+  pub vacant : (role : ℕ) → role < (shape_of new.newest).disks → is_vacant (reading_of new) role ≡ true → (is_vacant (reading_of old) role ≡ true) ⊎ (has_slot roles role ≡ true)
   pub held : (role : ℕ) → has_slot roles role ≡ true → (slot : ℕ) × (holder (role_state (reading_of old) role) ≡ Some slot) × IsFaulted slot before after
   pub failed : (slot : ℕ) → has_slot spares slot ≡ true → IsFaulted slot before after
 

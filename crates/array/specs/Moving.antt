@@ -1,10 +1,11 @@
 -- What device calls leave of an array.
 use Rattle.std.specs.Prelude.{◌≡◌, ℕ, ◌≤◌, true, List, ◌++◌, length, Some}
 use Rattle.md_base.specs.Shapes.{has_slot}
+use Rattle.md_base.specs.declared.status.Role.{Role}
 use Rattle.bank.specs.declared.bank.Operation.{Operation}
 use Rattle.bank.specs.Given.{Given, IsFaulted}
 use Rattle.superblocks.specs.declared.members.Members.{Members}
-use Rattle.superblocks.specs.Reading.{shape_of, role_state, holder, data_offset_of}
+use Rattle.superblocks.specs.Reading.{shape_of, role_state, rows_held, holder, data_offset_of}
 use Rattle.row_io.specs.Rows.{reading_of}
 use Rattle.array.specs.Placed.{places_of, AreWhole, IsPlaced, AreUnlost, AreStillHeld, AreLess}
 
@@ -12,11 +13,14 @@ use Rattle.array.specs.Placed.{places_of, AreWhole, IsPlaced, AreUnlost, AreStil
 pub record Grows (tells : Type 0) (before after : List Operation) : Type 0 where
   pub more : tells → (ops : List Operation) × (after ≡ before ++ ops)
 
--- The same array, of which some slots may have been lost; where no role is missing, all stands where it stood.
+-- The same array, of which some slots may have been lost: each role that still has its slot is as whole as it was, and the slot holds the same
+-- rows. Where no role is missing, all stands where it stood.
 pub record IsMoved (given : Given) (old new : Members) : Type 0 where
   pub placed : IsPlaced given new
   pub unlost : AreUnlost new
   pub held : AreStillHeld old new
+  pub states : (role slot : ℕ) → holder (role_state (reading_of new) role) ≡ Some slot → role_state (reading_of new) role ≡ role_state (reading_of old) role
+  pub rows : (state : Role) → rows_held (reading_of new) state ≡ rows_held (reading_of old) state
   pub spares : length old.spares ≤ 32 → length new.spares ≤ 32
   pub shape : shape_of new.newest ≡ shape_of old.newest
   pub size : new.newest.size ≡ old.newest.size

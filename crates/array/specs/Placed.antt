@@ -1,11 +1,11 @@
 -- Where the rows of a running array stand, by what its members say.
-use Rattle.std.specs.Prelude.{◌≡◌, ◌≢◌, ◌⊎◌, ℕ, ◌^◌, ◌<◌, ◌≤◌, false, length, map, unwrap_or, Some, IsTrue}
+use Rattle.std.specs.Prelude.{◌≡◌, ◌≢◌, ℕ, ◌^◌, ◌<◌, ◌≤◌, Bool, false, not, length, map, unwrap_or, Some, is_some, IsTrue}
 use Rattle.md_base.specs.declared.places.Shape.{Shape}
-use Rattle.md_base.specs.declared.status.Role.TheVariants.{Whole, Missing}
+use Rattle.md_base.specs.declared.status.Role.{Role}
 use Rattle.md_base.specs.Shapes.{is_valid_shape, is_multiple, has_slot}
 use Rattle.bank.specs.Given.{Given, NeverFalls}
 use Rattle.superblocks.specs.declared.members.Members.{Members}
-use Rattle.superblocks.specs.Reading.{Reading, is_reshaping, shape_of, role_state, holder, data_offset_of}
+use Rattle.superblocks.specs.Reading.{Reading, is_reshaping, shape_of, role_state, rows_held, holder, data_offset_of}
 use Rattle.superblocks.specs.Outcome.{AreLive}
 use Rattle.row_io.specs.Rows.{reading_of, is_missing, missing_count, role_without, members_without, IsHolder, HaveFailed}
 use Rattle.row_io.specs.Writes.{AreApart}
@@ -23,18 +23,22 @@ places_by r = record {
 abbrev pub places_of : Members → Places
 places_of members = places_by (reading_of members)
 
+-- no slot holds the role, whole or in part
+abbrev pub is_vacant : Reading → ℕ → Bool
+is_vacant r role = not (is_some (holder (role_state r role)))
+
 -- every role is whole
 abbrev pub AreWhole : Members → Type 0
 AreWhole members = (role : ℕ) → role < (shape_of members.newest).disks → is_missing (reading_of members) role ≡ false
 
--- The members of an array of one shape: each role is whole on a slot of its own, behind the superblock, or missing.
+-- The members of an array of one shape: each role that a slot holds, whole or in part, has a slot of its own, where its rows lie behind the
+-- superblock.
 pub record IsPlaced (given : Given) (members : Members) : Type 0 where
   pub still : is_reshaping members.newest ≡ false
   pub valid : IsTrue (is_valid_shape (shape_of members.newest))
   pub multiple : IsTrue (is_multiple members.newest.size (shape_of members.newest).chunk)
   pub short : members.newest.size ≤ 2 ^ 48
   pub roles : length members.roles ≡ (shape_of members.newest).disks
-  pub states : (role : ℕ) → (role_state (reading_of members) role ≡ Missing) ⊎ ((slot : ℕ) × (role_state (reading_of members) role ≡ Whole slot))
   pub holders : (role slot : ℕ) → holder (role_state (reading_of members) role) ≡ Some slot → IsHolder given (reading_of members) slot
   pub behind : (role slot : ℕ) → holder (role_state (reading_of members) role) ≡ Some slot → 10 ≤ data_offset_of (reading_of members) slot
   pub apart : AreApart (reading_of members)
@@ -64,3 +68,4 @@ pub record AreLess (lost : ℕ) (old new : Members) : Type 0 where
   pub size : new.newest.size ≡ old.newest.size
   pub roles : new.roles ≡ map (role_without lost) old.roles
   pub offsets : (slot : ℕ) → data_offset_of (reading_of new) slot ≡ data_offset_of (reading_of old) slot
+  pub rows : (state : Role) → rows_held (reading_of new) state ≡ rows_held (reading_of old) state

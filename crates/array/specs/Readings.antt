@@ -5,7 +5,7 @@ use Rattle.bank.specs.declared.bank.Operation.{Operation}
 use Rattle.bank.specs.Given.{Given}
 use Rattle.bank.specs.Tape.{Contents, disk}
 use Rattle.superblocks.specs.declared.members.Members.{Members}
-use Rattle.superblocks.specs.Reading.{Scope, Reading, reading, is_reshaping, is_clean, shape_of, role_state, holder, data_offset_of}
+use Rattle.superblocks.specs.Reading.{Scope, Reading, reading, is_reshaping, is_clean, shape_of, role_state, rows_held, holder, data_offset_of}
 use Rattle.superblocks.specs.Verdict.{members_refusal}
 use Rattle.superblocks.specs.Reads.{roles_refusal}
 use Rattle.row_io.specs.Rows.{reading_of}
@@ -13,14 +13,15 @@ use Rattle.array.specs.Whole.{AreDrawnSuperblocks}
 use Rattle.array.specs.Placed.{IsPlaced}
 use Rattle.array.specs.Held.{IsHeldBy}
 
--- The reading says what these members do: no reshape is active, and the shape, the size, the clean mark, the state of each role and the
--- data offset of the slot that holds it are theirs. It is refused for the roles alone.
+-- The reading says what these members do: no reshape is active, and the shape, the size, the clean mark, the state of each role, the rows that
+-- are held of it and the data offset of the slot that holds it are theirs. It is refused for the roles alone.
 pub record IsReadOf (scope : Scope) (m : Members) (r : Reading) : Type 0 where
   pub still : is_reshaping r.newest ≡ false
   pub shape : shape_of r.newest ≡ shape_of m.newest
   pub size : r.newest.size ≡ m.newest.size
   pub clean : is_clean r.newest ≡ is_clean m.newest
   pub states : (role : ℕ) → role < (shape_of m.newest).disks → role_state r role ≡ role_state (reading_of m) role
+  pub rows : (role : ℕ) → role < (shape_of m.newest).disks → rows_held r (role_state (reading_of m) role) ≡ rows_held (reading_of m) (role_state (reading_of m) role)
   pub offsets : (role slot : ℕ) → role < (shape_of m.newest).disks → holder (role_state (reading_of m) role) ≡ Some slot → data_offset_of r slot ≡ data_offset_of (reading_of m) slot
   pub refused : members_refusal scope.sizes.sectors r ≡ roles_refusal r.newest r.roles
 

@@ -110,7 +110,7 @@ IsNamedOver world given size told members tape = IsNamedNow (OpensFit world) wor
 abbrev pub KeepsSafe : World → Given → ℕ → Ledger → Members → List Operation → List Operation → Type 0
 KeepsSafe world given size told members before after = IsSafeStretch (OpensFit world) world.scope given size told members before after
 
--- each role that is missing is told lost
+-- each role that is missing is told gone
 abbrev pub AreGoneTold : Ledger → Members → Type 0
 AreGoneTold told members = (role : ℕ) → role < (shape_of members.newest).disks → is_missing (reading_of members) role ≡ true → told.gone role ≡ true
 

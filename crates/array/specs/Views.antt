@@ -5,22 +5,22 @@ use Rattle.bank.specs.Given.{Given, sizes}
 use Rattle.bank.specs.Tape.{Contents, IsDrawn, IsIn}
 use Rattle.layout.specs.Layout.{place}
 use Rattle.superblocks.specs.declared.members.Members.{Members}
-use Rattle.superblocks.specs.Reading.{Scope, Reading, reading, is_clean, shape_of, role_state, holder, data_offset_of}
-use Rattle.row_io.specs.Rows.{reading_of, is_missing}
+use Rattle.superblocks.specs.Reading.{Scope, Reading, reading, is_clean, shape_of, data_offset_of}
+use Rattle.row_io.specs.Rows.{reading_of, is_missing, held_slot}
 use Rattle.list_io.specs.Full.{RowStands}
 use Rattle.flat_history.specs.declared.events.Entry.{Entry}
 use Rattle.flat_history.specs.World.{World, opening_list, may_hold}
 use Rattle.flat_history.specs.Flat.{values_of, length_of}
 use Rattle.flat_history.specs.Losses.{is_unsynced}
 use Rattle.flat_history.specs.CrashSafe.{made_by, may_be_made, IsSafeAt}
-use Rattle.flat_history.specs.OneShape.{is_lost, is_written, KeepLosses}
+use Rattle.flat_history.specs.OneShape.{is_gone_by, is_written, KeepShape}
 use Rattle.array.specs.Whole.{AreDrawnSuperblocks, list_size}
 use Rattle.array.specs.Placed.{places_of, IsPlaced}
 use Rattle.array.specs.Lacking.{DoesWithout}
 use Rattle.flat_history.specs.Sound.{LosesNoRole, OpensFit, LeavesSound}
 use Rattle.array.specs.Readings.{IsReadOf}
 
--- What a view is judged by: the values that each sector of the list may have, the roles that are told lost, and whether a write may be
+-- What a view is judged by: the values that each sector of the list may have, the roles that are gone, and whether a write may be
 -- unsettled.
 pub record Ledger : Type 0 where
   pub values : ℕ → List Sector
@@ -31,13 +31,13 @@ pub record Ledger : Type 0 where
 abbrev pub ledger_of : World → List Entry → ℕ → ℕ → Ledger
 ledger_of world entries k j = record {
   values = values_of (opening_list world) (take j entries);
-  gone = is_lost (take j entries);
+  gone = is_gone_by entries k j;
   unclean = is_unsynced world (take k entries) || is_written entries k j;
 }
 
--- each sector of the list whose role a slot holds may have only allowed values there
+-- each sector of the list that a slot holds may have only allowed values there
 abbrev pub AreHeldAllowed : Members → (ℕ → List Sector) → (ℕ → ℕ → List Sector) → Type 0
-AreHeldAllowed m values d = (x slot : ℕ) → x < list_size (places_of m) → holder (role_state (reading_of m) (place (shape_of m.newest) x).role) ≡ Some slot
+AreHeldAllowed m values d = (x slot : ℕ) → x < list_size (places_of m) → held_slot (reading_of m) (place (shape_of m.newest) x).role (place (shape_of m.newest) x).row ≡ Some slot
     → (v : Sector) → IsIn (d slot (data_offset_of (reading_of m) slot + (place (shape_of m.newest) x).row)) v → IsIn (values x) v
 
 -- whatever is drawn from these values, each row stands as the list on the slots that hold roles
@@ -50,7 +50,7 @@ pub record IsSettled (m : Members) (values : ℕ → List Sector) (d : ℕ → �
   pub allowed : (x : ℕ) → x < list_size (places_of m) → IsIn (values x) (list x)
   pub rows : AreRowsSettled m list d
 
--- A view is right: each role that it misses is told lost; it is dirty only where a write may be unsettled; what slots hold is allowed; and
+-- A view is right: each role that it misses is told gone; it is dirty only where a write may be unsettled; what slots hold is allowed; and
 -- where it is clean, and can do without what it misses, the rows are settled, so that this can be filled in. The last rests on a premise.
 pub record IsViewRight (sound : Type 0) (given : Given) (size : ℕ) (told : Ledger) (m : Members) (d : ℕ → ℕ → List Sector) : Type 0 where
   pub placed : IsPlaced given m
@@ -80,7 +80,7 @@ pub record IsJudgedBy (world : World) (given : Given) (entries : List Entry) (ma
   pub made : made_by mark entries ≤ j
   pub running : j ≤ may_be_made entries (made_by mark entries)
   pub sized : length_of (length (opening_list world)) (take j entries) ≡ size
-  pub keep : KeepLosses entries
+  pub keep : KeepShape entries
   pub fills : LosesNoRole (take j entries) ⊎ OpensFit world
 
 -- Where each view of what a stop may leave is right, the mark is safe.

@@ -1,12 +1,12 @@
-//! Marks of the superblocks, which name the members that are missing.
+//! Marks of the superblocks, which name the roles that no slot holds.
 
 ghost use Rattle.std.specs.Prelude.{◌≡◌, ◌≢◌, ◌<◌, ◌≤◌, ◌&&◌, ℕ, List, true, false, nat_lt, not, length, IsTrue};
 ghost use Rattle.bank.specs.Given.{NeverFalls};
 ghost use Rattle.md_base.specs.Sectors.{Sector};
 ghost use Rattle.md_base.specs.Shapes.{has_slot, is_valid_shape};
 ghost use Rattle.superblocks.specs.Reading.{Scope, shape_of, is_clean};
-ghost use Rattle.row_io.specs.Rows.{reading_of, is_missing, present};
-ghost use Rattle.array.specs.Placed.{places_of, AreWhole, IsPlaced, AreUnlost};
+ghost use Rattle.row_io.specs.Rows.{reading_of, present};
+ghost use Rattle.array.specs.Placed.{places_of, is_vacant, AreWhole, IsPlaced, AreUnlost};
 ghost use Rattle.array.specs.Marking.{AreOthersPresent};
 ghost use Rattle.array.specs.Moving.{Grows, IsMoved};
 ghost use Rattle.array.specs.Safety.{HasMarkRoom, HasLiveSlot, HasRoomLeft, IsRisen};
@@ -19,21 +19,20 @@ ghost use Rattle.array.specs.Steady.{IsMarkable, IsSafeOver, IsNamedOver, KeepsS
 
 use crate::flushes::holders;
 use crate::marks::mark;
-use crate::roles::{missing_roles, shape_in};
+use crate::roles::{is_vacant, shape_in, vacant_roles};
 use bank::Bank;
-use row_io::is_missing;
 use sb1::Sb;
 use superblocks::Members;
 use superblocks::says::{entry_of, is_clean};
 use superblocks::sets::without;
 
-/// The roles that are missing, of so many, and aren't among these.
-pub fn newly_missing(members: &Members, disks: u32, before: u32) -> u32
+/// The roles that no slot holds, of so many, and that aren't among these.
+pub fn newly_vacant(members: &Members, disks: u32, before: u32) -> u32
     requires known { disks ≤ length members.now.roles }
     requires few { disks ≤ 32 }
-    ensures { (role : ℕ) → has_slot result role ≡ ((nat_lt role disks && is_missing (reading_of members.now) role) && not (has_slot before role)) }
+    ensures { (role : ℕ) → has_slot result role ≡ ((nat_lt role disks && is_vacant (reading_of members.now) role) && not (has_slot before role)) }
 {
-    without(missing_roles(members, disks), before)
+    without(vacant_roles(members, disks), before)
 }
 
 // Whether some device has the role, by the newest superblock.
@@ -49,22 +48,22 @@ fn is_named(newest: &Sb, role: u32) -> bool
     false
 }
 
-/// Whether a role is missing that the newest superblock still gives to a device.
+/// Whether the newest superblock still gives a device a role that no slot holds.
 pub fn has_unnamed(members: &Members) -> bool
     requires shape { IsTrue (is_valid_shape (shape_of members.now.newest)) }
     requires roles { (shape_of members.now.newest).disks ≤ length members.now.roles }
-    ensures some { result ≡ true → (role : ℕ) × (role < (shape_of members.now.newest).disks) × (is_missing (reading_of members.now) role ≡ true) × IsNamed members.now.newest role }
-    ensures none { result ≡ false → (role : ℕ) → role < (shape_of members.now.newest).disks → is_missing (reading_of members.now) role ≡ true → IsNamed members.now.newest role → ⊥ }
+    ensures some { result ≡ true → (role : ℕ) × (role < (shape_of members.now.newest).disks) × (is_vacant (reading_of members.now) role ≡ true) × IsNamed members.now.newest role }
+    ensures none { result ≡ false → (role : ℕ) → role < (shape_of members.now.newest).disks → is_vacant (reading_of members.now) role ≡ true → IsNamed members.now.newest role → ⊥ }
 {
     for role in 0..shape_in(members).disks {
-        if is_missing(members, role) && is_named(&members.newest, role) {
+        if is_vacant(members, role) && is_named(&members.newest, role) {
             return true;
         }
     }
     false
 }
 
-/// Marks the array clean or dirty, which names the roles that are missing. The spares that were lost in this.
+/// Marks the array clean or dirty, which names the roles that no slot holds. The spares that were lost in this.
 pub fn mark_members<B: Bank>(members: &mut Members, bank: &mut B, clean: bool) -> u32
     requires slots { (B.given bank.old).slots ≤ 32 }
     requires placed { IsPlaced (B.given bank.old) members.old }
@@ -90,7 +89,7 @@ pub fn mark_members<B: Bank>(members: &mut Members, bank: &mut B, clean: bool) -
     without(lost, held)
 }
 
-/// Names the roles that are missing, where they aren't yet: an update that changes nothing else. The spares that were lost
+/// Names the roles that no slot holds, where they aren't yet: an update that changes nothing else. The spares that were lost
 /// in this.
 pub fn name_missing<B: Bank>(members: &mut Members, bank: &mut B) -> u32
     requires slots { (B.given bank.old).slots ≤ 32 }
@@ -121,7 +120,7 @@ pub fn name_missing<B: Bank>(members: &mut Members, bank: &mut B) -> u32
     mark_members(members, bank, clean)
 }
 
-/// Marks a clean array dirty, and names the roles that are missing. The spares that were lost in this.
+/// Marks a clean array dirty, and names the roles that no slot holds. The spares that were lost in this.
 pub fn raise<B: Bank>(members: &mut Members, bank: &mut B) -> u32
     requires slots { (B.given bank.old).slots ≤ 32 }
     requires placed { IsPlaced (B.given bank.old) members.old }

@@ -1,12 +1,12 @@
-//! The shape of an array, and the roles that it misses.
+//! The shape of an array, and the roles that no slot holds.
 
-ghost use Rattle.std.specs.Prelude.{◌≡◌, ◌*◌, ◌^◌, ◌≤◌, ◌&&◌, ℕ, nat_lt, length, IsTrue};
+ghost use Rattle.std.specs.Prelude.{◌≡◌, ◌*◌, ◌^◌, ◌<◌, ◌≤◌, ◌&&◌, ℕ, nat_lt, length, IsTrue};
 ghost use Rattle.md_base.specs.Shapes.{has_slot, is_valid_shape, data_disks};
 ghost use Rattle.superblocks.specs.Reading.{shape_of};
-ghost use Rattle.row_io.specs.Rows.{reading_of, is_missing};
+ghost use Rattle.row_io.specs.Rows.{reading_of};
+ghost use Rattle.array.specs.Placed.{is_vacant};
 
-use md_base::Shape;
-use row_io::is_missing;
+use md_base::{Role, Shape};
 use superblocks::Members;
 use superblocks::says::shape_of;
 use superblocks::sets::with;
@@ -30,15 +30,26 @@ pub fn list_length(shape: &Shape, size: u64) -> u64
     (shape.disks - parities) as u64 * size
 }
 
-/// The roles that are missing, of so many.
-pub fn missing_roles(members: &Members, disks: u32) -> u32
+/// Whether no slot holds the role, whole or in part.
+pub fn is_vacant(members: &Members, role: u32) -> bool
+    requires { role < length members.now.roles }
+    ensures { result ≡ is_vacant (reading_of members.now) role }
+{
+    match members.roles.get(role) {
+        Role::Whole(_) | Role::Recovering(_) => false,
+        Role::Missing => true,
+    }
+}
+
+/// The roles that no slot holds, of so many.
+pub fn vacant_roles(members: &Members, disks: u32) -> u32
     requires known { disks ≤ length members.now.roles }
     requires few { disks ≤ 32 }
-    ensures { (role : ℕ) → has_slot result role ≡ (nat_lt role disks && is_missing (reading_of members.now) role) }
+    ensures { (role : ℕ) → has_slot result role ≡ (nat_lt role disks && is_vacant (reading_of members.now) role) }
 {
     let mut roles = 0;
     for role in 0..disks {
-        if is_missing(members, role) {
+        if is_vacant(members, role) {
             roles = with(roles, role);
         }
     }

@@ -13,8 +13,7 @@ use crate::calls::enter;
 use crate::roles::shape_in;
 use bank::Bank;
 use flat_history::{Entries, Epoch, Event, LostCause};
-use md_base::{NoMemory, Who};
-use row_io::is_missing;
+use md_base::{NoMemory, Role, Who};
 use std::alloc::Global;
 use superblocks::Members;
 use superblocks::says::is_clean;
@@ -61,7 +60,7 @@ fn room_for(alloc: Global) -> Result<Room, NoMemory>
     })
 }
 
-// The loss of this role, if it is missing.
+// The loss of this role, if it isn't whole.
 fn enter_absent(epoch: &mut Epoch, members: &Members, end: u64, role: u32)
     requires room { 0 < epoch.old.entries.room }
     requires role { role < length members.now.roles }
@@ -74,13 +73,15 @@ fn enter_absent(epoch: &mut Epoch, members: &Members, end: u64, role: u32)
         caller: 254,
         number: 0,
     };
-    if is_missing(members, role) {
-        let cause = LostCause::Absent;
-        enter(epoch, opener, end, Event::Lost { role, cause });
-    }
+    let cause = match members.roles.get(role) {
+        Role::Whole(_) => return,
+        Role::Recovering(_) => LostCause::Recovering,
+        Role::Missing => LostCause::Absent,
+    };
+    enter(epoch, opener, end, Event::Lost { role, cause });
 }
 
-// The losses of the roles that are missing, in order.
+// The losses of the roles that aren't whole, in order.
 fn enter_all_absent(epoch: &mut Epoch, members: &Members, end: u64, disks: u32)
     requires room { 17 ≤ epoch.old.entries.room }
     requires disks { disks ≤ 16 }
@@ -96,8 +97,8 @@ fn enter_all_absent(epoch: &mut Epoch, members: &Members, end: u64, disks: u32)
 }
 
 impl<B: Bank> Array<B> {
-    /// Takes an array over whose superblocks were found in the slots of the bank; its first entries tell the roles that are
-    /// missing. It makes no device call. Refused only for want of memory, with the bank handed back.
+    /// Takes an array over whose superblocks were found in the slots of the bank; its first entries tell the roles that aren't
+    /// whole. It makes no device call. Refused only for want of memory, with the bank handed back.
     pub fn adopt(alloc: Global, bank: B, opened: Opened) -> Result<Array<B>, (B, NoMemory)>
         requires { IsAdoptable B.tells (B.given bank) (B.tape bank) (scope_in (B.given bank) opened.members.newest.set_uuid opened.given opened.backup) opened.members }
         ensures adopted { IfOk result (λ made. IsAdopted B.tells bank (B.tape bank) opened.given opened.backup opened.members made) }

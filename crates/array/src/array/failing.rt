@@ -16,28 +16,27 @@ ghost use Rattle.array.specs.Calls.{world_for, HasRole, IsAnswered, IsFailedFor,
 
 use crate::array::Array;
 use crate::calls::{check_number, enter, enter_behind};
-use crate::naming::{name_missing, newly_missing};
-use crate::roles::{missing_roles, shape_in};
+use crate::naming::{name_missing, newly_vacant};
+use crate::roles::{shape_in, vacant_roles};
 use bank::Bank;
 use flat_history::{Event, LostCause};
 use md_base::{Fault, Refusal, Role, Who};
 use row_io::lose_slot;
 use superblocks::Members;
 
-// The slot on which a role is whole.
-fn whole_slot(members: &Members, role: u32) -> Option<u32>
+// The slot that holds a role, whole or in part.
+fn slot_of(members: &Members, role: u32) -> Option<u32>
     requires shape { IsTrue (is_valid_shape (shape_of members.now.newest)) }
     requires roles { length members.now.roles ≡ (shape_of members.now.newest).disks }
     ensures held { IfSome result (λ slot. holder (role_state (reading_of members.now) role) ≡ Some slot) }
-    ensures whole { IfSome result (λ slot. HasRole members.now role) }
+    ensures some { IfSome result (λ slot. HasRole members.now role) }
     ensures none { IfNone result (HasRole members.now role → ⊥) }
 {
     if role >= shape_in(members).disks {
         return None;
     }
     match members.roles.get(role) {
-        Role::Whole(slot) => Some(slot),
-        Role::Recovering(_) => None,
+        Role::Whole(slot) | Role::Recovering(slot) => Some(slot),
         Role::Missing => None,
     }
 }
@@ -68,7 +67,7 @@ impl<B: Bank> Array<B> {
         }
         self.steps = 0;
         check_number(&self.epoch.entries, who);
-        let Some(slot) = whole_slot(&self.members, role) else {
+        let Some(slot) = slot_of(&self.members, role) else {
             let refusal = Refusal::NoSuchRole(role);
             let end = self.bank.ops();
             enter(&mut self.epoch, who, end, Event::Refused { refusal });
@@ -76,9 +75,9 @@ impl<B: Bank> Array<B> {
         };
         let disks = shape_in(&self.members).disks;
         let _ = lose_slot(&mut self.members, slot);
-        let before = missing_roles(&self.members, disks);
+        let before = vacant_roles(&self.members, disks);
         let spares = name_missing(&mut self.members, &mut self.bank);
-        let roles = newly_missing(&self.members, disks, before);
+        let roles = newly_vacant(&self.members, disks, before);
         let end = self.bank.ops();
         let cause = LostCause::Command;
         enter(&mut self.epoch, who, end, Event::Lost { role, cause });

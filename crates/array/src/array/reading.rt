@@ -22,9 +22,9 @@ use crate::array::{Array, refusal_of};
 use crate::calls::{check_number, enter, enter_behind};
 use crate::fetching::fetch;
 use crate::mending::mended_rows;
-use crate::naming::newly_missing;
+use crate::naming::newly_vacant;
 use crate::refusing::missing_place;
-use crate::roles::{list_length, missing_roles, shape_in};
+use crate::roles::{list_length, shape_in, vacant_roles};
 use bank::Bank;
 use flat_history::Event;
 use md_base::{Fault, Refusal, Sectors, Who};
@@ -101,7 +101,7 @@ impl<B: Bank> Array<B> {
             return Err(Fault::Refused(refusal));
         }
         let shape = shape_in(&self.members);
-        let before = missing_roles(&self.members, shape.disks);
+        let before = vacant_roles(&self.members, shape.disks);
         let mended = mended_rows(&self.members, self.resync);
         let fetched = fetch(
             &mut self.members,
@@ -112,7 +112,7 @@ impl<B: Bank> Array<B> {
             self.buffer.as_mut_slice(),
             mended,
         );
-        let roles = newly_missing(&self.members, shape.disks, before);
+        let roles = newly_vacant(&self.members, shape.disks, before);
         let end = self.bank.ops();
         if let Some(refusal) = fetched.refusal {
             let event = Event::Refused { refusal };

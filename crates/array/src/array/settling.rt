@@ -16,8 +16,8 @@ ghost use Rattle.array.specs.Calls.{world_for, IsSettled, IsSettling, IsAnswered
 
 use crate::array::{Array, refusal_of};
 use crate::calls::{check_number, enter, enter_behind};
-use crate::naming::newly_missing;
-use crate::roles::{missing_roles, shape_in};
+use crate::naming::newly_vacant;
+use crate::roles::{shape_in, vacant_roles};
 use crate::settles::settle;
 use bank::Bank;
 use flat_history::Event;
@@ -59,9 +59,9 @@ impl<B: Bank> Array<B> {
             return Err(Fault::Refused(refusal));
         }
         let disks = shape_in(&self.members).disks;
-        let before = missing_roles(&self.members, disks);
+        let before = vacant_roles(&self.members, disks);
         let settled = settle(&mut self.members, &mut self.bank, self.resync.is_some());
-        let roles = newly_missing(&self.members, disks, before);
+        let roles = newly_vacant(&self.members, disks, before);
         let end = self.bank.ops();
         if let Some(refusal) = settled.refusal {
             let event = Event::Refused { refusal };

@@ -23,8 +23,8 @@ use crate::array::asking::steps_left;
 use crate::array::{Array, refusal_of};
 use crate::calls::{check_open, enter, enter_behind};
 use crate::mending::mend;
-use crate::naming::newly_missing;
-use crate::roles::{missing_roles, shape_in};
+use crate::naming::newly_vacant;
+use crate::roles::{shape_in, vacant_roles};
 use crate::settles::settle;
 use bank::Bank;
 use flat_history::{Event, StepKind};
@@ -98,7 +98,7 @@ impl<B: Bank> Array<B> {
             return Err(Fault::Refused(refusal));
         }
         let shape = shape_in(&self.members);
-        let before = missing_roles(&self.members, shape.disks);
+        let before = vacant_roles(&self.members, shape.disks);
         let stripe = self.resync.unwrap_or(0);
         let mended = mend(
             &mut self.members,
@@ -108,7 +108,7 @@ impl<B: Bank> Array<B> {
             &mut self.rows,
             &mut self.buffer,
         );
-        let roles = newly_missing(&self.members, shape.disks, before);
+        let roles = newly_vacant(&self.members, shape.disks, before);
         let end = self.bank.ops();
         if let Some(refusal) = mended.refusal {
             let event = Event::Refused { refusal };
@@ -158,9 +158,9 @@ impl<B: Bank> Array<B> {
             return Err(Fault::Refused(refusal));
         }
         let disks = shape_in(&self.members).disks;
-        let before = missing_roles(&self.members, disks);
+        let before = vacant_roles(&self.members, disks);
         let settled = settle(&mut self.members, &mut self.bank, false);
-        let roles = newly_missing(&self.members, disks, before);
+        let roles = newly_vacant(&self.members, disks, before);
         let end = self.bank.ops();
         if let Some(refusal) = settled.refusal {
             let event = Event::Refused { refusal };

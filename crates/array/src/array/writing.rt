@@ -18,9 +18,9 @@ ghost use Rattle.array.specs.Calls.{world_for, IsAnswered, IsCausedBy, IsRefusal
 use crate::array::{Array, refusal_of};
 use crate::calls::{check_number, enter, enter_behind, enter_failure};
 use crate::mending::mended_rows;
-use crate::naming::newly_missing;
+use crate::naming::newly_vacant;
 use crate::putting::put;
-use crate::roles::{list_length, missing_roles, shape_in};
+use crate::roles::{list_length, shape_in, vacant_roles};
 use bank::Bank;
 use flat_history::Event;
 use list_io::missing_data;
@@ -93,7 +93,7 @@ impl<B: Bank> Array<B> {
             return Err(Fault::Refused(refusal));
         }
         let shape = shape_in(&self.members);
-        let before = missing_roles(&self.members, shape.disks);
+        let before = vacant_roles(&self.members, shape.disks);
         let synced = self.are_mended(&shape, at + count);
         let done = put(
             &mut self.members,
@@ -106,7 +106,7 @@ impl<B: Bank> Array<B> {
             &mut self.buffer,
             synced,
         );
-        let roles = newly_missing(&self.members, shape.disks, before);
+        let roles = newly_vacant(&self.members, shape.disks, before);
         let end = self.bank.ops();
         if let Some(refusal) = done.refusal {
             enter_failure(

@@ -77,11 +77,11 @@ invariant_of-self-in-Some-refusal g c =
     let did = c.settle-settled.ensures in
     let before = g.B.Bank.faults_of a.bank in
     let after = g.B.Bank.faults_of c.settle-settled.new.bank in
-    let roles = c.newly_missing-roles.result in
+    let roles = c.newly_vacant-roles.result in
     let spares = c.settle-settled.result.spares in
     let end = c.ops-end-2.result in
-    let since = lost-since given a.members m c.shape_in-disks.result.disks c.missing_roles-before.result roles spares before after was.kept.placed did.moved did.failed (ap (λ (s : Shape). s.disks) c.shape_in-disks.ensures)
-    c.missing_roles-before.ensures c.newly_missing-roles.ensures in
+    let since = lost-since given a.members m c.shape_in-disks.result.disks c.vacant_roles-before.result roles spares before after was.kept.placed did.moved did.failed (ap (λ (s : Shape). s.disks) c.shape_in-disks.ensures)
+    c.vacant_roles-before.ensures c.newly_vacant-roles.ensures in
     let refusal = c.in-Some-refusal.refusal in
     let many = too-many-of m c.settle-settled.result.refusal refusal c.in-Some-refusal.is did.refused in
     ready (entries_of c.args.who end (losses_of roles spares ++ Refused refusal ∷ []))
@@ -93,7 +93,7 @@ invariant_of-self-in-Some-refusal g c =
 
 pub returns-in-Some-refusal-clause-open : goal.returns-in-Some-refusal-clause-open
 returns-in-Some-refusal-clause-open g c =
-    let roles = c.newly_missing-roles.result in
+    let roles = c.newly_vacant-roles.result in
     let spares = c.settle-settled.result.spares in
     let event = Refused c.in-Some-refusal.refusal in
     still-open c.args.who c.ops-end-2.result (losses_of roles spares ++ event ∷ []) c.requires.open (losses-go_on (losses_of roles spares) event (losses-are roles spares) tt)
@@ -108,16 +108,16 @@ returns-in-Some-refusal-clause-losses g c =
     let did = c.settle-settled.ensures in
     let before = g.B.Bank.faults_of a.bank in
     let after = g.B.Bank.faults_of c.settle-settled.new.bank in
-    let roles = c.newly_missing-roles.result in
+    let roles = c.newly_vacant-roles.result in
     let spares = c.settle-settled.result.spares in
-    let since = lost-since given a.members m c.shape_in-disks.result.disks c.missing_roles-before.result roles spares before after was.kept.placed did.moved did.failed (ap (λ (s : Shape). s.disks) c.shape_in-disks.ensures)
-    c.missing_roles-before.ensures c.newly_missing-roles.ensures in
+    let since = lost-since given a.members m c.shape_in-disks.result.disks c.vacant_roles-before.result roles spares before after was.kept.placed did.moved did.failed (ap (λ (s : Shape). s.disks) c.shape_in-disks.ensures)
+    c.vacant_roles-before.ensures c.newly_vacant-roles.ensures in
     rw (← c.self.view_is) (losses-behind a.members m before after a.epoch.entries.items a.epoch.entries.items c.enter_behind.new.epoch.entries.items c.args.who c.ops-end-2.result roles spares
     (Refused c.in-Some-refusal.refusal) since tt refl c.enter_behind.ensures.items)
 
 pub returns-in-Some-refusal-clause-ended : goal.returns-in-Some-refusal-clause-ended
 returns-in-Some-refusal-clause-ended g c =
-    ended-behind (g.B.Bank.tape c.settle-settled.new.bank) c.enter_behind.new.epoch.first c.self.inside.epoch.entries.items c.args.who c.ops-end-2.result (losses_of c.newly_missing-roles.result c.settle-settled.result.spares)
+    ended-behind (g.B.Bank.tape c.settle-settled.new.bank) c.enter_behind.new.epoch.first c.self.inside.epoch.entries.items c.args.who c.ops-end-2.result (losses_of c.newly_vacant-roles.result c.settle-settled.result.spares)
     (Refused c.in-Some-refusal.refusal) c.enter_behind.ensures.items c.ops-end-2.ensures
 
 pub returns-in-Some-refusal-clause-same : goal.returns-in-Some-refusal-clause-same
@@ -150,22 +150,22 @@ invariant_of-self-2 g c =
     let did = c.settle-settled.ensures in
     let before = g.B.Bank.faults_of a.bank in
     let after = g.B.Bank.faults_of c.settle-settled.new.bank in
-    let roles = c.newly_missing-roles.result in
+    let roles = c.newly_vacant-roles.result in
     let spares = c.settle-settled.result.spares in
     let end = c.ops-end-2.result in
-    let since = lost-since given a.members m c.shape_in-disks.result.disks c.missing_roles-before.result roles spares before after was.kept.placed did.moved did.failed (ap (λ (s : Shape). s.disks) c.shape_in-disks.ensures)
-    c.missing_roles-before.ensures c.newly_missing-roles.ensures in
+    let since = lost-since given a.members m c.shape_in-disks.result.disks c.vacant_roles-before.result roles spares before after was.kept.placed did.moved did.failed (ap (λ (s : Shape). s.disks) c.shape_in-disks.ensures)
+    c.vacant_roles-before.ensures c.newly_vacant-roles.ensures in
     ready (entries_of c.args.who end (losses_of roles spares ++ Step ResyncEnded 0 ∷ []))
     (degraded-ended c.args.who end was.kept opens c.requires.caller c.ops-end-2.ensures did.moved did.grows roles spares before after since all did.others
     (leaves-settled c.args.who end was.kept opens c.requires.caller c.ops-end-2.ensures did.moved did.grows roles spares before after since did.rise false (λ synced. enough-mended was.kept.placed all) did.safe
-    (Step ResyncEnded 0) (end-silent c.args.who end 0) refl (λ x values has. has) (λ t. synced-behind _ a.epoch.entries.items c.args.who end (losses_of roles spares) 0 (losses-are roles spares))
+    (Step ResyncEnded 0) (end-silent c.args.who end 0) refl (λ role. refl) (λ x values has. has) (λ t. synced-behind _ a.epoch.entries.items c.args.who end (losses_of roles spares) 0 (losses-are roles spares))
     (λ no. absurd (cc)) did.stays (did.clean c.in_default-refusal.is) (did.settled c.in_default-refusal.is)))
     did.given (scope-same given a.backup did.given c.enter_behind-2.ensures.uuid c.enter_behind-2.ensures.given) c.enter_behind-2.ensures.first refl c.enter_behind-2.ensures.items
     (omega (arith, c.enter_behind-2.ensures.room, was.room_left, some)) was.rows_fit was.buffer_fits
 
 pub returns-clause-open : goal.returns-clause-open
 returns-clause-open g c =
-    let roles = c.newly_missing-roles.result in
+    let roles = c.newly_vacant-roles.result in
     let spares = c.settle-settled.result.spares in
     let event = Step ResyncEnded 0 in
     still-open c.args.who c.ops-end-2.result (losses_of roles spares ++ event ∷ []) c.requires.open (losses-go_on (losses_of roles spares) event (losses-are roles spares) tt)
@@ -187,16 +187,16 @@ returns-clause-losses g c =
     let did = c.settle-settled.ensures in
     let before = g.B.Bank.faults_of a.bank in
     let after = g.B.Bank.faults_of c.settle-settled.new.bank in
-    let roles = c.newly_missing-roles.result in
+    let roles = c.newly_vacant-roles.result in
     let spares = c.settle-settled.result.spares in
-    let since = lost-since given a.members m c.shape_in-disks.result.disks c.missing_roles-before.result roles spares before after was.kept.placed did.moved did.failed (ap (λ (s : Shape). s.disks) c.shape_in-disks.ensures)
-    c.missing_roles-before.ensures c.newly_missing-roles.ensures in
+    let since = lost-since given a.members m c.shape_in-disks.result.disks c.vacant_roles-before.result roles spares before after was.kept.placed did.moved did.failed (ap (λ (s : Shape). s.disks) c.shape_in-disks.ensures)
+    c.vacant_roles-before.ensures c.newly_vacant-roles.ensures in
     rw (← c.self.view_is) (losses-behind a.members m before after a.epoch.entries.items a.epoch.entries.items c.enter_behind-2.new.epoch.entries.items c.args.who c.ops-end-2.result roles spares
     (Step ResyncEnded 0) since tt refl c.enter_behind-2.ensures.items)
 
 pub returns-clause-ended : goal.returns-clause-ended
 returns-clause-ended g c =
-    ended-behind (g.B.Bank.tape c.settle-settled.new.bank) c.enter_behind-2.new.epoch.first c.self.inside.epoch.entries.items c.args.who c.ops-end-2.result (losses_of c.newly_missing-roles.result c.settle-settled.result.spares)
+    ended-behind (g.B.Bank.tape c.settle-settled.new.bank) c.enter_behind-2.new.epoch.first c.self.inside.epoch.entries.items c.args.who c.ops-end-2.result (losses_of c.newly_vacant-roles.result c.settle-settled.result.spares)
     (Step ResyncEnded 0) c.enter_behind-2.ensures.items c.ops-end-2.ensures
 
 pub returns-clause-same : goal.returns-clause-same

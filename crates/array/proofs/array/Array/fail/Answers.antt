@@ -19,8 +19,9 @@ use Rattle.array.proofs.LackingLaws.{lost-since}
 use Rattle.array.proofs.ReadyLaws.{ready, scope-same, list-same}
 use Rattle.array.proofs.ReplyLaws.{fail_reply, no_role_reply}
 use Rattle.array.proofs.LossLaws.{losses-failed, ended-behind}
-use Rattle.array.proofs.DegradedLaws.{missing-still, kept-refused, leaves-failed, degraded-failed}
-use Rattle.array.proofs.FailedLaws.{placed-out, unlost-out, moved-out, out-missing, out-only, clean-out, rise-out, named-out}
+use Rattle.array.proofs.HeldRows.{vacant-moved}
+use Rattle.array.proofs.DegradedLaws.{kept-refused, leaves-failed, degraded-failed}
+use Rattle.array.proofs.FailedLaws.{placed-out, unlost-out, moved-out, out-vacant, out-only, clean-out, rise-out, named-out}
 use Rattle.array.proofs.array.Array.fail.Goals as goal
 
 -- an event, and others of its call behind it
@@ -78,13 +79,13 @@ invariant_of-self-2 g c =
     let did = c.name_missing-spares.ensures in
     let before = g.B.Bank.faults_of a.bank in
     let after = g.B.Bank.faults_of c.name_missing-spares.new.bank in
-    let roles = c.newly_missing-roles.result in
+    let roles = c.newly_vacant-roles.result in
     let spares = c.name_missing-spares.result in
     let end = c.ops-end-2.result in
     let placed = placed-out given a.members mid c.lose_slot.result c.in-Some.slot role was.kept.placed was.kept.unlost c.lose_slot.ensures.members c.lose_slot.ensures.alone c.in-Some.ensures.held in
     let moved = moved-out given a.members mid c.lose_slot.result c.in-Some.slot role was.kept.placed was.kept.unlost c.lose_slot.ensures.members c.lose_slot.ensures.alone c.in-Some.ensures.held in
-    let since = lost-since given mid m c.shape_in-disks.result.disks c.missing_roles-before.result roles spares before after placed did.moved did.failed
-    (ap (λ (s : Shape). s.disks) (c.shape_in-disks.ensures ∙ sym moved.shape)) c.missing_roles-before.ensures c.newly_missing-roles.ensures in
+    let since = lost-since given mid m c.shape_in-disks.result.disks c.vacant_roles-before.result roles spares before after placed did.moved did.failed
+    (ap (λ (s : Shape). s.disks) (c.shape_in-disks.ensures ∙ sym moved.shape)) c.vacant_roles-before.ensures c.newly_vacant-roles.ensures in
     let items = behind-loss c.make_room.new.self.items c.enter-2.new.epoch.entries.items c.enter_behind.new.epoch.entries.items c.args.who end (Lost role Command) (losses_of roles spares ++ Failed role ∷ []) c.enter-2.ensures.items c.enter_behind.ensures.items in
     let out = out-only given a.members mid c.lose_slot.result c.in-Some.slot role was.kept.placed was.kept.unlost c.lose_slot.ensures.members c.lose_slot.ensures.alone c.in-Some.ensures.held in
     ready (entries_of c.args.who end ((Lost role Command ∷ losses_of roles spares) ++ Failed role ∷ []))
@@ -99,7 +100,7 @@ invariant_of-self-2 g c =
 pub returns-clause-answered : goal.returns-clause-answered
 returns-clause-answered g c =
     let role = c.args.role in
-    let roles = c.newly_missing-roles.result in
+    let roles = c.newly_vacant-roles.result in
     let spares = c.name_missing-spares.result in
     let end = c.ops-end-2.result in
     let items = behind-loss c.make_room.new.self.items c.enter-2.new.epoch.entries.items c.enter_behind.new.epoch.entries.items c.args.who end (Lost role Command) (losses_of roles spares ++ Failed role ∷ []) c.enter-2.ensures.items c.enter_behind.ensures.items in
@@ -115,8 +116,8 @@ returns-clause-caused g c =
     let mid = c.lose_slot.new.members in
     let slot = c.in-Some.slot in
     let placed = placed-out given a.members mid c.lose_slot.result slot c.args.role was.kept.placed was.kept.unlost c.lose_slot.ensures.members c.lose_slot.ensures.alone c.in-Some.ensures.held in
-    let gone = out-missing given a.members mid c.lose_slot.result slot c.args.role was.kept.placed was.kept.unlost c.lose_slot.ensures.members c.lose_slot.ensures.alone c.in-Some.ensures.held in
-    rw (← c.self.view_is) (c.in-Some.ensures.whole, missing-still given mid c.name_missing-spares.new.members placed c.name_missing-spares.ensures.moved c.args.role gone)
+    let gone = out-vacant given a.members mid c.lose_slot.result slot c.args.role was.kept.placed was.kept.unlost c.lose_slot.ensures.members c.lose_slot.ensures.alone c.in-Some.ensures.held in
+    rw (← c.self.view_is) (c.in-Some.ensures.some, vacant-moved c.name_missing-spares.ensures.moved c.args.role gone)
 
 pub returns-clause-held : goal.returns-clause-held
 returns-clause-held g c =
@@ -130,13 +131,13 @@ returns-clause-held g c =
     let did = c.name_missing-spares.ensures in
     let before = g.B.Bank.faults_of a.bank in
     let after = g.B.Bank.faults_of c.name_missing-spares.new.bank in
-    let roles = c.newly_missing-roles.result in
+    let roles = c.newly_vacant-roles.result in
     let spares = c.name_missing-spares.result in
     let end = c.ops-end-2.result in
     let placed = placed-out given a.members mid c.lose_slot.result c.in-Some.slot role was.kept.placed was.kept.unlost c.lose_slot.ensures.members c.lose_slot.ensures.alone c.in-Some.ensures.held in
     let moved = moved-out given a.members mid c.lose_slot.result c.in-Some.slot role was.kept.placed was.kept.unlost c.lose_slot.ensures.members c.lose_slot.ensures.alone c.in-Some.ensures.held in
-    let since = lost-since given mid m c.shape_in-disks.result.disks c.missing_roles-before.result roles spares before after placed did.moved did.failed
-    (ap (λ (s : Shape). s.disks) (c.shape_in-disks.ensures ∙ sym moved.shape)) c.missing_roles-before.ensures c.newly_missing-roles.ensures in
+    let since = lost-since given mid m c.shape_in-disks.result.disks c.vacant_roles-before.result roles spares before after placed did.moved did.failed
+    (ap (λ (s : Shape). s.disks) (c.shape_in-disks.ensures ∙ sym moved.shape)) c.vacant_roles-before.ensures c.newly_vacant-roles.ensures in
     rw (← c.self.view_is) (moved-then given a.members mid m moved did.moved).held
 
 pub returns-clause-losses : goal.returns-clause-losses
@@ -151,13 +152,13 @@ returns-clause-losses g c =
     let did = c.name_missing-spares.ensures in
     let before = g.B.Bank.faults_of a.bank in
     let after = g.B.Bank.faults_of c.name_missing-spares.new.bank in
-    let roles = c.newly_missing-roles.result in
+    let roles = c.newly_vacant-roles.result in
     let spares = c.name_missing-spares.result in
     let end = c.ops-end-2.result in
     let placed = placed-out given a.members mid c.lose_slot.result c.in-Some.slot role was.kept.placed was.kept.unlost c.lose_slot.ensures.members c.lose_slot.ensures.alone c.in-Some.ensures.held in
     let moved = moved-out given a.members mid c.lose_slot.result c.in-Some.slot role was.kept.placed was.kept.unlost c.lose_slot.ensures.members c.lose_slot.ensures.alone c.in-Some.ensures.held in
-    let since = lost-since given mid m c.shape_in-disks.result.disks c.missing_roles-before.result roles spares before after placed did.moved did.failed
-    (ap (λ (s : Shape). s.disks) (c.shape_in-disks.ensures ∙ sym moved.shape)) c.missing_roles-before.ensures c.newly_missing-roles.ensures in
+    let since = lost-since given mid m c.shape_in-disks.result.disks c.vacant_roles-before.result roles spares before after placed did.moved did.failed
+    (ap (λ (s : Shape). s.disks) (c.shape_in-disks.ensures ∙ sym moved.shape)) c.vacant_roles-before.ensures c.newly_vacant-roles.ensures in
     let items = behind-loss c.make_room.new.self.items c.enter-2.new.epoch.entries.items c.enter_behind.new.epoch.entries.items c.args.who end (Lost role Command) (losses_of roles spares ++ Failed role ∷ []) c.enter-2.ensures.items c.enter_behind.ensures.items in
     rw (← c.self.view_is) (losses-failed a.members mid m before after a.epoch.entries.items c.make_room.new.self.items c.enter_behind.new.epoch.entries.items c.args.who end role c.in-Some.slot roles spares
     moved.held since c.in-Some.ensures.held c.make_room.ensures.items items)
@@ -165,7 +166,7 @@ returns-clause-losses g c =
 pub returns-clause-ended : goal.returns-clause-ended
 returns-clause-ended g c =
     let role = c.args.role in
-    let roles = c.newly_missing-roles.result in
+    let roles = c.newly_vacant-roles.result in
     let spares = c.name_missing-spares.result in
     let end = c.ops-end-2.result in
     let items = behind-loss c.make_room.new.self.items c.enter-2.new.epoch.entries.items c.enter_behind.new.epoch.entries.items c.args.who end (Lost role Command) (losses_of roles spares ++ Failed role ∷ []) c.enter-2.ensures.items c.enter_behind.ensures.items in
@@ -183,13 +184,13 @@ returns-clause-same g c =
     let did = c.name_missing-spares.ensures in
     let before = g.B.Bank.faults_of a.bank in
     let after = g.B.Bank.faults_of c.name_missing-spares.new.bank in
-    let roles = c.newly_missing-roles.result in
+    let roles = c.newly_vacant-roles.result in
     let spares = c.name_missing-spares.result in
     let end = c.ops-end-2.result in
     let placed = placed-out given a.members mid c.lose_slot.result c.in-Some.slot role was.kept.placed was.kept.unlost c.lose_slot.ensures.members c.lose_slot.ensures.alone c.in-Some.ensures.held in
     let moved = moved-out given a.members mid c.lose_slot.result c.in-Some.slot role was.kept.placed was.kept.unlost c.lose_slot.ensures.members c.lose_slot.ensures.alone c.in-Some.ensures.held in
-    let since = lost-since given mid m c.shape_in-disks.result.disks c.missing_roles-before.result roles spares before after placed did.moved did.failed
-    (ap (λ (s : Shape). s.disks) (c.shape_in-disks.ensures ∙ sym moved.shape)) c.missing_roles-before.ensures c.newly_missing-roles.ensures in
+    let since = lost-since given mid m c.shape_in-disks.result.disks c.vacant_roles-before.result roles spares before after placed did.moved did.failed
+    (ap (λ (s : Shape). s.disks) (c.shape_in-disks.ensures ∙ sym moved.shape)) c.vacant_roles-before.ensures c.newly_vacant-roles.ensures in
     rw (← c.self.view_is) (record {
       uuid = c.enter_behind.ensures.uuid ∙ c.enter-2.ensures.uuid;
       given = c.enter_behind.ensures.given ∙ c.enter-2.ensures.given;

@@ -71,14 +71,14 @@ invariant_of-self-in-Some-refusal g c =
     let m = c.mend-mended.new.members in
     let before = g.B.Bank.faults_of a.bank in
     let after = g.B.Bank.faults_of c.mend-mended.new.bank in
-    let roles = c.newly_missing-roles.result in
+    let roles = c.newly_vacant-roles.result in
     let spares = c.mend-mended.result.spares in
     let end = c.ops-end-2.result in
     let stripe = c.unwrap_or-stripe.result in
     let next = next-stripe a.resync a.members stripe left c.unwrap_or-stripe.ensures in
     let does = does-without a.members (λ refusal many. c.in_default.ensures refusal (inl many)) in
-    let since : AreLostSince a.members m roles spares before after = lost-since given a.members m c.shape_in-shape.result.disks c.missing_roles-before.result roles spares before after was.kept.placed did.moved did.failed
-    (ap (λ (s : Shape). s.disks) c.shape_in-shape.ensures) c.missing_roles-before.ensures c.newly_missing-roles.ensures in
+    let since : AreLostSince a.members m roles spares before after = lost-since given a.members m c.shape_in-shape.result.disks c.vacant_roles-before.result roles spares before after was.kept.placed did.moved did.failed
+    (ap (λ (s : Shape). s.disks) c.shape_in-shape.ensures) c.vacant_roles-before.ensures c.newly_vacant-roles.ensures in
     let refusal = c.in-Some-refusal.refusal in
     ready (entries_of c.args.who end (losses_of roles spares ++ Refused refusal ∷ []))
     (degraded-unmended c.args.who end was.kept opens c.requires.caller c.ops-end-2.ensures did.moved did.grows roles spares before after since stripe next.0 does did.dirty did.rise
@@ -89,7 +89,7 @@ invariant_of-self-in-Some-refusal g c =
 
 pub returns-in-Some-refusal-clause-open : goal.returns-in-Some-refusal-clause-open
 returns-in-Some-refusal-clause-open g c =
-    let roles = c.newly_missing-roles.result in
+    let roles = c.newly_vacant-roles.result in
     let spares = c.mend-mended.result.spares in
     let event = Refused c.in-Some-refusal.refusal in
     still-open c.args.who c.ops-end-2.result (losses_of roles spares ++ event ∷ []) c.requires.open (losses-go_on (losses_of roles spares) event (losses-are roles spares) tt)
@@ -114,17 +114,17 @@ returns-in-Some-refusal-clause-losses g c =
     let m = c.mend-mended.new.members in
     let before = g.B.Bank.faults_of a.bank in
     let after = g.B.Bank.faults_of c.mend-mended.new.bank in
-    let roles = c.newly_missing-roles.result in
+    let roles = c.newly_vacant-roles.result in
     let spares = c.mend-mended.result.spares in
-    let since : AreLostSince a.members m roles spares before after = lost-since (g.B.Bank.given a.bank) a.members m c.shape_in-shape.result.disks c.missing_roles-before.result roles spares before after was.kept.placed did.moved did.failed
-    (ap (λ (s : Shape). s.disks) c.shape_in-shape.ensures) c.missing_roles-before.ensures c.newly_missing-roles.ensures in
+    let since : AreLostSince a.members m roles spares before after = lost-since (g.B.Bank.given a.bank) a.members m c.shape_in-shape.result.disks c.vacant_roles-before.result roles spares before after was.kept.placed did.moved did.failed
+    (ap (λ (s : Shape). s.disks) c.shape_in-shape.ensures) c.vacant_roles-before.ensures c.newly_vacant-roles.ensures in
     rw (← c.self.view_is) (losses-behind a.members m before after a.epoch.entries.items a.epoch.entries.items c.enter_behind.new.epoch.entries.items c.args.who c.ops-end-2.result roles spares
     (Refused c.in-Some-refusal.refusal) since tt refl c.enter_behind.ensures.items)
 
 pub returns-in-Some-refusal-clause-ended : goal.returns-in-Some-refusal-clause-ended
 returns-in-Some-refusal-clause-ended g c =
     ended-behind (g.B.Bank.tape c.mend-mended.new.bank) c.enter_behind.new.epoch.first c.self.inside.epoch.entries.items c.args.who c.ops-end-2.result
-    (losses_of c.newly_missing-roles.result c.mend-mended.result.spares) (Refused c.in-Some-refusal.refusal) c.enter_behind.ensures.items c.ops-end-2.ensures
+    (losses_of c.newly_vacant-roles.result c.mend-mended.result.spares) (Refused c.in-Some-refusal.refusal) c.enter_behind.ensures.items c.ops-end-2.ensures
 
 pub returns-in-Some-refusal-clause-same : goal.returns-in-Some-refusal-clause-same
 returns-in-Some-refusal-clause-same g c =
@@ -157,14 +157,14 @@ invariant_of-self-2 g c =
     let m = c.mend-mended.new.members in
     let before = g.B.Bank.faults_of a.bank in
     let after = g.B.Bank.faults_of c.mend-mended.new.bank in
-    let roles = c.newly_missing-roles.result in
+    let roles = c.newly_vacant-roles.result in
     let spares = c.mend-mended.result.spares in
     let end = c.ops-end-2.result in
     let stripe = c.unwrap_or-stripe.result in
     let next = next-stripe a.resync a.members stripe left c.unwrap_or-stripe.ensures in
     let does = does-without a.members (λ refusal many. c.in_default.ensures refusal (inl many)) in
-    let since : AreLostSince a.members m roles spares before after = lost-since given a.members m c.shape_in-shape.result.disks c.missing_roles-before.result roles spares before after was.kept.placed did.moved did.failed
-    (ap (λ (s : Shape). s.disks) c.shape_in-shape.ensures) c.missing_roles-before.ensures c.newly_missing-roles.ensures in
+    let since : AreLostSince a.members m roles spares before after = lost-since given a.members m c.shape_in-shape.result.disks c.vacant_roles-before.result roles spares before after was.kept.placed did.moved did.failed
+    (ap (λ (s : Shape). s.disks) c.shape_in-shape.ensures) c.vacant_roles-before.ensures c.newly_vacant-roles.ensures in
     ready (entries_of c.args.who end (losses_of roles spares ++ Step ResyncStripe c.steps_left-left.result ∷ []))
     (degraded-mended c.args.who end was.kept opens c.requires.caller c.ops-end-2.ensures did.moved did.grows roles spares before after since stripe next.0 does did.dirty did.rise
     c.shape_in-shape.result c.shape_in-shape.ensures did.stands did.kept did.safe
@@ -174,7 +174,7 @@ invariant_of-self-2 g c =
 
 pub returns-clause-open : goal.returns-clause-open
 returns-clause-open g c =
-    let roles = c.newly_missing-roles.result in
+    let roles = c.newly_vacant-roles.result in
     let spares = c.mend-mended.result.spares in
     let event = Step ResyncStripe c.steps_left-left.result in
     still-open c.args.who c.ops-end-2.result (losses_of roles spares ++ event ∷ []) c.requires.open (losses-go_on (losses_of roles spares) event (losses-are roles spares) tt)
@@ -194,17 +194,17 @@ returns-clause-losses g c =
     let m = c.mend-mended.new.members in
     let before = g.B.Bank.faults_of a.bank in
     let after = g.B.Bank.faults_of c.mend-mended.new.bank in
-    let roles = c.newly_missing-roles.result in
+    let roles = c.newly_vacant-roles.result in
     let spares = c.mend-mended.result.spares in
-    let since : AreLostSince a.members m roles spares before after = lost-since (g.B.Bank.given a.bank) a.members m c.shape_in-shape.result.disks c.missing_roles-before.result roles spares before after was.kept.placed did.moved did.failed
-    (ap (λ (s : Shape). s.disks) c.shape_in-shape.ensures) c.missing_roles-before.ensures c.newly_missing-roles.ensures in
+    let since : AreLostSince a.members m roles spares before after = lost-since (g.B.Bank.given a.bank) a.members m c.shape_in-shape.result.disks c.vacant_roles-before.result roles spares before after was.kept.placed did.moved did.failed
+    (ap (λ (s : Shape). s.disks) c.shape_in-shape.ensures) c.vacant_roles-before.ensures c.newly_vacant-roles.ensures in
     rw (← c.self.view_is) (losses-behind a.members m before after a.epoch.entries.items a.epoch.entries.items c.enter_behind-2.new.epoch.entries.items c.args.who c.ops-end-2.result roles spares
     (Step ResyncStripe c.steps_left-left.result) since tt refl c.enter_behind-2.ensures.items)
 
 pub returns-clause-ended : goal.returns-clause-ended
 returns-clause-ended g c =
     ended-behind (g.B.Bank.tape c.mend-mended.new.bank) c.enter_behind-2.new.epoch.first c.self.inside.epoch.entries.items c.args.who c.ops-end-2.result
-    (losses_of c.newly_missing-roles.result c.mend-mended.result.spares) (Step ResyncStripe c.steps_left-left.result) c.enter_behind-2.ensures.items c.ops-end-2.ensures
+    (losses_of c.newly_vacant-roles.result c.mend-mended.result.spares) (Step ResyncStripe c.steps_left-left.result) c.enter_behind-2.ensures.items c.ops-end-2.ensures
 
 pub returns-clause-same : goal.returns-clause-same
 returns-clause-same g c =

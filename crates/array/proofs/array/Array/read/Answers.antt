@@ -82,13 +82,13 @@ invariant_of-self-in-Some-refusal g c =
     let given = g.B.Bank.given a.bank in
     let before = g.B.Bank.faults_of a.bank in
     let after = g.B.Bank.faults_of c.fetch-fetched.new.bank in
-    let roles = c.newly_missing-roles.result in
+    let roles = c.newly_vacant-roles.result in
     let spares = c.fetch-fetched.result.spares in
     let refusal = c.in-Some-refusal.refusal in
     let end = c.ops-end-2.result in
     let count = length c.as_mut_slice.result.now / 512 in
-    let since : AreLostSince a.members m roles spares before after = lost-since given a.members m c.shape_in-shape.result.disks c.missing_roles-before.result roles spares before after was.kept.placed did.moved did.failed
-    (ap (λ (s : Shape). s.disks) c.shape_in-shape.ensures) c.missing_roles-before.ensures c.newly_missing-roles.ensures in
+    let since : AreLostSince a.members m roles spares before after = lost-since given a.members m c.shape_in-shape.result.disks c.vacant_roles-before.result roles spares before after was.kept.placed did.moved did.failed
+    (ap (λ (s : Shape). s.disks) c.shape_in-shape.ensures) c.vacant_roles-before.ensures c.newly_vacant-roles.ensures in
     ready (entries_of c.args.who end (losses_of roles spares ++ Refused refusal ∷ []))
     (kept-unread c.args.who end was.kept (begins-open a.epoch.entries.items c.args.who number) c.requires.caller c.ops-end-2.ensures did.moved did.grows roles spares before after since did.others did.rise did.clean did.safe c.args.at count c.mended_rows-mended.result refusal
     (subst (λ (n : ℕ). c.args.at + n ≤ list_size (places_of a.members)) (sym (asked-is c.in-Ok.bytes.items c.as_mut_slice.result.now c.args.into.now c.in-Ok.ensures.len c.as_mut_slice.ensures.value)) c.in_default.ensures.0) c.mended_rows-mended.ensures.rows
@@ -103,7 +103,7 @@ returns-in-Some-refusal-clause-answered g c =
     let a = c.self.inside in
     let number : c.args.who.number ≡ next_number c.args.who.caller a.epoch.entries.items = c.requires.next ∙ ap (λ p. next_number c.args.who.caller p.entries) (sym c.self.view_is) in
     let m = c.fetch-fetched.new.members in
-    let roles = c.newly_missing-roles.result in
+    let roles = c.newly_vacant-roles.result in
     let spares = c.fetch-fetched.result.spares in
     let refusal = c.in-Some-refusal.refusal in
     let end = c.ops-end-2.result in
@@ -148,17 +148,17 @@ returns-in-Some-refusal-clause-losses g c =
     let m = c.fetch-fetched.new.members in
     let before = g.B.Bank.faults_of a.bank in
     let after = g.B.Bank.faults_of c.fetch-fetched.new.bank in
-    let roles = c.newly_missing-roles.result in
+    let roles = c.newly_vacant-roles.result in
     let spares = c.fetch-fetched.result.spares in
-    let since : AreLostSince a.members m roles spares before after = lost-since (g.B.Bank.given a.bank) a.members m c.shape_in-shape.result.disks c.missing_roles-before.result roles spares before after was.kept.placed did.moved did.failed
-    (ap (λ (s : Shape). s.disks) c.shape_in-shape.ensures) c.missing_roles-before.ensures c.newly_missing-roles.ensures in
+    let since : AreLostSince a.members m roles spares before after = lost-since (g.B.Bank.given a.bank) a.members m c.shape_in-shape.result.disks c.vacant_roles-before.result roles spares before after was.kept.placed did.moved did.failed
+    (ap (λ (s : Shape). s.disks) c.shape_in-shape.ensures) c.vacant_roles-before.ensures c.newly_vacant-roles.ensures in
     rw (← c.self.view_is) (losses-behind a.members m before after a.epoch.entries.items c.make_room.new.self.items c.enter_behind.new.epoch.entries.items c.args.who c.ops-end-2.result roles spares
     (Refused c.in-Some-refusal.refusal) since tt c.make_room.ensures.items c.enter_behind.ensures.items)
 
 pub returns-in-Some-refusal-clause-ended : goal.returns-in-Some-refusal-clause-ended
 returns-in-Some-refusal-clause-ended g c =
     ended-behind (g.B.Bank.tape c.fetch-fetched.new.bank) c.enter_behind.new.epoch.first c.make_room.new.self.items c.args.who c.ops-end-2.result
-    (losses_of c.newly_missing-roles.result c.fetch-fetched.result.spares) (Refused c.in-Some-refusal.refusal) c.enter_behind.ensures.items c.ops-end-2.ensures
+    (losses_of c.newly_vacant-roles.result c.fetch-fetched.result.spares) (Refused c.in-Some-refusal.refusal) c.enter_behind.ensures.items c.ops-end-2.ensures
 
 pub returns-in-Some-refusal-clause-never_falls : goal.returns-in-Some-refusal-clause-never_falls
 returns-in-Some-refusal-clause-never_falls g c = rw (← c.self.view_is) c.fetch-fetched.ensures.counts
@@ -192,7 +192,7 @@ invariant_of-self-3 g c =
     let given = g.B.Bank.given a.bank in
     let before = g.B.Bank.faults_of a.bank in
     let after = g.B.Bank.faults_of c.fetch-fetched.new.bank in
-    let roles = c.newly_missing-roles.result in
+    let roles = c.newly_vacant-roles.result in
     let spares = c.fetch-fetched.result.spares in
     let bytes = c.fetch-fetched.new.into in
     let end = c.ops-end-2.result in
@@ -202,8 +202,8 @@ invariant_of-self-3 g c =
     let whole = written-whole c.in-Ok.bytes.len c.in-Ok.bytes.items bytes (c.fetch-fetched.auto.into ∙ ap (λ (l : List ℕ). length l) c.as_mut_slice.ensures.value) c.in-Ok.bytes.ok.0 in
     let within : c.args.at + length bytes / 512 ≤ size = rw len c.in_default.ensures.0 in
     let does = does-without a.members (λ refusal many. c.in_default.ensures.1 refusal (inl many)) in
-    let since : AreLostSince a.members m roles spares before after = lost-since given a.members m c.shape_in-shape.result.disks c.missing_roles-before.result roles spares before after was.kept.placed did.moved did.failed
-    (ap (λ (s : Shape). s.disks) c.shape_in-shape.ensures) c.missing_roles-before.ensures c.newly_missing-roles.ensures in
+    let since : AreLostSince a.members m roles spares before after = lost-since given a.members m c.shape_in-shape.result.disks c.vacant_roles-before.result roles spares before after was.kept.placed did.moved did.failed
+    (ap (λ (s : Shape). s.disks) c.shape_in-shape.ensures) c.vacant_roles-before.ensures c.newly_vacant-roles.ensures in
     ready (entries_of c.args.who end (losses_of roles spares ++ Read c.args.at (sectors_of bytes) ∷ []))
     (kept-read c.args.who end was.kept (begins-open a.epoch.entries.items c.args.who number) c.requires.caller c.ops-end-2.ensures did.moved did.grows roles spares before after since did.others did.rise did.clean did.safe c.args.at bytes within
     (fetched was.kept m c.args.at c.mended_rows-mended.result bytes does c.mended_rows-mended.ensures.rows (λ t list stands filled i lt. did.holds c.in_default-refusal.is t list stands filled i (subst (λ (n : ℕ). i < n) same lt))))
@@ -217,7 +217,7 @@ returns-clause-answered g c =
     let was = c.self.invariant in
     let a = c.self.inside in
     let number : c.args.who.number ≡ next_number c.args.who.caller a.epoch.entries.items = c.requires.next ∙ ap (λ p. next_number c.args.who.caller p.entries) (sym c.self.view_is) in
-    let roles = c.newly_missing-roles.result in
+    let roles = c.newly_vacant-roles.result in
     let spares = c.fetch-fetched.result.spares in
     let end = c.ops-end-2.result in
     let into = c.copy_from_slice.new.self in
@@ -269,17 +269,17 @@ returns-clause-losses g c =
     let m = c.fetch-fetched.new.members in
     let before = g.B.Bank.faults_of a.bank in
     let after = g.B.Bank.faults_of c.fetch-fetched.new.bank in
-    let roles = c.newly_missing-roles.result in
+    let roles = c.newly_vacant-roles.result in
     let spares = c.fetch-fetched.result.spares in
-    let since : AreLostSince a.members m roles spares before after = lost-since (g.B.Bank.given a.bank) a.members m c.shape_in-shape.result.disks c.missing_roles-before.result roles spares before after was.kept.placed did.moved did.failed
-    (ap (λ (s : Shape). s.disks) c.shape_in-shape.ensures) c.missing_roles-before.ensures c.newly_missing-roles.ensures in
+    let since : AreLostSince a.members m roles spares before after = lost-since (g.B.Bank.given a.bank) a.members m c.shape_in-shape.result.disks c.vacant_roles-before.result roles spares before after was.kept.placed did.moved did.failed
+    (ap (λ (s : Shape). s.disks) c.shape_in-shape.ensures) c.vacant_roles-before.ensures c.newly_vacant-roles.ensures in
     rw (← c.self.view_is) (losses-behind a.members m before after a.epoch.entries.items c.make_room.new.self.items c.enter_behind-2.new.epoch.entries.items c.args.who c.ops-end-2.result roles spares
     (Read c.args.at c.from_bytes-body.result) since tt c.make_room.ensures.items c.enter_behind-2.ensures.items)
 
 pub returns-clause-ended : goal.returns-clause-ended
 returns-clause-ended g c =
     ended-behind (g.B.Bank.tape c.fetch-fetched.new.bank) c.enter_behind-2.new.epoch.first c.make_room.new.self.items c.args.who c.ops-end-2.result
-    (losses_of c.newly_missing-roles.result c.fetch-fetched.result.spares) (Read c.args.at c.from_bytes-body.result) c.enter_behind-2.ensures.items c.ops-end-2.ensures
+    (losses_of c.newly_vacant-roles.result c.fetch-fetched.result.spares) (Read c.args.at c.from_bytes-body.result) c.enter_behind-2.ensures.items c.ops-end-2.ensures
 
 pub returns-clause-never_falls : goal.returns-clause-never_falls
 returns-clause-never_falls g c = rw (← c.self.view_is) c.fetch-fetched.ensures.counts

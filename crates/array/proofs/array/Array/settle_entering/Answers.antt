@@ -58,11 +58,11 @@ invariant_of-self-in-Some-refusal g c =
     let did = c.settle-settled.ensures in
     let before = g.B.Bank.faults_of a.bank in
     let after = g.B.Bank.faults_of c.settle-settled.new.bank in
-    let roles = c.newly_missing-roles.result in
+    let roles = c.newly_vacant-roles.result in
     let spares = c.settle-settled.result.spares in
     let end = c.ops-end-2.result in
-    let since = lost-since given a.members m c.shape_in-disks.result.disks c.missing_roles-before.result roles spares before after was.kept.placed did.moved did.failed (ap (λ (s : Shape). s.disks) c.shape_in-disks.ensures)
-    c.missing_roles-before.ensures c.newly_missing-roles.ensures in
+    let since = lost-since given a.members m c.shape_in-disks.result.disks c.vacant_roles-before.result roles spares before after was.kept.placed did.moved did.failed (ap (λ (s : Shape). s.disks) c.shape_in-disks.ensures)
+    c.vacant_roles-before.ensures c.newly_vacant-roles.ensures in
     let refusal = c.in-Some-refusal.refusal in
     let many = too-many-of m c.settle-settled.result.refusal refusal c.in-Some-refusal.is did.refused in
     ready (entries_of c.args.who end (losses_of roles spares ++ Refused refusal ∷ []))
@@ -89,17 +89,17 @@ returns-in-Some-refusal-clause-losses g c =
     let did = c.settle-settled.ensures in
     let before = g.B.Bank.faults_of a.bank in
     let after = g.B.Bank.faults_of c.settle-settled.new.bank in
-    let roles = c.newly_missing-roles.result in
+    let roles = c.newly_vacant-roles.result in
     let spares = c.settle-settled.result.spares in
     let end = c.ops-end-2.result in
-    let since = lost-since given a.members m c.shape_in-disks.result.disks c.missing_roles-before.result roles spares before after was.kept.placed did.moved did.failed (ap (λ (s : Shape). s.disks) c.shape_in-disks.ensures)
-    c.missing_roles-before.ensures c.newly_missing-roles.ensures in
+    let since = lost-since given a.members m c.shape_in-disks.result.disks c.vacant_roles-before.result roles spares before after was.kept.placed did.moved did.failed (ap (λ (s : Shape). s.disks) c.shape_in-disks.ensures)
+    c.vacant_roles-before.ensures c.newly_vacant-roles.ensures in
     rw (← c.self.view_is) (losses-behind a.members m before after a.epoch.entries.items c.make_room.new.self.items c.enter_behind.new.epoch.entries.items c.args.who end roles spares
     (Refused c.in-Some-refusal.refusal) since tt c.make_room.ensures.items c.enter_behind.ensures.items)
 
 pub returns-in-Some-refusal-clause-ended : goal.returns-in-Some-refusal-clause-ended
 returns-in-Some-refusal-clause-ended g c =
-    ended-behind (g.B.Bank.tape c.settle-settled.new.bank) c.enter_behind.new.epoch.first c.make_room.new.self.items c.args.who c.ops-end-2.result (losses_of c.newly_missing-roles.result c.settle-settled.result.spares)
+    ended-behind (g.B.Bank.tape c.settle-settled.new.bank) c.enter_behind.new.epoch.first c.make_room.new.self.items c.args.who c.ops-end-2.result (losses_of c.newly_vacant-roles.result c.settle-settled.result.spares)
     (Refused c.in-Some-refusal.refusal) c.enter_behind.ensures.items c.ops-end-2.ensures
 
 pub returns-in-Some-refusal-clause-same : goal.returns-in-Some-refusal-clause-same
@@ -128,11 +128,11 @@ invariant_of-self-2 g c =
     let did = c.settle-settled.ensures in
     let before = g.B.Bank.faults_of a.bank in
     let after = g.B.Bank.faults_of c.settle-settled.new.bank in
-    let roles = c.newly_missing-roles.result in
+    let roles = c.newly_vacant-roles.result in
     let spares = c.settle-settled.result.spares in
     let end = c.ops-end-2.result in
-    let since = lost-since given a.members m c.shape_in-disks.result.disks c.missing_roles-before.result roles spares before after was.kept.placed did.moved did.failed (ap (λ (s : Shape). s.disks) c.shape_in-disks.ensures)
-    c.missing_roles-before.ensures c.newly_missing-roles.ensures in
+    let since = lost-since given a.members m c.shape_in-disks.result.disks c.vacant_roles-before.result roles spares before after was.kept.placed did.moved did.failed (ap (λ (s : Shape). s.disks) c.shape_in-disks.ensures)
+    c.vacant_roles-before.ensures c.newly_vacant-roles.ensures in
     let settles = settles-of c.args.event c.requires.event in
     ready (entries_of c.args.who end (losses_of roles spares ++ c.args.event ∷ []))
     (degraded-settled c.args.who end was.kept (begins-open a.epoch.entries.items c.args.who number) c.requires.caller c.ops-end-2.ensures did.moved did.grows roles spares before after since c.args.event settles did.others
@@ -151,12 +151,12 @@ returns-clause-left g c = λ t.
     let did = c.settle-settled.ensures in
     let before = g.B.Bank.faults_of a.bank in
     let after = g.B.Bank.faults_of c.settle-settled.new.bank in
-    let roles = c.newly_missing-roles.result in
+    let roles = c.newly_vacant-roles.result in
     let spares = c.settle-settled.result.spares in
     let end = c.ops-end-2.result in
-    let since = lost-since given a.members m c.shape_in-disks.result.disks c.missing_roles-before.result roles spares before after was.kept.placed did.moved did.failed (ap (λ (s : Shape). s.disks) c.shape_in-disks.ensures)
-    c.missing_roles-before.ensures c.newly_missing-roles.ensures in
-    let told = told-since a.members m a.epoch.entries.items c.args.who end roles spares (c.args.event ∷ []) before after (limited (shape_of m.newest) did.moved.placed.valid).most did.moved.shape was.kept.told since in
+    let since = lost-since given a.members m c.shape_in-disks.result.disks c.vacant_roles-before.result roles spares before after was.kept.placed did.moved did.failed (ap (λ (s : Shape). s.disks) c.shape_in-disks.ensures)
+    c.vacant_roles-before.ensures c.newly_vacant-roles.ensures in
+    let told = told-since given a.members m a.epoch.entries.items c.args.who end roles spares (c.args.event ∷ []) before after (limited (shape_of m.newest) did.moved.placed.valid).most did.moved was.kept.told since ((settles-of c.args.event c.requires.event).gives c.args.who end) in
     let entries_are = c.enter_behind-2.ensures.items ∙ ap (λ (l : List Entry). l ++ entries_of c.args.who end (losses_of roles spares ++ c.args.event ∷ [])) c.make_room.ensures.items in
     rw (← c.self.view_is) (left-flushed given a.members m c.enter_behind-2.new.epoch.entries.items (g.B.Bank.tape c.settle-settled.new.bank) was.kept.placed did.moved (subst (λ (l : List Entry). AreTold m l) (sym entries_are) told) (did.flushed t))
 
@@ -176,17 +176,17 @@ returns-clause-losses g c =
     let did = c.settle-settled.ensures in
     let before = g.B.Bank.faults_of a.bank in
     let after = g.B.Bank.faults_of c.settle-settled.new.bank in
-    let roles = c.newly_missing-roles.result in
+    let roles = c.newly_vacant-roles.result in
     let spares = c.settle-settled.result.spares in
     let end = c.ops-end-2.result in
-    let since = lost-since given a.members m c.shape_in-disks.result.disks c.missing_roles-before.result roles spares before after was.kept.placed did.moved did.failed (ap (λ (s : Shape). s.disks) c.shape_in-disks.ensures)
-    c.missing_roles-before.ensures c.newly_missing-roles.ensures in
+    let since = lost-since given a.members m c.shape_in-disks.result.disks c.vacant_roles-before.result roles spares before after was.kept.placed did.moved did.failed (ap (λ (s : Shape). s.disks) c.shape_in-disks.ensures)
+    c.vacant_roles-before.ensures c.newly_vacant-roles.ensures in
     rw (← c.self.view_is) (losses-behind a.members m before after a.epoch.entries.items c.make_room.new.self.items c.enter_behind-2.new.epoch.entries.items c.args.who end roles spares
     c.args.event since (settling-no-loss a.members before after c.args.event c.requires.event) c.make_room.ensures.items c.enter_behind-2.ensures.items)
 
 pub returns-clause-ended : goal.returns-clause-ended
 returns-clause-ended g c =
-    ended-behind (g.B.Bank.tape c.settle-settled.new.bank) c.enter_behind-2.new.epoch.first c.make_room.new.self.items c.args.who c.ops-end-2.result (losses_of c.newly_missing-roles.result c.settle-settled.result.spares)
+    ended-behind (g.B.Bank.tape c.settle-settled.new.bank) c.enter_behind-2.new.epoch.first c.make_room.new.self.items c.args.who c.ops-end-2.result (losses_of c.newly_vacant-roles.result c.settle-settled.result.spares)
     c.args.event c.enter_behind-2.ensures.items c.ops-end-2.ensures
 
 pub returns-clause-same : goal.returns-clause-same

@@ -72,7 +72,7 @@ invariant_of-self-in-Some-refusal g c =
     let given = g.B.Bank.given a.bank in
     let before = g.B.Bank.faults_of a.bank in
     let after = g.B.Bank.faults_of c.put-done.new.bank in
-    let roles = c.newly_missing-roles.result in
+    let roles = c.newly_vacant-roles.result in
     let spares = c.put-done.result.spares in
     let torn = c.put-done.result.begun in
     let refusal = c.in-Some-refusal.refusal in
@@ -81,8 +81,8 @@ invariant_of-self-in-Some-refusal g c =
     let does = does-without a.members (λ refusal many. c.in_default.ensures.1 refusal (inl many)) in
     let synced = c.are_mended-synced.result in
     let asked : synced ≡ are_mended (shape_of a.members.newest) (mended_rows a.resync a.members) (c.args.at + length c.args.from.now / 512) = c.are_mended-synced.ensures ∙ ap (λ (s : Shape). are_mended s (mended_rows a.resync a.members) (c.args.at + length c.args.from.now / 512)) c.shape_in-shape.ensures in
-    let since : AreLostSince a.members m roles spares before after = lost-since given a.members m c.shape_in-shape.result.disks c.missing_roles-before.result roles spares before after was.kept.placed did.moved did.failed
-    (ap (λ (s : Shape). s.disks) c.shape_in-shape.ensures) c.missing_roles-before.ensures c.newly_missing-roles.ensures in
+    let since : AreLostSince a.members m roles spares before after = lost-since given a.members m c.shape_in-shape.result.disks c.vacant_roles-before.result roles spares before after was.kept.placed did.moved did.failed
+    (ap (λ (s : Shape). s.disks) c.shape_in-shape.ensures) c.vacant_roles-before.ensures c.newly_vacant-roles.ensures in
     ready (entries_of c.args.who end (failure_events roles spares torn c.args.at body refusal))
     (kept-unwritten c.args.who end was.kept (begins-open a.epoch.entries.items c.args.who number) c.requires.caller c.ops-end-2.ensures did.moved did.grows roles spares before after since c.shape_in-shape.result c.shape_in-shape.ensures c.args.at c.args.from.now c.in_default.ensures.0 does torn synced asked did.rise did.stays did.safe refusal
     (some-of (IsUnwritten synced m) c.put-done.result.refusal refusal c.in-Some-refusal.is did.refused)
@@ -97,7 +97,7 @@ returns-in-Some-refusal-clause-answered g c =
     let a = c.self.inside in
     let number : c.args.who.number ≡ next_number c.args.who.caller a.epoch.entries.items = c.requires.next ∙ ap (λ p. next_number c.args.who.caller p.entries) (sym c.self.view_is) in
     let m = c.put-done.new.members in
-    let roles = c.newly_missing-roles.result in
+    let roles = c.newly_vacant-roles.result in
     let spares = c.put-done.result.spares in
     let torn = c.put-done.result.begun in
     let refusal = c.in-Some-refusal.refusal in
@@ -114,7 +114,7 @@ returns-in-Some-refusal-clause-answered g c =
 
 pub returns-in-Some-refusal-clause-untouched : goal.returns-in-Some-refusal-clause-untouched
 returns-in-Some-refusal-clause-untouched g c =
-    let roles = c.newly_missing-roles.result in
+    let roles = c.newly_vacant-roles.result in
     let spares = c.put-done.result.spares in
     let torn = c.put-done.result.begun in
     rw (← c.self.view_is) (λ none told. c.put-done.ensures.untouched
@@ -147,16 +147,16 @@ returns-in-Some-refusal-clause-losses g c =
     let m = c.put-done.new.members in
     let before = g.B.Bank.faults_of a.bank in
     let after = g.B.Bank.faults_of c.put-done.new.bank in
-    let roles = c.newly_missing-roles.result in
+    let roles = c.newly_vacant-roles.result in
     let spares = c.put-done.result.spares in
-    let since : AreLostSince a.members m roles spares before after = lost-since (g.B.Bank.given a.bank) a.members m c.shape_in-shape.result.disks c.missing_roles-before.result roles spares before after was.kept.placed did.moved did.failed
-    (ap (λ (s : Shape). s.disks) c.shape_in-shape.ensures) c.missing_roles-before.ensures c.newly_missing-roles.ensures in
+    let since : AreLostSince a.members m roles spares before after = lost-since (g.B.Bank.given a.bank) a.members m c.shape_in-shape.result.disks c.vacant_roles-before.result roles spares before after was.kept.placed did.moved did.failed
+    (ap (λ (s : Shape). s.disks) c.shape_in-shape.ensures) c.vacant_roles-before.ensures c.newly_vacant-roles.ensures in
     rw (← c.self.view_is) (losses-failure a.members m before after a.epoch.entries.items c.make_room.new.self.items c.enter_failure.new.epoch.entries.items c.args.who c.ops-end-2.result roles spares
     c.put-done.result.begun c.args.at c.in-Ok.body c.in-Some-refusal.refusal since c.make_room.ensures.items c.enter_failure.ensures.items)
 
 pub returns-in-Some-refusal-clause-ended : goal.returns-in-Some-refusal-clause-ended
 returns-in-Some-refusal-clause-ended g c =
-    ended-failure (g.B.Bank.tape c.put-done.new.bank) c.enter_failure.new.epoch.first c.make_room.new.self.items c.args.who c.ops-end-2.result c.newly_missing-roles.result c.put-done.result.spares c.put-done.result.begun
+    ended-failure (g.B.Bank.tape c.put-done.new.bank) c.enter_failure.new.epoch.first c.make_room.new.self.items c.args.who c.ops-end-2.result c.newly_vacant-roles.result c.put-done.result.spares c.put-done.result.begun
     c.args.at c.in-Ok.body c.in-Some-refusal.refusal c.enter_failure.ensures.items c.ops-end-2.ensures
 
 pub returns-in-Some-refusal-clause-never_falls : goal.returns-in-Some-refusal-clause-never_falls
@@ -191,7 +191,7 @@ invariant_of-self-4 g c =
     let given = g.B.Bank.given a.bank in
     let before = g.B.Bank.faults_of a.bank in
     let after = g.B.Bank.faults_of c.put-done.new.bank in
-    let roles = c.newly_missing-roles.result in
+    let roles = c.newly_vacant-roles.result in
     let spares = c.put-done.result.spares in
     let end = c.ops-end-2.result in
     let body = sectors_of c.args.from.now in
@@ -200,8 +200,8 @@ invariant_of-self-4 g c =
     let does = does-without a.members (λ refusal many. c.in_default.ensures.1 refusal (inl many)) in
     let synced = c.are_mended-synced.result in
     let asked : synced ≡ are_mended (shape_of a.members.newest) (mended_rows a.resync a.members) (c.args.at + length c.args.from.now / 512) = c.are_mended-synced.ensures ∙ ap (λ (s : Shape). are_mended s (mended_rows a.resync a.members) (c.args.at + length c.args.from.now / 512)) c.shape_in-shape.ensures in
-    let since : AreLostSince a.members m roles spares before after = lost-since given a.members m c.shape_in-shape.result.disks c.missing_roles-before.result roles spares before after was.kept.placed did.moved did.failed
-    (ap (λ (s : Shape). s.disks) c.shape_in-shape.ensures) c.missing_roles-before.ensures c.newly_missing-roles.ensures in
+    let since : AreLostSince a.members m roles spares before after = lost-since given a.members m c.shape_in-shape.result.disks c.vacant_roles-before.result roles spares before after was.kept.placed did.moved did.failed
+    (ap (λ (s : Shape). s.disks) c.shape_in-shape.ensures) c.vacant_roles-before.ensures c.newly_vacant-roles.ensures in
     ready (entries_of c.args.who end (losses_of roles spares ++ Wrote c.args.at body ∷ []))
     (kept-wrote c.args.who end was.kept (begins-open a.epoch.entries.items c.args.who number) c.requires.caller c.ops-end-2.ensures did.moved did.grows roles spares before after since c.shape_in-shape.result c.shape_in-shape.ensures c.args.at c.args.from.now c.in_default.ensures.0 does c.put-done.result.begun synced asked did.rise did.stays did.safe
     c.requires.whole bytes (did.put done) (λ t list more written. did.good done t list more written bytes))
@@ -214,7 +214,7 @@ returns-clause-answered g c =
     let was = c.self.invariant in
     let a = c.self.inside in
     let number : c.args.who.number ≡ next_number c.args.who.caller a.epoch.entries.items = c.requires.next ∙ ap (λ p. next_number c.args.who.caller p.entries) (sym c.self.view_is) in
-    let roles = c.newly_missing-roles.result in
+    let roles = c.newly_vacant-roles.result in
     let spares = c.put-done.result.spares in
     let end = c.ops-end-2.result in
     let body = sectors_of c.args.from.now in
@@ -242,17 +242,17 @@ returns-clause-losses g c =
     let m = c.put-done.new.members in
     let before = g.B.Bank.faults_of a.bank in
     let after = g.B.Bank.faults_of c.put-done.new.bank in
-    let roles = c.newly_missing-roles.result in
+    let roles = c.newly_vacant-roles.result in
     let spares = c.put-done.result.spares in
-    let since : AreLostSince a.members m roles spares before after = lost-since (g.B.Bank.given a.bank) a.members m c.shape_in-shape.result.disks c.missing_roles-before.result roles spares before after was.kept.placed did.moved did.failed
-    (ap (λ (s : Shape). s.disks) c.shape_in-shape.ensures) c.missing_roles-before.ensures c.newly_missing-roles.ensures in
+    let since : AreLostSince a.members m roles spares before after = lost-since (g.B.Bank.given a.bank) a.members m c.shape_in-shape.result.disks c.vacant_roles-before.result roles spares before after was.kept.placed did.moved did.failed
+    (ap (λ (s : Shape). s.disks) c.shape_in-shape.ensures) c.vacant_roles-before.ensures c.newly_vacant-roles.ensures in
     rw (← c.self.view_is) (losses-behind a.members m before after a.epoch.entries.items c.make_room.new.self.items c.enter_behind.new.epoch.entries.items c.args.who c.ops-end-2.result roles spares
     (Wrote c.args.at c.in-Ok.body) since tt c.make_room.ensures.items c.enter_behind.ensures.items)
 
 pub returns-clause-ended : goal.returns-clause-ended
 returns-clause-ended g c =
     ended-behind (g.B.Bank.tape c.put-done.new.bank) c.enter_behind.new.epoch.first c.make_room.new.self.items c.args.who c.ops-end-2.result
-    (losses_of c.newly_missing-roles.result c.put-done.result.spares) (Wrote c.args.at c.in-Ok.body) c.enter_behind.ensures.items c.ops-end-2.ensures
+    (losses_of c.newly_vacant-roles.result c.put-done.result.spares) (Wrote c.args.at c.in-Ok.body) c.enter_behind.ensures.items c.ops-end-2.ensures
 
 pub returns-clause-never_falls : goal.returns-clause-never_falls
 returns-clause-never_falls g c = rw (← c.self.view_is) c.put-done.ensures.counts
