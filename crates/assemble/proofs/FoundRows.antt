@@ -1,4 +1,4 @@
--- The flat list of what was opened, on the members that are there: each role whole, or missing.
+-- The flat list of what was opened, on the members that are there.
 use Rattle.std.proofs.Common.{◌≡◌, inl, inr, ℕ, ◌+◌, ◌*◌, ◌/◌, ◌%◌, ◌<◌, ◌≤◌, Bool, true, false, cond, not, if◌then◌else◌, ltb, nat_lt, min, List, [], length, drop, get_or, Option, Some, None, unwrap_or, option_map, refl, sym, ◌∙◌, ap, ap₂, subst, arith}
 use Rattle.std.specs.Option.{option_map_or}
 use Rattle.std.specs.Prelude.{slice_index_or}
@@ -11,6 +11,7 @@ use Rattle.md_base.specs.declared.places.RowRoles.{RowRoles}
 use Rattle.md_base.specs.declared.places.Shape.{Shape}
 use Rattle.md_base.specs.declared.places.Span.{Span}
 use Rattle.md_base.specs.declared.status.Role.{Role}
+use Rattle.md_base.specs.declared.status.Role.TheVariants.{Whole, Recovering, Missing}
 use Rattle.md_base.specs.Sectors.{Sector, zero_sector}
 use Rattle.md_base.specs.Shapes.{data_disks}
 use Rattle.md_base.proofs.Tabulated.{length-tabulate, get_or-tabulate}
@@ -91,17 +92,17 @@ module _ (bank : Given) (m : Members) (placed : IsPlaced bank m) (scope : Scope)
   offset-is slot lt = ap (λ (o : Option Sb). option_map_or (λ sb. sb.data_offset) o 0) (get_or-take bank.slots m.own slot None lt)
 
   sector-same : (role row : ℕ) → found_sector c r role row ≡ held_sector c own role row
-  sector-same role row = elim (placed.states role) [
-    | inl none ↦ ap (of r) none ∙ sym (ap (of own) none)
-    | inr some ↦
-        let slot : ℕ = some.0 in
-        ap (of r) some.1
-        ∙ ap (λ (o : ℕ). cond (ltb row m.newest.size) (Some (c slot (o + row))) None) (offset-is slot (placed.holders role slot (ap holder some.1)).known)
-        ∙ sym (ap (of own) some.1)
-  ]
+  sector-same role row = by (role_state own role) refl
     where
       of : Reading → Role → Option Sector
       of q state = cond (ltb row (rows_held q state)) (option_map (λ slot. c slot (data_offset_of q slot + row)) (holder state)) None
+
+      by : (state : Role) → role_state own role ≡ state → of r state ≡ of own state
+      by (Whole slot) is = ap (λ (o : ℕ). cond (ltb row m.newest.size) (Some (c slot (o + row))) None) (offset-is slot (placed.holders role slot (ap holder is)).known)
+      by (Recovering slot) is =
+          ap (λ (o : Option Sb). cond (ltb row (cond (is_reshaping m.newest) 0 (option_map_or (λ sb. sb.recovery_offset) o 0))) (Some (c slot (option_map_or (λ sb. sb.data_offset) o 0 + row))) None)
+          (get_or-take bank.slots m.own slot None (placed.holders role slot (ap holder is)).known)
+      by Missing is = refl
 
   row-same : (row : ℕ) → found_row c r shape row ≡ held_row c own shape row
   row-same row = tabulate-same shape.disks (λ role. found_sector c r role row) (λ role. held_sector c own role row) (λ role lt. sector-same role row)

@@ -240,10 +240,6 @@ module _ (bank : Given) (backup : Option ℕ) (spec : CreateSpec) (room : HasRoo
     multiple = ap₂ (λ n (s : Shape). is_multiple n s.chunk) size-is shape-is ∙ room.multiple;
     short = omega (arith, size-is, room.short);
     roles = ap (λ l. length l) filled.roles ∙ length-tabulate disks (λ role. Whole role) ∙ sym (ap (λ (s : Shape). s.disks) shape-is);
-    states = λ role. elim (cases_lt role disks) [
-      | inl lt ↦ inr (role, state-is role lt)
-      | inr past ↦ inl (state-none role past)
-    ];
     holders = λ role slot is. (let lt : slot < disks = place-of role slot is in
         let off : data_offset_of (members_reading members) slot ≡ spec.offset = offset-is slot lt in
         let long : rows_end spec ≤ bank.sectors slot = room.within slot lt in

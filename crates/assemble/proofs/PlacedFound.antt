@@ -1,5 +1,5 @@
 -- Where the rows of an opened array stand: each role whole, on a slot of its own, or missing.
-use Rattle.std.proofs.Common.{◌≡◌, ◌⊎◌, inl, inr, ℕ, zero, suc, ◌+◌, ◌*◌, ◌^◌, ◌<◌, ◌≤◌, ◌==◌, Bool, true, false, cond, not, ◌||◌, ◌&&◌, nat_lt, nat_le, List, [], ◌∷◌, length, take, drop, get_or, Option, Some, None, unwrap_or, option_map, refl, sym, ◌∙◌, ap, subst, arith}
+use Rattle.std.proofs.Common.{◌≡◌, inl, inr, ℕ, zero, suc, ◌+◌, ◌*◌, ◌^◌, ◌<◌, ◌≤◌, ◌==◌, Bool, true, false, cond, not, ◌||◌, ◌&&◌, nat_lt, nat_le, List, [], ◌∷◌, length, take, drop, get_or, Option, Some, None, unwrap_or, option_map, refl, sym, ◌∙◌, ap, subst, arith}
 use Rattle.std.specs.Prelude.{find, max}
 use Rattle.std.specs.Option.{option_or, option_map_or}
 use Rattle.std.specs.List.{list_any}
@@ -28,7 +28,6 @@ use Rattle.row_io.specs.Rows.{reading_of}
 use Rattle.row_io.proofs.Apart.{readings-are-apart}
 use Rattle.array.specs.Placed.{IsPlaced, AreUnlost}
 use Rattle.assemble.specs.Opening.{AreOfGiven, AreCounted}
-use Rattle.assemble.specs.Running.{HasRebuilding}
 use Rattle.assemble.proofs.Judged.{elected-valid, reading-made}
 
 -- the roles of an array without a reshape are those of its shape
@@ -305,36 +304,23 @@ module _ (bank : Given) (few : bank.slots ≤ 32) (m : Members) (elected : IsEle
   pub valid-is : is_valid_shape (shape_of m.newest) ≡ true
   valid-is = (elected-valid sec X m.lost m elected).old
 
-  module _ (none : HasRebuilding (reading_of m) → ⊥) where
-    state-is : (role : ℕ) → role < (shape_of m.newest).disks → (role_state (reading_of m) role ≡ Missing) ⊎ ((slot : ℕ) × (role_state (reading_of m) role ≡ Whole slot))
-    state-is role lt = by (role_state (reading_of m) role) refl
-      where
-        by : (state : Role) → role_state (reading_of m) role ≡ state → (role_state (reading_of m) role ≡ Missing) ⊎ ((slot : ℕ) × (role_state (reading_of m) role ≡ Whole slot))
-        by (Whole slot) is = inr (slot, is)
-        by (Recovering slot) is = absurd (none (role, slot, lt, is))
-        by Missing is = inl is
-
-    pub placed-found : IsPlaced bank m
-    placed-found = record {
-      still = still;
-      valid = valid-is;
-      multiple = sized.1;
-      short = sized.0;
-      roles = roles-long;
-      states = λ role. elim (cases_lt role (shape_of m.newest).disks) [
-        | inl lt ↦ state-is role lt
-        | inr past ↦ inl (get_or_past m.roles role Missing (omega (arith, past, roles-long)))
-      ];
-      holders = λ role slot is. (let found = held-at role slot is in
-          record {
-            small = omega (arith, found.known, few);
-            known = found.known;
-            short = counted slot found.known;
-            within = omega (arith, offset-at role slot found, found.within);
-          });
-      behind = λ role slot is. (let found = held-at role slot is in omega (arith, offset-at role slot found, found.behind));
-      apart = λ a b slot is is'. readings-are-apart sec X m.newest a b slot
-          (sym (ap (λ (l : List Role). holder (get_or l a Missing)) roles-are) ∙ is) (sym (ap (λ (l : List Role). holder (get_or l b Missing)) roles-are) ∙ is');
-      live = λ slot is. (let found = live-there slot is in
-          subst (λ (o : Option Sb). IsMember bank o slot) (sym found.1) (writable slot found.0 found.1));
-    }
+  pub placed-found : IsPlaced bank m
+  placed-found = record {
+    still = still;
+    valid = valid-is;
+    multiple = sized.1;
+    short = sized.0;
+    roles = roles-long;
+    holders = λ role slot is. (let found = held-at role slot is in
+        record {
+          small = omega (arith, found.known, few);
+          known = found.known;
+          short = counted slot found.known;
+          within = omega (arith, offset-at role slot found, found.within);
+        });
+    behind = λ role slot is. (let found = held-at role slot is in omega (arith, offset-at role slot found, found.behind));
+    apart = λ a b slot is is'. readings-are-apart sec X m.newest a b slot
+        (sym (ap (λ (l : List Role). holder (get_or l a Missing)) roles-are) ∙ is) (sym (ap (λ (l : List Role). holder (get_or l b Missing)) roles-are) ∙ is');
+    live = λ slot is. (let found = live-there slot is in
+        subst (λ (o : Option Sb). IsMember bank o slot) (sym found.1) (writable slot found.0 found.1));
+  }

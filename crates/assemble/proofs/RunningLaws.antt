@@ -1,5 +1,5 @@
 -- What runs was made, or found, as it is answered.
-use Rattle.std.proofs.Common.{◌≡◌, ◌⊎◌, inl, inr, ℕ, zero, suc, ◌*◌, ◌<◌, ◌≤◌, Bool, true, false, cond, not, if◌then◌else◌, ◌&&◌, nat_lt, List, [], ◌∷◌, ◌++◌, length, take, get_or, Option, Some, None, IfSome, Result, Ok, Err, IfOk, refl, sym, ◌∙◌, ap, ap₂, subst, arith}
+use Rattle.std.proofs.Common.{◌≡◌, ◌⊎◌, inl, inr, ℕ, zero, suc, ◌*◌, ◌<◌, ◌≤◌, Bool, true, false, cond, not, if◌then◌else◌, ◌&&◌, nat_lt, List, [], ◌++◌, length, take, get_or, Option, Some, None, IfSome, Result, Ok, Err, IfOk, refl, sym, ◌∙◌, ap, ap₂, subst, arith}
 use Rattle.std.proofs.lemmas.Bool.{cases_lt}
 use Rattle.std.proofs.lemmas.Bool.Decides.{nat_tests}
 use Rattle.std.proofs.lemmas.List.{get_or-take}
@@ -8,7 +8,7 @@ use Rattle.md_base.specs.declared.answers.Fault.TheVariants.{Refused, NoMemory}
 use Rattle.md_base.specs.declared.answers.Refusal.{Refusal}
 use Rattle.md_base.specs.declared.answers.Refusal.TheVariants.{MembersMissing}
 use Rattle.md_base.specs.declared.status.Role.{Role}
-use Rattle.md_base.specs.declared.status.Role.TheVariants.{Whole, Missing}
+use Rattle.md_base.specs.declared.status.Role.TheVariants.{Whole, Recovering, Missing}
 use Rattle.md_base.specs.declared.places.Shape.{Shape}
 use Rattle.md_base.specs.Shapes.{has_slot, data_disks}
 use Rattle.md_base.proofs.Tabulated.{get_or-tabulate}
@@ -28,8 +28,6 @@ use Rattle.superblocks.proofs.SlotSets.{none_there}
 use Rattle.superblocks.proofs.FoundHeld.{found-of}
 use Rattle.row_io.specs.Rows.{reading_of, is_missing, missing_count}
 use Rattle.flat_history.specs.declared.events.Event.{Event}
-use Rattle.flat_history.specs.declared.events.Event.TheVariants.{Lost}
-use Rattle.flat_history.specs.declared.events.LostCause.TheVariants.{Absent}
 use Rattle.flat_history.specs.Stands.{verdict}
 use Rattle.flat_history.specs.Plain.{entries_of}
 use Rattle.flat_history.specs.World.{World, opening_list, reading_at}
@@ -41,7 +39,7 @@ use Rattle.array.specs.Placed.{places_of, AreWhole, AreUnlost}
 use Rattle.array.specs.Lacking.{DoesWithout}
 use Rattle.array.specs.Kept.{world_in, scope_in}
 use Rattle.array.specs.Calls.{world_for}
-use Rattle.array.specs.Adopting.{opener, absent_losses, found_losses, IsAdoptable, IsAdopted}
+use Rattle.array.specs.Adopting.{opener, found_loss, absent_losses, found_losses, IsAdoptable, IsAdopted}
 use Rattle.assemble.specs.declared.opening.Opened.{Opened}
 use Rattle.assemble.specs.Opening.{scope_of, array_of, AreGiven, AreFlushed, IsOpened, IsReshapeRefused, HasCause}
 use Rattle.assemble.specs.Making.{created_sb}
@@ -193,7 +191,12 @@ none-absent : (r : Reading) (disks : ℕ) → ((role : ℕ) → role < disks →
 unfolding absent_losses
 none-absent r zero whole = refl
 none-absent r (suc disks) whole =
-    ap₂ (λ (l : List Event) (b : Bool). l ++ cond b (Lost disks Absent ∷ []) []) (none-absent r disks (λ role lt. whole role (omega (arith, lt)))) (whole disks (omega arith))
+    ap₂ (λ (l found : List Event). l ++ found) (none-absent r disks (λ role lt. whole role (omega (arith, lt)))) (none-found (role_state r disks) (whole disks (omega arith)))
+  where
+    none-found : (state : Role) → not (is_whole state) ≡ false → found_loss disks state ≡ []
+    none-found (Whole slot) is = refl
+    none-found (Recovering slot) is = absurd (cc)
+    none-found Missing is = absurd (cc)
 
 module _ {B tells : Type 0} (device : B) (bank : Given) (tape : List Operation) (backup : Option ℕ) (opened : Opened) (made : Parts B)
     (adopted : IsAdopted tells device tape opened.given backup opened.members made) where

@@ -1,7 +1,6 @@
 -- What the histories of a run tell of losses.
-use Rattle.std.proofs.Common.{◌≡◌, ℕ, zero, suc, ◌<◌, Bool, true, false, Option, List, [], ◌∷◌, ◌++◌, refl, sym, ◌∙◌, ap, subst, arith, append_assoc, append-nil}
+use Rattle.std.proofs.Common.{◌≡◌, ℕ, zero, suc, ◌<◌, not, true, Option, List, [], ◌∷◌, ◌++◌, refl, sym, ◌∙◌, ap, subst, arith, append_assoc, append-nil}
 use Rattle.std.proofs.lemmas.List.Elements.{All-nil, All-cons, All-append, All-weaker}
-use Rattle.std.specs.Prelude.{if◌then◌else◌}
 use Rattle.std.specs.List.{All}
 use Rattle.bank.specs.Given.{Given}
 use Rattle.bank.specs.declared.bank.Operation.{Operation}
@@ -15,9 +14,11 @@ use Rattle.flat_history.specs.declared.events.LostCause.TheVariants.{Absent, Rec
 use Rattle.flat_history.specs.Plain.{entries_of}
 use Rattle.flat_history.specs.Growing.{grown}
 use Rattle.flat_history.specs.World.{World}
-use Rattle.superblocks.specs.Reading.{Reading, shape_of}
+use Rattle.md_base.specs.declared.status.Role.{Role}
+use Rattle.md_base.specs.declared.status.Role.TheVariants.{Whole, Recovering as HeldInPart, Missing}
+use Rattle.superblocks.specs.Reading.{Reading, shape_of, is_whole, role_state}
 use Rattle.row_io.specs.Rows.{is_missing}
-use Rattle.array.specs.Adopting.{opener, absent_loss, absent_losses, found_losses}
+use Rattle.array.specs.Adopting.{opener, found_loss, absent_loss, absent_losses, found_losses}
 use Rattle.array.specs.Calls.{IsRoleLossOf, IsLossOf, AreLossesOf, IsEntered}
 use Rattle.array.specs.Moving.{Grows}
 use Rattle.runner.specs.Histories.{History}
@@ -66,7 +67,7 @@ role-wider : (was now : Setting) → IsWider was now → (old new : History) →
 role-wider was now wider old new same role Fault (slot, failed, held) = (slot, faulted-wider slot wider.early wider.between wider.late failed, λ t. held-wider was now wider old new same t role slot (held (wider.told t)))
 role-wider was now wider old new same role Command held = λ t. let is = held (wider.told t) in (is.0, held-wider was now wider old new same t role is.0 is.1)
 role-wider was now wider old new same role Absent missing = λ t. missing-wider was now wider old new same t role (missing (wider.told t))
-role-wider was now wider old new same role Recovering loss = absurd loss
+role-wider was now wider old new same role Recovering missing = λ t. missing-wider was now wider old new same t role (missing (wider.told t))
 
 loss-wider : (was now : Setting) → IsWider was now → (old new : History) → IsSameOpening old new → (event : Event) → IsLossSince was old event → IsLossSince now new event
 loss-wider was now wider old new same (Lost role cause) loss = role-wider was now wider old new same role cause loss
@@ -113,25 +114,30 @@ losses-halted setting who new entered = record {
   failed = All-cons (λ e. IsLossSince setting new e.event) (one who entered.end Halted) [] tt (All-nil (λ e. IsLossSince setting new e.event));
 }
 
--- what holds of the entry of each missing role holds of all that an opening enters
-pub each-absent : (P : Entry → Type 0) (who : Who) (end : ℕ) (r : Reading) (n : ℕ) → ((role : ℕ) → role < n → is_missing r role ≡ true → P (one who end (Lost role Absent))) → All P (entries_of who end (absent_losses r n))
+-- what holds of the entries of each role that isn't whole holds of all that an opening enters
+pub each-absent : (P : Entry → Type 0) (who : Who) (end : ℕ) (r : Reading) (n : ℕ)
+    → ((role : ℕ) → role < n → is_missing r role ≡ true → P (one who end (Lost role Absent)) × P (one who end (Lost role Recovering))) → All P (entries_of who end (absent_losses r n))
 unfolding absent_losses
 each-absent P who end r zero each = All-nil P
 each-absent P who end r (suc n) each =
     subst (λ (l : List Entry). All P l) (sym (entries_of-append who end (absent_losses r n) (absent_loss r n)))
-    (All-append P (entries_of who end (absent_losses r n)) (entries_of who end (absent_loss r n)) (each-absent P who end r n (λ role lt. each role (omega (arith, lt)))) (by_role (is_missing r n) refl))
+    (All-append P (entries_of who end (absent_losses r n)) (entries_of who end (absent_loss r n)) (each-absent P who end r n (λ role lt. each role (omega (arith, lt)))) (by_role (role_state r n) refl))
   where
-    by_role : (b : Bool) → is_missing r n ≡ b → All P (entries_of who end (if b then Lost n Absent ∷ [] else []))
-    by_role true is = All-cons P (one who end (Lost n Absent)) [] (each n (omega arith) is) (All-nil P)
-    by_role false is = All-nil P
+    found : (state : Role) → role_state r n ≡ state → not (is_whole state) ≡ true → P (one who end (Lost n Absent)) × P (one who end (Lost n Recovering))
+    found state is not_whole = each n (omega arith) (ap (λ (s : Role). not (is_whole s)) is ∙ not_whole)
 
--- an opening tells what was missing there
+    by_role : (state : Role) → role_state r n ≡ state → All P (entries_of who end (found_loss n state))
+    by_role (Whole slot) is = All-nil P
+    by_role (HeldInPart slot) is = All-cons P (one who end (Lost n Recovering)) [] (found (HeldInPart slot) is refl).1 (All-nil P)
+    by_role Missing is = All-cons P (one who end (Lost n Absent)) [] (found Missing is refl).0 (All-nil P)
+
+-- an opening tells what wasn't whole there
 pub losses-found : (setting : Setting) (new : History) (r : Reading) (end : ℕ) (more : List Entry) → ((role : ℕ) → role < (shape_of r.newest).disks → is_missing r role ≡ true → setting.tells → MissingAtFirst (history_world setting new) role)
     → All (λ e. IsLossSince setting new e.event) more → new.entries ≡ entries_of opener end (found_losses r) ++ more → AreLossesSince setting [] new
 losses-found setting new r end more missing others is = record {
   more = entries_of opener end (found_losses r) ++ more;
   grown = is;
-  failed = All-append (λ e. IsLossSince setting new e.event) (entries_of opener end (found_losses r)) more (each-absent (λ e. IsLossSince setting new e.event) opener end r (shape_of r.newest).disks missing) others;
+  failed = All-append (λ e. IsLossSince setting new e.event) (entries_of opener end (found_losses r)) more (each-absent (λ e. IsLossSince setting new e.event) opener end r (shape_of r.newest).disks (λ role lt is. (missing role lt is, missing role lt is))) others;
 }
 
 pub losses-wider : (was now : Setting) → IsWider was now → (old : List Entry) (new : History) → AreLossesSince was old new → AreLossesSince now old new

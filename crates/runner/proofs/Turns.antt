@@ -429,7 +429,7 @@ module _ {B : Type 0} (setting : Setting) (bank : B) (olds epochs : Vec Epoch) (
       found_number = ap (λ (l : List Entry). next_number 0 l) found_entries ∙ opening_number array.first losses 0
 
       losses_own : (number : ℕ) → AreByScript number (entries_of opener array.first losses)
-      losses_own number = each-absent (λ e. IsOwnEntry number e) opener array.first (reading_of found.members) (shape_of found.members.newest).disks (λ role lt missing. inr (refl, refl, tt))
+      losses_own number = each-absent (λ e. IsOwnEntry number e) opener array.first (reading_of found.members) (shape_of found.members.newest).disks (λ role lt missing. (inr (refl, refl, tt), inr (refl, refl, tt)))
 
       found_lost : (more : List Entry) → All (λ e. IsLossSince setting (running_history array) e.event) more → array.entries ≡ entries_of opener array.first losses ++ more → AreLossesSince setting [] (running_history array)
       found_lost more others entries = losses-found setting (running_history array) (reading_of found.members) array.first more

@@ -65,7 +65,7 @@ pub record HeldAtFirst (world : World) (role slot : ℕ) : Type 0 where
   pub says : reading_at world world.first ≡ Some found
   pub held : holder (role_state found role) ≡ Some slot
 
--- The role was missing at the opening, by the superblocks there.
+-- The role wasn't whole at the opening, by the superblocks there.
 pub record MissingAtFirst (world : World) (role : ℕ) : Type 0 where
   pub begun : world.first ≤ length world.tape
   pub missing : IsAbsentAtFirst world role

@@ -44,12 +44,13 @@ abbrev pub course_in : {B : Type 0} → State B → Course
 course_in (Idle bank epochs) = at_rest (length epochs.items)
 course_in (Running array epochs) = course_with (length epochs.items) array
 
--- the event tells a role that was missing
+-- the event tells a role that an opening didn't find whole
 abbrev pub IsAbsence : Event → Type 0
 IsAbsence (Lost role Absent) = ⊤
+IsAbsence (Lost role Recovering) = ⊤
 IsAbsence event = ⊥
 
--- the entry is of a call of the script, before this number, or it tells what the opening found missing
+-- the entry is of a call of the script, before this number, or it tells a role that the opening didn't find whole
 abbrev pub IsOwnEntry : ℕ → Entry → Type 0
 IsOwnEntry number e = ((e.caller ≡ 0) × (e.number < number)) ⊎ ((e.caller ≡ 254) × (e.number ≡ 0) × IsAbsence e.event)
 
@@ -95,13 +96,13 @@ AreGrown (old ∷ olds) [] = ⊥
 AreGrown (old ∷ olds) (new ∷ news) = IsGrown old new × AreGrown olds news
 
 -- A role is told lost by a fault only where the slot that held it at the opening has failed since, by command only where a slot held it
--- there, and as absent only where it was missing there. None is told as recovering.
+-- there, and as absent or recovering only where it wasn't whole there.
 abbrev pub IsRoleLossSince : Setting → History → ℕ → LostCause → Type 0
 IsRoleLossSince setting history role Fault =
     (slot : ℕ) × IsFaulted slot setting.before setting.now × (setting.tells → HeldAtFirst (history_world setting history) role slot)
 IsRoleLossSince setting history role Command = setting.tells → (slot : ℕ) × HeldAtFirst (history_world setting history) role slot
 IsRoleLossSince setting history role Absent = setting.tells → MissingAtFirst (history_world setting history) role
-IsRoleLossSince setting history role Recovering = ⊥
+IsRoleLossSince setting history role Recovering = setting.tells → MissingAtFirst (history_world setting history) role
 
 -- an event that tells a loss has its cause; a spare is told lost only where it has failed since
 abbrev pub IsLossSince : Setting → History → Event → Type 0

@@ -15,7 +15,7 @@ use Rattle.bank.specs.declared.bank.Operation.{Operation}
 use Rattle.superblocks.specs.declared.members.Members.{Members}
 use Rattle.flat_history.specs.declared.events.Entry.{Entry}
 use Rattle.flat_history.specs.declared.events.Event.{Event}
-use Rattle.flat_history.specs.declared.events.Event.TheVariants.{Lost, SpareLost, Step, Stepped, Refused}
+use Rattle.flat_history.specs.declared.events.Event.TheVariants.{Lost, SpareLost, Rebuilt, Step, Stepped, Refused}
 use Rattle.flat_history.specs.declared.events.LostCause.TheVariants.{Fault as ByFault}
 use Rattle.flat_history.specs.declared.events.Request.{Request}
 use Rattle.flat_history.specs.declared.events.Request.TheVariants.{Steps as AsksSteps}
@@ -23,7 +23,7 @@ use Rattle.flat_history.specs.Flat.{rest_of_call, next_number}
 use Rattle.flat_history.specs.Legal.{call_before}
 use Rattle.flat_history.specs.Fits.{IsTornOf, AreTornOf, is_step_event}
 use Rattle.flat_history.specs.Plain.{entries_of}
-use Rattle.flat_history.specs.OneShape.{GoesOnBehind, IsOfCall, EndsResync, DidOneShapeSteps}
+use Rattle.flat_history.specs.OneShape.{GoesOnBehind, IsOfCall, EndsIdleSteps, DidOneShapeSteps}
 use Rattle.array.specs.Lacking.{IsUnwritten}
 use Rattle.array.specs.Calls.{IsEntered, IsReplied, IsAnswered}
 use Rattle.array.proofs.PlainLaws.{one}
@@ -71,6 +71,7 @@ none-torn : (most : ℕ) (event : Event) → GoesOnBehind event → IsTornOf (As
 none-torn most (Step kind left) goes = tt
 none-torn most (Lost role ByFault) goes = tt
 none-torn most (SpareLost slot) goes = tt
+none-torn most (Rebuilt role) goes = tt
 none-torn most (Refused refusal) goes = tt
 none-torn most event goes = absurd goes
 
@@ -97,21 +98,32 @@ answered-nothing {who = who} {old = old} size most same number was = record {
 
 -- ---- some steps were done, or one was refused
 
--- what speaks against a step may end a resync's request
-ends : (members : Members) (refusal : Refusal) → IsUnwritten false members refusal → EndsResync refusal
-ends members refusal (inl many) = subst EndsResync (sym many.told) tt
-ends members refusal (inr (role, is, synced, missing, holds)) = subst EndsResync (sym is) tt
+-- what speaks against a step may end a request for steps
+ends : (members : Members) (refusal : Refusal) → IsUnwritten false members refusal → EndsIdleSteps refusal
+ends members refusal (inl many) = subst EndsIdleSteps (sym many.told) tt
+ends members refusal (inr (role, is, synced, missing, holds)) = subst EndsIdleSteps (sym is) tt
 
-all-ended : (members : Members) (ended : Option Refusal) → IfSome ended (IsUnwritten false members) → IfSome ended EndsResync
+all-ended : (members : Members) (ended : Option Refusal) → IfSome ended (IsUnwritten false members) → IfSome ended EndsIdleSteps
 all-ended members None was = tt
 all-ended members (Some refusal) was = ends members refusal was
 
 -- of so many steps that were left, as many were to be done as were asked for
 did : (call : List Entry) (most start left count done : ℕ) (ended : Option Refusal) → 1 ≤ most → 0 < count → count ≤ most → (count ≡ most) ⊎ (count ≡ start)
     → MatchOption ended (done ≡ count) (λ refusal. done < count) → left + done ≡ start → done ≡ count_by (λ e. is_step_event e.event) call → DidOneShapeSteps call most done left ended
-did call most start left count done None asked some few (inl all) are sum counted = record { at_most = omega (arith, are, few); all_done = inl (are ∙ all); some_done = inl (omega (arith, are, some)); counted = counted }
-did call most start left count done None asked some few (inr all) are sum counted = record { at_most = omega (arith, are, few); all_done = inr (inl (omega (arith, are, sum, all))); some_done = inl (omega (arith, are, some)); counted = counted }
-did call most start left count done (Some refusal) asked some few all are sum counted = record { at_most = omega (arith, are, few); all_done = inr (inr refl); some_done = inr refl; counted = counted }
+did call most start left count done None asked some few all are sum counted = record {
+  at_most = omega (arith, are, few);
+  all_done = elim all [ inl most_are ↦ inl (are ∙ most_are) | inr rest ↦ inr (inl (omega (arith, are, sum, rest))) ];
+  some_done = inl (omega (arith, are, some));
+  counted = omega (arith, counted);
+  not_more = omega (arith, counted);
+}
+did call most start left count done (Some refusal) asked some few all are sum counted = record {
+  at_most = omega (arith, are, few);
+  all_done = inr (inr (inl refl));
+  some_done = inr refl;
+  counted = omega (arith, counted);
+  not_more = omega (arith, counted);
+}
 
 pub answered-stepped : {tells : Type 0} {tape : List Operation} {who : Who} {old begun mid new : List Entry} {done left : ℕ} {ended : Option Refusal} (size most start count : ℕ) (members : Members)
     → begun ≡ old → who.number ≡ next_number who.caller old → AreStepsOf who begun mid done ended → IsEntered tells tape who mid new (Stepped done left ended ∷ [])

@@ -29,7 +29,7 @@ take_over-requires g c =
     let found = c.in-Ok.ensures in
     subst (λ (b : Given). IsAdoptable g.B.Bank.tells b tape (scope_of b c.args.backup opened.given opened.members.newest.set_uuid) opened.members) (sym c.open.ensures.slots)
     (adoptable bank tape c.args.backup c.args.uuid opened c.requires.few found.opened found.given.known found.flushed found.sectors
-    (placed-found bank c.requires.few opened.members found.opened.elected found.opened.still found.writable found.counted c.in-None.ensures.none)
+    (placed-found bank c.requires.few opened.members found.opened.elected found.opened.still found.writable found.counted)
     (unlost-found bank c.requires.few opened.members found.opened.elected found.opened.still found.writable found.counted opened.given found.own found.opened.lost))
 
 pub returns-in-Err-clause-refused : goal.returns-in-Err-clause-refused
