@@ -3,3 +3,8 @@ pub mod Wide
 pub mod Lost
 pub mod Again
 pub mod Joined
+pub mod OtherOwn
+pub mod WholeBefore
+pub mod MakingReads
+pub mod MakingEnds
+pub mod MadeWholeSaid
