@@ -1,8 +1,0 @@
-use Rattle.std.proofs.Common.{◌≡◌, ℕ, ◌&&◌, nat_lt}
-use Rattle.md_base.specs.Shapes.{has_slot}
-use Rattle.row_io.specs.Rows.{reading_of, is_missing}
-use Rattle.array.proofs.roles.missing_roles.Given as goal
-
--- those of the roles before this one that are missing are in the set
-abbrev pub invariant-loop-role : goal.invariant-loop-role
-invariant-loop-role l = (role : ℕ) → has_slot l.roles role ≡ (nat_lt role l.role && is_missing (reading_of l.members) role)
