@@ -22,9 +22,9 @@ use Rattle.superblocks.specs.Losing.{IsLosing, IsTakingWithout, IsLost, IsNaming
 use Rattle.superblocks.proofs.Exact.{all_same}
 use Rattle.superblocks.proofs.PlannedSb.{planned-of}
 use Rattle.superblocks.proofs.PlannedAgain.{planned-again}
-use Rattle.superblocks.proofs.PlanFits.{IsNext, idle-number, next-fits}
+use Rattle.superblocks.proofs.PlanFits.{IsNext, length-any, idle-number, next-fits}
 use Rattle.superblocks.proofs.StageReads.{new_of, taken-held, taken-level}
-use Rattle.superblocks.proofs.RoundReads.{IsAt, left_set, left-are, and_first, and_second, planned_list, planned-in, kept-of}
+use Rattle.superblocks.proofs.RoundReads.{IsAt, left_set, left-are, and_first, and_second, planned_list, planned-in, kept-of, wider}
 use Rattle.superblocks.proofs.AddedReads.{put, put_is, put_ninth, in_put}
 use Rattle.superblocks.proofs.LosingReads.{narrow}
 use Rattle.superblocks.proofs.AfterLosing.{after-reads, after-end}
@@ -251,11 +251,11 @@ module _ (scope : Scope) (members : Members) (change : Change) (before live know
       lost_more : (s : ℕ) → has_slot members.lost s ≡ true → has_slot l s ≡ true
       lost_more s is = more_l s (caught.more s is)
 
-      pub again-reads : (e : Disk) (c : Contents) → IsRewriting Next change.gives members.own live l m e → AreDrawn e c → IsReadInUpdate scope known members change before live c
+      pub again-reads : (e : Disk) (c : Contents) → IsRewriting Next change.gives members.own live l m e → AreDrawn e c → IsReadInUpdate scope known members change before live l c
       again-reads e c next drawn = ⊎_elim
-          (λ r. lost.read_planned scope members change before live known left0 d ready mid caught gone slot more only is_gone was recovery l c r)
+          (λ r. wider scope known members change before live gone l c grown (lost.read_planned scope members change before live known left0 d ready mid caught gone slot more only is_gone was recovery l c r))
           (λ new. ⊎_elim
-          (λ r. lost.read_named scope members change before live known left0 d ready mid caught gone slot more only is_gone was recovery l c r)
+          (λ r. wider scope known members change before live gone l c grown (lost.read_named scope members change before live known left0 d ready mid caught gone slot more only is_gone was recovery l c r))
           (λ r. inr (record {
             newest = Next;
             named = l;
@@ -264,8 +264,10 @@ module _ (scope : Scope) (members : Members) (change : Change) (before live know
             own = next_own;
             are = taken_are;
             more = lost_more;
+            within = λ s is. is;
             later = later;
             plan = (Named.dev_roles, refl);
+            table = length-any members change before l Named.dev_roles ∙ length-any members change before gone members.newest.dev_roles ∙ ready.held.table;
             kept = kept-of Next change.gives members.own next_own Taken (λ s sb is own_sb. own_next s sb own_sb);
             reads = r;
           }))

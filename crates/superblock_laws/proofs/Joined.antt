@@ -20,11 +20,12 @@ use Rattle.superblocks.specs.Held.{AreDrawn}
 use Rattle.superblocks.specs.Rounds.{Round, naming, first_newest, IsRewriting, IsRewritten, IsNaming, AreNamings, IsInNaming, IsCaughtUpTo, IsFirstRewriting, members_at, IsReadInUpdate, IsReady}
 use Rattle.superblocks.specs.Losing.{AreRecoveriesOver, AreTakenInTurn, IsPastTurns, planned_at, IsTakingWithout}
 use Rattle.superblocks.specs.Updating.{AreRecoveriesKept}
+use Rattle.superblocks.specs.Crash.{IsWithin}
 use Rattle.superblocks.proofs.ReadLists.{by_bool}
 use Rattle.superblocks.proofs.Exact.{alone}
 use Rattle.superblocks.proofs.SlotSets.{same_set, set_of-below, set_of-past}
 use Rattle.superblocks.proofs.UpdateReads.{some-or-all}
-use Rattle.superblocks.proofs.RoundReads.{IsAt, left_set, fit-of, naming-reads, naming-end, all-named}
+use Rattle.superblocks.proofs.RoundReads.{IsAt, left_set, fit-of, naming-reads, naming-end, all-named, wider}
 use Rattle.superblocks.proofs.RoundsRead.{more-held, first-reads, first-end}
 use Rattle.superblock_laws.proofs.NamedTwice.{named-twice}
 use Rattle.superblock_laws.proofs.Wide as wide
@@ -78,12 +79,15 @@ both_of false b is = absurd (cc)
 
 module _ (scope : Scope) (members : Members) (change : Change) (before live known left0 : ℕ) (d : Disk) (ready : IsReady scope known left0 members change live d)
     (first_lost : (s : ℕ) → has_slot before s ≡ true → has_slot members.lost s ≡ true) where
-  abbrev Reads : Contents → Type 0
-  Reads c = IsReadInUpdate scope known members change before live c
+  abbrev Reads : ℕ → Contents → Type 0
+  Reads last c = IsReadInUpdate scope known members change before live last c
+
+  more-lost : (last last' : ℕ) (c : Contents) → IsWithin last last' → Reads last c → Reads last' c
+  more-lost last last' c more r = wider scope known members change before live last last' c more r
 
   -- no live slot is left, and each image reads so
   abbrev Dead : Round → Type 0
-  Dead b = ((s : ℕ) → has_slot live s ≡ true → has_slot b.lost s ≡ false → ⊥) × ((c : Contents) → AreDrawn b.disk c → Reads c)
+  Dead b = ((s : ℕ) → has_slot live s ≡ true → has_slot b.lost s ≡ false → ⊥) × ((c : Contents) → AreDrawn b.disk c → Reads b.lost c)
 
   abbrev State : ℕ → Round → Type 0
   State n b = IsAt scope members change before live (λ s. ⊥) n b ⊎ Dead b
@@ -109,13 +113,13 @@ module _ (scope : Scope) (members : Members) (change : Change) (before live know
       (λ some. inl (subst (IsAt scope members change before live (λ s. ⊥) (suc n)) same (naming-end scope members change before live known left0 (λ s. ⊥) (fit-of scope known left0 members change live d ready) n a at small b.lost b.disk written some)))
       (λ none. inr (
         none,
-        λ c drawn. inr (all-named scope members change before live c
-            (naming-reads scope members change before live known left0 (λ s. ⊥) (fit-of scope known left0 members change live d ready) n a at small b.disk c written.stage drawn)),
+        λ c drawn. more-lost a.lost b.lost c next.written.more (inr (all-named scope members change before live a.lost c
+            (naming-reads scope members change before live known left0 (λ s. ⊥) (fit-of scope known left0 members change live d ready) n a at small b.disk c written.stage drawn))),
       ))
       (some_left b.lost)
   naming-state n a b small (inr dead) next = inr (
     (λ s is none. dead.0 s is (wide.outside a.lost b.lost s (next.written.more s) none)),
-    (λ c drawn. dead.1 c (fewer b.newest change.gives members.own a.lost a.disk b.disk c dead.0 next.written.stage drawn)),
+    (λ c drawn. more-lost a.lost b.lost c next.written.more (dead.1 c (fewer b.newest change.gives members.own a.lost a.disk b.disk c dead.0 next.written.stage drawn))),
   )
 
   module _ (mid : Round) (caught : IsCaughtUpTo members.newest members.own live members.lost d mid) where
@@ -130,7 +134,7 @@ module _ (scope : Scope) (members : Members) (change : Change) (before live know
 
     -- while the slots that get a recovery offset are written
     recoveries-read : (e : Disk) (c : Contents) → IsRewriting Newest change.gives members.own live mid.lost mid.disk e → ((s : ℕ) → is_recovery (give_of change.gives s) ≡ false → e s 8 ≡ mid.disk s 8)
-        → AreDrawn e c → Reads c
+        → AreDrawn e c → Reads mid.lost c
     recoveries-read e c stage others drawn = first-reads scope members change before live known left0 d ready mid caught e c
         (record { stage = stage; order = inl (λ s v none is_in. subst (λ (l : List Sector). IsIn l v) (others s none) is_in) }) drawn
 
@@ -210,15 +214,15 @@ module _ (scope : Scope) (members : Members) (change : Change) (before live know
         so_taking x = lost.taking scope members change before live known left0 d ready mid caught over.lost x.slot recoveries.more x.only x.is_gone x.was x.recovery over.disk e
             recoveries.stage recoveries.others (subst (λ (n : Sb). IsRewriting n change.gives members.own live over.lost over.disk e) over-newest stage) kept
 
-        pub others-read : (c : Contents) → AreDrawn e c → Reads c
+        pub others-read : (c : Contents) → AreDrawn e c → Reads over.lost c
         others-read c drawn = ⊎_elim
-            (λ same. first-reads scope members change before live known left0 d ready mid caught e c (so_first same) drawn)
+            (λ same. more-lost mid.lost over.lost c recoveries.more (first-reads scope members change before live known left0 d ready mid caught e c (so_first same) drawn))
             (λ x. lost.lost-reads scope members change before live known left0 d ready mid caught over.lost x.slot recoveries.more x.only x.is_gone x.was x.recovery e c (so_taking x) drawn)
             who
 
-    pub turn-reads : (e : Disk) (c : Contents) → AreTakenInTurn Mid change before live mid.disk e → AreDrawn e c → Reads c
-    turn-reads e c (inl recoveries) drawn = recoveries-read e c recoveries.0 recoveries.1 drawn
-    turn-reads e c (inr (over, recoveries, stage, kept)) drawn = others-read over recoveries e stage kept c drawn
+    pub turn-reads : (last : ℕ) (e : Disk) (c : Contents) → AreTakenInTurn Mid change before live last mid.disk e → AreDrawn e c → Reads last c
+    turn-reads last e c (inl (within, stage, others)) drawn = more-lost mid.lost last c within (recoveries-read e c stage others drawn)
+    turn-reads last e c (inr (over, within, recoveries, stage, kept)) drawn = more-lost over.lost last c within (others-read over recoveries e stage kept c drawn)
 
     -- ---- after the first round
 
@@ -313,7 +317,7 @@ module _ (scope : Scope) (members : Members) (change : Change) (before live know
             let eq : record { newest = Newest; lost = first.lost; disk = first.disk } ≡ first = (λ i. record { newest = sym first_newest_is i; lost = first.lost; disk = first.disk }) in
             ⊎_elim
             (λ some. inl (subst (IsAt scope members change before live (λ s. ⊥) 0) eq (lost-end some)))
-            (λ none. inr (none, λ c drawn. others-read past.over past.recoveries first.disk past.stage past.kept c drawn))
+            (λ none. inr (none, λ c drawn. more-lost past.over.lost first.lost c past.more (others-read past.over past.recoveries first.disk past.stage past.kept c drawn)))
             (some_left first.lost)
 
       -- the slot was lost, and a live one is left
@@ -325,7 +329,7 @@ module _ (scope : Scope) (members : Members) (change : Change) (before live know
       first-state = ⊎_elim
           (λ same. inl (kept-state same))
           (λ x. ⊎_elim (λ some. inr (record { lost = x; some = some }))
-          (λ none. inl (inr (none, λ c drawn. others-read past.over past.recoveries first.disk past.stage past.kept c drawn))) (some_left first.lost))
+          (λ none. inl (inr (none, λ c drawn. more-lost past.over.lost first.lost c past.more (others-read past.over past.recoveries first.disk past.stage past.kept c drawn)))) (some_left first.lost))
           (who past.over past.recoveries)
 
       abbrev Named : Sb
@@ -352,7 +356,7 @@ module _ (scope : Scope) (members : Members) (change : Change) (before live know
 
       -- the round that follows
       half-reads : IsHalf → members.newest.events + 2 < 2 ^ 62 → (e : Disk) (c : Contents)
-          → IsRewriting (naming members change before first.lost first.newest) change.gives members.own live first.lost first.disk e → AreDrawn e c → Reads c
+          → IsRewriting (naming members change before first.lost first.newest) change.gives members.own live first.lost first.disk e → AreDrawn e c → Reads first.lost c
       half-reads h small e c stage drawn =
           let x = h.lost in
           again-reads scope members change before live known left0 d ready mid caught past.over.lost x.slot past.recoveries.more x.only x.is_gone x.was x.recovery
@@ -369,14 +373,18 @@ module _ (scope : Scope) (members : Members) (change : Change) (before live know
           (λ some. inl (subst (IsAt scope members change before live (λ s. ⊥) 1) same
           (again-end scope members change before live known left0 d ready mid caught past.over.lost x.slot past.recoveries.more x.only x.is_gone x.was x.recovery
           first.lost first.disk (so_taking past.over past.recoveries first.disk past.stage past.kept x) (half_held x) past.more h.some small b.lost b.disk written some)))
-          (λ none. inr (none, λ c drawn. half-reads h small b.disk c (subst (λ (n : Sb). IsRewriting n change.gives members.own live first.lost first.disk b.disk) next.newest next.written.stage) drawn))
+          (λ none. inr (
+            none,
+            λ c drawn. more-lost first.lost b.lost c next.written.more
+                (half-reads h small b.disk c (subst (λ (n : Sb). IsRewriting n change.gives members.own live first.lost first.disk b.disk) next.newest next.written.stage) drawn),
+          ))
           (some_left b.lost)
 
       -- after some rounds: as always, or none was written since the slot was lost
       abbrev After : ℕ → Round → Type 0
       After n b = State n b ⊎ ((n ≡ 0) × (first ≡ b) × IsHalf)
 
-      after-state : (n : ℕ) (b : Round) → members.newest.events + 2 + n < 2 ^ 62 → AreNamings (members_at members first) change before live n first b → After n b
+      after-state : (n : ℕ) (b : Round) → members.newest.events + 1 + n < 2 ^ 62 → AreNamings (members_at members first) change before live n first b → After n b
       unfolding AreNamings
       after-state zero b small same = ⊎_elim (λ state. inl (subst (State 0) same state)) (λ h. inr (refl, same, h)) first-state
       after-state (suc n) b small (a, over, next) = inl (⊎_elim
@@ -386,19 +394,19 @@ module _ (scope : Scope) (members : Members) (change : Change) (before live know
           subst (λ (k : ℕ). State (suc k) b) (sym h.0) (half-state h.2 (omega (arith, small)) b next'))
           (after-state n a (omega (arith, small)) over))
 
-      pub turns-read : (e : Disk) (c : Contents) → (at : IsInNaming (members_at members first) change before live first e) → members.newest.events + 2 + at.rounds < 2 ^ 62 → AreDrawn e c → Reads c
+      pub turns-read : (e : Disk) (c : Contents) → (at : IsInNaming (members_at members first) change before live first e) → members.newest.events + 2 + at.rounds < 2 ^ 62 → AreDrawn e c → Reads at.start.lost c
       turns-read e c at small drawn = ⊎_elim
           (λ state. ⊎_elim
-          (λ here. inr (all-named scope members change before live c
+          (λ here. inr (all-named scope members change before live at.start.lost c
           (naming-reads scope members change before live known left0 (λ s. ⊥) (fit-of scope known left0 members change live d ready) at.rounds at.start here small e c at.stage drawn)))
           (λ dead. dead.1 c (fewer (naming members change before at.start.lost at.start.newest) change.gives members.own at.start.lost at.start.disk e c dead.0 at.stage drawn))
           state)
-          (λ h. half-reads h.2 (omega (arith, small)) e c
-          (subst (λ (r : Round). IsRewriting (naming members change before r.lost r.newest) change.gives members.own live r.lost r.disk e) (sym h.1) at.stage) drawn)
-          (after-state at.rounds at.start small at.over)
+          (λ h. subst (λ (r : Round). Reads r.lost c) h.1 (half-reads h.2 (omega (arith, small)) e c
+          (subst (λ (r : Round). IsRewriting (naming members change before r.lost r.newest) change.gives members.own live r.lost r.disk e) (sym h.1) at.stage) drawn))
+          (after-state at.rounds at.start (omega (arith, small)) at.over)
 
       pub turns-end : (last : Round) (n : ℕ) → AreNamings (members_at members first) change before live n first last
-          → ((s : ℕ) → has_slot past.over.lost s ≡ true → has_slot mid.lost s ≡ false → 0 < n) → members.newest.events + 2 + n < 2 ^ 62
+          → ((s : ℕ) → has_slot past.over.lost s ≡ true → has_slot mid.lost s ≡ false → 0 < n) → members.newest.events + 1 + n < 2 ^ 62
           → (s : ℕ) × (has_slot live s ≡ true) × (has_slot last.lost s ≡ false) → IsAt scope members change before live (λ s. ⊥) n last
       turns-end last n over once small some = ⊎_elim
           (λ state. ⊎_elim (λ here. here) (λ dead. absurd (dead.0 some.0 some.1 some.2)) state)

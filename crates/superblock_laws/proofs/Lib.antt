@@ -8,3 +8,4 @@ pub mod WholeBefore
 pub mod MakingReads
 pub mod MakingEnds
 pub mod MadeWholeSaid
+pub mod Laws

@@ -19,7 +19,7 @@ use Rattle.superblocks.specs.Rounds.{Round, first_newest, IsRewriting, IsCaughtU
 use Rattle.superblocks.specs.Losing.{IsLosing, IsTakingWithout}
 use Rattle.superblocks.proofs.ReadLists.{by_bool}
 use Rattle.superblocks.proofs.PlannedSb.{planned-of}
-use Rattle.superblocks.proofs.PlanFits.{IsNext, IsPlanScope, idle-number, known-numbers}
+use Rattle.superblocks.proofs.PlanFits.{IsNext, IsPlanScope, length-any, idle-number, known-numbers}
 use Rattle.superblocks.proofs.RoundReads.{left_set, planned_list}
 use Rattle.superblocks.proofs.LosingReads.{losing-reads}
 use Rattle.superblock_laws.proofs.Wide as wide
@@ -181,10 +181,10 @@ module _ (scope : Scope) (members : Members) (change : Change) (before live know
   }
 
   -- an image reads so, where these slots are lost
-  pub read_before : (c : Contents) → IsReadAs scope gone (said_by scope known members.own members.newest) c → IsReadInUpdate scope known members change before live c
+  pub read_before : (c : Contents) → IsReadAs scope gone (said_by scope known members.own members.newest) c → IsReadInUpdate scope known members change before live gone c
   read_before c r = inl (record { lost = gone; more = λ s is. more s (caught.more s is); reads = r })
 
-  pub read_planned : (lost : ℕ) (c : Contents) → IsReadAs scope lost (said_by scope Left left_own Newest) c → IsReadInUpdate scope known members change before live c
+  pub read_planned : (lost : ℕ) (c : Contents) → IsReadAs scope lost (said_by scope Left left_own Newest) c → IsReadInUpdate scope known members change before live gone c
   read_planned lost c r = inr (record {
     newest = Newest;
     named = mid.lost;
@@ -193,13 +193,15 @@ module _ (scope : Scope) (members : Members) (change : Change) (before live know
     own = left_own;
     are = wide.are scope members change before live known left0 d ready mid caught mid.lost same_mid;
     more = caught.more;
+    within = more;
     later = wide.later scope members change before live known left0 d ready mid caught mid.lost same_mid;
     plan = (members.newest.dev_roles, refl);
+    table = length-any members change before mid.lost members.newest.dev_roles ∙ ready.held.table;
     kept = wide.kept scope members change before live known left0 d ready mid caught mid.lost same_mid;
     reads = r;
   })
 
-  pub read_named : (lost : ℕ) (c : Contents) → IsReadAs scope lost (said_by scope Rest rest_own Named) c → IsReadInUpdate scope known members change before live c
+  pub read_named : (lost : ℕ) (c : Contents) → IsReadAs scope lost (said_by scope Rest rest_own Named) c → IsReadInUpdate scope known members change before live gone c
   read_named lost c r = inr (record {
     newest = Named;
     named = gone;
@@ -208,13 +210,15 @@ module _ (scope : Scope) (members : Members) (change : Change) (before live know
     own = rest_own;
     are = wide.are scope members change before live known left0 d ready mid caught gone more;
     more = λ s is. more s (caught.more s is);
+    within = λ s is. is;
     later = wide.later scope members change before live known left0 d ready mid caught gone more;
     plan = (members.newest.dev_roles, refl);
+    table = length-any members change before gone members.newest.dev_roles ∙ ready.held.table;
     kept = wide.kept scope members change before live known left0 d ready mid caught gone more;
     reads = r;
   })
 
-  pub lost-reads : (e : Disk) (c : Contents) → IsTakingWithout Newest Named change.gives members.own Rest slot mid.disk e → AreDrawn e c → IsReadInUpdate scope known members change before live c
+  pub lost-reads : (e : Disk) (c : Contents) → IsTakingWithout Newest Named change.gives members.own Rest slot mid.disk e → AreDrawn e c → IsReadInUpdate scope known members change before live gone c
   lost-reads e c stage drawn = ⊎_elim
       (λ old. ⊎_elim (λ r. read_before c r) (λ r. read_named gone c r) old.1)
       (λ new. ⊎_elim (λ r. read_planned gone c r) (λ r. read_named gone c r) new)

@@ -22,10 +22,11 @@ use Rattle.superblocks.specs.Update.{planned, give_of, own_in, is_added, planned
 use Rattle.superblocks.specs.Outcome.{is_in_update, slots_below, is_same, is_planned_holder, held_state, planned_state, live_set}
 use Rattle.superblocks.specs.Reads.{SaysSame, held_in, spare_in, has_spare}
 use Rattle.superblocks.specs.Held.{IsStamped, known_of}
-use Rattle.superblocks.specs.Stages.{AreKept}
+use Rattle.superblocks.specs.Stages.{AreLeft, AreKept}
 use Rattle.superblocks.specs.Plans.{KeepsRecovery, IsFitChange}
-use Rattle.superblocks.specs.Rounds.{Round, IsReady}
-use Rattle.superblocks.specs.Crash.{AreHeldAsPlanned}
+use Rattle.superblocks.specs.Updating.{planned_newest, IsLater, AreNamed}
+use Rattle.superblocks.specs.Rounds.{IsReady}
+use Rattle.superblocks.specs.Crash.{IsWithin}
 use Rattle.superblocks.specs.Said.{AreSaid, AreSparesFit, AreSaidAsPlanned}
 use Rattle.superblocks.proofs.ReadLists.{Own, by_bool, holder-step, spare-step, spares-at}
 use Rattle.superblocks.proofs.ReadAlike.{none_below, tabulate-same}
@@ -164,13 +165,23 @@ least-found (suc n) test k is = of (least_below n test) (test n) (least-found n 
 
 -- ---- the end of the update
 
-module _ (scope : Scope) (known left before : ℕ) (members : Members) (change : Change) (slot role : ℕ) (d : ℕ → ℕ → List Sector) (last : Round) (making : IsMakingWhole members change slot role)
-    (ready : IsReady scope known left members (without_gives change) (live_set members change) d) (said : AreSaid scope known members)
-    (end : AreHeldAsPlanned scope members change before (live_set members change) last)
-    (since : (s : ℕ) → has_slot before s ≡ false → has_slot end.named s ≡ true → has_slot (live_set members change) s ≡ true) where
-  abbrev N : Sb
-  N = last.newest
+-- What is planned for the live slots that weren't lost: by this newest superblock, which names those that were.
+pub record ArePlannedFor (members : Members) (change : Change) (before live : ℕ) (newest : Sb) : Type 0 where
+  pub named : ℕ
+  pub known : ℕ
+  pub own : List (Option Sb)
+  pub are : AreLeft live named known
+  pub more : IsWithin members.lost named
+  pub later : IsLater (planned_newest change.shared members.newest) newest
+  pub plan : AreNamed members change before named newest
+  pub table : length newest.dev_roles ≡ 384
+  pub few : role_count newest ≤ 16
+  pub kept : AreKept newest change.gives members.own known own
 
+module _ (scope : Scope) (known left before : ℕ) (members : Members) (change : Change) (slot role : ℕ) (d : ℕ → ℕ → List Sector) (N : Sb) (making : IsMakingWhole members change slot role)
+    (ready : IsReady scope known left members (without_gives change) (live_set members change) d) (said : AreSaid scope known members)
+    (end : ArePlannedFor members change before (live_set members change) N)
+    (since : (s : ℕ) → has_slot before s ≡ false → has_slot end.named s ≡ true → has_slot (live_set members change) s ≡ true) where
   abbrev gives : List Give
   gives = replicate 32 Same
 
@@ -256,7 +267,7 @@ module _ (scope : Scope) (known left before : ℕ) (members : Members) (change :
       (record {
         table = end.plan.0;
         roles = end.plan.1 ∙ sym (roles_same members change slot role making before end.named end.plan.0);
-        long = end.held.table;
+        long = end.table;
         room = ap (λ (z : Sb). z.max_dev) end.later.same;
         size = ap (λ (z : Sb). z.size) end.later.same ∙ ready.fits.size;
         says = subst (SaysSame change.shared) (sym end.later.same) (record {
@@ -275,7 +286,7 @@ module _ (scope : Scope) (known left before : ℕ) (members : Members) (change :
           backward = a.backward;
         });
         count = ap role_count (sym end.later.same);
-        few = few-roles N (valid-shapes N [] end.held.sound.fields);
+        few = end.few;
       }) kept-still said spares-fit
 
   -- ---- slot by slot
@@ -424,7 +435,7 @@ module _ (scope : Scope) (known left before : ℕ) (members : Members) (change :
 
     no-spares : (csum len : ℕ) → spare_in N len (Some (record now { sb_csum = csum })) ≡ spare_in N len (Some was)
     no-spares csum len =
-        let few = few-roles N (valid-shapes N [] end.held.sound.fields) in
+        let few = end.few in
         no-spare N len role (record now { sb_csum = csum }) entry-is (omega (arith, below, few)) ∙ sym (no-spare N len role was entry-is (omega (arith, below, few)))
 
   spares-same : spares_from N scope.sizes.sectors 0 Now ≡ spares_from N scope.sizes.sectors 0 Was
@@ -463,4 +474,17 @@ module _ (scope : Scope) (known left before : ℕ) (members : Members) (change :
   }
 
 pub stay-said : MembersMadeWholeStaySaid
-stay-said scope known left before members change slot role d last making ready said end since = made-said scope known left before members change slot role d last making ready said end since
+stay-said scope known left before members change slot role d last making ready said end since = made-said scope known left before members change slot role d last.newest making ready said
+    (record {
+      named = end.named;
+      known = end.known;
+      own = end.own;
+      are = end.are;
+      more = end.more;
+      later = end.later;
+      plan = end.plan;
+      table = end.held.table;
+      few = few-roles last.newest (valid-shapes last.newest [] end.held.sound.fields);
+      kept = end.kept;
+    })
+    since

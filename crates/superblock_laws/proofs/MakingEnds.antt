@@ -159,7 +159,7 @@ module _ (scope : Scope) (left lost : ℕ) (newest : Sb) (own : List (Option Sb)
 
 module _ (scope : Scope) (known left : ℕ) (members : Members) (change : Change) (before live slot role : ℕ) (d : Disk) (making : IsMakingWhole members change slot role)
     (ready : IsReady scope known left members (without_gives change) live d) (first last : Round) (n : ℕ) (past : IsPastFirst members change before live d first)
-    (over : AreNamings (members_at members first) change before live n first last) (small : members.newest.events + 2 + n < 2 ^ 62)
+    (over : AreNamings (members_at members first) change before live n first last) (small : members.newest.events + 1 + n < 2 ^ 62)
     (some : (s : ℕ) × (has_slot live s ≡ true) × (has_slot last.lost s ≡ false)) (named : AreNamed members change before last.lost last.newest) (own : List (Option Sb))
     (stored : AreStored last.newest change.gives (is_left live last.lost) members.own own) (rest : ℕ) (are : AreLeft live last.lost rest) where
   abbrev Without : Change

@@ -18,7 +18,9 @@ use Rattle.superblocks.proofs.ReadLists.{by_bool}
 use Rattle.superblocks.proofs.Exact.{all_same}
 use Rattle.superblocks.proofs.UpdateReads.{some-or-all}
 use Rattle.superblocks.proofs.StageReads.{new_of, taking-later}
-use Rattle.superblocks.proofs.RoundReads.{fit-of, planned_list, naming-reads, all-named}
+use Rattle.superblocks.specs.Crash.{IsWithin}
+use Rattle.superblocks.proofs.PlanFits.{length-any}
+use Rattle.superblocks.proofs.RoundReads.{fit-of, planned_list, naming-reads, all-named, planned-wider}
 use Rattle.superblocks.proofs.RoundsRead.{before-reads, first-reads, rounds-read, rounds-end}
 use Rattle.superblocks.proofs.AddedReads.{put, put_here, in_put}
 use Rattle.superblock_laws.specs.MakingWhole.{without_gives, IsMakingWhole}
@@ -50,7 +52,7 @@ module _ (scope : Scope) (known left : ℕ) (members : Members) (change : Change
       → IsRewriting (first_newest members (without_gives change) before mid.lost members.newest) (replicate 32 Same) members.own live mid.lost mid.disk e → (c : Contents) → AreDrawn e c
       → has_slot live slot ≡ true → has_slot mid.lost slot ≡ false
       → IsPlanned (first_newest members (without_gives change) before mid.lost members.newest) (give_of (replicate 32 Same) slot) (own_in members.own slot) (c slot 8)
-      → IsReadAsPlanned scope members (without_gives change) before live c
+      → IsReadAsPlanned scope members (without_gives change) before live mid.lost c
   written-reads mid caught slot e stage c drawn is none plan =
       let more = same_lost mid in
       let held = wide.held scope members (without_gives change) before live known left d ready mid caught mid.lost more in
@@ -75,8 +77,10 @@ module _ (scope : Scope) (known left : ℕ) (members : Members) (change : Change
         own = own';
         are = wide.are scope members (without_gives change) before live known left d ready mid caught mid.lost more;
         more = caught.more;
+        within = λ s is. is;
         later = wide.later scope members (without_gives change) before live known left d ready mid caught mid.lost more;
         plan = (members.newest.dev_roles, refl);
+        table = length-any members (without_gives change) before mid.lost members.newest.dev_roles ∙ ready.held.table;
         kept = kept;
         reads = taking-later scope known mid.lost members.newest members.own mid.disk held rest sub level newest (replicate 32 Same) fit own' kept e c taking drawn (
           slot,
@@ -94,37 +98,44 @@ module _ (scope : Scope) (known left : ℕ) (members : Members) (change : Change
       (λ not_live. inl (λ is' none. absurd (clash is' not_live))) (by_bool (has_slot live s))))
 
   module _ (first : Round) (past : IsPastFirst members (without_gives change) before live d first)
-      (each : (c : Contents) → AreDrawn first.disk c → IsReadAsPlanned scope members (without_gives change) before live c) where
+      (each : (c : Contents) → AreDrawn first.disk c → IsReadAsPlanned scope members (without_gives change) before live first.lost c) where
     -- in a round that names lost slots
     next-reads : (n : ℕ) (start : Round) → AreNamings (members_at members first) (without_gives change) before live n first start → members.newest.events + 2 + n < 2 ^ 62
-        → ((c : Contents) → AreDrawn start.disk c → IsReadAsPlanned scope members (without_gives change) before live c)
+        → ((c : Contents) → AreDrawn start.disk c → IsReadAsPlanned scope members (without_gives change) before live start.lost c)
         → (e : Disk) → IsRewriting (naming members (without_gives change) before start.lost start.newest) (replicate 32 Same) members.own live start.lost start.disk e
-        → (c : Contents) → AreDrawn e c → IsReadAsPlanned scope members (without_gives change) before live c
+        → (c : Contents) → AreDrawn e c → IsReadAsPlanned scope members (without_gives change) before live start.lost c
     next-reads n start over small earlier e stage c drawn = ⊎_elim
-        (λ some. all-named scope members (without_gives change) before live c
+        (λ some. all-named scope members (without_gives change) before live start.lost c
         (naming-reads scope members (without_gives change) before live known left (λ s. ⊥) (fit-of scope known left members (without_gives change) live d ready) n start
-        (rounds-end scope members (without_gives change) before live known left d ready first start n past over small some) small e c stage drawn))
+        (rounds-end scope members (without_gives change) before live known left d ready first start n past over (omega (arith, small)) some) small e c stage drawn))
         (λ none. earlier c (λ s. (⊎_elim (λ was. was) (λ w. absurd (none s w.0 w.1)) (stage.values s (c s 8) (drawn s).0), stage.ninth s (c s 9) (drawn s).1)))
         (some_left start.lost)
 
-    over-reads : (n : ℕ) (b : Round) → AreNamings (members_at members first) (without_gives change) before live n first b → members.newest.events + 2 + n < 2 ^ 62
-        → (c : Contents) → AreDrawn b.disk c → IsReadAsPlanned scope members (without_gives change) before live c
+    over-reads : (n : ℕ) (b : Round) → AreNamings (members_at members first) (without_gives change) before live n first b → members.newest.events + 1 + n < 2 ^ 62
+        → (c : Contents) → AreDrawn b.disk c → IsReadAsPlanned scope members (without_gives change) before live b.lost c
     unfolding AreNamings
-    over-reads zero b same small c drawn = each c (subst (λ (r : Round). AreDrawn r.disk c) (sym same) drawn)
+    over-reads zero b same small c drawn = subst (λ (r : Round). IsReadAsPlanned scope members (without_gives change) before live r.lost c) same (each c (subst (λ (r : Round). AreDrawn r.disk c) (sym same) drawn))
     over-reads (suc n) b (mid, over, next) small c drawn =
-        next-reads n mid over (omega (arith, small)) (over-reads n mid over (omega (arith, small))) b.disk
-        (subst (λ (m : Sb). IsRewriting m (replicate 32 Same) members.own live mid.lost mid.disk b.disk) next.newest next.written.stage) c drawn
+        planned-wider scope members (without_gives change) before live mid.lost b.lost c next.written.more
+        (next-reads n mid over (omega (arith, small)) (over-reads n mid over (omega (arith, small))) b.disk
+        (subst (λ (m : Sb). IsRewriting m (replicate 32 Same) members.own live mid.lost mid.disk b.disk) next.newest next.written.stage) c drawn)
 
     pub planned-read : (e : Disk) (c : Contents) → (at : IsInNaming (members_at members first) (without_gives change) before live first e) → members.newest.events + 2 + at.rounds < 2 ^ 62 → AreDrawn e c
-        → IsReadAsPlanned scope members (without_gives change) before live c
-    planned-read e c at small drawn = next-reads at.rounds at.start at.over small (over-reads at.rounds at.start at.over small) e at.stage c drawn
+        → IsReadAsPlanned scope members (without_gives change) before live at.start.lost c
+    planned-read e c at small drawn = next-reads at.rounds at.start at.over small (over-reads at.rounds at.start at.over (omega (arith, small))) e at.stage c drawn
 
 -- ---- the two ways in which an image has the slot
 
 module _ (scope : Scope) (known left : ℕ) (members : Members) (change : Change) (before live slot role : ℕ) (d : Disk) (making : IsMakingWhole members change slot role)
     (ready : IsReady scope known left members (without_gives change) live d) where
-  abbrev Reads : Contents → Type 0
-  Reads c = IsReadAsBefore scope known members c ⊎ (IsReadAsPlanned scope members change before live c ⊎ IsReadAsPlanned scope members (without_gives change) before live c)
+  abbrev Reads : ℕ → Contents → Type 0
+  Reads last c = IsReadAsBefore scope known members c ⊎ (IsReadAsPlanned scope members change before live last c ⊎ IsReadAsPlanned scope members (without_gives change) before live last c)
+
+  -- where more are lost at the end
+  pub more-lost : (last last' : ℕ) (c : Contents) → IsWithin last last' → Reads last c → Reads last' c
+  more-lost last last' c more (inl r) = inl r
+  more-lost last last' c more (inr (inl r)) = inr (inl (planned-wider scope members change before live last last' c more r))
+  more-lost last last' c more (inr (inr r)) = inr (inr (planned-wider scope members (without_gives change) before live last last' c more r))
 
   abbrev Whole : Members
   Whole = whole_members members change slot role making
@@ -135,14 +146,14 @@ module _ (scope : Scope) (known left : ℕ) (members : Members) (change : Change
   abbrev Without : Change
   Without = without_gives change
 
-  recovering_still : (c : Contents) → IsReadInUpdate scope known members Without before live c → Reads c
-  recovering_still c r = ⊎_elim (λ b. inl b) (λ p. inr (inr p)) r
+  recovering_still : (last : ℕ) (c : Contents) → IsReadInUpdate scope known members Without before live last c → Reads last c
+  recovering_still last c r = ⊎_elim (λ b. inl b) (λ p. inr (inr p)) r
 
   long : 128 ≤ length members.newest.dev_roles
   long = omega (arith, ready.held.table)
 
-  made_whole : (c : Contents) → IsReadAsPlanned scope Whole Without before live c → Reads c
-  made_whole c r = inr (inl (planned-back scope members change before live slot role making c long r))
+  made_whole : (last : ℕ) (c : Contents) → IsReadAsPlanned scope Whole Without before live last c → Reads last c
+  made_whole last c r = inr (inl (planned-back scope members change before live slot role last making c long r))
 
   -- what the change plans, by the members in which the slot was whole
   over_whole : (newest : Sb) (s : ℕ) (v : Sector) → IsPlanned newest (give_of change.gives s) (own_in members.own s) v → IsPlanned newest (give_of (replicate 32 Same) s) (own_in Own s) v
@@ -178,9 +189,9 @@ module _ (scope : Scope) (known left : ℕ) (members : Members) (change : Change
     First = first_newest members change before mid.lost members.newest
 
     -- in the first round
-    stage-reads : (e : Disk) → IsRewriting First change.gives members.own live mid.lost mid.disk e → (c : Contents) → AreDrawn e c → Reads c
+    stage-reads : (e : Disk) → IsRewriting First change.gives members.own live mid.lost mid.disk e → (c : Contents) → AreDrawn e c → Reads mid.lost c
     stage-reads e stage c drawn = ⊎_elim
-        (λ was. recovering_still c (first-reads scope members Without before live known left d ready mid caught (put slot (Row c) e) c
+        (λ was. recovering_still mid.lost c (first-reads scope members Without before live known left d ready mid caught (put slot (Row c) e) c
         (subst (λ (n : Sb). IsFirstRewriting n (replicate 32 Same) members.own live mid.lost mid.disk (put slot (Row c) e)) (sym (first_other mid.lost members.newest))
         (first_stage First members.own live mid.lost mid.disk (put slot (Row c) e)
         (former_stage First mid.lost mid.disk (put slot (Row c) e)
@@ -192,7 +203,7 @@ module _ (scope : Scope) (known left : ℕ) (members : Members) (change : Change
         let stage' = whole_stage scope known left members change live slot role d making ready kept mid caught w.1 First (put slot (Row c) e) (row e c stage (drawn slot).0)
         (λ v held. (w.0, w.1, row_of c (λ x. IsPlanned First (give_of change.gives slot) (own_in members.own slot) x) w.2 v (subst (λ (l : List Sector). IsIn l v) (put_here slot (Row c) e) held)))
         (over_whole First) in
-        made_whole c (written-reads scope known left Whole change before live (put slot [] d) (whole_ready scope known left members change live slot role d making ready kept) (put_round slot [] mid) caught'
+        made_whole mid.lost c (written-reads scope known left Whole change before live (put slot [] d) (whole_ready scope known left members change live slot role d making ready kept) (put_round slot [] mid) caught'
         slot (put slot (Row c) e)
         (subst (λ (n : Sb). IsRewriting n (replicate 32 Same) Own live mid.lost (put slot [] mid.disk) (put slot (Row c) e)) (sym (first_whole mid.lost members.newest)) stage')
         c (drawn_put slot e c drawn) w.0 w.1
@@ -203,12 +214,12 @@ module _ (scope : Scope) (known left : ℕ) (members : Members) (change : Change
             → IsRewriting First change.gives members.own live mid.lost mid.disk (put slot (Row c) e)
         row e c stage held = fewer_row First change.gives members.own live mid.lost slot (Row c) mid.disk e (row_of c (λ w. IsIn (e slot 8) w) held) stage
 
-  pub in-first : (e : Disk) → IsInFirst members change before live d e → (c : Contents) → AreDrawn e c → Reads c
+  pub in-first : (e : Disk) (at : IsInFirst members change before live d e) → (c : Contents) → AreDrawn e c → Reads at.mid.lost c
   in-first e at c drawn = stage-reads at.mid at.caught e
       (subst (λ (n : Sb). IsRewriting (first_newest members change before at.mid.lost n) change.gives members.own live at.mid.lost at.mid.disk e) at.caught.newest at.stage.stage) c drawn
 
-  pub catching : (e : Disk) → IsRewriting members.newest (replicate 32 Same) members.own live members.lost d e → (c : Contents) → AreDrawn e c → Reads c
-  catching e stage c drawn = recovering_still c (before-reads scope members Without before live known left d ready e c stage drawn)
+  pub catching : (last : ℕ) (e : Disk) → IsRewriting members.newest (replicate 32 Same) members.own live members.lost d e → (c : Contents) → AreDrawn e c → Reads last c
+  catching last e stage c drawn = recovering_still last c (before-reads scope members Without before live known left d ready last e c stage drawn)
 
   -- ---- the rounds that name lost slots
 
@@ -255,14 +266,15 @@ module _ (scope : Scope) (known left : ℕ) (members : Members) (change : Change
 
     -- each image of it reads as planned
     whole-each : (none : has_slot past.mid.lost slot ≡ false) (e : Disk) → IsRewriting first.newest change.gives members.own live past.mid.lost past.mid.disk e → IsNewAlone e
-        → (c : Contents) → AreDrawn e c → IsReadAsPlanned scope Whole Without before live c
+        → (c : Contents) → AreDrawn e c → IsReadAsPlanned scope Whole Without before live first.lost c
     whole-each none e stage new c drawn =
         let w = new (c slot 8) (drawn slot).0 in
         let eq : first.newest ≡ first_newest Whole Without before past.mid.lost members.newest =
         past.written.newest ∙ ap (first_newest members change before past.mid.lost) past.caught.newest ∙ sym (first_whole past.mid.lost members.newest) in
-        written-reads scope known left Whole change before live (put slot [] d) (ready_whole none) (put_round slot [] past.mid) (caught_whole none) slot e
+        planned-wider scope Whole Without before live past.mid.lost first.lost c past.written.written.more
+        (written-reads scope known left Whole change before live (put slot [] d) (ready_whole none) (put_round slot [] past.mid) (caught_whole none) slot e
         (subst (λ (n : Sb). IsRewriting n (replicate 32 Same) Own live past.mid.lost (put slot [] past.mid.disk) e) eq (stage_whole none e stage new)) c drawn w.0 w.1
-        (subst (λ (n : Sb). IsPlanned n (give_of (replicate 32 Same) slot) (own_in Own slot) (c slot 8)) eq (over_whole first.newest slot (c slot 8) w.2))
+        (subst (λ (n : Sb). IsPlanned n (give_of (replicate 32 Same) slot) (own_in Own slot) (c slot 8)) eq (over_whole first.newest slot (c slot 8) w.2)))
 
     -- where the slot wasn't lost in it
     pub new_alone : has_slot first.lost slot ≡ false → IsNewAlone first.disk
@@ -279,10 +291,10 @@ module _ (scope : Scope) (known left : ℕ) (members : Members) (change : Change
     stage_named start e stage = stage_over members change Own (λ t. Unit {0}) (whole_world members change slot role making long) (whole_roles members change slot role making) before live start e (λ s none. tt) stage
 
     kept-reads : has_slot first.lost slot ≡ false → (e : Disk) (at : IsInNaming (members_at members first) change before live first e) → members.newest.events + 2 + at.rounds < 2 ^ 62
-        → (c : Contents) → AreDrawn e c → Reads c
+        → (c : Contents) → AreDrawn e c → Reads at.start.lost c
     kept-reads free e at small c drawn =
         let none = wide.outside past.mid.lost first.lost slot (past.written.written.more slot) free in
-        made_whole c (planned-read scope known left Whole change before live (put slot [] d) (ready_whole none) first
+        made_whole at.start.lost c (planned-read scope known left Whole change before live (put slot [] d) (ready_whole none) first
         (whole-past none first.disk past.written.written.stage (new_alone free) past.written.written.whole)
         (whole-each none first.disk past.written.written.stage (new_alone free)) e c
         (record { rounds = at.rounds; start = at.start; over = namings_whole at.rounds at.start at.over; stage = stage_named at.start e at.stage }) small drawn)
@@ -348,13 +360,13 @@ module _ (scope : Scope) (known left : ℕ) (members : Members) (change : Change
           (there, past.written.written.stage.values slot v there)
 
       lost-reads : (e : Disk) (at : IsInNaming (members_at members first) change before live first e) → members.newest.events + 2 + at.rounds < 2 ^ 62
-          → (c : Contents) → AreDrawn e c → Reads c
+          → (c : Contents) → AreDrawn e c → Reads at.start.lost c
       lost-reads e at small c drawn =
           let gone' = namings_more (members_at members first) change before live at.rounds first at.start at.over slot gone in
           let held : IsIn (at.start.disk slot 8) (c slot 8) = ⊎_elim (λ was. was) (λ w. absurd (clash gone' w.1)) (at.stage.values slot (c slot 8) (drawn slot).0) in
           let t = traced at.rounds at.start at.over (c slot 8) held in
           ⊎_elim
-          (λ was. recovering_still c (rounds-read scope members Without before live known left d ready (put_round slot (Row c) first) (put slot (Row c) e) c
+          (λ was. recovering_still at.start.lost c (rounds-read scope members Without before live known left d ready (put_round slot (Row c) first) (put slot (Row c) e) c
           (former-past (Row c) (row_of c (λ w. IsIn (first.disk slot 8) w × IsIn (past.mid.disk slot 8) w) (t.0, was)))
           (record {
             rounds = at.rounds;
@@ -364,7 +376,7 @@ module _ (scope : Scope) (known left : ℕ) (members : Members) (change : Change
                 (stage_over members change members.own (λ t. t ≢ slot) (other_world members change slot role making) (roles_same members change slot role making) before live at.start e
                 (λ s free same. clash gone' (subst (λ (x : ℕ). has_slot at.start.lost x ≡ false) same free)) at.stage);
           }) small (drawn_put slot e c drawn)))
-          (λ w. made_whole c (planned-read scope known left Whole change before live (put slot [] d) (ready_whole w.1) (put_round slot (Row c) first)
+          (λ w. made_whole at.start.lost c (planned-read scope known left Whole change before live (put slot [] d) (ready_whole w.1) (put_round slot (Row c) first)
           (new-past (Row c) w.1 (row_of c (λ x. IsIn (first.disk slot 8) x) t.0) (λ v h. row_in c first.disk IsNew w v h))
           (whole-each w.1 (put slot (Row c) first.disk) (row_stage (Row c) (row_of c (λ x. IsIn (first.disk slot 8) x) t.0)) (λ v h. row_in c first.disk IsNew w v h))
           (put slot (Row c) e) c
@@ -376,5 +388,5 @@ module _ (scope : Scope) (known left : ℕ) (members : Members) (change : Change
           }) small (drawn_put slot e c drawn)))
           t.1
 
-    pub in-naming : (e : Disk) (at : IsInNaming (members_at members first) change before live first e) → members.newest.events + 2 + at.rounds < 2 ^ 62 → (c : Contents) → AreDrawn e c → Reads c
+    pub in-naming : (e : Disk) (at : IsInNaming (members_at members first) change before live first e) → members.newest.events + 2 + at.rounds < 2 ^ 62 → (c : Contents) → AreDrawn e c → Reads at.start.lost c
     in-naming e at small c drawn = ⊎_elim (λ gone. lost-reads gone e at small c drawn) (λ free. kept-reads free e at small c drawn) (by_bool (has_slot first.lost slot))

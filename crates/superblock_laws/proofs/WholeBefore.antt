@@ -335,9 +335,9 @@ module _ (scope : Scope) (known left : ℕ) (members : Members) (change : Change
 
 -- ---- what images read
 
-pub planned-back : (scope : Scope) (members : Members) (change : Change) (before live slot role : ℕ) (making : IsMakingWhole members change slot role) (c : Contents) → 128 ≤ length members.newest.dev_roles
-    → IsReadAsPlanned scope (whole_members members change slot role making) (without_gives change) before live c → IsReadAsPlanned scope members change before live c
-planned-back scope members change before live slot role making c long r = record {
+pub planned-back : (scope : Scope) (members : Members) (change : Change) (before live slot role last : ℕ) (making : IsMakingWhole members change slot role) (c : Contents) → 128 ≤ length members.newest.dev_roles
+    → IsReadAsPlanned scope (whole_members members change slot role making) (without_gives change) before live last c → IsReadAsPlanned scope members change before live last c
+planned-back scope members change before live slot role last making c long r = record {
   newest = r.newest;
   named = r.named;
   lost = r.lost;
@@ -345,7 +345,9 @@ planned-back scope members change before live slot role making c long r = record
   own = r.own;
   are = r.are;
   more = r.more;
+  within = r.within;
   later = r.later;
+  table = r.table;
   plan = (r.plan.0, r.plan.1 ∙ whole_roles members change slot role making before r.named r.plan.0);
   kept = λ s sb is own_sb.
       let w = whole_world members change slot role making long s sb tt own_sb in

@@ -1,5 +1,5 @@
 -- An update that makes a recovering slot whole, by what images read.
-use Rattle.std.specs.Prelude.{◌≡◌, ◌≢◌, ◌⊎◌, ℕ, ◌+◌, ◌^◌, ◌<◌, List, replicate, Option, Some, None, true, false}
+use Rattle.std.specs.Prelude.{◌≡◌, ◌≢◌, ◌⊎◌, ℕ, ◌^◌, ◌<◌, List, replicate, Option, Some, None, true, false}
 use Rattle.md_base.specs.Sectors.{Sector}
 use Rattle.md_base.specs.Shapes.{has_slot}
 use Rattle.sb1.specs.declared.sb.Sb.{Sb}
@@ -12,7 +12,7 @@ use Rattle.superblocks.specs.Reading.{Scope, is_recovering}
 use Rattle.superblocks.specs.Update.{give_of, own_in, role_from}
 use Rattle.superblocks.specs.Updating.{AreNamed, IsSomeLeft}
 use Rattle.superblocks.specs.Outcome.{AreStored, is_left, live_set}
-use Rattle.superblocks.specs.Rounds.{Round, IsCatchingUpTo, IsInFirst, IsPastFirst, IsInNaming, ArePast, members_at, IsReady, IsReadAsBefore, IsReadAsPlanned}
+use Rattle.superblocks.specs.Rounds.{Round, IsInRounds, ArePast, IsReady, IsReadAsBefore, IsReadAsPlanned}
 use Rattle.superblocks.specs.Held.{AreDrawn}
 use Rattle.superblocks.specs.Crash.{AreHeldAsPlanned}
 use Rattle.superblocks.specs.Following.{IsFollowedBy}
@@ -32,26 +32,22 @@ pub record IsMakingWhole (members : Members) (change : Change) (slot role : ℕ)
   pub others : (s : ℕ) → s ≢ slot → give_of change.gives s ≡ Same
   pub none : change.added ≡ None
 
--- Each image reads as before the update, or as planned, or as planned with the slot still recovering.
-abbrev pub EachReadsInWholing : Scope → ℕ → Members → Change → ℕ → ℕ → (ℕ → ℕ → List Sector) → Type 0
-EachReadsInWholing scope known members change before live e = (c : Contents) → AreDrawn e c
-    → IsReadAsBefore scope known members c ⊎ (IsReadAsPlanned scope members change before live c ⊎ IsReadAsPlanned scope members (without_gives change) before live c)
+-- Each image reads as before the update, or as planned, or as planned with the slot still recovering. No others are named than these.
+abbrev pub EachReadsInWholing : Scope → ℕ → Members → Change → ℕ → ℕ → ℕ → (ℕ → ℕ → List Sector) → Type 0
+EachReadsInWholing scope known members change before live last e = (c : Contents) → AreDrawn e c
+    → IsReadAsBefore scope known members c ⊎ (IsReadAsPlanned scope members change before live last c ⊎ IsReadAsPlanned scope members (without_gives change) before live last c)
 
 -- So it is at each of its marks: while slots are brought to the newest event count, in the first round, and in one that names lost slots.
 abbrev pub UpdateMakingWholeReads : Type 0
-UpdateMakingWholeReads = (scope : Scope) (known left : ℕ) (members : Members) (change : Change) (before live slot role : ℕ) (d e : ℕ → ℕ → List Sector)
+UpdateMakingWholeReads = (scope : Scope) (known left : ℕ) (members : Members) (change : Change) (before live slot role last events : ℕ) (d e : ℕ → ℕ → List Sector)
     → IsMakingWhole members change slot role → IsReady scope known left members (without_gives change) live d
-    → (IsCatchingUpTo members.newest members.own live members.lost d e → EachReadsInWholing scope known members change before live e)
-    × (IsInFirst members change before live d e → EachReadsInWholing scope known members change before live e)
-    × ((first : Round) → IsPastFirst members change before live d first → (at : IsInNaming (members_at members first) change before live first e)
-    → members.newest.events + 2 + at.rounds < 2 ^ 62 → EachReadsInWholing scope known members change before live e)
+    → events < 2 ^ 62 → IsInRounds members change before live last events d e → EachReadsInWholing scope known members change before live last e
 
 -- At its end the slots are held as planned, where a live one is left, the lost ones are named, and of those that are left the superblocks
 -- are kept as they were stored. Where the slot was lost in its own write, and isn't named, it may still recover in some images.
 abbrev pub UpdateMakingWholeEnds : Type 0
 UpdateMakingWholeEnds = (scope : Scope) (known left : ℕ) (members : Members) (change : Change) (before live slot role : ℕ) (d : ℕ → ℕ → List Sector) (last : Round)
-    → IsMakingWhole members change slot role → IsReady scope known left members (without_gives change) live d → (past : ArePast members change before live d last)
-    → members.newest.events + 2 + past.named.0 < 2 ^ 62
+    → IsMakingWhole members change slot role → IsReady scope known left members (without_gives change) live d → ArePast members change before live d last → last.newest.events < 2 ^ 62
     → IsSomeLeft live last.lost → AreNamed members change before last.lost last.newest
     → (own : List (Option Sb)) → AreStored last.newest change.gives (is_left live last.lost) members.own own
     → AreHeldAsPlanned scope members change before live last
@@ -59,8 +55,7 @@ UpdateMakingWholeEnds = (scope : Scope) (known left : ℕ) (members : Members) (
 -- Then the slots that are left hold what the members have for them, and the next update may start.
 abbrev pub UpdateMakingWholeMayFollow : Type 0
 UpdateMakingWholeMayFollow = (scope : Scope) (known left : ℕ) (members : Members) (change : Change) (before live slot role : ℕ) (d : ℕ → ℕ → List Sector) (last : Round)
-    → IsMakingWhole members change slot role → IsReady scope known left members (without_gives change) live d → (past : ArePast members change before live d last)
-    → members.newest.events + 2 + past.named.0 < 2 ^ 62
+    → IsMakingWhole members change slot role → IsReady scope known left members (without_gives change) live d → ArePast members change before live d last → last.newest.events < 2 ^ 62
     → IsFollowedBy scope members change before live last
 
 -- The members then say what the stored superblocks do: as planned, without the slots that the last round named.

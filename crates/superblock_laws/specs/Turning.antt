@@ -1,13 +1,13 @@
 -- A whole update, by what images read, in which the slot that gets a recovery offset may be lost in its own write.
-use Rattle.std.specs.Prelude.{ℕ, ◌+◌, ◌^◌, ◌<◌, List}
+use Rattle.std.specs.Prelude.{ℕ, ◌^◌, ◌<◌, List}
 use Rattle.md_base.specs.Sectors.{Sector}
 use Rattle.superblocks.specs.declared.change.Change.{Change}
 use Rattle.superblocks.specs.declared.members.Members.{Members}
 use Rattle.superblocks.specs.Reading.{Scope}
 use Rattle.superblocks.specs.Updating.{IsSomeLeft}
-use Rattle.superblocks.specs.Rounds.{Round, IsCatchingUpTo, IsCaughtUpTo, IsInNaming, members_at, IsReady}
+use Rattle.superblocks.specs.Rounds.{Round, IsReady}
 use Rattle.superblocks.specs.Crash.{IsWithin, EachReadsInUpdate, AreHeldAsPlanned}
-use Rattle.superblocks.specs.Losing.{AreTakenInTurn, IsPastTurns, ArePastTurns, planned_at}
+use Rattle.superblocks.specs.Losing.{IsInTurns, ArePastTurns}
 use Rattle.superblocks.specs.Following.{IsFollowedBy}
 
 -- the slots that an update doesn't name, since they were lost before, are lost when it starts
@@ -15,27 +15,21 @@ abbrev pub AreLostBefore : ℕ → Members → Type 0
 AreLostBefore before members = IsWithin before members.lost
 
 -- At each mark of an update an image reads as before it, or as planned by one of its rounds, each of which names the slots that were lost
--- before it: while slots are brought to the newest event count, while what is planned is written, first to the slots that get a recovery
--- offset, any of which may be lost, and in a round that names lost slots.
+-- before it, and no others than are lost at its end: while slots are brought to the newest event count, while what is planned is written,
+-- first to the slots that get a recovery offset, any of which may be lost, and in a round that names lost slots.
 abbrev pub UpdateTurningReads : Type 0
-UpdateTurningReads = (scope : Scope) (known left : ℕ) (members : Members) (change : Change) (before live : ℕ) (d e : ℕ → ℕ → List Sector)
-    → IsReady scope known left members change live d → AreLostBefore before members
-    → (IsCatchingUpTo members.newest members.own live members.lost d e → EachReadsInUpdate scope known members change before live e)
-    × ((mid : Round) → IsCaughtUpTo members.newest members.own live members.lost d mid
-    → (AreTakenInTurn (planned_at members change before mid) change before live mid.disk e → EachReadsInUpdate scope known members change before live e)
-    × ((first : Round) → IsPastTurns (planned_at members change before mid) change before live mid.disk first → (at : IsInNaming (members_at members first) change before live first e)
-    → members.newest.events + 2 + at.rounds < 2 ^ 62 → EachReadsInUpdate scope known members change before live e))
+UpdateTurningReads = (scope : Scope) (known left : ℕ) (members : Members) (change : Change) (before live last events : ℕ) (d e : ℕ → ℕ → List Sector)
+    → IsReady scope known left members change live d → AreLostBefore before members → events < 2 ^ 62 → IsInTurns members change before live last events d e
+    → EachReadsInUpdate scope known members change before live last e
 
 -- At its end the slots are held as planned, where a live one is left.
 abbrev pub UpdateTurningEnds : Type 0
 UpdateTurningEnds = (scope : Scope) (known left : ℕ) (members : Members) (change : Change) (before live : ℕ) (d : ℕ → ℕ → List Sector) (last : Round)
-    → IsReady scope known left members change live d → AreLostBefore before members → (past : ArePastTurns members change before live d last)
-    → members.newest.events + 2 + past.named.0 < 2 ^ 62
+    → IsReady scope known left members change live d → AreLostBefore before members → ArePastTurns members change before live d last → last.newest.events < 2 ^ 62
     → IsSomeLeft live last.lost → AreHeldAsPlanned scope members change before live last
 
 -- Then the slots that are left hold what the members have for them, and the next update may start.
 abbrev pub UpdateTurningMayFollow : Type 0
 UpdateTurningMayFollow = (scope : Scope) (known left : ℕ) (members : Members) (change : Change) (before live : ℕ) (d : ℕ → ℕ → List Sector) (last : Round)
-    → IsReady scope known left members change live d → AreLostBefore before members → (past : ArePastTurns members change before live d last)
-    → members.newest.events + 2 + past.named.0 < 2 ^ 62
+    → IsReady scope known left members change live d → AreLostBefore before members → ArePastTurns members change before live d last → last.newest.events < 2 ^ 62
     → IsFollowedBy scope members change before live last

@@ -25,7 +25,7 @@ use Rattle.superblocks.proofs.ReadLists.{by_bool}
 use Rattle.superblocks.proofs.Exact.{all_same}
 use Rattle.superblocks.proofs.SlotSets.{with_here, with_other}
 use Rattle.superblocks.proofs.PlannedSb.{planned-of}
-use Rattle.superblocks.proofs.PlanFits.{IsNext, IsPlanScope, wide-fits, plan-fits, shown-of, known-numbers, idle-number}
+use Rattle.superblocks.proofs.PlanFits.{IsNext, IsPlanScope, length-any, wide-fits, plan-fits, shown-of, known-numbers, idle-number}
 use Rattle.superblocks.proofs.UpdateReads.{fresh_less, new_suited}
 use Rattle.superblocks.proofs.ValidFields.{few-events}
 use Rattle.superblocks.proofs.StageReads.{caught_of, caught-held, catching-reads, other_read, new_of, taking-reads, taking-later, taken-held, taken-level, taken_read, shows-before}
@@ -88,10 +88,10 @@ to_put scope t row e s found apart m = record {
   is = m.is;
 }
 
-none_read : (scope : Scope) (t : ℕ) (e : Disk) (s : ℕ) (found : Option Sb) → s ≡ t → MayRead scope (put t [] e) s found → ⊥
+pub none_read : (scope : Scope) (t : ℕ) (e : Disk) (s : ℕ) (found : Option Sb) → s ≡ t → MayRead scope (put t [] e) s found → ⊥
 none_read scope t e s found same m = subst (λ (l : List Sector). IsIn l (m.at 8)) (put_here t [] e) (subst (λ (r : ℕ). IsIn (put t [] e r 8) (m.at 8)) same m.eighth)
 
-known_put : (scope : Scope) (newest : Sb) (held : Option Sb) (t : ℕ) (row : List Sector) (e : Disk) (s : ℕ) → s ≢ t → IsKnown scope newest held s e → IsKnown scope newest held s (put t row e)
+pub known_put : (scope : Scope) (newest : Sb) (held : Option Sb) (t : ℕ) (row : List Sector) (e : Disk) (s : ℕ) → s ≢ t → IsKnown scope newest held s e → IsKnown scope newest held s (put t row e)
 known_put scope newest held t row e s apart k = record {
   sb = k.sb;
   own = k.own;
@@ -384,7 +384,7 @@ module _ (scope : Scope) (members : Members) (change : Change) (before live know
     Unnamed c s = (s ≡ slot) × IsIn (d slot 8) (c slot 8)
 
     rest_reads : (e : Disk) (c : Contents) → IsFirstRewriting N change.gives members.own live mid.lost mid.disk e → AreDrawn e c → IsIn (mid.disk slot 8) (c slot 8)
-        → IsReadInAdding scope known members change before live slot d (λ s. (s ≡ slot) × IsIn (d slot 8) (c slot 8)) c
+        → IsReadInAdding scope known members change before live mid.lost slot d (λ s. (s ≡ slot) × IsIn (d slot 8) (c slot 8)) c
     rest_reads e c f drawn was =
         let former : IsIn (d slot 8) (c slot 8) = subst (λ (l : List Sector). IsIn l (c slot 8)) (caught.still slot not_behind) was in
         ⊎_elim
@@ -404,8 +404,10 @@ module _ (scope : Scope) (members : Members) (change : Change) (before live know
             | inr other ↦ inl (sym (with_other mid.lost slot s other) ∙ is)
           ];
           grown = λ s is. is;
+          within = λ s is. is;
           later = later;
           plan = (members.newest.dev_roles, refl);
+          table = length-any members change before mid.lost members.newest.dev_roles ∙ held.table;
           kept = kept_rest;
           reads = r;
         }))
@@ -548,7 +550,7 @@ module _ (scope : Scope) (members : Members) (change : Change) (before live know
     new_reads : (e : Disk) (c : Contents) → IsFirstRewriting N change.gives members.own live mid.lost mid.disk e → AreDrawn e c
         → IsPlanned N (give_of change.gives slot) (own_in members.own slot) (c slot 8)
         → ((s : ℕ) (v : Sector) → has_slot live s ≡ true → has_slot mid.lost s ≡ false → is_recovery (give_of change.gives s) ≡ true → IsIn (e s 8) v → IsPlanned N (give_of change.gives s) (own_in members.own s) v)
-        → IsReadAsPlannedBut scope members change before live (λ s. (s ≡ slot) × IsIn (d slot 8) (c slot 8)) c
+        → IsReadAsPlannedBut scope members change before live mid.lost (λ s. (s ≡ slot) × IsIn (d slot 8) (c slot 8)) c
     new_reads e c f drawn plan all =
         let row : List Sector = c slot 8 ∷ [] in
         let stage = new_taking e row f (λ v is_in. ⊎_elim (λ same. subst (IsPlanned N (give_of change.gives slot) (own_in members.own slot)) (sym same) plan) (λ none. absurd none) is_in) all in
@@ -565,15 +567,17 @@ module _ (scope : Scope) (members : Members) (change : Change) (before live know
           named_gone = λ s is. is;
           unnamed = λ s is. inl is;
           grown = λ s is. is;
+          within = λ s is. is;
           later = later;
           plan = (members.newest.dev_roles, refl);
+          table = length-any members change before mid.lost members.newest.dev_roles ∙ held.table;
           kept = kept_left;
           reads = taking-later scope Wide mid.lost members.newest members.own Emptied emptied_held Left left_wide left_level N change.gives left_fit Own kept_left (put slot row e) c stage (put_drawn row e c (inl refl) drawn)
               (slot, slot_left, new_of scope Wide mid.lost members.newest members.own Emptied emptied_held Left left_wide left_level N change.gives left_fit Own kept_left slot slot_left (c slot) plan ninth);
         }
 
     pub added-first : (e : Disk) (c : Contents) → IsFirstRewriting N change.gives members.own live mid.lost mid.disk e → AreDrawn e c
-        → IsReadInAdding scope known members change before live slot d (λ s. (s ≡ slot) × IsIn (d slot 8) (c slot 8)) c
+        → IsReadInAdding scope known members change before live mid.lost slot d (λ s. (s ≡ slot) × IsIn (d slot 8) (c slot 8)) c
     added-first e c f drawn = ⊎_elim
         (λ others. rest_reads e c f drawn (others slot (c slot 8) not_first (drawn slot).0))
         (λ all. ⊎_elim (λ was. rest_reads e c f drawn was) (λ w. inr (new_reads e c f drawn w.2 all)) (f.stage.values slot (c slot 8) (drawn slot).0))

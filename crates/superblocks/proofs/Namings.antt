@@ -71,7 +71,7 @@ module _ (members : Members) (change : Change) (before live : ℕ) where
         };
         within = λ s is. is;
         earlier = omega arith;
-        this = inr (λ s v held. subst (λ (e : Disk). IsIn (e s 8) v) (sym is) held);
+        this = inr (λ s i. sym is i s 8);
       }))
 
   -- where it ends later

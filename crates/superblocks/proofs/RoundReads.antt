@@ -22,7 +22,8 @@ use Rattle.superblocks.specs.Reads.{IsReadAs}
 use Rattle.superblocks.specs.Held.{AreDrawn, MayRead, IsStamped, AreHeld, AreLevel, said_by}
 use Rattle.superblocks.specs.Stages.{AreLeft, IsTaking, AreTaken, IsFitPlan, AreKept}
 use Rattle.superblocks.specs.Plans.{KeepsRecovery, IsFitChange}
-use Rattle.superblocks.specs.Rounds.{Round, naming, IsRewriting, IsRewritten, IsReadAsPlanned, IsReady}
+use Rattle.superblocks.specs.Rounds.{Round, naming, IsRewriting, IsRewritten, IsReadAsPlanned, IsReadInUpdate, IsReady}
+use Rattle.superblocks.specs.Crash.{IsWithin}
 use Rattle.superblocks.specs.Adding.{IsReadAsPlannedBut}
 use Rattle.superblocks.proofs.ReadLists.{by_bool}
 use Rattle.superblocks.proofs.Exact.{all_same}
@@ -263,7 +264,7 @@ module _ (scope : Scope) (members : Members) (change : Change) (before live know
         (planned_list (naming members change before b.lost b.newest) change.gives members.own) kept e c (stage_again e stage) drawn
 
     pub naming-reads : (e : Disk) (c : Contents) → IsRewriting (naming members change before b.lost b.newest) change.gives members.own live b.lost b.disk e → AreDrawn e c
-        → IsReadAsPlannedBut scope members change before live Unnamed c
+        → IsReadAsPlannedBut scope members change before live b.lost Unnamed c
     naming-reads e c stage drawn = ⊎_elim
         (λ r. record {
           newest = b.newest;
@@ -277,8 +278,10 @@ module _ (scope : Scope) (members : Members) (change : Change) (before live know
           named_gone = at.named_gone;
           unnamed = at.unnamed;
           grown = at.grown;
+          within = λ s is. at.grown s (at.named_gone s is);
           later = at.later;
           plan = at.plan;
+          table = at.held.table;
           kept = kept-of b.newest change.gives members.own at.own at.known at.own_is;
           reads = r;
         })
@@ -294,8 +297,10 @@ module _ (scope : Scope) (members : Members) (change : Change) (before live know
           named_gone = λ s is. is;
           unnamed = λ s is. inl is;
           grown = λ s is. is;
+          within = λ s is. is;
           later = later_next;
           plan = (b.newest.dev_roles, refl);
+          table = table_next;
           kept = kept_next;
           reads = r;
         })
@@ -371,9 +376,9 @@ named_left live gone named is_left is_are more none_more s = is_are s ∙ ap (λ
     (λ is. is ∙ sym (⊎_elim (λ n. n) (λ no. absurd no) (none_more s is)))
     (λ none. none ∙ sym (⊎_elim (λ n. absurd (let both = sym (more s n) ∙ none in cc)) (λ no. no) (by_bool (has_slot named s)))) (by_bool (has_slot gone s)))
 
-pub all-named : (scope : Scope) (members : Members) (change : Change) (before live : ℕ) (c : Contents) → IsReadAsPlannedBut scope members change before live (λ s. ⊥) c
-    → IsReadAsPlanned scope members change before live c
-all-named scope members change before live c r = record {
+pub all-named : (scope : Scope) (members : Members) (change : Change) (before live last : ℕ) (c : Contents) → IsReadAsPlannedBut scope members change before live last (λ s. ⊥) c
+    → IsReadAsPlanned scope members change before live last c
+all-named scope members change before live last c r = record {
   newest = r.newest;
   named = r.named;
   lost = r.lost;
@@ -381,8 +386,34 @@ all-named scope members change before live c r = record {
   own = r.own;
   are = named_left live r.gone r.named r.left r.are r.named_gone r.unnamed;
   more = r.more;
+  within = r.within;
   later = r.later;
   plan = r.plan;
+  table = r.table;
   kept = r.kept;
   reads = r.reads;
 }
+
+-- where more are lost at the end
+pub planned-wider : (scope : Scope) (members : Members) (change : Change) (before live last last' : ℕ) (c : Contents) → IsWithin last last' → IsReadAsPlanned scope members change before live last c
+    → IsReadAsPlanned scope members change before live last' c
+planned-wider scope members change before live last last' c more r = record {
+  newest = r.newest;
+  named = r.named;
+  lost = r.lost;
+  left = r.left;
+  own = r.own;
+  are = r.are;
+  more = r.more;
+  within = λ s is. more s (r.within s is);
+  later = r.later;
+  plan = r.plan;
+  table = r.table;
+  kept = r.kept;
+  reads = r.reads;
+}
+
+pub wider : (scope : Scope) (known : ℕ) (members : Members) (change : Change) (before live last last' : ℕ) (c : Contents) → IsWithin last last' → IsReadInUpdate scope known members change before live last c
+    → IsReadInUpdate scope known members change before live last' c
+wider scope known members change before live last last' c more (inl r) = inl r
+wider scope known members change before live last last' c more (inr r) = inr (planned-wider scope members change before live last last' c more r)

@@ -19,10 +19,10 @@ use Rattle.superblocks.specs.Plans.{IsFitChange}
 use Rattle.superblocks.specs.Rounds.{Round, naming, first_newest, IsRewriting, IsRewritten, IsNaming, AreNamings, IsInNaming, IsCaughtUpTo, IsFirstRewriting, IsFirstRewritten, IsInFirst, IsPastFirst, members_at, IsReadInUpdate, IsReady}
 use Rattle.superblocks.proofs.ReadLists.{by_bool}
 use Rattle.superblocks.proofs.Exact.{all_same}
-use Rattle.superblocks.proofs.PlanFits.{plan-fits}
+use Rattle.superblocks.proofs.PlanFits.{plan-fits, length-any}
 use Rattle.superblocks.proofs.UpdateReads.{some-or-all}
 use Rattle.superblocks.proofs.StageReads.{caught_of, caught-held, catching-reads, taking-reads, taken-held, taken-level, taken_read}
-use Rattle.superblocks.proofs.RoundReads.{IsAt, left_set, left-are, and_first, and_second, planned_list, planned-in, kept-of, fit-of, naming-reads, naming-end, all-named}
+use Rattle.superblocks.proofs.RoundReads.{IsAt, left_set, left-are, and_first, and_second, planned_list, planned-in, kept-of, fit-of, naming-reads, naming-end, all-named, wider}
 
 abbrev Disk : Type 0
 Disk = ℕ → ℕ → List Sector
@@ -65,8 +65,9 @@ module _ (scope : Scope) (members : Members) (change : Change) (before live know
     ninth = stage.ninth;
   }
 
-  pub before-reads : (e : Disk) (c : Contents) → IsRewriting members.newest (replicate 32 Same) members.own live members.lost d e → AreDrawn e c → IsReadInUpdate scope known members change before live c
-  before-reads e c stage drawn = inl (record {
+  pub before-reads : (last : ℕ) (e : Disk) (c : Contents) → IsRewriting members.newest (replicate 32 Same) members.own live members.lost d e → AreDrawn e c
+      → IsReadInUpdate scope known members change before live last c
+  before-reads last e c stage drawn = inl (record {
     lost = members.lost;
     more = λ s is. is;
     reads = catching-reads scope known members.lost members.newest members.own d ready.held left0 first_within e c (catching e stage) drawn;
@@ -147,7 +148,7 @@ module _ (scope : Scope) (members : Members) (change : Change) (before live know
     later = record { events = le_refl _; same = refl }
 
     pub first-reads : (e : Disk) (c : Contents) → IsFirstRewriting (first_newest members change before mid.lost members.newest) change.gives members.own live mid.lost mid.disk e → AreDrawn e c
-        → IsReadInUpdate scope known members change before live c
+        → IsReadInUpdate scope known members change before live mid.lost c
     first-reads e c f drawn = ⊎_elim
         (λ r. inl (record { lost = mid.lost; more = caught.more; reads = r }))
         (λ r. inr (record {
@@ -158,8 +159,10 @@ module _ (scope : Scope) (members : Members) (change : Change) (before live know
           own = planned_list (first_newest members change before mid.lost members.newest) change.gives members.own;
           are = are;
           more = caught.more;
+          within = λ s is. is;
           later = later;
           plan = (members.newest.dev_roles, refl);
+          table = length-any members change before mid.lost members.newest.dev_roles ∙ ready.held.table;
           kept = kept;
           reads = r;
         }))
@@ -233,7 +236,7 @@ module _ (scope : Scope) (members : Members) (change : Change) (before live know
 
   -- no live slot is left, and each image reads so
   abbrev Dead : Round → Type 0
-  Dead b = ((s : ℕ) → has_slot live s ≡ true → has_slot b.lost s ≡ false → ⊥) × ((c : Contents) → AreDrawn b.disk c → IsReadInUpdate scope known members change before live c)
+  Dead b = ((s : ℕ) → has_slot live s ≡ true → has_slot b.lost s ≡ false → ⊥) × ((c : Contents) → AreDrawn b.disk c → IsReadInUpdate scope known members change before live b.lost c)
 
   abbrev State : ℕ → Round → Type 0
   State n b = IsAt scope members change before live (λ s. ⊥) n b ⊎ Dead b
@@ -258,7 +261,7 @@ module _ (scope : Scope) (members : Members) (change : Change) (before live know
       let same : record { newest = first_newest members change before mid.lost members.newest; lost = first.lost; disk = first.disk } ≡ first = (λ i. record { newest = sym eq i; lost = first.lost; disk = first.disk }) in
       ⊎_elim
       (λ some. inl (subst (IsAt scope members change before live (λ s. ⊥) 0) same (first-end mid caught first.lost first.disk written stage over.kept some)))
-      (λ none. inr (none, λ c drawn. first-reads mid caught first.disk c stage drawn))
+      (λ none. inr (none, λ c drawn. wider scope known members change before live mid.lost first.lost c over.written.more (first-reads mid caught first.disk c stage drawn)))
       (some_left first.lost)
 
   naming-state : (n : ℕ) (a b : Round) → members.newest.events + 2 + n < 2 ^ 62 → State n a → IsNaming members change before live a b → State (suc n) b
@@ -269,37 +272,37 @@ module _ (scope : Scope) (members : Members) (change : Change) (before live know
       (λ some. inl (subst (IsAt scope members change before live (λ s. ⊥) (suc n)) same (naming-end scope members change before live known left0 (λ s. ⊥) (fit-of scope known left0 members change live d ready) n a at small b.lost b.disk written some)))
       (λ none. inr (
         none,
-        λ c drawn. inr (all-named scope members change before live c
-            (naming-reads scope members change before live known left0 (λ s. ⊥) (fit-of scope known left0 members change live d ready) n a at small b.disk c written.stage drawn)),
+        λ c drawn. wider scope known members change before live a.lost b.lost c next.written.more (inr (all-named scope members change before live a.lost c
+            (naming-reads scope members change before live known left0 (λ s. ⊥) (fit-of scope known left0 members change live d ready) n a at small b.disk c written.stage drawn))),
       ))
       (some_left b.lost)
   naming-state n a b small (inr dead) next = inr (
     (λ s is none. dead.0 s is (unlost s none)),
-    (λ c drawn. dead.1 c (fewer b.newest change.gives members.own a.lost a.disk b.disk c dead.0 next.written.stage drawn)),
+    (λ c drawn. wider scope known members change before live a.lost b.lost c next.written.more (dead.1 c (fewer b.newest change.gives members.own a.lost a.disk b.disk c dead.0 next.written.stage drawn))),
   )
     where
       unlost : (s : ℕ) → has_slot b.lost s ≡ false → has_slot a.lost s ≡ false
       unlost s none = ⊎_elim (λ is. absurd (let both = sym (next.written.more s is) ∙ none in cc)) (λ is. is) (by_bool (has_slot a.lost s))
 
-  namings-state : (n : ℕ) (first a b : Round) → members.newest.events + 2 + n < 2 ^ 62 → State 0 a → AreNamings (members_at members first) change before live n a b → State n b
+  namings-state : (n : ℕ) (first a b : Round) → members.newest.events + 1 + n < 2 ^ 62 → State 0 a → AreNamings (members_at members first) change before live n a b → State n b
   unfolding AreNamings
   namings-state zero first a b small state same = subst (State 0) same state
   namings-state (suc n) first a b small state (mid, over, next) =
       naming-state n mid b (omega (arith, small)) (namings-state n first a mid (omega (arith, small)) state over) (record { newest = next.newest; written = next.written })
 
   pub rounds-read : (first : Round) (e : Disk) (c : Contents) → IsPastFirst members change before live d first → (at : IsInNaming (members_at members first) change before live first e)
-      → members.newest.events + 2 + at.rounds < 2 ^ 62 → AreDrawn e c → IsReadInUpdate scope known members change before live c
+      → members.newest.events + 2 + at.rounds < 2 ^ 62 → AreDrawn e c → IsReadInUpdate scope known members change before live at.start.lost c
   rounds-read first e c past at small drawn = ⊎_elim
-      (λ state. inr (all-named scope members change before live c
+      (λ state. inr (all-named scope members change before live at.start.lost c
       (naming-reads scope members change before live known left0 (λ s. ⊥) (fit-of scope known left0 members change live d ready) at.rounds at.start state small e c at.stage drawn)))
       (λ dead. dead.1 c (fewer (naming members change before at.start.lost at.start.newest) change.gives members.own at.start.lost at.start.disk e c dead.0 at.stage drawn))
-      (namings-state at.rounds first first at.start small (first-state past.mid first past.caught past.written) at.over)
+      (namings-state at.rounds first first at.start (omega (arith, small)) (first-state past.mid first past.caught past.written) at.over)
 
-  pub rounds-end : (first last : Round) (n : ℕ) → IsPastFirst members change before live d first → AreNamings (members_at members first) change before live n first last → members.newest.events + 2 + n < 2 ^ 62
+  pub rounds-end : (first last : Round) (n : ℕ) → IsPastFirst members change before live d first → AreNamings (members_at members first) change before live n first last → members.newest.events + 1 + n < 2 ^ 62
       → (s : ℕ) × (has_slot live s ≡ true) × (has_slot last.lost s ≡ false) → IsAt scope members change before live (λ s. ⊥) n last
   rounds-end first last n past over small some = ⊎_elim (λ state. state) (λ dead. absurd (dead.0 some.0 some.1 some.2))
       (namings-state n first first last small (first-state past.mid first past.caught past.written) over)
 
-  pub in-first-reads : (e : Disk) (c : Contents) → IsInFirst members change before live d e → AreDrawn e c → IsReadInUpdate scope known members change before live c
+  pub in-first-reads : (e : Disk) (c : Contents) (at : IsInFirst members change before live d e) → AreDrawn e c → IsReadInUpdate scope known members change before live at.mid.lost c
   in-first-reads e c at drawn = first-reads at.mid at.caught e c
       (subst (λ (n : Sb). IsFirstRewriting (first_newest members change before at.mid.lost n) change.gives members.own live at.mid.lost at.mid.disk e) at.caught.newest at.stage) drawn

@@ -302,7 +302,7 @@ module _ (scope : Scope) (known lost0 before lost left : ℕ) (members : Members
       held-now s r r p.0 (role-entry s r p.0 p.1) ∙ ap (λ b. cond b (Some (state_of s (new s p.0))) None) (self r)
       ∙ ap (λ (x : Role). Some x) (sym (state-is s r p.0 (given s) p.1))
 
-  held-other : (r s : ℕ) → r < 16 → is_planned_holder members.roles change.gives lost r s ≡ false → held_in N r s (known_at left own' s) ≡ None
+  pub held-other : (r s : ℕ) → r < 16 → is_planned_holder members.roles change.gives lost r s ≡ false → held_in N r s (known_at left own' s) ≡ None
   held-other r s small isnt = ⊎_elim
       (λ is. ⊎_elim
       (λ found.

@@ -16,10 +16,11 @@ use Rattle.superblocks.specs.Rounds.{Round, IsCatchingUpTo, IsInFirst, IsPastFir
 use Rattle.superblocks.specs.Reads.{HasNoLateRoles, IsSuited, IsReadAs}
 use Rattle.superblocks.specs.Held.{AreDrawn, MayRead, IsStamped, IsSecondHalf, Shows, AreHeld, AreExact, said_by}
 use Rattle.superblocks.specs.Stages.{AreLeft, AreKept}
+use Rattle.superblocks.specs.Crash.{IsWithin}
 
 -- An image reads as planned, by the superblocks that are planned for live slots. Those that were lost by then are named, but
--- perhaps for such ones, which have no part in it.
-pub record IsReadAsPlannedBut (scope : Scope) (members : Members) (change : Change) (before live : ℕ) (Unnamed : ℕ → Type 0) (c : Contents) : Type 0 where
+-- perhaps for such ones, which have no part in it. All that are named are among these last ones.
+pub record IsReadAsPlannedBut (scope : Scope) (members : Members) (change : Change) (before live last : ℕ) (Unnamed : ℕ → Type 0) (c : Contents) : Type 0 where
   pub newest : Sb
   pub named : ℕ
   pub gone : ℕ
@@ -31,15 +32,17 @@ pub record IsReadAsPlannedBut (scope : Scope) (members : Members) (change : Chan
   pub named_gone : (s : ℕ) → has_slot named s ≡ true → has_slot gone s ≡ true
   pub unnamed : (s : ℕ) → has_slot gone s ≡ true → (has_slot named s ≡ true) ⊎ Unnamed s
   pub grown : (s : ℕ) → has_slot gone s ≡ true → has_slot lost s ≡ true
+  pub within : (s : ℕ) → has_slot named s ≡ true → has_slot last s ≡ true
   pub later : IsLater (planned_newest change.shared members.newest) newest
   pub plan : AreNamed members change before named newest
+  pub table : length newest.dev_roles ≡ 384
   pub kept : AreKept newest change.gives members.own left own
   pub reads : IsReadAs scope lost (said_by scope left own newest) c
 
 -- it reads as before the update, with the slot's former sector, or as planned
-abbrev pub IsReadInAdding : Scope → ℕ → Members → Change → ℕ → ℕ → ℕ → (ℕ → ℕ → List Sector) → (ℕ → Type 0) → Contents → Type 0
-IsReadInAdding scope known members change before live slot d Unnamed c =
-    (IsIn (d slot 8) (c slot 8) × IsReadAsBefore scope known members c) ⊎ IsReadAsPlannedBut scope members change before live Unnamed c
+abbrev pub IsReadInAdding : Scope → ℕ → Members → Change → ℕ → ℕ → ℕ → ℕ → (ℕ → ℕ → List Sector) → (ℕ → Type 0) → Contents → Type 0
+IsReadInAdding scope known members change before live last slot d Unnamed c =
+    (IsIn (d slot 8) (c slot 8) × IsReadAsBefore scope known members c) ⊎ IsReadAsPlannedBut scope members change before live last Unnamed c
 
 -- The slot that is made a spare has no part in the array before. It is to have this superblock, which isn't behind, and whose later entries
 -- are those that stand in its second sector. In no image has another slot its device number.
@@ -99,13 +102,13 @@ AddingIsReady = (scope : Scope) (known left : ℕ) (members : Members) (change :
 -- has the slot's former sector, it reads as before, or as planned without that spare, else as planned. Afterwards it reads
 -- as planned, but perhaps without that spare, where it was lost.
 abbrev pub UpdateAddingReads : Type 0
-UpdateAddingReads = (scope : Scope) (known left lost : ℕ) (members : Members) (change : Change) (before live slot : ℕ) (d e : ℕ → ℕ → List Sector)
+UpdateAddingReads = (scope : Scope) (known left lost : ℕ) (members : Members) (change : Change) (before live last slot : ℕ) (d e : ℕ → ℕ → List Sector)
     → IsReadyToAdd scope known left lost members change live slot d
     → (IsCatchingUpTo members.newest members.own live members.lost d e → (c : Contents) → AreDrawn e c → IsReadAs scope lost (said_by scope known members.own members.newest) c)
-    × (IsInFirst members change before live d e → (c : Contents) → AreDrawn e c
-    → IsReadInAdding scope known members change before live slot d (λ s. (s ≡ slot) × IsIn (d slot 8) (c slot 8)) c)
-    × ((first : Round) → IsPastFirst members change before live d first → (at : IsInNaming (members_at members first) change before live first e)
-    → members.newest.events + 2 + at.rounds < 2 ^ 62 → (c : Contents) → AreDrawn e c → IsReadInAdding scope known members change before live slot d (λ s. s ≡ slot) c)
+    × ((at : IsInFirst members change before live d e) → IsWithin at.mid.lost last → (c : Contents) → AreDrawn e c
+    → IsReadInAdding scope known members change before live last slot d (λ s. (s ≡ slot) × IsIn (d slot 8) (c slot 8)) c)
+    × ((first : Round) → IsPastFirst members change before live d first → (at : IsInNaming (members_at members first) change before live first e) → IsWithin at.start.lost last
+    → members.newest.events + 2 + at.rounds < 2 ^ 62 → (c : Contents) → AreDrawn e c → IsReadInAdding scope known members change before live last slot d (λ s. s ≡ slot) c)
 
 -- Its end: the slots are held by the superblocks that were planned, those that are left by these alone. Each that was lost is named, but
 -- perhaps for those that were lost last, or that slot.
@@ -129,5 +132,5 @@ pub record AreHeldAsAdded (scope : Scope) (members : Members) (change : Change) 
 -- where a live slot is left
 abbrev pub UpdateAddingEnds : Type 0
 UpdateAddingEnds = (scope : Scope) (known left lost : ℕ) (members : Members) (change : Change) (before live slot : ℕ) (d : ℕ → ℕ → List Sector) (last : Round)
-    → IsReadyToAdd scope known left lost members change live slot d → (past : ArePast members change before live d last) → members.newest.events + 2 + past.named.0 < 2 ^ 62
+    → IsReadyToAdd scope known left lost members change live slot d → (past : ArePast members change before live d last) → members.newest.events + 1 + past.named.0 < 2 ^ 62
     → (s : ℕ) × (has_slot live s ≡ true) × (has_slot last.lost s ≡ false) → AreHeldAsAdded scope members change before live slot last

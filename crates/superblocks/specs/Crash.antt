@@ -98,17 +98,17 @@ WholeEndReads = (scope : Scope) (known lost left : ℕ) (former newest : Sb) (gi
 
 -- ---- an update in which slots may be lost, but none that gets a recovery offset
 
--- each image that may be left reads as before the update, or as planned by one of its rounds
-abbrev pub EachReadsInUpdate : Scope → ℕ → Members → Change → ℕ → ℕ → (ℕ → ℕ → List Sector) → Type 0
-EachReadsInUpdate scope known members change before live e = (c : Contents) → AreDrawn e c → IsReadInUpdate scope known members change before live c
+-- each image that may be left reads as before the update, or as planned by one of its rounds, in which no others are named than these
+abbrev pub EachReadsInUpdate : Scope → ℕ → Members → Change → ℕ → ℕ → ℕ → (ℕ → ℕ → List Sector) → Type 0
+EachReadsInUpdate scope known members change before live last e = (c : Contents) → AreDrawn e c → IsReadInUpdate scope known members change before live last c
 
 -- at each of its marks: while slots are brought to the newest event count, in the first round, and in one that names lost slots
 abbrev pub UpdateInRoundsReads : Type 0
-UpdateInRoundsReads = (scope : Scope) (known left : ℕ) (members : Members) (change : Change) (before live : ℕ) (d e : ℕ → ℕ → List Sector) → IsReady scope known left members change live d
-    → (IsRewriting members.newest (replicate 32 Same) members.own live members.lost d e → EachReadsInUpdate scope known members change before live e)
-    × (IsInFirst members change before live d e → EachReadsInUpdate scope known members change before live e)
-    × ((first : Round) → IsPastFirst members change before live d first → (at : IsInNaming (members_at members first) change before live first e)
-    → members.newest.events + 2 + at.rounds < 2 ^ 62 → EachReadsInUpdate scope known members change before live e)
+UpdateInRoundsReads = (scope : Scope) (known left : ℕ) (members : Members) (change : Change) (before live last : ℕ) (d e : ℕ → ℕ → List Sector) → IsReady scope known left members change live d
+    → (IsRewriting members.newest (replicate 32 Same) members.own live members.lost d e → EachReadsInUpdate scope known members change before live last e)
+    × ((at : IsInFirst members change before live d e) → IsWithin at.mid.lost last → EachReadsInUpdate scope known members change before live last e)
+    × ((first : Round) → IsPastFirst members change before live d first → (at : IsInNaming (members_at members first) change before live first e) → IsWithin at.start.lost last
+    → members.newest.events + 2 + at.rounds < 2 ^ 62 → EachReadsInUpdate scope known members change before live last e)
 
 -- Its end: the slots are held by the superblocks that were planned, those that are left by these alone, and each image reads as they say.
 pub record AreHeldAsPlanned (scope : Scope) (members : Members) (change : Change) (before live : ℕ) (last : Round) : Type 0 where
@@ -128,5 +128,5 @@ pub record AreHeldAsPlanned (scope : Scope) (members : Members) (change : Change
 -- where a live slot is left
 abbrev pub UpdateInRoundsEnds : Type 0
 UpdateInRoundsEnds = (scope : Scope) (known left : ℕ) (members : Members) (change : Change) (before live : ℕ) (d : ℕ → ℕ → List Sector) (last : Round)
-    → IsReady scope known left members change live d → (past : ArePast members change before live d last) → members.newest.events + 2 + past.named.0 < 2 ^ 62
+    → IsReady scope known left members change live d → (past : ArePast members change before live d last) → members.newest.events + 1 + past.named.0 < 2 ^ 62
     → (s : ℕ) × (has_slot live s ≡ true) × (has_slot last.lost s ≡ false) → AreHeldAsPlanned scope members change before live last

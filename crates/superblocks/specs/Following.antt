@@ -27,10 +27,10 @@ IsFollowedBy scope members change before live last = IsSomeLeft live last.lost �
 
 abbrev pub UpdateMayFollow : Type 0
 UpdateMayFollow = (scope : Scope) (known left : ℕ) (members : Members) (change : Change) (before live : ℕ) (d : ℕ → ℕ → List Sector) (last : Round)
-    → IsReady scope known left members change live d → (past : ArePast members change before live d last) → members.newest.events + 2 + past.named.0 < 2 ^ 62
+    → IsReady scope known left members change live d → (past : ArePast members change before live d last) → members.newest.events + 1 + past.named.0 < 2 ^ 62
     → IsFollowedBy scope members change before live last
 
 abbrev pub AddingMayFollow : Type 0
 AddingMayFollow = (scope : Scope) (known left lost : ℕ) (members : Members) (change : Change) (before live slot : ℕ) (d : ℕ → ℕ → List Sector) (last : Round)
-    → IsReadyToAdd scope known left lost members change live slot d → (past : ArePast members change before live d last) → members.newest.events + 2 + past.named.0 < 2 ^ 62
+    → IsReadyToAdd scope known left lost members change live slot d → (past : ArePast members change before live d last) → members.newest.events + 1 + past.named.0 < 2 ^ 62
     → IsFollowedBy scope members change before live last

@@ -11,7 +11,7 @@ use Rattle.superblocks.specs.declared.change.Change.{Change}
 use Rattle.superblocks.specs.declared.members.Members.{Members}
 use Rattle.superblocks.specs.Update.{planned, give_of, own_in, is_recovery, with_roles}
 use Rattle.superblocks.specs.Updating.{AreOthersKept, AreRecoveriesKept, AreRecoveriesWritten, IsSomeLeft}
-use Rattle.superblocks.specs.Rounds.{Round, IsRewriting, first_newest, IsCatchingUpTo, IsCaughtUpTo, members_at, IsInNaming, IsNamed, IsReady}
+use Rattle.superblocks.specs.Rounds.{Round, IsRewriting, first_newest, IsCatchingUpTo, IsCaughtUpTo, members_at, IsInNamingUpTo, IsNamed, IsReady}
 use Rattle.superblocks.specs.Writing.{IsPlanned}
 use Rattle.superblocks.specs.Reads.{IsReadAs, held_in}
 use Rattle.superblocks.specs.Held.{AreDrawn, AreHeld, AreLevel, said_by}
@@ -93,11 +93,11 @@ pub record AreRecoveriesOver (members : Members) (change : Change) (before live 
   pub newest : ((over.lost ≡ members.lost) × (over.newest ≡ members.newest))
       ⊎ (over.newest ≡ record members.newest { dev_roles = with_roles members change before over.lost members.newest.dev_roles })
 
--- they are written, or the others are, by what names those that were lost
-abbrev pub AreTakenInTurn : Members → Change → ℕ → ℕ → (ℕ → ℕ → List Sector) → (ℕ → ℕ → List Sector) → Type 0
-AreTakenInTurn members change before live d e =
-    (IsRewriting members.newest change.gives members.own live members.lost d e × AreOthersKept change.gives d e)
-    ⊎ ((over : Round) × AreRecoveriesOver members change before live d over × IsRewriting over.newest change.gives members.own live over.lost over.disk e
+-- they are written, or the others are, by what names those that were lost, all of them among these last ones
+abbrev pub AreTakenInTurn : Members → Change → ℕ → ℕ → ℕ → (ℕ → ℕ → List Sector) → (ℕ → ℕ → List Sector) → Type 0
+AreTakenInTurn members change before live last d e =
+    (IsWithin members.lost last × IsRewriting members.newest change.gives members.own live members.lost d e × AreOthersKept change.gives d e)
+    ⊎ ((over : Round) × IsWithin over.lost last × AreRecoveriesOver members change before live d over × IsRewriting over.newest change.gives members.own live over.lost over.disk e
     × AreRecoveriesKept change.gives over.disk e)
 
 -- All were written. In this round the newest superblock is the one that the others got.
@@ -115,13 +115,14 @@ pub record IsPastTurns (members : Members) (change : Change) (before live : ℕ)
 abbrev pub planned_at : Members → Change → ℕ → Round → Members
 planned_at members change before mid = record members { newest = first_newest members change before mid.lost members.newest; lost = mid.lost }
 
--- a mark of an update: slots are brought to the newest event count, the first round goes on, or one that names lost slots
-abbrev pub IsInTurns : Members → Change → ℕ → ℕ → (ℕ → ℕ → List Sector) → (ℕ → ℕ → List Sector) → Type 0
-IsInTurns members change before live d e =
+-- A mark of an update that ends with these slots lost and this event count: slots are brought to the newest event count, the first round goes
+-- on, or one that names lost slots.
+abbrev pub IsInTurns : Members → Change → ℕ → ℕ → ℕ → ℕ → (ℕ → ℕ → List Sector) → (ℕ → ℕ → List Sector) → Type 0
+IsInTurns members change before live last events d e =
     IsCatchingUpTo members.newest members.own live members.lost d e
-    ⊎ (((mid : Round) × IsCaughtUpTo members.newest members.own live members.lost d mid × AreTakenInTurn (planned_at members change before mid) change before live mid.disk e)
+    ⊎ (((mid : Round) × IsCaughtUpTo members.newest members.own live members.lost d mid × AreTakenInTurn (planned_at members change before mid) change before live last mid.disk e)
     ⊎ ((mid : Round) × IsCaughtUpTo members.newest members.own live members.lost d mid × (first : Round) × IsPastTurns (planned_at members change before mid) change before live mid.disk first
-    × IsInNaming (members_at members first) change before live first e))
+    × IsInNamingUpTo (members_at members first) change before live last events first e))
 
 -- All rounds are over that name slots. Where the lost slots weren't these at their start, and a live one is left, there was one.
 abbrev pub IsNamedSince : Members → Change → ℕ → ℕ → ℕ → Round → Round → Type 0
@@ -138,7 +139,7 @@ pub record ArePastTurns (members : Members) (change : Change) (before live : ℕ
 
 -- While the slots that get a recovery offset are written, an image reads as before or as planned, also where one of them is lost then.
 abbrev pub RecoveriesRead : Type 0
-RecoveriesRead = (scope : Scope) (known left : ℕ) (members : Members) (change : Change) (before live : ℕ) (d e : ℕ → ℕ → List Sector) (mid : Round)
+RecoveriesRead = (scope : Scope) (known left : ℕ) (members : Members) (change : Change) (before live last : ℕ) (d e : ℕ → ℕ → List Sector) (mid : Round)
     → IsReady scope known left members change live d → IsCaughtUpTo members.newest members.own live members.lost d mid
-    → IsRewriting (planned_at members change before mid).newest change.gives members.own live mid.lost mid.disk e → AreOthersKept change.gives mid.disk e
-    → EachReadsInUpdate scope known members change before live e
+    → IsRewriting (planned_at members change before mid).newest change.gives members.own live mid.lost mid.disk e → AreOthersKept change.gives mid.disk e → IsWithin mid.lost last
+    → EachReadsInUpdate scope known members change before live last e

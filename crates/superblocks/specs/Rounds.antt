@@ -1,5 +1,5 @@
 -- An update in rounds: the first writes what is planned, and each further one names the slots that were lost since.
-use Rattle.std.specs.Prelude.{◌≡◌, ◌⊎◌, ℕ, zero, suc, ◌+◌, ◌-◌, ◌^◌, ◌<◌, ◌≤◌, min, find, [], true, false, List, Option, None, replicate}
+use Rattle.std.specs.Prelude.{◌≡◌, ◌⊎◌, ℕ, zero, suc, ◌+◌, ◌-◌, ◌^◌, ◌<◌, ◌≤◌, min, find, [], true, false, List, length, Option, None, replicate}
 use Rattle.md_base.specs.Sectors.{Sector}
 use Rattle.md_base.specs.Shapes.{has_slot}
 use Rattle.sb1.specs.declared.sb.Sb.{Sb}
@@ -69,7 +69,7 @@ pub record IsInNamingUpTo (members : Members) (change : Change) (before live las
   pub at : IsInNaming members change before live a e
   pub within : (s : ℕ) → has_slot at.start.lost s ≡ true → has_slot last s ≡ true
   pub earlier : at.start.newest.events ≤ events
-  pub this : ((naming members change before at.start.lost at.start.newest).events ≤ events) ⊎ ((s : ℕ) (v : Sector) → IsIn (e s 8) v → IsIn (at.start.disk s 8) v)
+  pub this : ((naming members change before at.start.lost at.start.newest).events ≤ events) ⊎ ((s : ℕ) → e s 8 ≡ at.start.disk s 8)
 
 -- all are over
 abbrev pub IsNamed : Members → Change → ℕ → ℕ → Round → Round → Type 0
@@ -146,8 +146,9 @@ pub record ArePast (members : Members) (change : Change) (before live : ℕ) (d 
 
 -- ---- what images read in it
 
--- An image reads as planned: by the superblocks that are planned for the live slots that weren't lost by then, with those named that were.
-pub record IsReadAsPlanned (scope : Scope) (members : Members) (change : Change) (before live : ℕ) (c : Contents) : Type 0 where
+-- An image reads as planned: by the superblocks that are planned for the live slots that weren't lost by then, with those named that were,
+-- all of them among these last ones.
+pub record IsReadAsPlanned (scope : Scope) (members : Members) (change : Change) (before live last : ℕ) (c : Contents) : Type 0 where
   pub newest : Sb
   pub named : ℕ
   pub lost : ℕ
@@ -155,8 +156,10 @@ pub record IsReadAsPlanned (scope : Scope) (members : Members) (change : Change)
   pub own : List (Option Sb)
   pub are : AreLeft live named left
   pub more : (s : ℕ) → has_slot members.lost s ≡ true → has_slot named s ≡ true
+  pub within : (s : ℕ) → has_slot named s ≡ true → has_slot last s ≡ true
   pub later : IsLater (planned_newest change.shared members.newest) newest
   pub plan : AreNamed members change before named newest
+  pub table : length newest.dev_roles ≡ 384
   pub kept : AreKept newest change.gives members.own left own
   pub reads : IsReadAs scope lost (said_by scope left own newest) c
 
@@ -167,9 +170,9 @@ pub record IsReadAsBefore (scope : Scope) (known : ℕ) (members : Members) (c :
   pub reads : IsReadAs scope lost (said_by scope known members.own members.newest) c
 
 -- it reads as before the update, or as planned
-abbrev pub IsReadInUpdate : Scope → ℕ → Members → Change → ℕ → ℕ → Contents → Type 0
-IsReadInUpdate scope known members change before live c =
-    IsReadAsBefore scope known members c ⊎ IsReadAsPlanned scope members change before live c
+abbrev pub IsReadInUpdate : Scope → ℕ → Members → Change → ℕ → ℕ → ℕ → Contents → Type 0
+IsReadInUpdate scope known members change before live last c =
+    IsReadAsBefore scope known members c ⊎ IsReadAsPlanned scope members change before live last c
 
 -- The start of an update: what is held, the slots that are live and weren't lost, each with its superblock alone, and a change that fits
 -- and whose other fields are right at any event count.

@@ -67,7 +67,7 @@ pub fn update<B: Bank>(members: &mut Members, bank: &mut B, change: &Change) -> 
         ArePast old change.now old.lost (live_set members.old change.now) (disk start (B.tape bank.old))
         (round_at members.new.newest members.new.lost start (B.tape bank.new)) }
     ensures turns { let old = with_added members.old change.now.added in let start = (B.given bank.old).start in EachMark B.tells start (B.tape bank.old) (B.tape bank.new)
-        (IsInTurns old change.now old.lost (live_set members.old change.now) (disk start (B.tape bank.old))) }
+        (IsInTurns old change.now old.lost (live_set members.old change.now) members.new.lost members.new.newest.events (disk start (B.tape bank.old))) }
     ensures turned { B.tells → let old = with_added members.old change.now.added in let start = (B.given bank.old).start in
         ArePastTurns old change.now old.lost (live_set members.old change.now) (disk start (B.tape bank.old))
         (round_at members.new.newest members.new.lost start (B.tape bank.new)) }

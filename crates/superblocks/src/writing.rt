@@ -159,7 +159,7 @@ fn write_planned<B: Bank>(
         ArePlanned members.old.newest change.now.gives members.old.own live members.new.lost (disk (B.given bank.old).start (B.tape bank.new)) }
     ensures unnamed { AreFirstKept change.now.gives members.old.lost members.new.lost → members.new.newest ≡ members.old.newest }
     ensures turns { let start = (B.given bank.old).start in EachMark B.tells start (B.tape bank.old) (B.tape bank.new)
-        (AreTakenInTurn members.old change.now before live (disk start (B.tape bank.old))) }
+        (AreTakenInTurn members.old change.now before live members.new.lost (disk start (B.tape bank.old))) }
     ensures over { B.tells → let start = (B.given bank.old).start in IsPastTurns members.old change.now before live (disk start (B.tape bank.old))
         (round_at members.new.newest members.new.lost start (B.tape bank.new)) }
     ensures grows { B.tells → IsSomeLeft live members.new.lost → length (B.tape bank.old) + 2 ≤ length (B.tape bank.new) }
@@ -286,7 +286,7 @@ pub fn write_update<B: Bank>(
     ensures past { AreFirstKept change.now.gives members.old.lost members.new.lost → B.tells → let start = (B.given bank.old).start in
         ArePast members.old change.now before live (disk start (B.tape bank.old)) (round_at members.new.newest members.new.lost start (B.tape bank.new)) }
     ensures turns { let start = (B.given bank.old).start in EachMark B.tells start (B.tape bank.old) (B.tape bank.new)
-        (IsInTurns members.old change.now before live (disk start (B.tape bank.old))) }
+        (IsInTurns members.old change.now before live members.new.lost members.new.newest.events (disk start (B.tape bank.old))) }
     ensures turned { B.tells → let start = (B.given bank.old).start in
         ArePastTurns members.old change.now before live (disk start (B.tape bank.old)) (round_at members.new.newest members.new.lost start (B.tape bank.new)) }
     ensures rise { RisesByOperations B.tells live members.new.lost members.old.newest.events members.new.newest.events (B.tape bank.old) (B.tape bank.new) }

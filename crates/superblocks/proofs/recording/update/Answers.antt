@@ -248,9 +248,15 @@ returns-clause-turns g c =
     let start = (g.B.Bank.given c.args.bank.now).start in
     let tape0 = g.B.Bank.tape c.args.bank.now in
     let tape1 = g.B.Bank.tape c.write_update.new.bank in
-    subst (λ (n : Members). EachMark g.B.Bank.tells start tape0 tape1 (IsInTurns n change n.lost (live_set m change) (disk start tape0))) c.take_added.ensures.members
-    (subst (λ (live : ℕ). EachMark g.B.Bank.tells start tape0 tape1 (IsInTurns c.take_added.new.members change c.take_added.new.members.lost live (disk start tape0))) c.live_slots-live.ensures
-    c.write_update.ensures.turns)
+    let d = disk start tape0 in
+    let w = c.write_update.new.members in
+    let taken = c.take_added.new.members in
+    let old : Members = with_added m change.added in
+    subst (λ (n : Sb). EachMark g.B.Bank.tells start tape0 tape1 (IsInTurns old change old.lost (live_set m change) c.keep_spares.new.members.lost n.events d)) (sym (same_newest g c))
+    (subst (λ (l : ℕ). EachMark g.B.Bank.tells start tape0 tape1 (IsInTurns old change old.lost (live_set m change) l w.newest.events d)) (sym (same_lost g c))
+    (subst (λ (n : Members). EachMark g.B.Bank.tells start tape0 tape1 (IsInTurns n change n.lost (live_set m change) w.lost w.newest.events d)) c.take_added.ensures.members
+    (subst (λ (live : ℕ). EachMark g.B.Bank.tells start tape0 tape1 (IsInTurns taken change taken.lost live w.lost w.newest.events d)) c.live_slots-live.ensures
+    c.write_update.ensures.turns)))
 
 pub returns-clause-turned : goal.returns-clause-turned
 returns-clause-turned g c = λ told.

@@ -175,10 +175,10 @@ returns-clause-turns g c =
     let m0 = c.args.members.now in
     let gives = c.args.change.now.gives in
     let start = (g.B.Bank.given c.args.bank.now).start in
-    let Mark = AreTakenInTurn m0 c.args.change.now c.args.before c.args.live (disk start (g.B.Bank.tape c.args.bank.now)) in
+    let Mark = AreTakenInTurn m0 c.args.change.now c.args.before c.args.live c.write_others.new.members.lost (disk start (g.B.Bank.tape c.args.bank.now)) in
     each_mark-then
-    (each_mark-map Mark (λ told e at. inl (rewriting m0.newest gives m0.own at.0.touched, at.1)) (each_mark-both c.write_recoveries.ensures.exact.marks c.write_recoveries.ensures.first))
-    (each_mark-map Mark (λ told e at. inr (Over_ g c, recoveries_over g c told, rewriting c.name_recoveries.new.members.newest gives m0.own at.0.touched, at.1))
+    (each_mark-map Mark (λ told e at. inl (λ s is. stay g c s (c.write_recoveries.ensures.losses.stay s is), rewriting m0.newest gives m0.own at.0.touched, at.1)) (each_mark-both c.write_recoveries.ensures.exact.marks c.write_recoveries.ensures.first))
+    (each_mark-map Mark (λ told e at. inr (Over_ g c, stay g c, recoveries_over g c told, rewriting c.name_recoveries.new.members.newest gives m0.own at.0.touched, at.1))
     (each_mark-both (exact_then g c).marks (then g c)))
 
 pub returns-clause-over : goal.returns-clause-over

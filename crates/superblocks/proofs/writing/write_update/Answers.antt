@@ -18,7 +18,7 @@ use Rattle.bank.proofs.Marks.{each_mark-map, each_mark-both, each_mark-then}
 use Rattle.superblocks.specs.declared.change.Give.{Give}
 use Rattle.superblocks.specs.Stages.{AreLeft, AreFirstKept, IsCatchingUp, IsCaughtUp, IsTaking, IsStaged, IsInUpdate}
 use Rattle.superblocks.specs.declared.change.Give.TheVariants.{Same}
-use Rattle.superblocks.specs.Rounds.{Round, round_at, first_newest, members_at, IsCaughtUpTo, IsFirstRewriting, IsPastFirst, IsInNaming, IsInNamingUpTo, IsNamed, IsInRounds}
+use Rattle.superblocks.specs.Rounds.{Round, round_at, first_newest, members_at, IsCaughtUpTo, IsFirstRewriting, IsPastFirst, IsInNamingUpTo, IsNamed, IsInRounds}
 use Rattle.superblocks.specs.Losing.{AreTakenInTurn, IsPastTurns, planned_at, IsInTurns, IsNamedSince}
 use Rattle.superblocks.proofs.Namings.{rewriting, rewritten, first_rewriting}
 use Rattle.superblocks.proofs.Exact.{catching, taking, left_live, left_not_lost}
@@ -434,12 +434,12 @@ module _ (g : Over) (c : After-name_lost g) where
       c.catch_up.ensures.members
 
   turns_then : EachMark g.B.Bank.tells (g.B.Bank.given c.args.bank.now).start (g.B.Bank.tape c.catch_up.new.bank) (g.B.Bank.tape c.write_planned.new.bank)
-      (AreTakenInTurn Planned c.args.change.now c.args.before c.args.live (disk (g.B.Bank.given c.args.bank.now).start (g.B.Bank.tape c.catch_up.new.bank)))
+      (AreTakenInTurn Planned c.args.change.now c.args.before c.args.live c.write_planned.new.members.lost (disk (g.B.Bank.given c.args.bank.now).start (g.B.Bank.tape c.catch_up.new.bank)))
   turns_then =
       let tape1 = g.B.Bank.tape c.catch_up.new.bank in
       let tape3 = g.B.Bank.tape c.write_planned.new.bank in
-      subst (λ (m : Members). EachMark g.B.Bank.tells (g.B.Bank.given c.args.bank.now).start tape1 tape3 (AreTakenInTurn m c.args.change.now c.args.before c.args.live (disk (g.B.Bank.given c.args.bank.now).start tape1))) planned_is
-      (subst (λ (b : Given). EachMark g.B.Bank.tells b.start tape1 tape3 (AreTakenInTurn c.plan_newest.new.members c.args.change.now c.args.before c.args.live (disk b.start tape1))) c.catch_up.ensures.given c.write_planned.ensures.turns)
+      subst (λ (m : Members). EachMark g.B.Bank.tells (g.B.Bank.given c.args.bank.now).start tape1 tape3 (AreTakenInTurn m c.args.change.now c.args.before c.args.live c.write_planned.new.members.lost (disk (g.B.Bank.given c.args.bank.now).start tape1))) planned_is
+      (subst (λ (b : Given). EachMark g.B.Bank.tells b.start tape1 tape3 (AreTakenInTurn c.plan_newest.new.members c.args.change.now c.args.before c.args.live c.write_planned.new.members.lost (disk b.start tape1))) c.catch_up.ensures.given c.write_planned.ensures.turns)
 
   past_turns : g.B.Bank.tells → IsPastTurns Planned c.args.change.now c.args.before c.args.live (disk (g.B.Bank.given c.args.bank.now).start (g.B.Bank.tape c.catch_up.new.bank)) First
   past_turns told =
@@ -456,14 +456,15 @@ module _ (g : Over) (c : After-name_lost g) where
       ∙ ap (λ (m : Members). record m { newest = m3.newest; lost = m3.lost }) c.catch_up.ensures.members
 
   naming_then : EachMark g.B.Bank.tells (g.B.Bank.given c.args.bank.now).start (g.B.Bank.tape c.write_planned.new.bank) (g.B.Bank.tape c.name_lost.new.bank)
-      (IsInNaming (members_at c.args.members.now First) c.args.change.now c.args.before c.args.live First)
+      (IsInNamingUpTo (members_at c.args.members.now First) c.args.change.now c.args.before c.args.live c.name_lost.new.members.lost c.name_lost.new.members.newest.events First)
   naming_then =
       let tape3 = g.B.Bank.tape c.write_planned.new.bank in
       let tape4 = g.B.Bank.tape c.name_lost.new.bank in
       let m3 = c.write_planned.new.members in
-      subst (λ (m : Members). EachMark g.B.Bank.tells (g.B.Bank.given c.args.bank.now).start tape3 tape4 (IsInNaming m c.args.change.now c.args.before c.args.live First)) members_then
-      (subst (λ (b : Given). EachMark g.B.Bank.tells b.start tape3 tape4 (IsInNaming m3 c.args.change.now c.args.before c.args.live (round_at m3.newest m3.lost b.start tape3))) (given_then g c)
-      (each_mark-map (IsInNaming m3 c.args.change.now c.args.before c.args.live (round_at m3.newest m3.lost (g.B.Bank.given c.write_planned.new.bank).start tape3)) (λ told e up. up.at) c.name_lost.ensures.naming))
+      let m4 = c.name_lost.new.members in
+      subst (λ (m : Members). EachMark g.B.Bank.tells (g.B.Bank.given c.args.bank.now).start tape3 tape4 (IsInNamingUpTo m c.args.change.now c.args.before c.args.live m4.lost m4.newest.events First)) members_then
+      (subst (λ (b : Given). EachMark g.B.Bank.tells b.start tape3 tape4 (IsInNamingUpTo m3 c.args.change.now c.args.before c.args.live m4.lost m4.newest.events (round_at m3.newest m3.lost b.start tape3))) (given_then g c)
+      c.name_lost.ensures.naming)
 
   named_then : g.B.Bank.tells → IsNamedSince (members_at c.args.members.now First) c.args.change.now c.args.before c.args.live c.catch_up.new.members.lost First
       (round_at c.name_lost.new.members.newest c.name_lost.new.members.lost (g.B.Bank.given c.args.bank.now).start (g.B.Bank.tape c.name_lost.new.bank))
@@ -476,15 +477,23 @@ module _ (g : Over) (c : After-name_lost g) where
       subst (λ (m : Members). IsNamedSince m c.args.change.now c.args.before c.args.live lost First (round_at m4.newest m4.lost (g.B.Bank.given c.args.bank.now).start tape4)) members_then
       (subst (λ (b : Given). IsNamedSince m3 c.args.change.now c.args.before c.args.live lost (round_at m3.newest m3.lost b.start tape3) (round_at m4.newest m4.lost b.start tape4)) (given_then g c) (c.name_lost.ensures.rounds told))
 
+  -- of those that are lost at the end
+  taken_later : (e : ℕ → ℕ → List Sector) → AreTakenInTurn Planned c.args.change.now c.args.before c.args.live c.write_planned.new.members.lost
+      (disk (g.B.Bank.given c.args.bank.now).start (g.B.Bank.tape c.catch_up.new.bank)) e
+      → AreTakenInTurn Planned c.args.change.now c.args.before c.args.live c.name_lost.new.members.lost (disk (g.B.Bank.given c.args.bank.now).start (g.B.Bank.tape c.catch_up.new.bank)) e
+  taken_later e (inl (within, stage, others)) = inl (λ s is. c.name_lost.ensures.losses.stay s (within s is), stage, others)
+  taken_later e (inr (over, within, recoveries, stage, kept)) = inr (over, λ s is. c.name_lost.ensures.losses.stay s (within s is), recoveries, stage, kept)
+
 pub returns-clause-turns : goal.returns-clause-turns
 returns-clause-turns g c =
     let m0 = c.args.members.now in
     let begin = (g.B.Bank.given c.args.bank.now).start in
-    let Mark = IsInTurns m0 c.args.change.now c.args.before c.args.live (disk begin (g.B.Bank.tape c.args.bank.now)) in
+    let m4 = c.name_lost.new.members in
+    let Mark = IsInTurns m0 c.args.change.now c.args.before c.args.live m4.lost m4.newest.events (disk begin (g.B.Bank.tape c.args.bank.now)) in
     each_mark-then (each_mark-map Mark (λ told e at. inl (record { stage = rewriting m0.newest (replicate 32 Same) m0.own at.0.touched; still = at.1 }))
     (each_mark-both c.catch_up.ensures.exact.marks c.catch_up.ensures.still))
     (each_mark-then
-    (each_mark-map Mark (λ told e at. inr (inl (Mid g c, caught_mid g c told, at))) (turns_then g c))
+    (each_mark-map Mark (λ told e at. inr (inl (Mid g c, caught_mid g c told, taken_later g c e at))) (turns_then g c))
     (each_mark-map Mark (λ told e at. inr (inr (Mid g c, caught_mid g c told, First g c, past_turns g c told, at))) (naming_then g c)))
 
 pub returns-clause-turned : goal.returns-clause-turned
