@@ -24,6 +24,7 @@ use Rattle.flat_history.specs.Plain.{loses_role, entries_of}
 use Rattle.flat_history.specs.OneShape.{ShapeOpening, is_lost, is_gone_now, IsOneShapeLegal, KeepShape}
 use Rattle.flat_history.proofs.OneShapeGone.{gone-lost}
 use Rattle.flat_history.proofs.OneShapeGrowing.{AreMissing, loss_events, found-legal, call-ends, entries-both}
+use Rattle.array.specs.Rebuilding.{HasNoRebuilt}
 use Rattle.array.specs.Adopting.{opener, found_loss, absent_loss, absent_losses}
 use Rattle.array.proofs.CallLaws.{GivesNone}
 use Rattle.array.proofs.NowLaws.{now-quiet}
@@ -134,6 +135,13 @@ absents-left who end [] are = refl
 absents-left who end (Lost role Absent ∷ xs) are = absents-left who end xs are
 absents-left who end (Lost role ByRecovering ∷ xs) are = absents-left who end xs are
 absents-left who end (event ∷ xs) are = absurd are
+
+-- they tell no role rebuilt
+pub absents-rebuilt : (who : Who) (end : ℕ) (xs : List Event) → AreAbsent xs → HasNoRebuilt (entries_of who end xs)
+absents-rebuilt who end [] are = refl
+absents-rebuilt who end (Lost role Absent ∷ xs) are = absents-rebuilt who end xs are
+absents-rebuilt who end (Lost role ByRecovering ∷ xs) are = absents-rebuilt who end xs are
+absents-rebuilt who end (event ∷ xs) are = absurd are
 
 pub absents-values : (who : Who) (end x : ℕ) (values : List Sector) (xs : List Event) → AreAbsent xs → fold (λ values e. values_after x values e.event) values (entries_of who end xs) ≡ values
 absents-values who end x values [] are = refl

@@ -22,6 +22,7 @@ use Rattle.flat_history.specs.Losses.{is_resync_end}
 use Rattle.flat_history.specs.Fits.{IsTornOf, AreTornOf}
 use Rattle.flat_history.specs.Plain.{loses_role, entries_of}
 use Rattle.flat_history.specs.OneShape.{gives_role, is_lost}
+use Rattle.array.specs.Rebuilding.{HasNoRebuilt}
 use Rattle.array.specs.Losing.{role_loss, role_losses, spare_loss, spare_losses, losses_of}
 use Rattle.array.proofs.PlainLaws.{one, last_end-call}
 use Rattle.array.proofs.LosingLaws.{entries-both}
@@ -89,6 +90,13 @@ ends-losses who end [] tail are = refl
 ends-losses who end (Lost role Fault ∷ xs) tail are = ends-losses who end xs tail are
 ends-losses who end (SpareLost slot ∷ xs) tail are = ends-losses who end xs tail are
 ends-losses who end (event ∷ xs) tail are = absurd are
+
+-- nor do they rebuild a role
+pub builds-losses : (who : Who) (end : ℕ) (xs tail : List Event) → AreLossEvents xs → HasNoRebuilt (entries_of who end tail) → HasNoRebuilt (entries_of who end (xs ++ tail))
+builds-losses who end [] tail are none = none
+builds-losses who end (Lost role Fault ∷ xs) tail are none = builds-losses who end xs tail are none
+builds-losses who end (SpareLost slot ∷ xs) tail are none = builds-losses who end xs tail are none
+builds-losses who end (event ∷ xs) tail are none = absurd are
 
 -- none of these entries gives a role back
 abbrev pub GivesNone : List Entry → Type 0

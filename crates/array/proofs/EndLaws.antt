@@ -1,5 +1,5 @@
 -- What is kept of an array whose resync ends.
-use Rattle.std.proofs.Common.{◌≡◌, ◌≢◌, ℕ, ◌+◌, ◌-◌, ◌*◌, ◌/◌, ◌<◌, ◌≤◌, ◌||◌, ◌&&◌, Bool, true, false, not, Option, Some, None, List, length, [], ◌∷◌, ◌++◌, refl, sym, ◌∙◌, ap, subst, arith}
+use Rattle.std.proofs.Common.{◌≡◌, ◌≢◌, ℕ, ◌*◌, ◌/◌, ◌<◌, ◌≤◌, ◌||◌, ◌&&◌, Bool, true, false, not, Option, Some, None, List, length, [], ◌∷◌, ◌++◌, refl, sym, ◌∙◌, ap, subst, arith}
 use Rattle.std.specs.Prelude.{IfSome}
 use Rattle.std.specs.List.{list_any}
 use Rattle.std.proofs.lemmas.Bool.Decides.{nat_tests}
@@ -22,14 +22,19 @@ use Rattle.array.specs.Placed.{IsPlaced}
 use Rattle.array.specs.Losing.{losses_of}
 use Rattle.array.specs.Marking.{AreOthersPresent}
 use Rattle.array.specs.Moving.{Grows, IsMoved}
+use Rattle.array.specs.declared.work.Work.{Work}
+use Rattle.array.specs.Rebuilding.{HasNoRebuilt}
 use Rattle.array.specs.Status.{stripes_of, left_of}
 use Rattle.array.specs.Lacking.{AreLostSince, mended_rows}
 use Rattle.array.specs.Kept.{world_in, IsKept}
-use Rattle.array.proofs.CallLaws.{losses-are, ends-losses}
+use Rattle.array.proofs.CallLaws.{losses-are, ends-losses, builds-losses}
 use Rattle.array.proofs.RecordLaws.{AreSilent}
 use Rattle.array.proofs.ReadyLaws.{AreStill, silent-behind, still-behind}
-use Rattle.array.proofs.StepLaws.{call-stepped, left-stepped}
-use Rattle.array.proofs.DegradedLaws.{LeavesSafe, LeavesResync, degraded-after, holds-still, whole-still, good-still, told-behind}
+use Rattle.array.proofs.StepLaws.{left-stepped}
+use Rattle.array.proofs.SteppedLaws.{call-stepping}
+use Rattle.array.proofs.StepsLeft.{left-ended}
+use Rattle.array.proofs.KeptLaws.{LeavesSafe, LeavesWork, built-still, whole-still}
+use Rattle.array.proofs.DegradedLaws.{stays-moved, degraded-after, holds-still, good-still, rebuilt-still, told-behind}
 
 -- ---- every stripe is mended
 
@@ -44,37 +49,35 @@ all-mended {members = members} placed all =
 pub enough-mended : {given : Given} {resync : Option ℕ} {members : Members} → IsPlaced given members → resync ≡ Some (stripes_of members) → members.newest.size ≤ mended_rows resync members
 enough-mended placed all = let same = all-mended placed all in omega (arith, same)
 
--- the end alone is left
-one-left : {resync : Option ℕ} (members : Members) → resync ≡ Some (stripes_of members) → 1 ≡ left_of resync members
-one-left members all = one (stripes_of members) ∙ sym (ap (λ (o : Option ℕ). left_of o members) all)
-  where
-    one : (n : ℕ) → 1 ≡ n - n + 1
-    one n = omega arith
-
 -- ---- the end
 
 pub end-silent : (who : Who) (end left : ℕ) → AreSilent who end (Step ResyncEnded left ∷ [])
 end-silent who end left = record { length = λ n. refl; limit = refl }
 
-module _ {tells : Type 0} {given : Given} {tape tape' : List Operation} {scope : Scope} {first : ℕ} {entries : List Entry} {members members' : Members} {resync : Option ℕ}
-    (who : Who) (end : ℕ) (was : IsKept tells given tape scope first entries members resync)
+module _ {tells : Type 0} {given : Given} {tape tape' : List Operation} {scope : Scope} {first : ℕ} {entries : List Entry} {members members' : Members} {work : Work}
+    (who : Who) (end : ℕ) (was : IsKept tells given tape scope first entries members work)
     (opens : IsCallOpen entries who) (caller : who.caller ≢ 254) (at_end : tells → end ≡ length tape')
     (moved : IsMoved given members members') (grows : Grows tells tape tape')
     (roles spares : ℕ) (before after : ℕ → ℕ) (since : AreLostSince members members' roles spares before after)
-    (all : resync ≡ Some (stripes_of members)) where
+    (all : work.resync ≡ Some (stripes_of members)) (steps : ℕ) (steps_are : steps ≡ left_of (record work { resync = None }) members') where
   abbrev ending : List Event
-  ending = losses_of roles spares ++ Step ResyncEnded 0 ∷ []
+  ending = losses_of roles spares ++ Step ResyncEnded steps ∷ []
 
-  -- no resync is pending behind it, and nothing is left
-  resync-ends : LeavesResync resync None members' entries (entries_of who end ending)
+  none-built : HasNoRebuilt (entries_of who end ending)
+  none-built = builds-losses who end (losses_of roles spares) (Step ResyncEnded steps ∷ []) (losses-are roles spares) refl
+
+  -- no resync is pending behind it
+  resync-ends : LeavesWork work (record work { resync = None }) members' entries (entries_of who end ending)
   resync-ends = record {
     begins = λ is. absurd (cc);
     progress = tt;
-    left = subst (λ (o : Option ℕ). IfSome o (λ n. n ≡ 0)) (sym (left-stepped entries who end (losses_of roles spares) ResyncEnded 0)) refl;
     pending = λ dirty is. ap (λ (b : Bool). dirty && not b)
         (list_any-append (λ e. is_resync_end e.event) entries (entries_of who end ending)
-        ∙ ap (λ (b : Bool). list_any (λ e. is_resync_end e.event) entries || b) (ends-losses who end (losses_of roles spares) (Step ResyncEnded 0 ∷ []) (losses-are roles spares)))
+        ∙ ap (λ (b : Bool). list_any (λ e. is_resync_end e.event) entries || b) (ends-losses who end (losses_of roles spares) (Step ResyncEnded steps ∷ []) (losses-are roles spares)))
         ∙ neither dirty (list_any (λ e. is_resync_end e.event) entries);
+    unbuilt = λ is. absurd (cc);
+    built = built-still who end was opens caller at_end (stays-moved was moved) grows (entries_of who end ending) none-built;
+    left = subst (λ (o : Option ℕ). IfSome o (λ n. n ≡ left_of (record work { resync = None }) members')) (sym (left-stepped entries who end (losses_of roles spares) ResyncEnded steps)) steps_are;
   }
     where
       neither : (a b : Bool) → (a && not (b || true)) ≡ false
@@ -84,17 +87,18 @@ module _ {tells : Type 0} {given : Given} {tape tape' : List Operation} {scope :
 
   -- What is kept behind it and the losses of its call. The rows of the whole array stand.
   pub degraded-ended : (tells → AreOthersPresent (present given tape) (present given tape'))
-      → LeavesSafe tells given tape' scope first (entries ++ entries_of who end (losses_of roles spares ++ Step ResyncEnded 0 ∷ [])) members' false
-      → IsKept tells given tape' scope first (entries ++ entries_of who end (losses_of roles spares ++ Step ResyncEnded 0 ∷ [])) members' None
+      → LeavesSafe tells given tape' scope first (entries ++ entries_of who end (losses_of roles spares ++ Step ResyncEnded steps ∷ [])) members' (record work { resync = None })
+      → IsKept tells given tape' scope first (entries ++ entries_of who end (losses_of roles spares ++ Step ResyncEnded steps ∷ [])) members' (record work { resync = None })
   degraded-ended others safe =
-      degraded-after who end was opens caller at_end moved grows (losses_of roles spares) (Step ResyncEnded 0)
-      (silent-behind who end (losses_of roles spares) (Step ResyncEnded 0) (losses-are roles spares) (end-silent who end 0)) resync-ends
-      (told-behind who end was opens caller at_end moved grows roles spares before after since (Step ResyncEnded 0 ∷ []) (λ role. refl))
-      (λ t fills. call-stepped (opening_in (world_in given tape scope first)) (left_of resync members) entries who end (losses_of roles spares) ResyncEnded 0 (losses-are roles spares) tt (one-left members all) was.left)
+      degraded-after who end was opens caller at_end moved grows (losses_of roles spares) (Step ResyncEnded steps)
+      (silent-behind who end (losses_of roles spares) (Step ResyncEnded steps) (losses-are roles spares) (end-silent who end steps)) resync-ends
+      (told-behind who end was opens caller at_end moved grows roles spares before after since (Step ResyncEnded steps ∷ []) (λ role. refl))
+      (λ t fills. call-stepping (opening_in (world_in given tape scope first)) (record work { resync = None }) (left_of work members) entries who end ResyncEnded steps moved since (left-ended work members all) was.left tt steps_are)
       (holds-still who end was opens caller at_end moved grows ending still others)
-      (whole-still who end was opens caller at_end moved grows ending still)
+      (whole-still who end was opens caller at_end (stays-moved was moved) grows ending still)
       (λ t does fit row below lt. good-still who end was opens caller at_end moved grows ending still others t does fit row (subst (λ (n : ℕ). row < n) (moved.size ∙ sym (all-mended was.placed all)) below) lt)
+      (rebuilt-still who end was opens caller at_end moved grows ending still others)
       safe
     where
       still : AreStill who end ending
-      still = still-behind who end (losses_of roles spares) (Step ResyncEnded 0) (losses-are roles spares) (λ x values. refl)
+      still = still-behind who end (losses_of roles spares) (Step ResyncEnded steps) (losses-are roles spares) (λ x values. refl)

@@ -13,14 +13,14 @@ use Rattle.row_io.specs.Rows.{reading_of, role_without, members_without}
 use Rattle.row_io.proofs.Losses.{state_after}
 use Rattle.array.specs.Placed.{is_vacant, IsPlaced, AreUnlost}
 use Rattle.array.specs.Moving.{IsMoved}
-use Rattle.array.proofs.MemberLaws.{placed-without, less-without, unlost-without}
-use Rattle.array.proofs.MovedLaws.{moved-less}
+use Rattle.array.proofs.MemberLaws.{placed-without, unlost-without}
+use Rattle.array.proofs.MovedLaws.{moved-without}
 use Rattle.bank.specs.Tape.{disk}
 use Rattle.bank.specs.declared.bank.Operation.{Operation}
 use Rattle.flat_history.specs.Sound.{OpensFit}
 use Rattle.array.specs.Safety.{HasLiveSlot, IsRisen}
 use Rattle.array.specs.Steady.{IsSafeOver}
-use Rattle.array.proofs.DegradedLaws.{NamesSafe}
+use Rattle.array.proofs.KeptLaws.{NamesSafe}
 use Rattle.array.proofs.LackingLaws.{holder-without}
 use Rattle.array.proofs.Steady.{losing-stays-safe}
 use Rattle.array.proofs.Without.{in-both, live-before}
@@ -35,7 +35,7 @@ module _ (given : Given) (m mid : Members) (lost slot role : ℕ) (was : IsPlace
   unlost-out = subst AreUnlost (sym is) (unlost-without m lost unlost)
 
   pub moved-out : IsMoved given m mid
-  moved-out = subst (IsMoved given m) (sym is) (moved-less given lost m (members_without lost m) (less-without m lost) was (placed-without given m lost was) (unlost-without m lost unlost) (λ few. few))
+  moved-out = subst (IsMoved given m) (sym is) (moved-without given m lost was unlost (λ s gone. (role, held ∙ ap (λ (n : ℕ). Some n) (eqb-true slot s (sym (alone s) ∙ gone)))))
 
   itself : (n : ℕ) → (n == n) ≡ true
   itself n = grind (arith, nat_tests)
@@ -93,4 +93,4 @@ module _ (m mid : Members) (lost : ℕ) (is : mid ≡ members_without lost m) wh
       (λ live. subst (λ (x : Members). x.newest.events + length after < 2 ^ 62 + length before) (sym is) (room (live-out live))) gone
       (λ dirty. unclean (sym clean-out ∙ dirty))
       (subst (λ (x : Members). IsSafeOver world given size told x before) (sym is)
-      (losing-stays-safe (OpensFit world) world.scope given size lost told told m (disk given.start before) (record { values = λ x lt v may. may; gone = λ role lost. lost; unclean = λ dirty. dirty }) safe))
+      (losing-stays-safe (OpensFit world) world.scope given size lost told told m (disk given.start before) (record { values = λ x lt v may. may; gone = λ role lost. lost; unclean = λ dirty. dirty; carried = λ number told. told }) safe))

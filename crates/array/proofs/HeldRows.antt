@@ -1,5 +1,5 @@
 -- The rows that slots hold of roles: of whole ones all, of recovering ones the first.
-use Rattle.std.proofs.Common.{◌≡◌, ◌⊎◌, inl, inr, ℕ, ◌+◌, ◌<◌, Bool, true, false, not, cond, nat_lt, List, get_or, Option, Some, None, is_some, option_map, refl, sym, ◌∙◌, ap, ap₂, arith}
+use Rattle.std.proofs.Common.{◌≡◌, ◌⊎◌, inl, inr, ℕ, ◌+◌, ◌<◌, Bool, true, false, not, cond, nat_lt, List, get_or, Option, Some, None, is_some, option_map, refl, sym, ◌∙◌, ap, ap₂, subst, arith}
 use Rattle.std.specs.Option.{option_map_or}
 use Rattle.std.proofs.lemmas.Bool.Decides.{nat_tests}
 use Rattle.md_base.specs.declared.status.Role.{Role}
@@ -74,10 +74,10 @@ sector-held c r role row slot held = of (is_held r role row) (holder (role_state
 -- ---- in the same array later
 
 -- a row that is held of a role that is as it was
-held-by : (a b : Reading) (role row slot : ℕ) → role_state a role ≡ role_state b role → ((state : Role) → rows_held a state ≡ rows_held b state)
+held-by : (a b : Reading) (role row slot : ℕ) → role_state a role ≡ role_state b role → rows_held a (role_state b role) ≡ rows_held b (role_state b role)
     → held_slot a role row ≡ Some slot → held_slot b role row ≡ Some slot
 held-by a b role row slot state rows held =
-    sym (ap (λ (n : ℕ). cond (nat_lt row n) (holder (role_state b role)) None) (rows (role_state b role))) ∙ sym (ap (λ (s : Role). held_as a s row) state) ∙ held
+    sym (ap (λ (n : ℕ). cond (nat_lt row n) (holder (role_state b role)) None) rows) ∙ sym (ap (λ (s : Role). held_as a s row) state) ∙ held
 
 -- a role that still has its slot is as it was
 pub state-less : (lost : ℕ) (old new : Members) → AreLess lost old new → (role slot : ℕ) → holder (role_state (reading_of new) role) ≡ Some slot
@@ -90,11 +90,12 @@ state-less lost old new less role slot held =
 -- and a row that its slot holds was held before
 pub held-less : (lost : ℕ) (old new : Members) → AreLess lost old new → (role row slot : ℕ) → held_slot (reading_of new) role row ≡ Some slot → held_slot (reading_of old) role row ≡ Some slot
 held-less lost old new less role row slot held =
-    held-by (reading_of new) (reading_of old) role row slot (state-less lost old new less role slot (holder-of (reading_of new) role row slot held)) less.rows held
+    held-by (reading_of new) (reading_of old) role row slot (state-less lost old new less role slot (holder-of (reading_of new) role row slot held)) (less.rows (role_state (reading_of old) role)) held
 
 pub held-moved : {given : Given} {old new : Members} → IsMoved given old new → (role row slot : ℕ) → held_slot (reading_of new) role row ≡ Some slot → held_slot (reading_of old) role row ≡ Some slot
 held-moved {old = old} {new = new} moved role row slot held =
-    held-by (reading_of new) (reading_of old) role row slot (moved.states role slot (holder-of (reading_of new) role row slot held)) moved.rows held
+    let same = moved.states role slot (holder-of (reading_of new) role row slot held) in
+    held-by (reading_of new) (reading_of old) role row slot same (subst (λ (s : Role). rows_held (reading_of new) s ≡ rows_held (reading_of old) s) same (moved.rows role)) held
 
 -- a role that was missing is missing
 pub missing-moved : {given : Given} {old new : Members} → IsMoved given old new → (role : ℕ) → is_missing (reading_of old) role ≡ true → is_missing (reading_of new) role ≡ true

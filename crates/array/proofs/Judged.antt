@@ -34,7 +34,7 @@ use Rattle.array.proofs.Allowed.{sector-allowed}
 use Rattle.array.proofs.Standing.{read-length, read-at, read-refused}
 
 -- the least number that passes is below, and passes
-least-found : (n : ℕ) (test : ℕ → Bool) (k : ℕ) → least_below n test ≡ Some k → (k < n) × (test k ≡ true)
+pub least-found : (n : ℕ) (test : ℕ → Bool) (k : ℕ) → least_below n test ≡ Some k → (k < n) × (test k ≡ true)
 unfolding least_below
 least-found zero test k is = absurd (cc)
 least-found (suc n) test k is = of (least_below n test) (test n) (least-found n test k) refl is
@@ -45,7 +45,7 @@ least-found (suc n) test k is = of (least_below n test) (test n) (least-found n 
     of None false rest passes e = absurd (cc)
 
 -- both pass
-both-parts : (a b : Bool) → (a && b) ≡ true → (a ≡ true) × (b ≡ true)
+pub both-parts : (a b : Bool) → (a && b) ≡ true → (a ≡ true) × (b ≡ true)
 both-parts true b e = (refl, e)
 both-parts false b e = absurd (cc)
 

@@ -1,5 +1,5 @@
 -- Losses that add up over the parts of a call, and what a mark leaves of holders' sectors.
-use Rattle.std.proofs.Common.{◌≡◌, ◌⊎◌, inl, inr, ℕ, ◌<◌, ◌&&◌, ◌==◌, nat_lt, max, bit_or, Bool, true, false, not, cond, List, [], ◌∷◌, get_or, Option, Some, None, is_some, refl, sym, ◌∙◌, ap, ap₂, subst, arith}
+use Rattle.std.proofs.Common.{◌≡◌, ◌⊎◌, inl, inr, ℕ, ◌<◌, ◌&&◌, ◌||◌, nat_lt, bit_or, Bool, true, false, not, cond, List, [], ◌∷◌, get_or, Option, Some, None, is_some, refl, sym, ◌∙◌, ap, ap₂, subst, arith}
 use Rattle.std.proofs.lemmas.Bool.{cases_lt}
 use Rattle.std.proofs.lemmas.Bool.Decides.{nat_tests}
 use Rattle.std.specs.Option.{option_map_or}
@@ -14,6 +14,7 @@ use Rattle.bank.specs.Tape.{disk}
 use Rattle.bank.proofs.Causes.{faulted_longer}
 use Rattle.superblocks.specs.declared.members.Members.{Members}
 use Rattle.superblocks.specs.Reading.{Reading, shape_of, role_state, holder}
+use Rattle.superblocks.specs.Reads.{has_spare}
 use Rattle.superblocks.proofs.SlotSets.{none_there}
 use Rattle.row_io.specs.Rows.{reading_of, present, is_missing, role_without}
 use Rattle.array.specs.Placed.{is_vacant, AreStillHeld, AreWhole, IsPlaced, AreLost, AreLess}
@@ -21,9 +22,9 @@ use Rattle.array.specs.Marking.{IsMarked}
 use Rattle.array.specs.Flushing.{AreMembersFlushed}
 use Rattle.array.specs.Moving.{IsMoved, AreFailed}
 use Rattle.row_io.proofs.Losses.{state_kept}
-use Rattle.std.proofs.lemmas.Nat.Bits.{bit_at_or}
 use Rattle.array.proofs.HeldRows.{missing-before, vacant-missing}
 use Rattle.array.proofs.MemberLaws.{less-without}
+use Rattle.array.proofs.Without.{in-both}
 use Rattle.array.specs.Lacking.{HaveFailedSince, AreLostSince, AreHoldersFlushed, AreTooMany, DoesWithout, lacking, refused_by, too_many}
 use Rattle.std.specs.Prelude.{MatchOption, ⊤, Result, Ok, Err}
 use Rattle.md_base.specs.Shapes.{tolerance}
@@ -42,13 +43,18 @@ pub holder-without : (lost slot : ℕ) (state : Role) → holder state ≡ Some 
 holder-without lost slot state held kept =
     ap (λ (h : Option ℕ). holder (cond (option_map_or (has_slot lost) h false) Missing state)) held ∙ ap (λ (b : Bool). holder (cond b Missing state)) kept ∙ held
 
+-- each spare is one still, or is among these
+abbrev pub ArePassedOn : Members → Members → ℕ → Type 0
+ArePassedOn old new spares = (slot : ℕ) → has_spare old.spares slot ≡ true → (has_spare new.spares slot ≡ true) ⊎ (has_slot spares slot ≡ true)
+
 -- members that lost these slots, where each that held a role has failed
 pub since-less : (lost spares : ℕ) (old new : Members) (before after : ℕ → ℕ) → AreLess lost old new
     → ((role slot : ℕ) → holder (role_state (reading_of old) role) ≡ Some slot → has_slot lost slot ≡ true → IsFaulted slot before after)
-    → ((slot : ℕ) → has_slot spares slot ≡ true → IsFaulted slot before after) → HaveFailedSince old new spares before after
-since-less lost spares old new before after less failed spares_failed = record {
+    → ((slot : ℕ) → has_slot spares slot ≡ true → IsFaulted slot before after) → ArePassedOn old new spares → HaveFailedSince old new spares before after
+since-less lost spares old new before after less failed spares_failed told = record {
   roles = λ role slot held. by role slot held (has_slot lost slot) refl;
   spares_are = spares_failed;
+  told = told;
 }
   where
     state-is : (role : ℕ) → role_state (reading_of new) role ≡ role_without lost (role_state (reading_of old) role)
@@ -59,14 +65,24 @@ since-less lost spares old new before after less failed spares_failed = record {
     by role slot held true gone = inr (failed role slot held gone)
     by role slot held false kept = inl (ap holder (state-is role) ∙ holder-without lost slot (role_state (reading_of old) role) held kept)
 
-pub since-failed : (old new : Members) (spares : ℕ) (before after : ℕ → ℕ) → AreFailed old new spares before after → HaveFailedSince old new spares before after
-since-failed old new spares before after failed = since-less new.lost spares old new before after failed.less failed.held failed.failed
+pub since-failed : (old new : Members) (spares : ℕ) (before after : ℕ → ℕ) → AreFailed old new spares before after → ArePassedOn old new spares → HaveFailedSince old new spares before after
+since-failed old new spares before after failed told = since-less new.lost spares old new before after failed.less failed.held failed.failed told
+
+-- a set of slots is made of these two
+pub record IsUnion (u s t : ℕ) : Type 0 where
+  pub parts : (slot : ℕ) → has_slot u slot ≡ true → (has_slot s slot ≡ true) ⊎ (has_slot t slot ≡ true)
+  pub first : (slot : ℕ) → has_slot s slot ≡ true → has_slot u slot ≡ true
+  pub second : (slot : ℕ) → has_slot t slot ≡ true → has_slot u slot ≡ true
 
 pub since-then : (a b c : Members) (s t u : ℕ) (f g h : ℕ → ℕ) → NeverFalls f g → NeverFalls g h → HaveFailedSince a b s f g → HaveFailedSince b c t g h
-    → ((slot : ℕ) → has_slot u slot ≡ true → (has_slot s slot ≡ true) ⊎ (has_slot t slot ≡ true)) → HaveFailedSince a c u f h
+    → IsUnion u s t → HaveFailedSince a c u f h
 since-then a b c s t u f g h early late one two either = record {
   roles = λ role slot held. by role slot (one.roles role slot held);
-  spares_are = λ slot has. spare slot (either slot has);
+  spares_are = λ slot has. spare slot (either.parts slot has);
+  told = λ slot has. elim (one.told slot has) [
+    | inl still ↦ elim (two.told slot still) [ inl last ↦ inl last | inr late ↦ inr (either.second slot late) ]
+    | inr early ↦ inr (either.first slot early)
+  ];
 }
   where
     first : (slot : ℕ) → IsFaulted slot f g → IsFaulted slot f h
@@ -87,10 +103,6 @@ since-then a b c s t u f g h early late one two either = record {
     spare slot (inl has) = first slot (one.spares_are slot has)
     spare slot (inr has) = second slot (two.spares_are slot has)
 
--- of the roles alone
-pub since-held : (old new : Members) (spares : ℕ) (before after : ℕ → ℕ) → HaveFailedSince old new spares before after → HaveFailedSince old new 0 before after
-since-held old new spares before after since = record { roles = since.roles; spares_are = λ slot has. absurd (let e = none_there slot in cc) }
-
 -- ---- the roles that have lost their slots since
 
 -- exactly the vacant roles are in the set
@@ -107,6 +119,7 @@ lost-since given old new disks was roles spares before after placed moved failed
   vacant = λ role lt is. old-or role (is_vacant (reading_of old) role) refl (subst (λ (n : ℕ). role < n) (sym same) (subst (λ (s : Shape). role < s.disks) moved.shape lt)) is;
   held = λ role has. at role (parts (nat_lt role disks) (is_vacant (reading_of new) role) (has_slot was role) (sym (newly role) ∙ has)) (holder (role_state (reading_of old) role)) refl;
   failed = failed.spares_are;
+  told = failed.told;
 }
   where
     lt-is : (a b : ℕ) → a < b → nat_lt a b ≡ true
@@ -185,22 +198,33 @@ holders-flushed given shape old new tape lost before after did flushed told role
 pub since-lost : (given : Given) (shape : Shape) (old new : Members) (lost : ℕ) (before after : ℕ → ℕ) → AreLost given shape old new lost before after → HaveFailedSince old new 0 before after
 since-lost given shape old new lost before after did =
     since-less lost 0 old new before after (subst (λ (m : Members). AreLess lost old m) (sym did.members) (less-without old lost)) (λ role slot held gone. (did.failed slot gone).0)
-    (λ slot has. absurd (let e = none_there slot in cc))
+    (λ slot has. absurd (let e = none_there slot in cc)) (λ slot has. inl (ap (λ (m : Members). has_spare m.spares slot) did.members ∙ has))
 
 -- ---- sets of spares
 
-either-is : (a b : ℕ) → (max a b == 1) ≡ true → ((a == 1) ≡ true) ⊎ ((b == 1) ≡ true)
-either-is a b e = by (a == 1) (b == 1) refl refl
+pub in-either : (s t : ℕ) → IsUnion (bit_or s t) s t
+in-either s t = record {
+  parts = λ slot has. parts (has_slot s slot) (has_slot t slot) (sym (in-both s t slot) ∙ has);
+  first = λ slot has. in-both s t slot ∙ ap (λ (b : Bool). b || has_slot t slot) has;
+  second = λ slot has. in-both s t slot ∙ right (has_slot s slot) (has_slot t slot) has;
+}
   where
-    by : (x y : Bool) → (a == 1) ≡ x → (b == 1) ≡ y → ((a == 1) ≡ true) ⊎ ((b == 1) ≡ true)
-    by true y one two = inl one
-    by false true one two = inr two
-    by false false one two = absurd (let no : (max a b == 1) ≡ false = grind (arith, nat_tests, one, two) in cc)
+    parts : (a b : Bool) → (a || b) ≡ true → (a ≡ true) ⊎ (b ≡ true)
+    parts true b e = inl refl
+    parts false b e = inr e
 
-pub in-either : (s t slot : ℕ) → has_slot (bit_or s t) slot ≡ true → (has_slot s slot ≡ true) ⊎ (has_slot t slot ≡ true)
-in-either s t slot has = either-is _ _ (sym (ap (λ (n : ℕ). n == 1) (bit_at_or s t slot)) ∙ has)
+    right : (a b : Bool) → b ≡ true → (a || b) ≡ true
+    right true b e = refl
+    right false b e = e
+
+-- no spare is in the first set
+pub in-second : (t : ℕ) → IsUnion t 0 t
+in-second t = record { parts = λ slot has. inr has; first = λ slot has. absurd (let e = none_there slot in cc); second = λ slot has. has }
 
 -- ---- nothing was done
+
+pub since-same : (m : Members) (before after : ℕ → ℕ) → HaveFailedSince m m 0 before after
+since-same m before after = record { roles = λ role slot held. inl held; spares_are = λ slot has. absurd (let e = none_there slot in cc); told = λ slot has. inl has }
 
 -- ---- refusals
 

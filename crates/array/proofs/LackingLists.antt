@@ -6,6 +6,7 @@ use Rattle.std.specs.Prelude.{Option, is_some}
 use Rattle.md_base.specs.Sectors.{Sector, IsWhole}
 use Rattle.md_base.specs.Shapes.{is_valid_shape}
 use Rattle.md_base.specs.declared.places.Shape.{Shape}
+use Rattle.md_base.specs.declared.status.Role.TheVariants.{Recovering}
 use Rattle.md_base.specs.declared.places.Place.{Place}
 use Rattle.bank.specs.Given.{Given}
 use Rattle.bank.specs.Tape.{Contents}
@@ -19,7 +20,7 @@ use Rattle.row_io.proofs.Losses.{holder-of}
 use Rattle.row_io.proofs.NewRow.{whole_sector}
 use Rattle.list_io.specs.Full.{full_sector, AreWholeIn, DataStands, RowStands}
 use Rattle.list_io.specs.Buffers.{buffered, AreTouched, AreStanding, IsTouched}
-use Rattle.list_io.specs.Writing.{IsWritten, AreDataFrom}
+use Rattle.list_io.specs.Writing.{IsWritten, AreDataFrom, HasFull}
 use Rattle.layout.proofs.Places.{place-role_below}
 use Rattle.array.specs.Rows.{row_sector}
 use Rattle.array.proofs.MemberLaws.{holder-is}
@@ -104,13 +105,18 @@ module _ (given : Given) (old mid new : Members) (one : IsMoved given old mid) (
     ]
   ]
 
+  -- what a holder has of a row is as it was before the first is written
+  between-there : (row role slot : ℕ) → holder (role_state (reading_of new) role) ≡ Some slot → between slot (data_offset_of (reading_of new) slot + row) ≡ before slot (data_offset_of (reading_of old) slot + row)
+  between-there row role slot held =
+      ap (λ (n : ℕ). between slot (n + row)) (both.offsets slot)
+      ∙ others slot (data_offset_of (reading_of old) slot + row) (λ e. absurd (let far = was.behind role slot (both.held role slot held) in omega (arith, e, far)))
+
   -- what a holder has of such a row is as it was
   kept-there : (row role slot : ℕ) → (Contains rows row → ⊥) → holder (role_state (reading_of new) role) ≡ Some slot
       → after slot (data_offset_of (reading_of new) slot + row) ≡ before slot (data_offset_of (reading_of old) slot + row)
   kept-there row role slot none held =
       done.others row (λ i low lt e. none (subst (λ (r : ℕ). Contains rows r) e (contains-at rows i lt))) role slot held
-      ∙ ap (λ (n : ℕ). between slot (n + row)) (both.offsets slot)
-      ∙ others slot (data_offset_of (reading_of old) slot + row) (λ e. absurd (let far = was.behind role slot (both.held role slot held) in omega (arith, e, far)))
+      ∙ between-there row role slot held
 
   module _ (row role slot : ℕ) (lt : role < (shape_of old.newest).disks) (held : held_slot (reading_of new) role row ≡ Some slot) where
     holds : holder (role_state (reading_of new) role) ≡ Some slot
@@ -170,6 +176,18 @@ module _ (given : Given) (old mid new : Members) (one : IsMoved given old mid) (
       let low : row < old.newest.size = subst (λ (n : ℕ). row < n) both.size below in
       let found = sector_there (shape_of old.newest) role row valid lt here in
       data-written row role slot lt held synced read found.0 found.1 (stands row low role slot lt here (held-moved both role row slot held)))
+
+  -- a row that was rebuilt on a recovering slot stays so
+  pub rebuilt-written : AreDataFrom 0 (shape_of old.newest) list rows buffer → (role slot row : ℕ) → role < (shape_of old.newest).disks → role_state (reading_of new) role ≡ Recovering slot
+      → HasFull (reading_of old) before (shape_of old.newest) list row role slot → HasFull (reading_of new) after (shape_of old.newest) list' row role slot
+  rebuilt-written has role slot row lt is full = elim (contains_or_not rows row) [
+    | inl there ↦
+        let at = index-of rows row there in
+        subst (λ (r : ℕ). between slot (data_offset_of (reading_of new) slot + r) ≡ full_sector (shape_of old.newest) list r role
+        → after slot (data_offset_of (reading_of new) slot + r) ≡ full_sector (shape_of old.newest) list' r role) at.2
+        (done.rebuilt list list' write has at.0 (omega arith) at.1 role slot lt is) (between-there row role slot (ap holder is) ∙ full)
+    | inr none ↦ kept-there row role slot none (ap holder is) ∙ full ∙ full-same (shape_of old.newest) list list' row valid (λ x at. outside row x none at) role lt
+  ]
 
   -- and a row with its parity, if it is touched or stood before, where its sectors are whole
   pub row-written : AreDataFrom 0 (shape_of old.newest) list rows buffer → ((x : ℕ) → first ≤ x → x < first + length from / 512 → IsSector (sector_of from (x - first)))

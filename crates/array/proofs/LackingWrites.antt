@@ -6,6 +6,7 @@ use Rattle.md_base.specs.Search.{least_below}
 use Rattle.md_base.proofs.Least.{least_below-only}
 use Rattle.md_base.specs.Sectors.{Sector}
 use Rattle.md_base.specs.declared.places.Shape.{Shape}
+use Rattle.md_base.specs.declared.status.Role.TheVariants.{Recovering}
 use Rattle.bank.specs.Given.{Given}
 use Rattle.bank.specs.declared.bank.Operation.{Operation}
 use Rattle.bank.specs.Tape.{Contents, EachMark, disk}
@@ -21,7 +22,8 @@ use Rattle.row_io.specs.Rows.{reading_of}
 use Rattle.row_io.proofs.Losses.{holder-of}
 use Rattle.list_io.specs.Calls.{HasRows, AreLost as IsListLost}
 use Rattle.list_io.specs.Buffers.{buffered, AreDistinct, AreStanding}
-use Rattle.list_io.specs.Writing.{IsWritten, AreDataFrom}
+use Rattle.list_io.specs.Full.{full_sector}
+use Rattle.list_io.specs.Writing.{IsWritten, AreDataFrom, HasFull}
 use Rattle.array.specs.Placed.{IsPlaced, AreLost}
 use Rattle.std.specs.Prelude.{Result, Ok, Err, OnOk, is_some}
 use Rattle.list_io.specs.declared.outcome.Unavailable.{Unavailable}
@@ -53,6 +55,15 @@ module _ (given : Given) (m : Members) (placed : IsPlaced given m) where
 
 -- ---- from one time to a later one
 
+-- a slot that recovers a role in the end did so before
+pub recovering-before : {given : Given} {mid new : Members} → IsMoved given mid new → (role slot : ℕ) → role_state (reading_of new) role ≡ Recovering slot → role_state (reading_of mid) role ≡ Recovering slot
+recovering-before moved role slot is = sym (moved.states role slot (ap holder is)) ∙ is
+
+-- and its place of a row is the same
+pub full-before : {given : Given} {mid new : Members} → IsMoved given mid new → (c : Contents) (shape : Shape) (list : ℕ → Sector) (row role slot : ℕ)
+    → HasFull (reading_of new) c shape list row role slot → HasFull (reading_of mid) c shape list row role slot
+full-before moved c shape list row role slot full = subst (λ (n : ℕ). c slot (n + row) ≡ full_sector shape list row role) (moved.offsets slot) full
+
 module _ (given : Given) (mid new : Members) (moved : IsMoved given mid new) (was : IsPlaced given mid) where
   -- a place that is held in the end, where no sector but superblocks has changed
   module _ (between after : Contents) (others : AreOthersPresent between after) where
@@ -71,6 +82,9 @@ module _ (given : Given) (mid new : Members) (moved : IsMoved given mid new) (wa
       full = λ list list' w has i from_start lt role slot l held.
           at-later role slot (slice_index rows i) (holder-of (reading_of new) role (slice_index rows i) slot held)
           ∙ did.full list list' w has i from_start lt role slot l (held-moved moved role (slice_index rows i) slot held);
+      rebuilt = λ list list' w has i from_start lt role slot l is full.
+          at-later role slot (slice_index rows i) (ap holder is)
+          ∙ did.rebuilt list list' w has i from_start lt role slot l (recovering-before moved role slot is) (full-before moved before shape list (slice_index rows i) role slot full);
       others = λ row none role slot held.
           at-later role slot row held ∙ did.others row none role slot (moved.held role slot held)
           ∙ ap (λ (n : ℕ). before slot (n + row)) (sym (moved.offsets slot));
@@ -78,12 +92,37 @@ module _ (given : Given) (mid new : Members) (moved : IsMoved given mid new) (wa
       standing = λ i from_next lt. standing-later shape (slice_index rows i) (buffered buffer' i) (did.standing i from_next lt);
     }
 
+-- a full sector of a slot that holds the role in the end stays, where no sector but superblocks has changed
+pub full-later : {given : Given} {mid new : Members} → IsMoved given mid new → IsPlaced given mid → {between after : Contents} → AreOthersPresent between after → (shape : Shape) (list : ℕ → Sector) (row role slot : ℕ)
+    → holder (role_state (reading_of new) role) ≡ Some slot → HasFull (reading_of mid) between shape list row role slot → HasFull (reading_of new) after shape list row role slot
+full-later {given = given} {mid = mid} {new = new} moved was {between = between} {after = after} others shape list row role slot held full =
+    at-later given mid new moved was between after others role slot row held ∙ full
+
 -- ---- one stretch after another
+
+-- the rows that aren't written yet still have the list's data
+pub data-later : (shape : Shape) → IsTrue (is_valid_shape shape) → (first : ℕ) (from rows : List ℕ) (a b : ℕ) → a ≤ b → (mid : Members) (before between : Contents) (x y : List ℕ) (list : ℕ → Sector)
+    → AreRowsWritten shape first from rows a b mid before between x y → AreDataFrom a shape list rows x → AreDataFrom b shape list rows y
+data-later shape valid first from rows a b ab mid before between x y list one has i from_b lt k there =
+    one.rest i (place shape k).role from_b lt (place-role_below shape valid k) ∙ has i (omega (arith, ab, from_b)) lt k there
 
 pub written-then : (given : Given) (mid new : Members) → IsMoved given mid new → IsPlaced given mid → (shape : Shape) → shape ≡ shape_of mid.newest → (first : ℕ) (from rows : List ℕ) → AreDistinct rows
     → (a b c : ℕ) → a ≤ b → c ≤ length rows → (before between after : Contents) (x y z : List ℕ) → AreRowsWritten shape first from rows a b mid before between x y
     → AreRowsWritten shape first from rows b c new between after y z → b ≤ c → AreRowsWritten shape first from rows a c new before after x z
 written-then given mid new moved was shape same first from rows once a b c ab within before between after x y z one two bc = record {
+  rebuilt = λ list list' w has i from_a lt. elim (cases_lt i b) [
+    | inl early ↦ (λ role slot l is full.
+        let row = slice_index rows i in
+        two.others row (λ j from_b lt' e. absurd (once i j (omega (arith, early, from_b)) (omega (arith, lt', within)) (sym e))) role slot (ap holder is)
+        ∙ ap (λ (n : ℕ). between slot (n + row)) (moved.offsets slot)
+        ∙ one.rebuilt list list' w has i from_a early role slot l (recovering-before moved role slot is) (full-before moved before shape list row role slot full))
+    | inr late ↦ (λ role slot l is full.
+        let row = slice_index rows i in
+        two.rebuilt list list' w (later list has) i late lt role slot l is
+        (ap (λ (n : ℕ). between slot (n + row)) (moved.offsets slot)
+        ∙ one.others row (λ j from_a lt' e. absurd (once j i (omega (arith, lt', late)) (omega (arith, lt, within)) e)) role slot (ap holder (recovering-before moved role slot is))
+        ∙ full-before moved before shape list row role slot full))
+  ];
   full = λ list list' w has i from_a lt. elim (cases_lt i b) [
     | inl early ↦ (λ role slot l held.
         let row = slice_index rows i in
@@ -91,8 +130,7 @@ written-then given mid new moved was shape same first from rows once a b c ab wi
         two.others row (λ j from_b lt' e. absurd (once i j (omega (arith, early, from_b)) (omega (arith, lt', within)) (sym e))) role slot holds
         ∙ ap (λ (n : ℕ). between slot (n + row)) (moved.offsets slot)
         ∙ one.full list list' w has i from_a early role slot l (held-moved moved role row slot held))
-    | inr late ↦ two.full list list' w (λ j from_b l k there.
-        one.rest j (place shape k).role from_b l (place-role_below shape (subst (λ (s : Shape). IsTrue (is_valid_shape s)) (sym same) was.valid) k) ∙ has j (omega (arith, ab, from_b)) l k there) i late lt
+    | inr late ↦ two.full list list' w (later list has) i late lt
   ];
   others = λ row none role slot held.
       two.others row (λ i from_b lt. none i (omega (arith, ab, from_b)) lt) role slot held
@@ -102,12 +140,10 @@ written-then given mid new moved was shape same first from rows once a b c ab wi
   rest = λ i role from_c lt l. two.rest i role from_c lt l ∙ one.rest i role (omega (arith, from_c, bc)) lt l;
   standing = two.standing;
 }
-
--- the rows that aren't written yet still have the list's data
-pub data-later : (shape : Shape) → IsTrue (is_valid_shape shape) → (first : ℕ) (from rows : List ℕ) (a b : ℕ) → a ≤ b → (mid : Members) (before between : Contents) (x y : List ℕ) (list : ℕ → Sector)
-    → AreRowsWritten shape first from rows a b mid before between x y → AreDataFrom a shape list rows x → AreDataFrom b shape list rows y
-data-later shape valid first from rows a b ab mid before between x y list one has i from_b lt k there =
-    one.rest i (place shape k).role from_b lt (place-role_below shape valid k) ∙ has i (omega (arith, ab, from_b)) lt k there
+  where
+    -- the rows that aren't written yet still have the list's data
+    later : (list : ℕ → Sector) → AreDataFrom a shape list rows x → AreDataFrom b shape list rows y
+    later list has = data-later shape (subst (λ (s : Shape). IsTrue (is_valid_shape s)) (sym same) was.valid) first from rows a b ab mid before between x y list one has
 
 -- ---- a list that has the data of these rows
 -- the first of these rows on which the sector has its place

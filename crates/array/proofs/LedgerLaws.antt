@@ -26,6 +26,8 @@ use Rattle.flat_history.specs.OneShape.{ShapeOpening, IsOneShapeEvent, AreOneSha
 use Rattle.flat_history.proofs.OneShapeGone.{gone-or_lost}
 use Rattle.flat_history.proofs.OneShapeGrowing.{gone-more}
 use Rattle.array.specs.Kept.{ledger_now}
+use Rattle.array.specs.declared.work.Work.{Work}
+use Rattle.array.specs.Numbers.{is_carried}
 use Rattle.array.specs.Views.{Ledger, ledger_of}
 use Rattle.array.specs.Steady.{IsSafeNow, IsMoreTold, settled_ledger}
 use Rattle.array.proofs.CallLaws.{AreLossEvents, GivesNone}
@@ -37,21 +39,35 @@ use Rattle.array.proofs.Steady.{losing-stays-safe}
 
 -- ---- the ledger of a call
 
--- by the history before the call and the first of its entries
-abbrev pub told_by : World → List Entry → List Entry → Ledger
-told_by world entries more = record {
+-- by the history before the call, the first of its entries, and the numbers that are known with it
+abbrev pub told_by : World → Work → List Entry → List Entry → Ledger
+told_by world work entries more = record {
   values = values_of (opening_list world) (entries ++ more);
   gone = is_gone_now (entries ++ more);
   unclean = is_unsynced world entries || (is_unsettled entries || list_any (λ e. unsettles e.event) more);
+  carried = is_carried work;
 }
 
+-- each number is told
+abbrev pub any_carried : Ledger → Ledger
+any_carried told = record told { carried = λ number. true }
+
+pub any-carried : (size : ℕ) (told : Ledger) → IsMoreTold size told (any_carried told)
+any-carried size told = record { values = λ x lt v may. may; gone = λ role is. is; unclean = λ is. is; carried = λ number is. refl }
+
+-- superblocks of the array bear no fewer numbers
+abbrev pub CarriesMore : Work → Work → Type 0
+CarriesMore old new = (number : ℕ) → is_carried old number ≡ true → is_carried new number ≡ true
+
 -- it judges a mark at which the call's entries aren't made yet, where the first of them give no role back
-pub told-ledger : (world : World) (entries more rest : List Entry) → GivesNone more → ledger_of world (entries ++ (more ++ rest)) (length entries) (length (entries ++ more)) ≡ told_by world entries more
-told-ledger world entries more rest none =
+pub told-ledger : (world : World) (work : Work) (entries more rest : List Entry) → GivesNone more
+    → ledger_of world (entries ++ (more ++ rest)) (length entries) (length (entries ++ more)) ≡ any_carried (told_by world work entries more)
+told-ledger world work entries more rest none =
     λ i. record {
       values = values_of (opening_list world) (first i);
       gone = λ role. gone role i;
       unclean = is_unsynced world (take-append_seam entries (more ++ rest) i) || (is_unsettled (take-append_seam entries (more ++ rest) i) || list_any (λ e. unsettles e.event) (range i));
+      carried = λ number. true;
     }
   where
     first : take (length (entries ++ more)) (entries ++ (more ++ rest)) ≡ entries ++ more
@@ -67,12 +83,13 @@ told-ledger world entries more rest none =
     gone role = (λ i. is_gone_now (take-append_seam entries (more ++ rest) i) role || is_lost (range i) role) ∙ sym (gone-or_lost entries more role (none role))
 
 -- the whole history's judges one at which each entry is made
-pub now-ledger : (world : World) (entries : List Entry) → ledger_of world entries (length entries) (length entries) ≡ ledger_now world entries
-now-ledger world entries =
+pub now-ledger : (world : World) (work : Work) (entries : List Entry) → ledger_of world entries (length entries) (length entries) ≡ any_carried (ledger_now world work entries)
+now-ledger world work entries =
     λ i. record {
       values = values_of (opening_list world) (take-length entries i);
       gone = λ role. gone role i;
       unclean = is_unsynced world (take-length entries i) || unwritten i;
+      carried = λ number. true;
     }
   where
     none : (test : Entry → Bool) (n : ℕ) (l : List Entry) → n ≡ 0 → list_any test (take n l) ≡ false
@@ -229,13 +246,14 @@ unsynced-more world entries more none = pending-more (was_dirty world) entries m
 pub none-lost-before : (entries more : List Entry) → ((role : ℕ) → is_lost (entries ++ more) role ≡ false) → (role : ℕ) → is_lost entries role ≡ false
 none-lost-before entries more none role = (neither (is_lost entries role) (is_lost more role) (sym (list_any-append (λ e. loses_role role e.event) entries more) ∙ none role)).0
 
-module _ (world : World) (size : ℕ) (entries more : List Entry) (adds : OnlyAdd more) where
+module _ (world : World) (size : ℕ) (old work : Work) (carries : CarriesMore old work) (entries more : List Entry) (adds : OnlyAdd more) where
   -- a call tells more than the history before it
-  pub told-more : IsMoreTold size (ledger_now world entries) (told_by world entries more)
+  pub told-more : IsMoreTold size (ledger_now world old entries) (told_by world work entries more)
   told-more = record {
     values = λ x lt v may. subst (λ (l : List Sector). IsIn l v) (sym (values-more (opening_list world) entries more x)) (adds.values x (values_of (opening_list world) entries x) v may);
     gone = λ role is. gone-more role entries more (adds.gives role) is;
     unclean = λ is. by (is_unsynced world entries) (is_unsettled entries) is;
+    carried = carries;
   }
     where
       by : (a b : Bool) → (a || b) ≡ true → (a || (b || list_any (λ e. unsettles e.event) more)) ≡ true
@@ -243,15 +261,16 @@ module _ (world : World) (size : ℕ) (entries more : List Entry) (adds : OnlyAd
       by false b e = or_left b (list_any (λ e. unsettles e.event) more) e
 
   -- and its end no less than the call
-  pub told-now : IsMoreTold size (told_by world entries more) (ledger_now world (entries ++ more))
+  pub told-now : IsMoreTold size (told_by world work entries more) (ledger_now world work (entries ++ more))
   told-now = record {
     values = λ x lt v may. may;
     gone = λ role is. is;
     unclean = λ is. ap₂ (λ (a b : Bool). a || b) (unsynced-more world entries more (none-ends more adds.settles)) (unsettled-more entries more adds.settles) ∙ is;
+    carried = λ number is. is;
   }
 
   -- what was unclean before the call is told so
-  pub told-unclean : (unsynced : Bool) → is_unsynced world entries ≡ unsynced → (unsynced || is_unsettled entries) ≡ true → (told_by world entries more).unclean ≡ true
+  pub told-unclean : (unsynced : Bool) → is_unsynced world entries ≡ unsynced → (unsynced || is_unsettled entries) ≡ true → (told_by world work entries more).unclean ≡ true
   told-unclean unsynced same is = told-more.unclean (ap (λ (b : Bool). b || is_unsettled entries) same ∙ is)
 
 -- what is told of an array is told if more is
@@ -341,11 +360,12 @@ torn-in at body x values has is = subst (λ (b : Bool). IsIn (cond b (behind (se
 -- ---- what is settled
 
 -- A flush or a stop behind the call's losses leaves each sector its newest value, and so does the end of a resync.
-pub settled-now : (world : World) (size : ℕ) (unsynced : Bool) (entries more rest : List Entry) → is_unsynced world (entries ++ (more ++ rest)) ≡ unsynced
+pub settled-now : (world : World) (size : ℕ) (work : Work) (unsynced : Bool) (entries more rest : List Entry) → is_unsynced world (entries ++ (more ++ rest)) ≡ unsynced
     → ((x : ℕ) → x < size → IsIn (values_of (opening_list world) (entries ++ (more ++ rest)) x) (now (opening_list world) entries x)) → GivesNone rest
-    → IsMoreTold size (settled_ledger unsynced (now (opening_list world) entries) (told_by world entries more)) (ledger_now world (entries ++ (more ++ rest)))
-settled-now world size unsynced entries more rest dirty newest none = record {
+    → IsMoreTold size (settled_ledger unsynced (now (opening_list world) entries) (told_by world work entries more)) (ledger_now world work (entries ++ (more ++ rest)))
+settled-now world size work unsynced entries more rest dirty newest none = record {
   values = λ x lt v only. elim only [ inl same ↦ subst (λ (w : Sector). IsIn (values_of (opening_list world) (entries ++ (more ++ rest)) x) w) (sym same) (newest x lt) | inr none ↦ absurd none ];
   gone = λ role is. subst (λ (l : List Entry). is_gone_now l role ≡ true) (append_assoc entries more rest) (gone-more role (entries ++ more) rest (none role) is);
   unclean = λ is. or_left (is_unsynced world (entries ++ (more ++ rest))) (is_unsettled (entries ++ (more ++ rest))) (dirty ∙ is);
+  carried = λ number is. is;
 }

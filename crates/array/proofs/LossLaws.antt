@@ -21,25 +21,30 @@ use Rattle.flat_history.specs.Transfers.{last_end_from}
 use Rattle.array.specs.Placed.{AreStillHeld}
 use Rattle.array.specs.Losing.{losses_of, failure_events}
 use Rattle.array.specs.Lacking.{AreLostSince}
-use Rattle.array.specs.Calls.{IsLossOf, AreLossesOf, IsEndOf, IsBehind, IsSettling, is_torn, has_torn}
+use Rattle.array.specs.Calls.{Held, IsLossBy, AreLossesBy, AreLossesOf, IsEndOf, IsBehind, IsSettling, is_torn, has_torn}
 use Rattle.array.proofs.PlainLaws.{one}
 use Rattle.array.proofs.LosingLaws.{entries-both, no-losses}
 use Rattle.array.proofs.CallLaws.{all-losses, last_end-behind}
 
--- losses, and events behind them that tell of none
-losses-tail : (old after : Members) (before now : ℕ → ℕ) (entries mid new : List Entry) (who : Who) (end roles spares : ℕ) (tail : List Event) → AreLostSince old after roles spares before now
-    → All (λ e. IsLossOf old before now e.event) (entries_of who end tail) → mid ≡ entries → new ≡ mid ++ entries_of who end (losses_of roles spares ++ tail) → AreLossesOf old before now entries new
-losses-tail old after before now entries mid new who end roles spares tail since rest mid_is is = record {
-  more = entries_of who end (losses_of roles spares ++ tail);
-  grown = is ∙ ap (λ (l : List Entry). l ++ entries_of who end (losses_of roles spares ++ tail)) mid_is;
-  failed = all-losses (λ event. IsLossOf old before now event) who end roles spares tail since.held since.failed rest;
-}
+-- Losses, and events behind them that tell of none; each role that was lost was held by a slot that may have had it.
+module _ (Had : ℕ → ℕ → Type 0) (old after : Members) (had : (role slot : ℕ) → Held old role slot → Had role slot) (before now : ℕ → ℕ) (entries mid new : List Entry) (who : Who) (end roles spares : ℕ)
+    (since : AreLostSince old after roles spares before now) (mid_is : mid ≡ entries) where
+  pub losses-tail : (tail : List Event) → All (λ e. IsLossBy Had before now e.event) (entries_of who end tail) → new ≡ mid ++ entries_of who end (losses_of roles spares ++ tail) → AreLossesBy Had before now entries new
+  losses-tail tail rest is = record {
+    more = entries_of who end (losses_of roles spares ++ tail);
+    grown = is ∙ ap (λ (l : List Entry). l ++ entries_of who end (losses_of roles spares ++ tail)) mid_is;
+    failed = all-losses (λ event. IsLossBy Had before now event) who end roles spares tail (λ role has. let lost = since.held role has in (lost.0, had role lost.0 lost.1, lost.2)) since.failed rest;
+  }
 
+  pub losses-before : (event : Event) → IsLossBy Had before now event → new ≡ mid ++ entries_of who end (losses_of roles spares ++ event ∷ []) → AreLossesBy Had before now entries new
+  losses-before event none is =
+      losses-tail (event ∷ []) (All-cons (λ e. IsLossBy Had before now e.event) (one who end event) [] none (All-nil (λ e. IsLossBy Had before now e.event))) is
+
+-- where roles are only lost
 pub losses-behind : (old after : Members) (before now : ℕ → ℕ) (entries mid new : List Entry) (who : Who) (end roles spares : ℕ) (event : Event) → AreLostSince old after roles spares before now
-    → IsLossOf old before now event → mid ≡ entries → new ≡ mid ++ entries_of who end (losses_of roles spares ++ event ∷ []) → AreLossesOf old before now entries new
+    → IsLossBy (Held old) before now event → mid ≡ entries → new ≡ mid ++ entries_of who end (losses_of roles spares ++ event ∷ []) → AreLossesOf old before now entries new
 losses-behind old after before now entries mid new who end roles spares event since none mid_is is =
-    losses-tail old after before now entries mid new who end roles spares (event ∷ []) since
-    (All-cons (λ e. IsLossOf old before now e.event) (one who end event) [] none (All-nil (λ e. IsLossOf old before now e.event))) mid_is is
+    losses-before (Held old) old after (λ role slot held. held) before now entries mid new who end roles spares since mid_is event none is
 
 assoc : (xs : List Event) (x y : Event) → (xs ++ x ∷ []) ++ y ∷ [] ≡ xs ++ x ∷ y ∷ []
 assoc [] x y = refl
@@ -48,9 +53,9 @@ assoc (z ∷ xs) x y = ap (λ (l : List Event). z ∷ l) (assoc xs x y)
 pub losses-failure : (old after : Members) (before now : ℕ → ℕ) (entries mid new : List Entry) (who : Who) (end roles spares : ℕ) (torn : Bool) (at : ℕ) (body : List Sector) (refusal : Refusal)
     → AreLostSince old after roles spares before now → mid ≡ entries → new ≡ mid ++ entries_of who end (failure_events roles spares torn at body refusal) → AreLossesOf old before now entries new
 losses-failure old after before now entries mid new who end roles spares true at body refusal since mid_is is =
-    losses-tail old after before now entries mid new who end roles spares (Torn at body ∷ Refused refusal ∷ []) since
-    (All-cons (λ e. IsLossOf old before now e.event) (one who end (Torn at body)) (one who end (Refused refusal) ∷ []) tt
-    (All-cons (λ e. IsLossOf old before now e.event) (one who end (Refused refusal)) [] tt (All-nil (λ e. IsLossOf old before now e.event)))) mid_is
+    losses-tail (Held old) old after (λ role slot held. held) before now entries mid new who end roles spares since mid_is (Torn at body ∷ Refused refusal ∷ [])
+    (All-cons (λ e. IsLossBy (Held old) before now e.event) (one who end (Torn at body)) (one who end (Refused refusal) ∷ []) tt
+    (All-cons (λ e. IsLossBy (Held old) before now e.event) (one who end (Refused refusal)) [] tt (All-nil (λ e. IsLossBy (Held old) before now e.event))))
     (is ∙ ap (λ (l : List Event). mid ++ entries_of who end l) (assoc (losses_of roles spares) (Torn at body) (Refused refusal)))
 losses-failure old after before now entries mid new who end roles spares false at body refusal since mid_is is =
     losses-behind old after before now entries mid new who end roles spares (Refused refusal) since tt mid_is is
@@ -61,9 +66,9 @@ pub losses-failed : (old out after : Members) (before now : ℕ → ℕ) (entrie
 losses-failed old out after before now entries mid new who end role slot roles spares still since held mid_is is = record {
   more = entries_of who end ((Lost role Command ∷ losses_of roles spares) ++ Failed role ∷ []);
   grown = is ∙ ap (λ (l : List Entry). l ++ entries_of who end ((Lost role Command ∷ losses_of roles spares) ++ Failed role ∷ [])) mid_is;
-  failed = All-cons (λ e. IsLossOf old before now e.event) (one who end (Lost role Command)) (entries_of who end (losses_of roles spares ++ Failed role ∷ [])) (slot, held)
-      (all-losses (λ event. IsLossOf old before now event) who end roles spares (Failed role ∷ []) (λ r has. let h = since.held r has in (h.0, still r h.0 h.1, h.2)) since.failed
-      (All-cons (λ e. IsLossOf old before now e.event) (one who end (Failed role)) [] tt (All-nil (λ e. IsLossOf old before now e.event))));
+  failed = All-cons (λ e. IsLossBy (Held old) before now e.event) (one who end (Lost role Command)) (entries_of who end (losses_of roles spares ++ Failed role ∷ [])) (slot, held)
+      (all-losses (λ event. IsLossBy (Held old) before now event) who end roles spares (Failed role ∷ []) (λ r has. let h = since.held r has in (h.0, still r h.0 h.1, h.2)) since.failed
+      (All-cons (λ e. IsLossBy (Held old) before now e.event) (one who end (Failed role)) [] tt (All-nil (λ e. IsLossBy (Held old) before now e.event))));
 }
 
 -- ---- where a call ended
@@ -87,9 +92,9 @@ behind-alone {old = old} {mid = mid} who end event mid_is is = record {
   is = is ∙ ap (λ (l : List Entry). l ++ entries_of who end (event ∷ [])) mid_is ∙ ap (λ (l : List Event). old ++ entries_of who end (l ++ event ∷ [])) (sym no-losses);
 }
 
-pub settling-no-loss : (members : Members) (before now : ℕ → ℕ) (event : Event) → IsSettling event → IsLossOf members before now event
-settling-no-loss members before now event (inl is) = subst (IsLossOf members before now) (sym is) tt
-settling-no-loss members before now event (inr is) = subst (IsLossOf members before now) (sym is) tt
+pub settling-no-loss : (members : Members) (before now : ℕ → ℕ) (event : Event) → IsSettling event → IsLossBy (Held members) before now event
+settling-no-loss members before now event (inl is) = subst (IsLossBy (Held members) before now) (sym is) tt
+settling-no-loss members before now event (inr is) = subst (IsLossBy (Held members) before now) (sym is) tt
 
 -- ---- torn writes
 

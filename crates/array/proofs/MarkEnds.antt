@@ -57,7 +57,7 @@ pub live-either : (m : Members) (clean other : Bool) (s : ℕ) → has_slot (liv
 live-either m clean other s is = live-is m other s ∙ sym (live-is m clean s) ∙ is
 
 -- without a reshape there are as many roles as disks
-count-is : (m : Members) → is_reshaping m.newest ≡ false → role_count m.newest ≡ (shape_of m.newest).disks
+pub count-is : (m : Members) → is_reshaping m.newest ≡ false → role_count m.newest ≡ (shape_of m.newest).disks
 count-is m still =
     ap (λ (target : Option Shape). max (shape_of m.newest).disks (unwrap_or target (shape_of m.newest)).disks)
     (ap (λ (b : Bool). cond b (Some (record { level = m.newest.new_level; layout = m.newest.new_layout; chunk = m.newest.new_chunk; disks = m.newest.raid_disks })) None) still)

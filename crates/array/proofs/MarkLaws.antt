@@ -171,7 +171,7 @@ one-more : (b : Bool) (n : ℕ) → length (if b then n ∷ [] else []) ≤ 1
 one-more true n = omega arith
 one-more false n = omega arith
 
-few-below : (n : ℕ) (test : ℕ → Bool) → length (slots_below n test) ≤ n
+pub few-below : (n : ℕ) (test : ℕ → Bool) → length (slots_below n test) ≤ n
 unfolding slots_below
 few-below zero test = omega arith
 few-below (suc n) test =

@@ -11,7 +11,7 @@ use Rattle.bank.specs.Tape.{disk}
 use Rattle.superblocks.specs.declared.members.Members.{Members}
 use Rattle.superblocks.specs.Reading.{Scope, is_clean}
 use Rattle.superblocks.specs.Updating.{IsSomeLeft}
-use Rattle.superblocks.specs.Outcome.{live_set}
+use Rattle.superblocks.specs.Outcome.{live_set, is_left}
 use Rattle.superblocks.specs.Crash.{IsWithin}
 use Rattle.row_io.specs.Rows.{members_without}
 use Rattle.array.specs.Whole.{list_size}
@@ -20,11 +20,13 @@ use Rattle.array.specs.Marking.{marking, IsMarked}
 use Rattle.array.specs.Safety.{HasLiveSlot, HasRoomLeft}
 use Rattle.array.proofs.MemberLaws.{less-without}
 use Rattle.array.specs.Rounds.{IsRoundOf, IsHeldSince, marked_without, IsMarkedInRounds}
+use Rattle.array.specs.Numbers.{AreCarried}
 use Rattle.array.specs.Views.{Ledger, AreHeldAllowed, IsViewRight, AreViewsRight}
 use Rattle.array.specs.Steady.{IsSafeNow, IsSteady, IsSpent, IsNamedNow, IsSafeStretch, IsMarkable, MarkStaysSafe}
 use Rattle.array.proofs.ReadOf.{disk-somewhere}
 use Rattle.array.proofs.Marked.{mark-read, mark-held}
 use Rattle.array.proofs.Since.{since-none}
+use Rattle.array.proofs.Carried.{numbers-updated}
 use Rattle.array.proofs.ViewsKept.{view-kept, list-same, allowed-less, settled-less, did-without, missing-in}
 use Rattle.array.proofs.MarkEnds.{some-or-none, live-either, round-less, round-placed, round-clean, left-in-mark, none-left, new-placed, new-clean, others-kept, nothing-marked}
 use Rattle.array.proofs.Steady.{safe-is-seen}
@@ -74,7 +76,7 @@ module _ (sound : Type 0) (scope : Scope) (given : Given) (size : ℕ) (told : L
   -- ---- from where the superblocks are held
 
   module _ (markable : IsMarkable sound clean told old new (disk given.start before)) (former : Members) (since : IsHeldSince scope former old (disk given.start before))
-      (right : IsViewRight sound given size told former (disk given.start before)) where
+      (right : IsViewRight sound given size told former (disk given.start before)) (numbers : AreCarried scope told.carried former.own (disk given.start before)) where
     sized-old : list_size (places_of old) ≡ size
     sized-old = ap (λ (o : Members). list_size (places_of o)) since.since ∙ right.sized
 
@@ -125,6 +127,8 @@ module _ (sound : Type 0) (scope : Scope) (given : Given) (size : ℕ) (told : L
       since = since-none scope new (disk given.start after) (mark-held m scope former since tt some);
       right = at-end (IsViewRight sound given size told new)
           (λ n low high. view-at n low high new (view-marked new.lost new m.less (new-placed m) (new-clean m) (λ s is. is)));
+      numbers = numbers-updated scope given told.carried former old new (marking old clean) new.newest new.lost (is_left (live_set old (marking old clean)) new.lost) before after
+          tt refl m.marked.update m.marked.own since numbers;
     }
 
     next-spent : (IsSomeLeft (live_set old (marking old clean)) new.lost → ⊥) → IsSpent sound scope given size told new (disk given.start after)
@@ -138,7 +142,7 @@ module _ (sound : Type 0) (scope : Scope) (given : Given) (size : ℕ) (told : L
 
 pub mark-stays-safe : (sound : Type 0) → MarkStaysSafe sound
 mark-stays-safe sound scope given size told clean old new before after m markable (inl steady) =
-    steady-marked sound scope given size told clean old new before after m markable steady.former steady.since steady.right
+    steady-marked sound scope given size told clean old new before after m markable steady.former steady.since steady.right steady.numbers
 mark-stays-safe sound scope given size told clean old new before after m markable (inr spent) =
     spent-marked sound scope given size told clean old new before after m.marked m.less spent.right spent.none
 
@@ -158,7 +162,7 @@ pub mark-stays-named : (sound : Type 0) (scope : Scope) (given : Given) (size : 
 unfolding next-held
 mark-stays-named sound scope given size told clean old new before after m markable (inl steady) left = ⊎_elim
     (λ some. record {
-      steady = next-held sound scope given size told clean old new before after m markable steady.former steady.since steady.right some;
+      steady = next-held sound scope given size told clean old new before after m markable steady.former steady.since steady.right steady.numbers some;
       roles = refl;
     })
     (λ none. absurd (none-left m none left)) (some-or-none old clean new.lost)

@@ -13,13 +13,13 @@ use Rattle.superblocks.specs.declared.change.Give.{Give}
 use Rattle.superblocks.specs.declared.change.Give.TheVariants.{Same}
 use Rattle.superblocks.specs.declared.members.Members.{Members}
 use Rattle.superblocks.specs.Reading.{Scope, is_reshaping}
-use Rattle.superblocks.specs.Update.{planned, give_of, own_in, is_held_by, is_recovery, is_planned_spare}
+use Rattle.superblocks.specs.Update.{planned, give_of, own_in, is_held_by, is_planned_spare}
 use Rattle.superblocks.specs.Updating.{IsSomeLeft}
 use Rattle.superblocks.specs.Outcome.{live_set, IsStored, IsPlannedOwn}
 use Rattle.superblocks.specs.Reads.{has_spare}
 use Rattle.superblocks.specs.Held.{IsStamped, said_by}
 use Rattle.superblocks.specs.Stages.{AreLeft, AreKept}
-use Rattle.superblocks.specs.Rounds.{Round, round_at, IsReady}
+use Rattle.superblocks.specs.Rounds.{Round, round_at, IsReady, IsReadAsPlanned}
 use Rattle.superblocks.specs.Following.{AreHeldAlone}
 use Rattle.superblocks.specs.Said.{AreSaid}
 use Rattle.superblocks.proofs.StageReads.{held-reads}
@@ -27,13 +27,13 @@ use Rattle.superblocks.proofs.SaidSlots.{has-slots_below}
 use Rattle.superblocks.proofs.RoundReads.{left_set, left-are, fit-of}
 use Rattle.superblocks.proofs.Following.{next-held}
 use Rattle.row_io.specs.Rows.{role_without, members_without}
-use Rattle.array.specs.Marking.{marking}
+use Rattle.array.specs.Marking.{resync_of, marking}
 use Rattle.array.specs.Held.{IsHeldBy}
 use Rattle.array.proofs.MarkLaws.{give_of-same}
 use Rattle.array.specs.Readings.{IsReadAmong, AreReadAmong}
 use Rattle.array.specs.Rounds.{IsRoundOf, marked_without, IsMarkedInRounds, AreReadInMark, IsReadInMark, IsHeldAfterMark, MarkIsRead, MarkIsHeld}
 use Rattle.array.proofs.ReadOf.{read-of, read-among, disk-somewhere, said-of, still-read}
-use Rattle.array.proofs.InRounds.{IsReadByRound, in-rounds, in-the-end}
+use Rattle.array.proofs.InRounds.{in-rounds, in-the-end}
 use Rattle.array.proofs.Without.{any-without, live-is}
 use Rattle.array.proofs.Ready.{Live, Left, ready, live-known, known-small}
 use Rattle.array.proofs.Planned.{roles-are, spares-are, said-after}
@@ -53,47 +53,44 @@ module _ (tells : Type 0) (scope : Scope) (given : Given) (clean : Bool) (former
   first-room : former.newest.events + 1 < 2 ^ 62
   first-room = let later = m.marked.newest.events in omega (arith, later, room)
 
-  start : IsReady scope held.known (Left scope former gone clean (disk given.start before) held) Old (marking Old clean) (Live scope former gone clean (disk given.start before) held) (disk given.start before)
-  start = ready scope former gone clean (disk given.start before) held first-room
-
-  plain : (s : ℕ) → is_recovery (give_of (replicate 32 Same) s) ≡ false
-  plain s = ap is_recovery (give_of-same 32 s)
+  start : IsReady scope held.known (Left scope former gone (resync_of clean) (disk given.start before) held) Old (marking Old clean) (Live scope former gone (resync_of clean) (disk given.start before) held) (disk given.start before)
+  start = ready scope former gone (resync_of clean) (disk given.start before) held first-room
 
   -- ---- at each mark
 
-  by-round : (c : Contents) → IsReadByRound scope Old (marking Old clean) Old.lost (Live scope former gone clean (disk given.start before) held) new.lost c → IsReadAmong scope Among c
+  by-round : (c : Contents) → IsReadAsPlanned scope Old (marking Old clean) Old.lost (Live scope former gone (resync_of clean) (disk given.start before) held) new.lost c → IsReadAmong scope Among c
   by-round c r = record {
     found = r.reads.found;
     is = r.reads.is;
     members = marked_without r.named Old clean;
     among = inr (record { lost = r.named; more = r.more; within = r.within; is = refl });
     same = read-of scope r.lost (marked_without r.named Old clean) (said_by scope r.left r.own r.newest) c
-        (said-after scope former gone clean (disk given.start before) held given m.placed first-room r.named r.left r.newest r.own r.are r.more (λ s is isnt. m.marked.live s (r.within s is) isnt) r.later r.plan r.table r.kept)
+        (said-after scope former gone (resync_of clean) (disk given.start before) held given m.placed first-room r.named r.left r.newest r.own r.are r.more (λ s is isnt. m.marked.live s (r.within s is) isnt) r.later r.plan r.table r.kept)
         r.reads;
   }
 
   pub read-at : (n : ℕ) → length before ≤ n → n ≤ length after → AreReadAmong scope Among (disk given.start (take n after))
   read-at n low high = read-among scope Among (disk given.start (take n after)) (disk-somewhere given (take n after)) (λ c drawn. ⊎_elim
       (λ r. record {
-        found = r.1.found;
-        is = r.1.is;
+        found = r.reads.found;
+        is = r.reads.is;
         members = former;
         among = inl refl;
-        same = read-of scope r.0 former (said_by scope held.known former.own former.newest) c (said-of scope held.known former held.said m.placed.still) r.1;
+        same = read-of scope r.lost former (said_by scope held.known former.own former.newest) c (said-of scope held.known former held.said m.placed.still) r.reads;
       })
       (λ r. by-round c r)
-      (in-rounds scope Old (marking Old clean) Old.lost (Live scope former gone clean (disk given.start before) held) held.known (Left scope former gone clean (disk given.start before) held) (disk given.start before) start plain
+      (in-rounds scope Old (marking Old clean) Old.lost (Live scope former gone (resync_of clean) (disk given.start before) held) held.known (Left scope former gone (resync_of clean) (disk given.start before) held) (disk given.start before) start
       new.lost new.newest.events (disk given.start (take n after)) c room (m.marked.rounds.each told n low high) drawn))
 
   -- ---- at the end
 
   module _ (some : IsSomeLeft (live_set Old (marking Old clean)) new.lost) where
     abbrev Rest : ℕ
-    Rest = left_set 32 (Live scope former gone clean (disk given.start before) held) new.lost
+    Rest = left_set 32 (Live scope former gone (resync_of clean) (disk given.start before) held) new.lost
 
-    rest-are : AreLeft (Live scope former gone clean (disk given.start before) held) new.lost Rest
-    rest-are = left-are 32 (Live scope former gone clean (disk given.start before) held) new.lost
-        (λ s is. known-small scope former gone clean (disk given.start before) held s (live-known scope former gone clean (disk given.start before) held s is))
+    rest-are : AreLeft (Live scope former gone (resync_of clean) (disk given.start before) held) new.lost Rest
+    rest-are = left-are 32 (Live scope former gone (resync_of clean) (disk given.start before) held) new.lost
+        (λ s is. known-small scope former gone (resync_of clean) (disk given.start before) held s (live-known scope former gone (resync_of clean) (disk given.start before) held s is))
 
     abbrev Last : Round
     Last = round_at new.newest new.lost given.start after
@@ -101,10 +98,10 @@ module _ (tells : Type 0) (scope : Scope) (given : Given) (clean : Bool) (former
     alone : AreHeldAlone scope Rest new.lost new.newest new.own (disk given.start after)
     alone =
         let past = m.marked.past told in
-        let at = in-the-end scope Old (marking Old clean) Old.lost (Live scope former gone clean (disk given.start before) held) held.known (Left scope former gone clean (disk given.start before) held) (disk given.start before) start plain
+        let at = in-the-end scope Old (marking Old clean) Old.lost (Live scope former gone (resync_of clean) (disk given.start before) held) held.known (Left scope former gone (resync_of clean) (disk given.start before) held) (disk given.start before) start
         Last past room some in
-        next-held scope Old (marking Old clean) Old.lost (Live scope former gone clean (disk given.start before) held) held.known (Left scope former gone clean (disk given.start before) held) (λ s. ⊥)
-        (fit-of scope held.known (Left scope former gone clean (disk given.start before) held) Old (marking Old clean) (Live scope former gone clean (disk given.start before) held) (disk given.start before) start)
+        next-held scope Old (marking Old clean) Old.lost (Live scope former gone (resync_of clean) (disk given.start before) held) held.known (Left scope former gone (resync_of clean) (disk given.start before) held) (λ s. ⊥)
+        (fit-of scope held.known (Left scope former gone (resync_of clean) (disk given.start before) held) Old (marking Old clean) (Live scope former gone (resync_of clean) (disk given.start before) held) (disk given.start before) start)
         past.named.0 Last at (m.marked.named some) new.own m.marked.own Rest rest-are
 
     kept : AreKept new.newest (replicate 32 Same) former.own Rest new.own
@@ -117,9 +114,9 @@ module _ (tells : Type 0) (scope : Scope) (given : Given) (clean : Bool) (former
     said : AreSaid scope Rest new
     said = record {
       roles = m.less.roles
-          ∙ sym (roles-are scope former gone clean (disk given.start before) held given m.placed first-room new.lost Rest new.newest new.own rest-are m.marked.stay m.marked.live m.marked.newest (m.marked.named some) alone.held.table kept);
+          ∙ sym (roles-are scope former gone (resync_of clean) (disk given.start before) held given m.placed first-room new.lost Rest new.newest new.own rest-are m.marked.stay m.marked.live m.marked.newest (m.marked.named some) alone.held.table kept);
       spares = m.marked.spares
-          ∙ sym (spares-are scope former gone clean (disk given.start before) held given m.placed first-room new.lost Rest new.newest new.own rest-are m.marked.stay m.marked.live m.marked.newest (m.marked.named some) alone.held.table kept);
+          ∙ sym (spares-are scope former gone (resync_of clean) (disk given.start before) held given m.placed first-room new.lost Rest new.newest new.own rest-are m.marked.stay m.marked.live m.marked.newest (m.marked.named some) alone.held.table kept);
     }
 
     spares-new : (s : ℕ) → has_spare new.spares s ≡ (nat_lt s 32 && (not (has_slot new.lost s) && (has_spare former.spares s || false)))

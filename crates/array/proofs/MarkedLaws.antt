@@ -1,5 +1,5 @@
 -- What a mark leaves of an array whose roles are whole.
-use Rattle.std.proofs.Common.{◌≡◌, inl, inr, ℕ, ◌≤◌, Bool, true, false, List, [], ◌∷◌, ◌++◌, length, take, drop, take_all, refl, sym, ◌∙◌, ap, arith}
+use Rattle.std.proofs.Common.{◌≡◌, ◌≢◌, inl, inr, ℕ, ◌≤◌, Bool, true, false, List, [], ◌∷◌, ◌++◌, length, take, drop, take_all, refl, sym, ◌∙◌, ap, arith}
 use Rattle.std.proofs.lemmas.List.{take-append-drop}
 use Rattle.std.specs.Prelude.{slice_index_or}
 use Rattle.md_base.specs.Sectors.{Sector}
@@ -9,7 +9,7 @@ use Rattle.bank.specs.Tape.{Contents, Kept, EachMark, disk, value_after}
 use Rattle.bank.specs.declared.bank.Operation.{Operation}
 use Rattle.bank.proofs.Laws.{choices-present}
 use Rattle.superblocks.specs.declared.members.Members.{Members}
-use Rattle.superblocks.specs.Updating.{AreLosses}
+use Rattle.superblocks.specs.Updating.{AreLosses, IsUpdate}
 use Rattle.row_io.specs.Rows.{present}
 use Rattle.array.specs.Placed.{AreUnlost, AreLess}
 use Rattle.array.specs.Marking.{IsMarked, AreOthersPresent}
@@ -35,14 +35,22 @@ head-kept v w old now before after (inr first) = ap (λ (l : List Sector). slice
     twice [] = refl
     twice (x ∷ l) = refl
 
-pub others-present : {tells : Type 0} {given : Given} {clean : Bool} {old new : Members} {before after : List Operation} → IsMarked tells given clean old new before after → tells
-    → AreOthersPresent (present given before) (present given after)
-others-present {given = given} {before = before} {after = after} marked told s k other =
-    head-kept (present given before s k) (present given after s k) (disk given.start before s k) (disk given.start after s k) (first before) (first after) ((marked.update.end told).touched.elsewhere s k other)
+-- where no other sector has new values
+pub others-of : (given : Given) (before after : List Operation) → ((s k : ℕ) → k ≢ 8 → Kept (disk given.start before s k) (disk given.start after s k)) → AreOthersPresent (present given before) (present given after)
+others-of given before after kept s k other =
+    head-kept (present given before s k) (present given after s k) (disk given.start before s k) (disk given.start after s k) (first before) (first after) (kept s k other)
   where
     first : (tape : List Operation) → take 1 (disk given.start tape s k) ≡ present given tape s k ∷ []
     first tape = choices-present s k (given.start s k) [] tape
         ∙ ap (λ (l : List Operation). value_after s k (given.start s k) l ∷ []) (sym (take_all (length tape) tape (le_refl (length tape))))
+
+pub others-updated : {tells : Type 0} {live lost lost' : ℕ} {Written : ℕ → Sector → Type 0} (given : Given) {before after : List Operation} → IsUpdate tells live lost lost' Written given.start before after → tells
+    → AreOthersPresent (present given before) (present given after)
+others-updated given {before = before} {after = after} update told = others-of given before after (λ s k other. (update.end told).touched.elsewhere s k other)
+
+pub others-present : {tells : Type 0} {given : Given} {clean : Bool} {old new : Members} {before after : List Operation} → IsMarked tells given clean old new before after → tells
+    → AreOthersPresent (present given before) (present given after)
+others-present {given = given} marked told = others-updated given marked.update told
 
 -- ---- the members
 

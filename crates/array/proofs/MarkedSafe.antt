@@ -24,7 +24,7 @@ use Rattle.array.proofs.ViewsKept.{settled-less, did-without}
 
 -- ---- a mark, over a bank that tells its contents
 
-told-marks : {tells : Type 0} {start : ℕ → ℕ → Sector} {old new : List Operation} {P : (ℕ → ℕ → List Sector) → Type 0} → tells → EachMark tells start old new P → EachMark ⊤ start old new P
+pub told-marks : {tells : Type 0} {start : ℕ → ℕ → Sector} {old new : List Operation} {P : (ℕ → ℕ → List Sector) → Type 0} → tells → EachMark tells start old new P → EachMark ⊤ start old new P
 told-marks told marks = record { longer = λ u. marks.longer told; earlier = λ u. marks.earlier told; each = λ u. marks.each told }
 
 told-mark : {tells : Type 0} {given : Given} {clean : Bool} {old new : Members} {before after : List Operation} → tells → IsMarked tells given clean old new before after → IsMarked ⊤ given clean old new before after
@@ -117,4 +117,4 @@ pub lost-safe : (sound : Type 0) (scope : Scope) (given : Given) (size : ℕ) (t
     → OnlyFlushesAdded before after → IsSafeNow sound scope given size told old (disk given.start before) → IsSafeStretch sound scope given size told new before after
 lost-safe sound scope given size told old new lost before after is added safe = flushed-safe sound scope given size told new before after added
     (subst (λ (m : Members). IsSafeNow sound scope given size told m (disk given.start before)) (sym is)
-    (losing-stays-safe sound scope given size lost told told old (disk given.start before) (record { values = λ x lt v may. may; gone = λ role told. told; unclean = λ told. told }) safe))
+    (losing-stays-safe sound scope given size lost told told old (disk given.start before) (record { values = λ x lt v may. may; gone = λ role told. told; unclean = λ told. told; carried = λ number told. told }) safe))

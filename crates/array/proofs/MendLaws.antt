@@ -1,9 +1,10 @@
 -- What is kept of an array whose next stripe is mended.
-use Rattle.std.proofs.Common.{◌≡◌, ◌≢◌, inl, inr, ℕ, ◌+◌, ◌-◌, ◌*◌, ◌<◌, ◌||◌, Bool, true, false, Option, Some, None, List, [], ◌∷◌, ◌++◌, refl, sym, ◌∙◌, ap, subst, arith, length}
+use Rattle.std.proofs.Common.{◌≡◌, ◌≢◌, inl, inr, ℕ, ◌+◌, ◌*◌, ◌<◌, ◌≤◌, ◌||◌, true, false, Option, Some, None, List, [], ◌∷◌, ◌++◌, refl, sym, ◌∙◌, ap, subst, arith, length}
 use Rattle.std.specs.Prelude.{IfSome, is_some, IsSome, unwrap_or, slice_index_or}
 use Rattle.std.proofs.lemmas.Bool.{cases_lt}
 use Rattle.md_base.specs.Sectors.{Sector}
 use Rattle.md_base.specs.declared.places.Shape.{Shape}
+use Rattle.md_base.specs.declared.status.Role.TheVariants.{Recovering}
 use Rattle.md_base.specs.declared.answers.Who.{Who}
 use Rattle.md_base.specs.declared.answers.Refusal.{Refusal}
 use Rattle.bank.specs.Given.{Given}
@@ -11,9 +12,10 @@ use Rattle.bank.specs.Tape.{IsIn}
 use Rattle.bank.specs.declared.bank.Operation.{Operation}
 use Rattle.layout.proofs.Places.{place-sector_below}
 use Rattle.superblocks.specs.declared.members.Members.{Members}
-use Rattle.superblocks.specs.Reading.{Scope, shape_of, is_clean}
+use Rattle.superblocks.specs.Reading.{Scope, shape_of, is_clean, role_state}
 use Rattle.row_io.specs.Rows.{reading_of, present}
 use Rattle.list_io.specs.Full.{AreWholeIn, RowStands}
+use Rattle.list_io.specs.Writing.{HasFull}
 use Rattle.flat_history.specs.declared.events.Entry.{Entry}
 use Rattle.flat_history.specs.declared.events.Event.{Event}
 use Rattle.flat_history.specs.declared.events.Event.TheVariants.{Step, Refused}
@@ -29,21 +31,25 @@ use Rattle.array.specs.Placed.{places_of, IsPlaced}
 use Rattle.array.specs.Losing.{losses_of}
 use Rattle.array.specs.Moving.{Grows, IsMoved}
 use Rattle.array.specs.Safety.{HasRoomLeft, IsRisen}
-use Rattle.array.specs.Status.{stripes_of, left_of}
+use Rattle.array.specs.declared.work.Work.{Work}
+use Rattle.array.specs.Rebuilding.{AreRebuilt, HasNoRebuilt}
+use Rattle.array.specs.Status.{stripes_of, rebuilt_of, left_of}
 use Rattle.array.specs.Views.{Ledger}
 use Rattle.array.specs.Steady.{IsSafeOver, KeepsSafe, AreGoneTold, AreWritesAllowed}
 use Rattle.array.specs.Lacking.{AreLostSince, DoesWithout, IsUnwritten, IsOfStripe, ListStands, mended_rows}
-use Rattle.array.specs.Kept.{world_in, AreSectorsWhole, IsKept}
+use Rattle.array.specs.Kept.{world_in, AreRebuildsRight, AreSectorsWhole, IsKept}
 use Rattle.array.specs.Calls.{HasStripeLeft, IsRefusedHere}
 use Rattle.array.proofs.PlainLaws.{one}
-use Rattle.array.proofs.NowLaws.{now-quiet}
-use Rattle.array.proofs.CallLaws.{GivesNone, losses-are}
-use Rattle.array.proofs.LeftLaws.{left-behind}
+use Rattle.array.proofs.CallLaws.{GivesNone, losses-are, builds-losses}
 use Rattle.array.proofs.LedgerLaws.{told_by, OnlyAdd, add-none, add-one, add-losses, pending-more, told-more, told-unclean}
+use Rattle.array.proofs.LackingWrites.{recovering-before}
 use Rattle.array.proofs.RecordLaws.{AreSilent}
 use Rattle.array.proofs.ReadyLaws.{AreStill, silent-behind, still-behind}
-use Rattle.array.proofs.StepLaws.{call-stepped, left-stepped}
-use Rattle.array.proofs.DegradedLaws.{LeavesSafe, LeavesResync, degraded-after, resync-stays, stripes-are, mended-are, whole-still, newest-old, none-ended, told-behind, call-refused, leaves-unsettled, unwritten-here}
+use Rattle.array.proofs.StepLaws.{left-stepped}
+use Rattle.array.proofs.SteppedLaws.{call-stepping}
+use Rattle.array.proofs.StepsLeft.{left-mended}
+use Rattle.array.proofs.KeptLaws.{StayPlaced, LeavesSafe, LeavesWork, leaves-as, leaves-unsettled, unbuilt-still, built-still, stripes-are, mended-are, same-now, whole-still, newest-old}
+use Rattle.array.proofs.DegradedLaws.{stays-moved, rows-same, degraded-after, work-behind, none-ended, told-behind, call-refused, unwritten-here}
 
 -- a resync that has a stripe to mend is pending
 pub is-pending : (resync : Option ℕ) (m : Members) → HasStripeLeft resync m → IsSome resync
@@ -59,24 +65,37 @@ next-stripe (Some mended) m stripe left is = (ap (λ (n : ℕ). Some n) (sym is)
 pub whole-in : (given : Given) (m : Members) → IsPlaced given m → (list : ℕ → Sector) → AreSectorsWhole (list_size (places_of m)) list → (row : ℕ) → row < m.newest.size → AreWholeIn (shape_of m.newest) list row
 whole-in given m placed list whole row lt x is = whole x (place-sector_below (shape_of m.newest) placed.valid x m.newest.size placed.multiple (omega (arith, lt, is)))
 
-module _ {tells : Type 0} {given : Given} {tape tape' : List Operation} {scope : Scope} {first : ℕ} {entries : List Entry} {members members' : Members} {resync : Option ℕ}
-    (who : Who) (end : ℕ) (was : IsKept tells given tape scope first entries members resync)
+module _ {tells : Type 0} {given : Given} {tape tape' : List Operation} {scope : Scope} {first : ℕ} {entries : List Entry} {members members' : Members} {work : Work}
+    (who : Who) (end : ℕ) (was : IsKept tells given tape scope first entries members work)
     (opens : IsCallOpen entries who) (caller : who.caller ≢ 254) (at_end : tells → end ≡ length tape')
     (moved : IsMoved given members members') (grows : Grows tells tape tape')
     (roles spares : ℕ) (before after : ℕ → ℕ) (since : AreLostSince members members' roles spares before after)
-    (mended : ℕ) (pending : resync ≡ Some mended) (does : DoesWithout members) (dirty : is_clean members'.newest ≡ false) (rise : IsRisen tells members members' tape tape')
+    (mended : ℕ) (pending : work.resync ≡ Some mended) (does : DoesWithout members) (dirty : is_clean members'.newest ≡ false) (rise : IsRisen tells members members' tape tape')
     (shape : Shape) (shape_is : shape ≡ shape_of members.newest)
     (stands : DoesWithout members' → tells → (list : ℕ → Sector) → ListStands members (present given tape) list → ListStands members' (present given tape') list)
     (kept : DoesWithout members' → tells → (list : ℕ → Sector) → ListStands members (present given tape) list → (row : ℕ) → row < members.newest.size
     → RowStands (reading_of members) (present given tape) shape list row → RowStands (reading_of members') (present given tape') shape list row)
+    (rebuilds : DoesWithout members' → tells → (list : ℕ → Sector) → ListStands members (present given tape) list → (role slot row : ℕ) → role < shape.disks
+    → role_state (reading_of members') role ≡ Recovering slot → row < members.newest.size
+    → HasFull (reading_of members) (present given tape) shape list row role slot → HasFull (reading_of members') (present given tape') shape list row role slot)
     (safe : tells → (world : World) → (size : ℕ) → (told : Ledger) → HasRoomLeft members tape tape' → AreGoneTold told members' → told.unclean ≡ true → (list : ℕ → Sector) → ListStands members (present given tape) list
     → AreWritesAllowed members told.values list → IsSafeOver world given size told members tape → KeepsSafe world given size told members' tape tape') where
   abbrev losses : List Event
   losses = losses_of roles spares
 
+  stays : StayPlaced given members members'
+  stays = stays-moved was moved
+
   -- the flat list before it, which stays
   abbrev list : ℕ → Sector
   list = now (opening_list (world_in given tape scope first)) entries
+
+  is-resyncing : IsSome work.resync
+  is-resyncing = subst IsSome (sym pending) refl
+
+  -- no role was rebuilt, so it stands
+  held : (t : tells) → ListStands members (present given tape) list
+  held t = was.holds t does (inl (was.unbuilt is-resyncing))
 
   -- An event that gives no value and settles nothing, behind the losses.
   module _ (event : Event) (silent : AreSilent who end (event ∷ [])) (still : (x : ℕ) (values : List Sector) → values_after x values event ≡ values) (settled : settles event ≡ false) (keeps : keeps_shape_event event ≡ true)
@@ -93,48 +112,61 @@ module _ {tells : Type 0} {given : Given} {tape tape' : List Operation} {scope :
     adds : OnlyAdd (entries_of who end events)
     adds = add-losses who end losses (event ∷ []) (losses-are roles spares) (add-one (one who end event) [] (λ x values v may. subst (λ (l : List Sector). IsIn l v) (sym (still x values)) may) settled keeps gives add-none)
 
-    same-now : now (opening_list (world_in given tape scope first)) (entries ++ entries_of who end events) ≡ list
-    same-now = λ i x. now-quiet (opening_list (world_in given tape scope first)) entries (entries_of who end events) x (λ values. still-all x values) i
+    same : now (opening_list (world_in given tape scope first)) (entries ++ entries_of who end events) ≡ list
+    same = same-now who end was opens caller at_end stays grows events still-all
 
     -- the array stays safe
-    leaves-mending : LeavesSafe tells given tape' scope first (entries ++ entries_of who end events) members' (is_some resync)
-    leaves-mending = leaves-unsettled who end was opens caller at_end moved grows events silent-all adds rise stretch (λ does is. dirty) (λ none. absurd (let no = sym (ap (λ (o : Option ℕ). is_some o) pending) ∙ none in cc))
+    leaves-mending : LeavesSafe tells given tape' scope first (entries ++ entries_of who end events) members' work
+    leaves-mending = leaves-unsettled who end was opens caller at_end stays grows work (λ number is. is) events silent-all adds rise stretch (λ does is. dirty)
+        (λ none. absurd (let no = sym (ap (λ (o : Option ℕ). is_some o) pending) ∙ none in cc))
       where
         stretch : (t : tells) → FillsRight (world_in given tape scope first) (entries ++ entries_of who end events) → HasRoomLeft members tape tape'
-            → IsSafeOver (world_in given tape scope first) given (list_size (places_of members)) (told_by (world_in given tape scope first) entries (entries_of who end events)) members tape
-            → KeepsSafe (world_in given tape scope first) given (list_size (places_of members)) (told_by (world_in given tape scope first) entries (entries_of who end events)) members' tape tape'
+            → IsSafeOver (world_in given tape scope first) given (list_size (places_of members)) (told_by (world_in given tape scope first) work entries (entries_of who end events)) members tape
+            → KeepsSafe (world_in given tape scope first) given (list_size (places_of members)) (told_by (world_in given tape scope first) work entries (entries_of who end events)) members' tape tape'
         stretch t fills room began =
             let world = world_in given tape scope first in
             let size = list_size (places_of members) in
             let added = entries_of who end events in
-            safe t world size (told_by world entries added) room (told-behind who end was opens caller at_end moved grows roles spares before after since (event ∷ []) gives)
-            (told-unclean world size entries added adds (is_some resync) (was.recorded t).dirty (ap (λ (o : Option ℕ). is_some o || is_unsettled entries) pending))
-            list (was.holds t does)
-            (λ x lt. (told-more world size entries added adds).values x lt (list x) (newest-old who end was opens caller at_end moved grows added t fills x lt)) began
+            safe t world size (told_by world work entries added) room (told-behind who end was opens caller at_end moved grows roles spares before after since (event ∷ []) gives)
+            (told-unclean world size work work (λ number is. is) entries added adds (is_some work.resync) (was.recorded t).dirty (ap (λ (o : Option ℕ). is_some o || is_unsettled entries) pending))
+            list (held t)
+            (λ x lt. (told-more world size work work (λ number is. is) entries added adds).values x lt (list x) (newest-old who end was opens caller at_end stays grows added t fills x lt)) began
 
-    -- the list stands, and so do the rows that stood
-    holds-mending : tells → DoesWithout members' → ListStands members' (present given tape') (now (opening_list (world_in given tape scope first)) (entries ++ entries_of who end events))
-    holds-mending t does' = subst (λ (l : ℕ → Sector). ListStands members' (present given tape') l) (sym same-now) (stands does' t list (was.holds t does))
+    -- the list stands, and so do the rows that stood, and what was rebuilt
+    holds-mending : tells → DoesWithout members' → AreRebuildsRight (world_in given tape scope first) (entries ++ entries_of who end events)
+        → ListStands members' (present given tape') (now (opening_list (world_in given tape scope first)) (entries ++ entries_of who end events))
+    holds-mending t does' right = subst (λ (l : ℕ → Sector). ListStands members' (present given tape') l) (sym same) (stands does' t list (held t))
 
-    row-kept : (t : tells) → DoesWithout members' → OpensFit (world_in given tape scope first) → (row : ℕ) → row < mended_rows resync members → row < members.newest.size
+    row-kept : (t : tells) → DoesWithout members' → OpensFit (world_in given tape scope first) → (row : ℕ) → row < mended_rows work.resync members → row < members.newest.size
         → RowStands (reading_of members') (present given tape') (shape_of members'.newest) list row
     row-kept t does' fit row below lt =
         subst (λ (s : Shape). RowStands (reading_of members') (present given tape') s list row) (shape_is ∙ sym moved.shape)
-        (kept does' t list (was.holds t does) row lt (subst (λ (s : Shape). RowStands (reading_of members) (present given tape) s list row) (sym shape_is) (was.good t does fit row below lt)))
+        (kept does' t list (held t) row lt (subst (λ (s : Shape). RowStands (reading_of members) (present given tape) s list row) (sym shape_is) (was.good t does fit row below lt)))
+
+    rebuilt-mending : tells → DoesWithout members' → OpensFit (world_in given tape scope first)
+        → AreRebuilt work members' (present given tape') (now (opening_list (world_in given tape scope first)) (entries ++ entries_of who end events))
+    rebuilt-mending t does' fit = subst (λ (l : ℕ → Sector). AreRebuilt work members' (present given tape') l) (sym same) (λ role slot row lt is beyond below within.
+        let disks : role < (shape_of members.newest).disks = subst (λ (s : Shape). role < s.disks) moved.shape lt in
+        let row_lt : row < members.newest.size = subst (λ (n : ℕ). row < n) moved.size within in
+        let full = was.rebuilt t does fit role slot row disks (recovering-before moved role slot is) (subst (λ (n : ℕ). n ≤ row) (rows-same moved role slot is) beyond)
+        (subst (λ (s : Shape). row < rebuilt_of work role * s.chunk) moved.shape below) row_lt in
+        subst (λ (s : Shape). HasFull (reading_of members') (present given tape') s list row role slot) (shape_is ∙ sym moved.shape)
+        (rebuilds does' t list (held t) role slot row (subst (λ (s : Shape). role < s.disks) (sym shape_is) disks) is row_lt
+        (subst (λ (s : Shape). HasFull (reading_of members) (present given tape) s list row role slot) (sym shape_is) full)))
 
   -- ---- a stripe that isn't mended
 
-  pub degraded-unmended : (refusal : Refusal) → IsUnwritten false members' refusal → IsKept tells given tape' scope first (entries ++ entries_of who end (losses_of roles spares ++ Refused refusal ∷ [])) members' resync
+  pub degraded-unmended : (refusal : Refusal) → IsUnwritten false members' refusal → IsKept tells given tape' scope first (entries ++ entries_of who end (losses_of roles spares ++ Refused refusal ∷ [])) members' work
   degraded-unmended refusal why =
       degraded-after who end was opens caller at_end moved grows losses (Refused refusal) (silent-all (Refused refusal) quiet none refl refl (λ role. refl))
-      (resync-stays who end was opens caller at_end moved grows (losses ++ Refused refusal ∷ []) (left-behind (left_of resync members) who end losses (Refused refusal ∷ []) (losses-are roles spares) (λ left is. is))
-      (none-ended who end was opens caller at_end moved grows roles spares before after since (Refused refusal ∷ []) refl))
+      (work-behind who end was opens caller at_end moved grows roles spares before after since (Refused refusal ∷ []) (λ steps left is. is) refl refl)
       (told-behind who end was opens caller at_end moved grows roles spares before after since (Refused refusal ∷ []) (λ role. refl))
       (λ t fills. call-refused who end was opens caller at_end moved grows roles spares before after since refusal here t)
       (holds-mending (Refused refusal) quiet none refl refl (λ role. refl))
-      (whole-still who end was opens caller at_end moved grows (losses ++ Refused refusal ∷ []) (still-all (Refused refusal) quiet none refl refl (λ role. refl)))
-      (λ t does' fit row below lt. subst (λ (l : ℕ → Sector). RowStands (reading_of members') (present given tape') (shape_of members'.newest) l row) (sym (same-now (Refused refusal) quiet none refl refl (λ role. refl)))
-      (row-kept (Refused refusal) quiet none refl refl (λ role. refl) t does' fit row (subst (λ (n : ℕ). row < n) (mended-are who end was opens caller at_end moved grows) below) (subst (λ (n : ℕ). row < n) moved.size lt)))
+      (whole-still who end was opens caller at_end stays grows (losses ++ Refused refusal ∷ []) (still-all (Refused refusal) quiet none refl refl (λ role. refl)))
+      (λ t does' fit row below lt. subst (λ (l : ℕ → Sector). RowStands (reading_of members') (present given tape') (shape_of members'.newest) l row) (sym (same (Refused refusal) quiet none refl refl (λ role. refl)))
+      (row-kept (Refused refusal) quiet none refl refl (λ role. refl) t does' fit row (subst (λ (n : ℕ). row < n) (mended-are who end was opens caller at_end stays grows) below) (subst (λ (n : ℕ). row < n) moved.size lt)))
+      (rebuilt-mending (Refused refusal) quiet none refl refl (λ role. refl))
       (leaves-mending (Refused refusal) quiet none refl refl (λ role. refl))
     where
       quiet : AreSilent who end (Refused refusal ∷ [])
@@ -143,35 +175,30 @@ module _ {tells : Type 0} {given : Given} {tape tape' : List Operation} {scope :
       none : (x : ℕ) (values : List Sector) → values_after x values (Refused refusal) ≡ values
       none x values = refl
 
-      here : IsRefusedHere (list_size (places_of members)) resync members' refusal
-      here = unwritten-here (list_size (places_of members)) resync false members' refusal (λ no. subst IsSome (sym pending) refl) why
+      here : IsRefusedHere (list_size (places_of members)) work.resync members' refusal
+      here = unwritten-here (list_size (places_of members)) work.resync false members' refusal (λ no. is-resyncing) why
 
   -- ---- a stripe that is mended
 
-  module _ (below : mended < stripes_of members) (steps : ℕ) (steps_are : steps ≡ left_of (Some (mended + 1)) members')
+  module _ (below : mended < stripes_of members) (steps : ℕ) (steps_are : steps ≡ left_of (record work { resync = Some (mended + 1) }) members')
       (mends : tells → (list : ℕ → Sector) → ListStands members (present given tape) list → (row : ℕ) → IsOfStripe shape mended row → AreWholeIn shape list row
       → RowStands (reading_of members') (present given tape') shape list row) where
     abbrev mending : List Event
     mending = losses_of roles spares ++ Step ResyncStripe steps ∷ []
 
-    same-stripes : stripes_of members' ≡ stripes_of members
-    same-stripes = stripes-are who end was opens caller at_end moved grows
+    none-built : HasNoRebuilt (entries_of who end mending)
+    none-built = builds-losses who end losses (Step ResyncStripe steps ∷ []) (losses-are roles spares) refl
 
-    resync-mends : LeavesResync resync (Some (mended + 1)) members' entries (entries_of who end mending)
+    resync-mends : LeavesWork work (record work { resync = Some (mended + 1) }) members' entries (entries_of who end mending)
     resync-mends = record {
       begins = λ is. absurd (let none : mended + 1 ≡ 0 = cc in omega (arith, none));
-      progress = omega (arith, below, same-stripes);
-      left = subst (λ (o : Option ℕ). IfSome o (λ n. n ≡ left_of (Some (mended + 1)) members')) (sym (left-stepped entries who end losses ResyncStripe steps)) steps_are;
+      progress = let same = stripes-are who end was opens caller at_end stays grows in omega (arith, below, same);
       pending = λ dirty is. pending-more dirty entries (entries_of who end mending) (none-ended who end was opens caller at_end moved grows roles spares before after since (Step ResyncStripe steps ∷ []) refl) ∙ is
           ∙ ap (λ (o : Option ℕ). is_some o) pending;
+      unbuilt = λ is. unbuilt-still who end was opens caller at_end stays grows (entries_of who end mending) none-built is-resyncing;
+      built = built-still who end was opens caller at_end stays grows (entries_of who end mending) none-built;
+      left = subst (λ (o : Option ℕ). IfSome o (λ n. n ≡ left_of (record work { resync = Some (mended + 1) }) members')) (sym (left-stepped entries who end losses ResyncStripe steps)) steps_are;
     }
-
-    -- one step less is left
-    one-less : steps + 1 ≡ left_of resync members
-    one-less = let count : steps ≡ stripes_of members' - (mended + 1) + 1 = steps_are in
-        let same : stripes_of members' ≡ stripes_of members = same-stripes in
-        let less : steps + 1 ≡ stripes_of members - mended + 1 = omega (arith, count, same, below) in
-        less ∙ sym (ap (λ (o : Option ℕ). left_of o members) pending)
 
     quiet-step : AreSilent who end (Step ResyncStripe steps ∷ [])
     quiet-step = record { length = λ n. refl; limit = refl }
@@ -185,18 +212,20 @@ module _ {tells : Type 0} {given : Given} {tape tape' : List Operation} {scope :
     row-mended t does' fit row high lt = elim (cases_lt row (mended * (shape_of members.newest).chunk)) [
       | inl low ↦ row-kept (Step ResyncStripe steps) quiet-step none-step refl refl (λ role. refl) t does' fit row (subst (λ (o : Option ℕ). row < mended_rows o members) (sym pending) low) lt
       | inr low ↦ subst (λ (s : Shape). RowStands (reading_of members') (present given tape') s list row) (shape_is ∙ sym moved.shape)
-          (mends t list (was.holds t does) row (subst (λ (s : Shape). IsOfStripe s mended row) (sym shape_is) (low, high))
+          (mends t list (held t) row (subst (λ (s : Shape). IsOfStripe s mended row) (sym shape_is) (low, high))
           (subst (λ (s : Shape). AreWholeIn s list row) (sym shape_is) (whole-in given members was.placed list (was.whole t fit.1) row lt)))
     ]
 
-    pub degraded-mended : IsKept tells given tape' scope first (entries ++ entries_of who end (losses_of roles spares ++ Step ResyncStripe steps ∷ [])) members' (Some (mended + 1))
+    pub degraded-mended : IsKept tells given tape' scope first (entries ++ entries_of who end (losses_of roles spares ++ Step ResyncStripe steps ∷ [])) members' (record work { resync = Some (mended + 1) })
     degraded-mended =
         degraded-after who end was opens caller at_end moved grows losses (Step ResyncStripe steps) (silent-all (Step ResyncStripe steps) quiet-step none-step refl refl (λ role. refl)) resync-mends
         (told-behind who end was opens caller at_end moved grows roles spares before after since (Step ResyncStripe steps ∷ []) (λ role. refl))
-        (λ t fills. call-stepped (opening_in (world_in given tape scope first)) (left_of resync members) entries who end losses ResyncStripe steps (losses-are roles spares) tt one-less was.left)
+        (λ t fills. call-stepping (opening_in (world_in given tape scope first)) (record work { resync = Some (mended + 1) }) (left_of work members) entries who end ResyncStripe steps moved since
+        (left-mended work members mended pending below) was.left tt steps_are)
         (holds-mending (Step ResyncStripe steps) quiet-step none-step refl refl (λ role. refl))
-        (whole-still who end was opens caller at_end moved grows mending (still-all (Step ResyncStripe steps) quiet-step none-step refl refl (λ role. refl)))
-        (λ t does' fit row high lt. subst (λ (l : ℕ → Sector). RowStands (reading_of members') (present given tape') (shape_of members'.newest) l row) (sym (same-now (Step ResyncStripe steps) quiet-step none-step refl refl (λ role. refl)))
+        (whole-still who end was opens caller at_end stays grows mending (still-all (Step ResyncStripe steps) quiet-step none-step refl refl (λ role. refl)))
+        (λ t does' fit row high lt. subst (λ (l : ℕ → Sector). RowStands (reading_of members') (present given tape') (shape_of members'.newest) l row) (sym (same (Step ResyncStripe steps) quiet-step none-step refl refl (λ role. refl)))
         (row-mended t does' fit row (subst (λ (s : Shape). row < (mended + 1) * s.chunk) moved.shape high) (subst (λ (n : ℕ). row < n) moved.size lt)))
-        (subst (λ (b : Bool). LeavesSafe tells given tape' scope first (entries ++ entries_of who end mending) members' b) (ap (λ (o : Option ℕ). is_some o) pending)
+        (rebuilt-mending (Step ResyncStripe steps) quiet-step none-step refl refl (λ role. refl))
+        (leaves-as work (record work { resync = Some (mended + 1) }) (sym (ap (λ (o : Option ℕ). is_some o) pending)) refl
         (leaves-mending (Step ResyncStripe steps) quiet-step none-step refl refl (λ role. refl)))

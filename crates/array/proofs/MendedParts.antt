@@ -7,16 +7,17 @@ use Rattle.md_base.specs.Sectors.{Sector}
 use Rattle.md_base.specs.Shapes.{is_valid_shape, data_disks}
 use Rattle.md_base.specs.declared.answers.Refusal.{Refusal}
 use Rattle.md_base.specs.declared.places.Shape.{Shape}
+use Rattle.md_base.specs.declared.status.Role.TheVariants.{Recovering}
 use Rattle.bank.specs.Given.{Given}
 use Rattle.bank.specs.declared.bank.Operation.{Operation}
 use Rattle.layout.proofs.Limits.{limited}
 use Rattle.layout.proofs.Places.{data_some}
 use Rattle.superblocks.specs.declared.members.Members.{Members}
-use Rattle.superblocks.specs.Reading.{shape_of}
+use Rattle.superblocks.specs.Reading.{shape_of, role_state, holder}
 use Rattle.row_io.specs.Rows.{reading_of, present}
 use Rattle.list_io.specs.Buffers.{IsTouched}
 use Rattle.list_io.specs.Full.{AreWholeIn, RowStands}
-use Rattle.list_io.specs.Writing.{IsWritten}
+use Rattle.list_io.specs.Writing.{IsWritten, HasFull}
 use Rattle.flat_history.specs.World.{World}
 use Rattle.flat_history.specs.Sound.{OpensFit}
 use Rattle.array.specs.Whole.{list_size}
@@ -29,6 +30,7 @@ use Rattle.array.specs.Lacking.{AreBytes, AreTooMany, DoesWithout, ListStands}
 use Rattle.array.specs.Views.{Ledger}
 use Rattle.array.specs.Steady.{IsSafeOver, KeepsSafe, AreGoneTold}
 use Rattle.array.proofs.LackingLists.{list-moved, row-moved}
+use Rattle.array.proofs.LackingWrites.{recovering-before, full-later}
 use Rattle.array.proofs.Risen.{room-first, room-then}
 use Rattle.array.proofs.SafeStretch.{gone-before, safe-then, grows-longer, over-at, keeps-from}
 use Rattle.array.proofs.Stripes.{stripes-within, of_stripe-touched}
@@ -78,11 +80,14 @@ part-touches shape valid stripe long is done count part row at = elim (cases_lt 
 
 -- ---- what stands behind a part
 
--- The list stands as it stood, and so do the rows that were put, where the list is whole in them, and those that stood before.
+-- The list stands as it stood, and so do the rows that were put, where the list is whole in them, and those that stood before; what was rebuilt
+-- on a recovering slot stays so.
 pub record ArePut (given : Given) (shape : Shape) (put : ℕ → Type 0) (old new : Members) (before after : List Operation) : Type 0 where
   pub stands : (list : ℕ → Sector) → ListStands old (present given before) list → ListStands new (present given after) list
   pub rows : (list : ℕ → Sector) → ListStands old (present given before) list → (row : ℕ) → row < old.newest.size → AreWholeIn shape list row
       → put row ⊎ RowStands (reading_of old) (present given before) shape list row → RowStands (reading_of new) (present given after) shape list row
+  pub rebuilt : (list : ℕ → Sector) → ListStands old (present given before) list → (role slot row : ℕ) → role < shape.disks → role_state (reading_of new) role ≡ Recovering slot → row < old.newest.size
+      → HasFull (reading_of old) (present given before) shape list row role slot → HasFull (reading_of new) (present given after) shape list row role slot
 
 pub put-none : (given : Given) (shape : Shape) (put : ℕ → Type 0) (m : Members) (tape : List Operation) → ((row : ℕ) → put row → ⊥) → ArePut given shape put m m tape tape
 put-none given shape put m tape none = record {
@@ -91,11 +96,12 @@ put-none given shape put m tape none = record {
     | inl put ↦ absurd (none row put)
     | inr here ↦ here
   ];
+  rebuilt = λ list stands role slot row below is lt full. full;
 }
 
-pub put-then : (given : Given) (shape : Shape) (one two both : ℕ → Type 0) (a b c : Members) (first second third : List Operation) → b.newest.size ≡ a.newest.size → ((row : ℕ) → both row → one row ⊎ two row)
+pub put-then : (given : Given) (shape : Shape) (one two both : ℕ → Type 0) (a b c : Members) (first second third : List Operation) → b.newest.size ≡ a.newest.size → IsMoved given b c → ((row : ℕ) → both row → one row ⊎ two row)
     → ArePut given shape one a b first second → ArePut given shape two b c second third → ArePut given shape both a c first third
-put-then given shape one two both a b c first second third size either early late = record {
+put-then given shape one two both a b c first second third size moved either early late = record {
   stands = λ list stands. late.stands list (early.stands list stands);
   rows = λ list stands row lt whole is. late.rows list (early.stands list stands) row (subst (λ (n : ℕ). row < n) (sym size) lt) whole
       (elim is [
@@ -105,13 +111,16 @@ put-then given shape one two both a b c first second third size either early lat
         ]
         | inr here ↦ inr (early.rows list stands row lt whole (inr here))
       ]);
+  rebuilt = λ list stands role slot row below is lt full.
+      late.rebuilt list (early.stands list stands) role slot row below is (subst (λ (n : ℕ). row < n) (sym size) lt)
+      (early.rebuilt list stands role slot row below (recovering-before moved role slot is) lt full);
 }
 
 -- where no row was begun, they stand on
 pub put-untouched : (given given1 : Given) → given1 ≡ given → (shape : Shape) (put : ℕ → Type 0) (a b c : Members) (first second third : List Operation) → shape ≡ shape_of a.newest → IsMoved given a b → IsMoved given b c
     → AreOthersPresent (present given1 second) (present given1 third) → ArePut given shape put a b first second → ArePut given shape put a c first third
 put-untouched given given1 same shape put a b c first second third is early late others before =
-    put-then given shape put (λ row. ⊥) put a b c first second third early.size (λ row at. inl at) before (record {
+    put-then given shape put (λ row. ⊥) put a b c first second third early.size late (λ row at. inl at) before (record {
       stands = λ list stands. list-moved given b c (present given second) (present given third) list late early.placed kept stands;
       rows = λ list stands row lt whole at. elim at [
         | inl none ↦ absurd none
@@ -119,6 +128,7 @@ put-untouched given given1 same shape put a b c first second third is early late
             (row-moved given b c (present given second) (present given third) list late early.placed kept row
             (subst (λ (s : Shape). RowStands (reading_of b) (present given second) s list row) (is ∙ sym early.shape) here))
       ];
+      rebuilt = λ list stands role slot row below recovers lt full. full-later late early.placed kept shape list row role slot (ap holder recovers) full;
     })
   where
     kept : AreOthersPresent (present given second) (present given third)

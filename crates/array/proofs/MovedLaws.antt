@@ -1,9 +1,7 @@
 -- What device calls leave of an array's places.
-use Rattle.std.proofs.Common.{◌≡◌, inl, inr, ℕ, ◌*◌, ◌<◌, ◌≤◌, ◌==◌, Bool, true, false, not, cond, max, List, [], ◌++◌, length, get_or, Option, Some, None, refl, sym, ◌∙◌, ap, ap₂, subst, arith, append_assoc, append-nil}
-use Rattle.std.proofs.lemmas.Bool.Decides.{nat_tests}
+use Rattle.std.proofs.Common.{◌≡◌, inl, inr, ℕ, ◌*◌, ◌<◌, ◌≤◌, ◌||◌, Bool, true, false, not, cond, List, [], ◌++◌, length, get_or, Option, Some, None, refl, sym, ◌∙◌, ap, ap₂, subst, arith, append_assoc, append-nil}
 use Rattle.std.proofs.lemmas.Bool.{cases_lt, cases_eq}
 use Rattle.std.proofs.lemmas.List.{get_or_past}
-use Rattle.std.proofs.lemmas.Nat.Bits.{bit_at_or}
 use Rattle.md_base.specs.Shapes.{has_slot, data_disks}
 use Rattle.md_base.specs.declared.places.Shape.{Shape}
 use Rattle.md_base.specs.declared.status.Role.{Role}
@@ -11,16 +9,19 @@ use Rattle.md_base.specs.declared.status.Role.TheVariants.{Whole, Recovering, Mi
 use Rattle.bank.specs.Given.{Given}
 use Rattle.bank.specs.declared.bank.Operation.{Operation}
 use Rattle.superblocks.specs.declared.members.Members.{Members}
-use Rattle.superblocks.specs.Reading.{shape_of, role_state, holder, is_whole}
+use Rattle.superblocks.specs.Reading.{Reading, shape_of, role_state, rows_held, holder, is_whole}
+use Rattle.superblocks.specs.Reads.{has_spare}
 use Rattle.row_io.specs.Rows.{reading_of, missing_count, role_without, members_without}
-use Rattle.row_io.proofs.Losses.{state_after, state_kept}
+use Rattle.row_io.proofs.Losses.{state_kept}
 use Rattle.array.specs.Whole.{list_size}
 use Rattle.array.specs.Placed.{places_of, AreWhole, IsPlaced, AreLost, AreUnlost, AreStillHeld, AreLess}
 use Rattle.array.specs.Moving.{Grows, IsMoved}
+use Rattle.array.specs.Rebuilding.{IsFree}
 use Rattle.array.specs.Lacking.{lacking}
 use Rattle.array.proofs.PlacedLaws.{kept-roles, none-lost, places-same, state-without}
 use Rattle.array.proofs.HeldRows.{state-less}
-use Rattle.array.proofs.MemberLaws.{less-without, none_missing}
+use Rattle.array.proofs.Without.{in-both}
+use Rattle.array.proofs.MemberLaws.{less-without, none_missing, placed-without, unlost-without}
 
 -- ---- the tape
 
@@ -82,14 +83,32 @@ module _ (given : Given) (lost : ℕ) (old new : Members) (less : AreLess lost o
   still-held : AreStillHeld old new
   still-held role slot held = (state_kept lost slot (role_state (reading_of old) role) (ap holder (sym (state-is role)) ∙ held)).holder
 
-  pub moved-less : IsPlaced given new → AreUnlost new → (length old.spares ≤ 32 → length new.spares ≤ 32) → IsMoved given old new
-  moved-less placed unlost spares = record {
+  -- a free slot that isn't lost is free
+  still-free : (slot : ℕ) → IsFree given old slot → has_slot new.lost slot ≡ false → IsFree given new slot
+  still-free slot free unlost = record {
+    room = record {
+      small = free.room.small;
+      known = free.room.known;
+      short = free.room.short;
+      within = let within = free.room.within in let offset = less.offsets slot in let size = less.size in omega (arith, within, offset, size);
+    };
+    behind = subst (λ (n : ℕ). 10 ≤ n) (sym (less.offsets slot)) free.behind;
+    none = λ role held. free.none role (still-held role slot held);
+    unlost = unlost;
+  }
+
+  -- where there are no more spares, and none that was free is lost
+  pub moved-less : IsPlaced given new → AreUnlost new → (length old.spares ≤ 32 → length new.spares ≤ 32) → ((slot : ℕ) → has_spare new.spares slot ≡ true → has_spare old.spares slot ≡ true)
+      → ((slot : ℕ) → has_spare new.spares slot ≡ true → IsFree given old slot → has_slot new.lost slot ≡ false) → IsMoved given old new
+  moved-less placed unlost spares fewer out = record {
     placed = placed;
     unlost = unlost;
     held = still-held;
     states = λ role slot held. state-less lost old new less role slot held;
-    rows = less.rows;
+    rows = λ role. less.rows (role_state (reading_of new) role);
     spares = spares;
+    fewer = fewer;
+    free = λ all slot has. let free = all slot (fewer slot has) in still-free slot free (out slot has free);
     shape = less.shape;
     size = less.size;
     offsets = less.offsets;
@@ -105,8 +124,10 @@ moved-same given given' old new same is placed unlost =
       unlost = unlost;
       held = λ role slot held. held;
       states = λ role slot held. refl;
-      rows = λ state. refl;
+      rows = λ role. refl;
       spares = λ few. few;
+      fewer = λ slot has. has;
+      free = λ all. all;
       shape = refl;
       size = refl;
       offsets = λ slot. refl;
@@ -118,14 +139,22 @@ moved-same given given' old new same is placed unlost =
 pub moved-from : (given given' : Given) (old old' new : Members) → given' ≡ given → old' ≡ old → IsMoved given' old' new → IsMoved given old new
 moved-from given given' old old' new same is moved = subst (λ (g : Given). IsMoved g old new) same (subst (λ (m : Members). IsMoved given' m new) is moved)
 
+-- as many rows are held in a later state, which is the former one where a slot still holds the role
+rows-then : (a b : Reading) (former later : Role) → ((slot : ℕ) → holder later ≡ Some slot → later ≡ former) → rows_held b former ≡ rows_held a former → rows_held b later ≡ rows_held a later
+rows-then a b former (Whole slot) same rows = subst (λ (s : Role). rows_held b s ≡ rows_held a s) (sym (same slot refl)) rows
+rows-then a b former (Recovering slot) same rows = subst (λ (s : Role). rows_held b s ≡ rows_held a s) (sym (same slot refl)) rows
+rows-then a b former Missing same rows = refl
+
 pub moved-then : (given : Given) (a b c : Members) → IsMoved given a b → IsMoved given b c → IsMoved given a c
 moved-then given a b c one two = record {
   placed = two.placed;
   unlost = two.unlost;
   held = λ role slot held. one.held role slot (two.held role slot held);
   states = λ role slot held. two.states role slot held ∙ one.states role slot (two.held role slot held);
-  rows = λ state. two.rows state ∙ one.rows state;
+  rows = λ role. two.rows role ∙ rows-then (reading_of a) (reading_of b) (role_state (reading_of b) role) (role_state (reading_of c) role) (two.states role) (one.rows role);
   spares = λ few. two.spares (one.spares few);
+  fewer = λ slot has. one.fewer slot (two.fewer slot has);
+  free = λ all. two.free (one.free all);
   shape = two.shape ∙ one.shape;
   size = two.size ∙ one.size;
   offsets = λ slot. two.offsets slot ∙ one.offsets slot;
@@ -138,22 +167,24 @@ size-moved given old new moved = ap₂ (λ (s : Shape) (n : ℕ). data_disks s *
 
 -- ---- slots that failed
 
-either_none : (a b : ℕ) → (a == 1) ≡ false → (b == 1) ≡ false → (max a b == 1) ≡ false
-either_none a b one two = grind (arith, nat_tests, one, two)
+neither : (a b : Bool) → a ≡ false → b ≡ false → (a || b) ≡ false
+neither a b one two = ap₂ (λ (x y : Bool). x || y) one two
 
-unlost-without : (m : Members) (lost : ℕ) → AreUnlost m → AreUnlost (members_without lost m)
-unlost-without m lost unlost role slot held =
-    let kept = state_kept lost slot (role_state (reading_of m) role) (ap holder (sym (state_after m lost role)) ∙ held) in
-    ap (λ (n : ℕ). n == 1) (bit_at_or m.lost lost slot) ∙ either_none _ _ (unlost role slot kept.holder) kept.here
+-- the loss of slots that held roles
+pub moved-without : (given : Given) (m : Members) (lost : ℕ) → IsPlaced given m → AreUnlost m → ((slot : ℕ) → has_slot lost slot ≡ true → (role : ℕ) × (holder (role_state (reading_of m) role) ≡ Some slot))
+    → IsMoved given m (members_without lost m)
+moved-without given m lost was unlost held =
+    moved-less given lost m (members_without lost m) (less-without m lost) was (placed-without given m lost was) (unlost-without m lost unlost) (λ few. few) (λ slot has. has)
+    (λ slot has free. in-both m.lost lost slot ∙ neither _ _ free.unlost (none slot (has_slot lost slot) refl free))
+  where
+    none : (slot : ℕ) (b : Bool) → has_slot lost slot ≡ b → IsFree given m slot → b ≡ false
+    none slot true here free = absurd (let of = held slot here in free.none of.0 of.1)
+    none slot false here free = refl
 
 -- what failed slots leave, by the call that lost them
 module _ (given : Given) (shape : Shape) (old new : Members) (lost : ℕ) (before after : ℕ → ℕ) (was : IsPlaced given old) (did : AreLost given shape old new lost before after) where
-  less-lost : AreLess lost old new
-  less-lost = subst (λ (m : Members). AreLess lost old m) (sym did.members) (less-without old lost)
-
   pub moved-lost : AreUnlost old → IsMoved given old new
-  moved-lost unlost = moved-less given lost old new less-lost was did.placed (subst AreUnlost (sym did.members) (unlost-without old lost unlost))
-      (subst (λ (m : Members). length old.spares ≤ 32 → length m.spares ≤ 32) (sym did.members) (λ few. few))
+  moved-lost unlost = subst (IsMoved given old) (sym did.members) (moved-without given old lost was unlost (λ slot gone. let failed = did.failed slot gone in (failed.1, failed.3)))
 
 -- with a role missing, not every role is whole
 pub not-whole : (given : Given) (m : Members) → IsPlaced given m → 0 < lacking m → AreWhole m → ⊥

@@ -201,16 +201,16 @@ module _ (old new : Members) (clean : Bool) (kept : ℕ → Bool)
     rows = rows-same (reading_of new) (reading_of old) reshaping-same size-same (own-kept (λ sb. sb.recovery_offset) (λ sb csum. refl));
   }
 
--- so the mark's update has no more roles
-pub marked-count : (old : Members) (clean : Bool) → is_reshaping old.newest ≡ false → (shape_of old.newest).disks ≤ 16 → role_count (marking old clean).shared ≤ 16
-marked-count old clean still few = rw (count-by old.newest still) (few-disks still few)
+-- without a reshape there are as many roles as disks
+pub same-count : (newest : Sb) → is_reshaping newest ≡ false → (shape_of newest).disks ≤ 16 → role_count newest ≤ 16
+same-count newest still few = rw (count-by newest still) (few-disks still few)
   where
     disks-is : (sb : Sb) (b : Bool) → b ≡ false → (cond b (count_of (pos sb.raid_disks -ℤ sb.delta_disks)) sb.raid_disks) ≡ sb.raid_disks
     disks-is sb true e = absurd (cc)
     disks-is sb false e = refl
 
-    few-disks : is_reshaping old.newest ≡ false → (shape_of old.newest).disks ≤ 16 → old.newest.raid_disks ≤ 16
-    few-disks not few = subst (λ (n : ℕ). n ≤ 16) (disks-is old.newest (is_reshaping old.newest) not) few
+    few-disks : is_reshaping newest ≡ false → (shape_of newest).disks ≤ 16 → newest.raid_disks ≤ 16
+    few-disks not few = subst (λ (n : ℕ). n ≤ 16) (disks-is newest (is_reshaping newest) not) few
 
     no-target : (sb : Sb) (b : Bool) → b ≡ false → ◌≡◌ {A = Option Shape} (cond b (Some (record { level = sb.new_level; layout = sb.new_layout; chunk = sb.new_chunk; disks = sb.raid_disks })) None) None
     no-target sb true e = absurd (cc)
@@ -223,3 +223,7 @@ marked-count old clean still few = rw (count-by old.newest still) (few-disks sti
     count-by sb not =
         ap (λ (t : Option Shape). max (shape_of sb).disks (unwrap_or t (shape_of sb)).disks) (no-target sb (is_reshaping sb) not)
         ∙ max-same (shape_of sb).disks ∙ disks-is sb (is_reshaping sb) not
+
+-- so the mark's update has no more roles
+pub marked-count : (old : Members) (clean : Bool) → is_reshaping old.newest ≡ false → (shape_of old.newest).disks ≤ 16 → role_count (marking old clean).shared ≤ 16
+marked-count old clean still few = same-count old.newest still few

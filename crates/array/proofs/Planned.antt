@@ -30,14 +30,16 @@ use Rattle.superblocks.proofs.SaidSlots.{holder-own, listed, roles-count, role-s
 use Rattle.superblocks.proofs.Tied.{IsPlannedNewest, planned-said}
 use Rattle.row_io.specs.Rows.{reading_of, role_without, members_without}
 use Rattle.array.specs.Placed.{IsPlaced}
-use Rattle.array.specs.Marking.{resync_of, marking}
 use Rattle.array.specs.Held.{IsHeldBy}
 use Rattle.array.proofs.MarkLaws.{give_of-same, roles-kept}
 use Rattle.array.proofs.PlacedLaws.{state-without}
-use Rattle.array.specs.Rounds.{marked_without}
 use Rattle.array.proofs.ReadOf.{IsSaidOf, said-recovering}
 use Rattle.array.proofs.Without.{from-without, without-twice, live-without}
-use Rattle.array.proofs.Ready.{says-at, count-next, Live, gone-lost, live-known, known-small, left-known, not-gone, holds-first, fits-of}
+use Rattle.array.proofs.Ready.{resyncing, says-at, count-next, Live, gone-lost, live-known, known-small, left-known, not-gone, holds-first, fits-of}
+
+-- the array as such a round leaves it: with this resync offset, and without these lost slots
+abbrev pub resynced_without : ℕ → Members → ℕ → Members
+resynced_without lost old resync = members_without lost (record old { newest = record old.newest { resync_offset = resync } })
 
 -- ---- tests
 
@@ -61,7 +63,7 @@ held-role newest role slot found sb state is held =
     of false e = absurd (cc)
 
 -- a slot that holds a role still held it before
-without-holder : (lost : ℕ) (state : Role) (slot : ℕ) → holder (role_without lost state) ≡ Some slot → holder state ≡ Some slot
+pub without-holder : (lost : ℕ) (state : Role) (slot : ℕ) → holder (role_without lost state) ≡ Some slot → holder state ≡ Some slot
 without-holder lost (Whole s) slot is = by (has_slot lost s) is
   where
     by : (b : Bool) → holder (cond b Missing (Whole s)) ≡ Some slot → holder (Whole s) ≡ Some slot
@@ -81,11 +83,11 @@ same-offset newest sb slot found own before is stamped was =
     ap (λ (o : Option Sb). option_map_or (λ sb. sb.recovery_offset) o 0) (is ∙ stamped.1) ∙ ap (λ (g : Give). (planned_by newest g sb).recovery_offset) (give_of-same 32 slot)
     ∙ sym (ap (λ (o : Option Sb). option_map_or (λ sb. sb.recovery_offset) o 0) was)
 
-module _ (scope : Scope) (former : Members) (gone : ℕ) (clean : Bool) (d : ℕ → ℕ → List Sector) (held : IsHeldBy scope former d) where
+module _ (scope : Scope) (former : Members) (gone resync : ℕ) (d : ℕ → ℕ → List Sector) (held : IsHeldBy scope former d) where
   -- ---- the former roles
 
   -- no slot holds two of them
-  apart : (a b slot : ℕ) → holder (get_or former.roles a Missing) ≡ Some slot → holder (get_or former.roles b Missing) ≡ Some slot → a ≡ b
+  pub apart : (a b slot : ℕ) → holder (get_or former.roles a Missing) ≡ Some slot → holder (get_or former.roles b Missing) ≡ Some slot → a ≡ b
   apart a b slot one two =
       let own = role-known scope held.known former held.said a slot one in
       sym (held-role former.newest a slot (get_or (known_of scope held.known former.own) slot None) own.1 (holder_from former.newest a 0 (known_of scope held.known former.own)) own.3 (at a one))
@@ -97,8 +99,8 @@ module _ (scope : Scope) (former : Members) (gone : ℕ) (clean : Bool) (d : ℕ
           let state = get_or-tabulate (role_count former.newest) (λ role. holder_from former.newest role 0 (known_of scope held.known former.own)) role Missing (role-below scope held.known former held.said role slot is) in
           state-here former.newest role (known_of scope held.known former.own) slot (ap holder (sym (role-said scope held.known former held.said role ∙ state)) ∙ is)
 
-  small : (role slot : ℕ) → holder (get_or former.roles role Missing) ≡ Some slot → slot < 32
-  small role slot is = known-small scope former gone clean d held slot (role-known scope held.known former held.said role slot is).0
+  pub small : (role slot : ℕ) → holder (get_or former.roles role Missing) ≡ Some slot → slot < 32
+  small role slot is = known-small scope former gone resync d held slot (role-known scope held.known former held.said role slot is).0
 
   -- ---- what a round enters
 
@@ -107,14 +109,14 @@ module _ (scope : Scope) (former : Members) (gone : ℕ) (clean : Bool) (d : ℕ
   First = record former { lost = bit_or former.lost gone }
 
   module _ (given : Given) (placed : IsPlaced given (members_without gone former)) (room : former.newest.events + 1 < 2 ^ 62) (lost left : ℕ) (newest : Sb) (own : List (Option Sb))
-      (are : AreLeft (Live scope former gone clean d held) lost left) (more : IsWithin (bit_or former.lost gone) lost)
-      (since : (s : ℕ) → has_slot lost s ≡ true → has_slot (bit_or former.lost gone) s ≡ false → has_slot (Live scope former gone clean d held) s ≡ true)
-      (later : IsLater (planned_newest (marking former clean).shared former.newest) newest) (named : AreNamed (members_without gone former) (marking former clean) (bit_or former.lost gone) lost newest)
+      (are : AreLeft (Live scope former gone resync d held) lost left) (more : IsWithin (bit_or former.lost gone) lost)
+      (since : (s : ℕ) → has_slot lost s ≡ true → has_slot (bit_or former.lost gone) s ≡ false → has_slot (Live scope former gone resync d held) s ≡ true)
+      (later : IsLater (planned_newest (resyncing former resync).shared former.newest) newest) (named : AreNamed (members_without gone former) (resyncing former resync) (bit_or former.lost gone) lost newest)
       (table : length newest.dev_roles ≡ 384) (kept : AreKept newest (replicate 32 Same) former.own left own) where
     more_gone : (s : ℕ) → has_slot gone s ≡ true → has_slot lost s ≡ true
-    more_gone s is = more s (gone-lost scope former gone clean d held s is)
+    more_gone s is = more s (gone-lost scope former gone resync d held s is)
 
-    entry-same : (s : ℕ) → entry_for (members_without gone former) (marking former clean) (bit_or former.lost gone) lost s ≡ entry_for First (marking former clean) (bit_or former.lost gone) lost s
+    entry-same : (s : ℕ) → entry_for (members_without gone former) (resyncing former resync) (bit_or former.lost gone) lost s ≡ entry_for First (resyncing former resync) (bit_or former.lost gone) lost s
     entry-same s = ⊎_elim
         (λ is. (λ i. slot_entry (is i) (more s is i) (planned_role (map (role_without gone) former.roles) (give_of (replicate 32 Same) s) s) (is_planned_spare former.spares None (give_of (replicate 32 Same) s) s))
         ∙ sym (λ i. slot_entry (is i) (more s is i) (planned_role former.roles (give_of (replicate 32 Same) s) s) (is_planned_spare former.spares None (give_of (replicate 32 Same) s) s)))
@@ -122,7 +124,7 @@ module _ (scope : Scope) (former : Members) (gone : ℕ) (clean : Bool) (d : ℕ
         (by_bool (has_slot (bit_or former.lost gone) s))
       where
         not_gone : has_slot (bit_or former.lost gone) s ≡ false → has_slot gone s ≡ false
-        not_gone none = ⊎_elim (λ is. absurd (let e = gone-lost scope former gone clean d held s is in let both = sym e ∙ none in cc)) (λ isnt. isnt) (by_bool (has_slot gone s))
+        not_gone none = ⊎_elim (λ is. absurd (let e = gone-lost scope former gone resync d held s is in let both = sym e ∙ none in cc)) (λ isnt. isnt) (by_bool (has_slot gone s))
 
         role-same : has_slot gone s ≡ false → planned_role (map (role_without gone) former.roles) (give_of (replicate 32 Same) s) s ≡ planned_role former.roles (give_of (replicate 32 Same) s) s
         role-same none =
@@ -130,15 +132,15 @@ module _ (scope : Scope) (former : Members) (gone : ℕ) (clean : Bool) (d : ℕ
             ∙ from-without gone s 0 former.roles none
             ∙ sym (ap (λ (g : Give). planned_role former.roles g s) (give_of-same 32 s))
 
-    roles-same : (t : List ℕ) → with_roles (members_without gone former) (marking former clean) (bit_or former.lost gone) lost t ≡ with_roles First (marking former clean) (bit_or former.lost gone) lost t
+    roles-same : (t : List ℕ) → with_roles (members_without gone former) (resyncing former resync) (bit_or former.lost gone) lost t ≡ with_roles First (resyncing former resync) (bit_or former.lost gone) lost t
     roles-same t = ap (λ (entries : ℕ → Option ℕ). with_entries entries former.own 32 (map faulty_role (take 128 t) ++ drop 128 t)) (λ i s. entry-same s i)
 
-    live-first : AreLeft (live_set First (marking former clean)) lost left
+    live-first : AreLeft (live_set First (resyncing former resync)) lost left
     live-first s = are s ∙ ⊎_elim
-        (λ is. ap (λ (b : Bool). has_slot (Live scope former gone clean d held) s && not b) is
-        ∙ nothing (has_slot (Live scope former gone clean d held) s) (has_slot (live_set First (marking former clean)) s)
-        ∙ sym (ap (λ (b : Bool). has_slot (live_set First (marking former clean)) s && not b) is))
-        (λ none. ap (λ (b : Bool). b && not (has_slot lost s)) (live-without former gone clean s (not-gone scope former gone clean d held lost left more are s none)))
+        (λ is. ap (λ (b : Bool). has_slot (Live scope former gone resync d held) s && not b) is
+        ∙ nothing (has_slot (Live scope former gone resync d held) s) (has_slot (live_set First (resyncing former resync)) s)
+        ∙ sym (ap (λ (b : Bool). has_slot (live_set First (resyncing former resync)) s && not b) is))
+        (λ none. ap (λ (b : Bool). b && not (has_slot lost s)) (live-without former gone false s (not-gone scope former gone resync d held lost left more are s none)))
         (by_bool (has_slot lost s))
       where
         nothing : (a b : Bool) → (a && not true) ≡ (b && not true)
@@ -147,8 +149,8 @@ module _ (scope : Scope) (former : Members) (gone : ℕ) (clean : Bool) (d : ℕ
         nothing false true = refl
         nothing false false = refl
 
-    says : SaysSame (record former.newest { resync_offset = resync_of clean }) (planned_newest (record former.newest { resync_offset = resync_of clean }) former.newest)
-    says = says-at former.newest clean (min (former.newest.events + 1) (2 ^ 64 - 1))
+    says : SaysSame (record former.newest { resync_offset = resync }) (planned_newest (record former.newest { resync_offset = resync }) former.newest)
+    says = says-at former.newest resync (min (former.newest.events + 1) (2 ^ 64 - 1))
 
     -- an array of one shape has as many roles as disks
     disks-are : role_count former.newest ≡ (shape_of former.newest).disks
@@ -161,16 +163,16 @@ module _ (scope : Scope) (former : Members) (gone : ℕ) (clean : Bool) (d : ℕ
         max-same n = grind (arith, nat_tests)
 
     count-is : role_count newest ≡ role_count former.newest
-    count-is = ap role_count later.same ∙ sym (count-next former.newest clean)
+    count-is = ap role_count later.same ∙ sym (count-next former.newest resync)
 
-    planned : IsPlannedNewest First (marking former clean) (bit_or former.lost gone) lost newest
+    planned : IsPlannedNewest First (resyncing former resync) (bit_or former.lost gone) lost newest
     planned = record {
       table = named.0;
       roles = named.1 ∙ roles-same named.0;
       long = table;
       room = ap (λ (z : Sb). z.max_dev) later.same;
       size = ap (λ (z : Sb). z.size) later.same;
-      says = subst (SaysSame (marking former clean).shared) (sym later.same) (record {
+      says = subst (SaysSame (resyncing former resync).shared) (sym later.same) (record {
         level = refl;
         layout = refl;
         size = refl;
@@ -189,10 +191,10 @@ module _ (scope : Scope) (former : Members) (gone : ℕ) (clean : Bool) (d : ℕ
       few = (let most = (limited (shape_of former.newest) placed.valid).most in omega (arith, most, count-is, disks-are));
     }
 
-    said : AreSaidAsPlanned scope held.known lost left First (marking former clean) newest own
-    said = planned-said scope held.known former.lost (bit_or former.lost gone) lost left First (marking former clean) newest own d held.updated.held
-        (left-known scope former gone clean d held lost left more are) (fits-of scope former gone clean d held lost left more are former.roles (bit_or former.lost gone) (holds-first scope former gone clean d held lost left more are) room)
-        live-first (λ s isnt is. live-known scope former gone clean d held s (since s is isnt)) planned kept (record { roles = held.said.roles; spares = held.said.spares })
+    said : AreSaidAsPlanned scope held.known lost left First (resyncing former resync) newest own
+    said = planned-said scope held.known former.lost (bit_or former.lost gone) lost left First (resyncing former resync) newest own d held.updated.held
+        (left-known scope former gone resync d held lost left more are) (fits-of scope former gone resync d held lost left more are former.roles (bit_or former.lost gone) (holds-first scope former gone resync d held lost left more are) room)
+        live-first (λ s isnt is. live-known scope former gone resync d held s (since s is isnt)) planned kept (record { roles = held.said.roles; spares = held.said.spares })
         (λ s sb is own_is none spare. absurd (let so = spare-of s spare in let b = sym none ∙ so in cc))
       where
         spare-of : (s : ℕ) → is_planned_spare former.spares None (give_of (replicate 32 Same) s) s ≡ true → has_spare former.spares s ≡ true
@@ -210,11 +212,11 @@ module _ (scope : Scope) (former : Members) (gone : ℕ) (clean : Bool) (d : ℕ
         ∙ roles-kept former.roles lost apart small (role_count former.newest) (sym (roles-count scope held.known former held.said))
         ∙ sym (without-twice lost gone more_gone former.roles)
 
-    pub spares-are : (said_by scope left own newest).spares ≡ planned_spares (members_without gone former) (marking former clean) lost
+    pub spares-are : (said_by scope left own newest).spares ≡ planned_spares (members_without gone former) (resyncing former resync) lost
     spares-are = said.spares
 
     abbrev After : Members
-    After = marked_without lost (members_without gone former) clean
+    After = resynced_without lost (members_without gone former) resync
 
     state-is : (role : ℕ) → role_state (said_by scope left own newest) role ≡ role_state (reading_of After) role
     state-is role = ap (λ (l : List Role). get_or l role Missing) roles-are
@@ -254,7 +256,7 @@ module _ (scope : Scope) (former : Members) (gone : ℕ) (clean : Bool) (d : ℕ
     pub said-after : IsSaidOf After (said_by scope left own newest)
     said-after = record {
       still = ap is_reshaping later.same ∙ sym says.reshaping ∙ placed.still;
-      shape = ap shape_of later.same ∙ sym (shape-same (record former.newest { resync_offset = resync_of clean }) (planned_newest (record former.newest { resync_offset = resync_of clean }) former.newest) says);
+      shape = ap shape_of later.same ∙ sym (shape-same (record former.newest { resync_offset = resync }) (planned_newest (record former.newest { resync_offset = resync }) former.newest) says);
       size = ap (λ (z : Sb). z.size) later.same;
       clean = ap is_clean later.same;
       states = λ role lt. state-is role;

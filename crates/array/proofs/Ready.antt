@@ -14,6 +14,7 @@ use Rattle.md_base.specs.declared.status.Role.TheVariants.{Missing}
 use Rattle.sb1.specs.declared.sb.Sb.{Sb}
 use Rattle.superblocks.specs.declared.change.Give.{Give}
 use Rattle.superblocks.specs.declared.change.Give.TheVariants.{Same}
+use Rattle.superblocks.specs.declared.change.Change.{Change}
 use Rattle.superblocks.specs.declared.members.Members.{Members}
 use Rattle.superblocks.specs.Reading.{Scope, role_count, holder}
 use Rattle.superblocks.specs.Verdict.{judged_fields, bad_field, is_bad_entry}
@@ -35,7 +36,7 @@ use Rattle.superblocks.proofs.RoundReads.{left_set, left-are}
 use Rattle.superblocks.proofs.RoundsRead.{more-held}
 use Rattle.superblock_laws.proofs.Wide.{outside}
 use Rattle.row_io.specs.Rows.{role_without, members_without}
-use Rattle.array.specs.Marking.{resync_of, marking}
+use Rattle.array.specs.Marking.{marking}
 use Rattle.array.specs.Held.{IsHeldBy}
 use Rattle.array.proofs.MarkLaws.{give_of-same}
 use Rattle.array.proofs.Without.{in-both, from-without, any-holds, live-is, live-without, live-before}
@@ -67,11 +68,15 @@ is-below a b lt = grind (arith, nat_tests)
 
 -- ---- the superblock that is planned
 
-module _ (newest : Sb) (clean : Bool) where
+-- the update that gives no slot anything else, with this resync offset
+abbrev pub resyncing : Members → ℕ → Change
+resyncing members resync = record { shared = record members.newest { resync_offset = resync }; gives = replicate 32 Same; added = None }
+
+module _ (newest : Sb) (resync : ℕ) where
   -- at any event count it says what the array's does, but for the mark
-  pub says-at : (events : ℕ) → SaysSame (record newest { resync_offset = resync_of clean }) (record (planned_newest (record newest { resync_offset = resync_of clean }) newest) { events = events })
+  pub says-at : (events : ℕ) → SaysSame (record newest { resync_offset = resync }) (record (planned_newest (record newest { resync_offset = resync }) newest) { events = events })
   says-at events =
-      let a = (planned-of (record newest { resync_offset = resync_of clean }) newest Same).array in
+      let a = (planned-of (record newest { resync_offset = resync }) newest Same).array in
       record {
         level = refl;
         layout = refl;
@@ -88,16 +93,16 @@ module _ (newest : Sb) (clean : Bool) where
         backward = a.backward;
       }
 
-  pub count-next : role_count newest ≡ role_count (planned_newest (record newest { resync_offset = resync_of clean }) newest)
-  count-next = count-same (record newest { resync_offset = resync_of clean }) (planned_newest (record newest { resync_offset = resync_of clean }) newest) (says-at (min (newest.events + 1) (2 ^ 64 - 1)))
+  pub count-next : role_count newest ≡ role_count (planned_newest (record newest { resync_offset = resync }) newest)
+  count-next = count-same (record newest { resync_offset = resync }) (planned_newest (record newest { resync_offset = resync }) newest) (says-at (min (newest.events + 1) (2 ^ 64 - 1)))
 
-  fields-at : (events : ℕ) → events < 2 ^ 62 → newest.events < 2 ^ 62 → find (λ f. f.1) (judged_fields newest []) ≡ None
-      → find (λ f. f.1) (judged_fields (record (planned_newest (record newest { resync_offset = resync_of clean }) newest) { events = events }) []) ≡ None
+  pub fields-at : (events : ℕ) → events < 2 ^ 62 → newest.events < 2 ^ 62 → find (λ f. f.1) (judged_fields newest []) ≡ None
+      → find (λ f. f.1) (judged_fields (record (planned_newest (record newest { resync_offset = resync }) newest) { events = events }) []) ≡ None
   fields-at events less now none =
-      fields-kept (record newest { resync_offset = resync_of clean }) (record (planned_newest (record newest { resync_offset = resync_of clean }) newest) { events = events }) (says-at events)
+      fields-kept (record newest { resync_offset = resync }) (record (planned_newest (record newest { resync_offset = resync }) newest) { events = events }) (says-at events)
       (is-below newest.events (2 ^ 62) now ∙ sym (is-below events (2 ^ 62) less)) none
 
-none-judged : (newest : Sb) → bad_field newest [] ≡ None → find (λ f. f.1) (judged_fields newest []) ≡ None
+pub none-judged : (newest : Sb) → bad_field newest [] ≡ None → find (λ f. f.1) (judged_fields newest []) ≡ None
 none-judged newest e = found_none (find (λ f. f.1) (judged_fields newest [])) (option_map (λ (index : ℕ). BadField (256 + 2 * index)) (least_below newest.max_dev (is_bad_entry newest))) e
   where
     found_none : (a : Option (ℕ × Bool)) (b : Option Refusal) → option_or (option_map (λ (f : ℕ × Bool). BadField f.0) a) b ≡ None → a ≡ None
@@ -106,9 +111,9 @@ none-judged newest e = found_none (find (λ f. f.1) (judged_fields newest [])) (
 
 -- ---- the slots
 
-module _ (scope : Scope) (former : Members) (gone : ℕ) (clean : Bool) (d : ℕ → ℕ → List Sector) (held : IsHeldBy scope former d) where
+module _ (scope : Scope) (former : Members) (gone resync : ℕ) (d : ℕ → ℕ → List Sector) (held : IsHeldBy scope former d) where
   abbrev pub Live : ℕ
-  Live = live_set (members_without gone former) (marking (members_without gone former) clean)
+  Live = live_set (members_without gone former) (resyncing (members_without gone former) resync)
 
   abbrev pub Lost : ℕ
   Lost = bit_or former.lost gone
@@ -123,26 +128,26 @@ module _ (scope : Scope) (former : Members) (gone : ℕ) (clean : Bool) (d : ℕ
   pub first-lost : (s : ℕ) → has_slot former.lost s ≡ true → has_slot Lost s ≡ true
   first-lost s is = in-both former.lost gone s ∙ ap (λ (b : Bool). b || has_slot gone s) is
 
-  known-live : (s : ℕ) → has_slot held.known s ≡ true → (has_slot (live_set former (marking former clean)) s ≡ true) × (has_slot former.lost s ≡ false)
+  pub known-live : (s : ℕ) → has_slot held.known s ≡ true → (has_slot (live_set former (resyncing former resync)) s ≡ true) × (has_slot former.lost s ≡ false)
   known-live s is =
       let parts = both (has_slot (live_set former (marking former false)) s) (not (has_slot former.lost s)) (sym (held.live s) ∙ is) in
       (parts.0, flip (has_slot former.lost s) parts.1)
 
   pub known-small : (s : ℕ) → has_slot held.known s ≡ true → s < 32
-  known-small s is = below_of s 32 (both (nat_lt s 32) ((list_any (is_held_by s) former.roles || has_spare former.spares s) || false) (sym (live-is former clean s) ∙ (known-live s is).0)).0
+  known-small s is = below_of s 32 (both (nat_lt s 32) ((list_any (is_held_by s) former.roles || has_spare former.spares s) || false) (sym (live-is former false s) ∙ (known-live s is).0)).0
 
-  live-known-first : (s : ℕ) → has_slot (live_set former (marking former clean)) s ≡ true → has_slot held.known s ≡ true
+  pub live-known-first : (s : ℕ) → has_slot (live_set former (resyncing former resync)) s ≡ true → has_slot held.known s ≡ true
   live-known-first s is =
-      let parts = both (nat_lt s 32) ((list_any (is_held_by s) former.roles || has_spare former.spares s) || false) (sym (live-is former clean s) ∙ is) in
+      let parts = both (nat_lt s 32) ((list_any (is_held_by s) former.roles || has_spare former.spares s) || false) (sym (live-is former false s) ∙ is) in
       ⊎_elim (λ holds. let role = any-holds s former.roles holds in (role-known scope held.known former held.said role.0 s role.1).0)
       (λ none. spare-known scope held.known former held.said s (either_of (list_any (is_held_by s) former.roles) (has_spare former.spares s) parts.1 none))
       (by_bool (list_any (is_held_by s) former.roles))
 
   -- each live slot is known
   pub live-known : (s : ℕ) → has_slot Live s ≡ true → has_slot held.known s ≡ true
-  live-known s is = live-known-first s (live-before former gone clean s is)
+  live-known s is = live-known-first s (live-before former gone false s is)
 
-  live-small : (s : ℕ) → has_slot Live s ≡ true → s < 32
+  pub live-small : (s : ℕ) → has_slot Live s ≡ true → s < 32
   live-small s is = known-small s (live-known s is)
 
   -- ---- what is asked of the change
@@ -156,7 +161,7 @@ module _ (scope : Scope) (former : Members) (gone : ℕ) (clean : Bool) (d : ℕ
 
     -- a known slot that isn't lost is left
     pub known-left : (s : ℕ) → has_slot held.known s ≡ true → has_slot lost s ≡ false → has_slot left s ≡ true
-    known-left s is none = are s ∙ (λ i. (live-without former gone clean s (not-gone s none) ∙ (known-live s is).0) i && not (none i))
+    known-left s is none = are s ∙ (λ i. (live-without former gone false s (not-gone s none) ∙ (known-live s is).0) i && not (none i))
 
     -- a slot that gets a role held it
     abbrev Holds : List Role → Type 0
@@ -172,13 +177,13 @@ module _ (scope : Scope) (former : Members) (gone : ℕ) (clean : Bool) (d : ℕ
     spare-of : (s : ℕ) → is_planned_spare former.spares None (give_of (replicate 32 Same) s) s ≡ true → has_spare former.spares s ≡ true
     spare-of s is = first_of (has_spare former.spares s) (sym (ap (λ (g : Give). is_planned_spare former.spares None g s) (give_of-same 32 s)) ∙ is)
 
-    pub fits-of : (roles : List Role) (n : ℕ) → Holds roles → former.newest.events + 1 < 2 ^ 62 → IsFitChange held.known lost left (record former { roles = roles; lost = n }) (marking former clean)
+    pub fits-of : (roles : List Role) (n : ℕ) → Holds roles → former.newest.events + 1 < 2 ^ 62 → IsFitChange held.known lost left (record former { roles = roles; lost = n }) (resyncing former resync)
     fits-of roles n holds room = record {
       role = λ s role none is. known-left s (role-known scope held.known former held.said role s (holds s role none is)).0 none;
-      below = λ s role none is. let below = role-below scope held.known former held.said role s (holds s role none is) in omega (arith, below, count-next former.newest clean);
+      below = λ s role none is. let below = role-below scope held.known former held.said role s (holds s role none is) in omega (arith, below, count-next former.newest resync);
       spare = λ s none is. known-left s (spare-known scope held.known former held.said s (spare-of s is)) none;
       one_holder = λ s t role none none' is is'. let same : Some s ≡ Some t = sym (holds s role none is) ∙ holds t role none' is' in cc;
-      fields = fields-at former.newest clean (min (former.newest.events + 1) (2 ^ 64 - 1)) (omega (arith, room)) (few-events former.newest [] held.updated.held.sound.fields)
+      fields = fields-at former.newest resync (min (former.newest.events + 1) (2 ^ 64 - 1)) (omega (arith, room)) (few-events former.newest [] held.updated.held.sound.fields)
           (none-judged former.newest held.updated.held.sound.fields);
       size = refl;
       written = λ s is none. known-left s is none;
@@ -186,7 +191,7 @@ module _ (scope : Scope) (former : Members) (gone : ℕ) (clean : Bool) (d : ℕ
       one = λ s t is is' recovers recovers'. absurd (let none = ap is_recovery (give_of-same 32 s) in let both = sym none ∙ recovers in cc);
     }
 
-    pub fits-without : (n : ℕ) → former.newest.events + 1 < 2 ^ 62 → IsFitChange held.known lost left (record former { roles = map (role_without gone) former.roles; lost = n }) (marking former clean)
+    pub fits-without : (n : ℕ) → former.newest.events + 1 < 2 ^ 62 → IsFitChange held.known lost left (record former { roles = map (role_without gone) former.roles; lost = n }) (resyncing former resync)
     fits-without n room = fits-of (map (role_without gone) former.roles) n holds-without room
 
   -- ---- the update may start
@@ -194,15 +199,15 @@ module _ (scope : Scope) (former : Members) (gone : ℕ) (clean : Bool) (d : ℕ
   abbrev pub Left : ℕ
   Left = left_set 32 Live Lost
 
-  left-is : AreLeft Live Lost Left
+  pub left-is : AreLeft Live Lost Left
   left-is = left-are 32 Live Lost live-small
 
-  pub ready : former.newest.events + 1 < 2 ^ 62 → IsReady scope held.known Left (members_without gone former) (marking (members_without gone former) clean) Live d
+  pub ready : former.newest.events + 1 < 2 ^ 62 → IsReady scope held.known Left (members_without gone former) (resyncing (members_without gone former) resync) Live d
   ready room = record {
     held = more-held scope held.known former.lost Lost former.newest former.own d first-lost held.updated.held;
     are = left-is;
     within = live-known;
     exact = λ s sb found is own m. held.updated.exact s sb found (left-known Lost Left (λ t lost. lost) left-is s is) own m;
     fits = fits-without Lost Left (λ t lost. lost) left-is Lost room;
-    fields = λ events less. fields-at former.newest clean events less (few-events former.newest [] held.updated.held.sound.fields) (none-judged former.newest held.updated.held.sound.fields);
+    fields = λ events less. fields-at former.newest resync events less (few-events former.newest [] held.updated.held.sound.fields) (none-judged former.newest held.updated.held.sound.fields);
   }

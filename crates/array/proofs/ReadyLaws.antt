@@ -5,7 +5,8 @@ use Rattle.md_base.specs.Sectors.{Sector, sectors_of}
 use Rattle.md_base.specs.declared.answers.Who.{Who}
 use Rattle.md_base.proofs.SectorLaws.{length-sectors_of}
 use Rattle.parity.specs.Rows.{IsSector}
-use Rattle.bank.specs.Given.{Given}
+use Rattle.md_base.specs.Shapes.{has_slot}
+use Rattle.bank.specs.Given.{Given, NeverFalls}
 use Rattle.bank.specs.Tape.{Contents, IsIn}
 use Rattle.bank.specs.declared.bank.Operation.{Operation}
 use Rattle.bank.proofs.Laws.{contents-earlier}
@@ -28,6 +29,8 @@ use Rattle.flat_history.proofs.OneShapeLegal.{one_shape-legal, found-in}
 use Rattle.flat_history.proofs.OneShapeGrowing.{IsOneShapeCall}
 use Rattle.array.specs.Rows.{row_sector}
 use Rattle.array.specs.Placed.{AreWhole}
+use Rattle.array.specs.declared.work.Work.{Work}
+use Rattle.array.specs.Rebuilding.{HasNoRebuilt}
 use Rattle.array.specs.Moving.{Grows}
 use Rattle.array.specs.Kept.{scope_in, world_in, IsReady, IsKept}
 use Rattle.flat_history.specs.Losses.{is_resync_end}
@@ -91,13 +94,14 @@ pub record Settles (event : Event) : Type 0 where
   pub keep : (who : Who) (end : ℕ) → KeepShape (entries_of who end (event ∷ []))
   pub gives : (who : Who) (end : ℕ) → GivesNone (entries_of who end (event ∷ []))
   pub ends : is_resync_end event ≡ false
+  pub unbuilt : (who : Who) (end : ℕ) → HasNoRebuilt (entries_of who end (event ∷ []))
   pub newest : (who : Who) (end : ℕ) → KeepsNewest who end event
 
 pub flush-settles : Settles Flushed
-flush-settles = record { silent = λ who end. record { length = λ n. refl; limit = refl }; left = λ steps who end left is. is; still = λ who end x values. flushed-still values; call = λ opening before who end. (tt, tt, tt); keep = λ who end. refl; gives = λ who end role. refl; ends = refl; newest = λ who end x values has. first-stays values has }
+flush-settles = record { silent = λ who end. record { length = λ n. refl; limit = refl }; left = λ steps who end left is. is; still = λ who end x values. flushed-still values; call = λ opening before who end. (tt, tt, tt); keep = λ who end. refl; gives = λ who end role. refl; ends = refl; unbuilt = λ who end. refl; newest = λ who end x values has. first-stays values has }
 
 pub stop-settles : Settles Stopped
-stop-settles = record { silent = λ who end. record { length = λ n. refl; limit = refl }; left = λ steps who end left is. is; still = λ who end x values. flushed-still values; call = λ opening before who end. (tt, tt, tt); keep = λ who end. refl; gives = λ who end role. refl; ends = refl; newest = λ who end x values has. first-stays values has }
+stop-settles = record { silent = λ who end. record { length = λ n. refl; limit = refl }; left = λ steps who end left is. is; still = λ who end x values. flushed-still values; call = λ opening before who end. (tt, tt, tt); keep = λ who end. refl; gives = λ who end role. refl; ends = refl; unbuilt = λ who end. refl; newest = λ who end x values has. first-stays values has }
 
 pub settles-of : (event : Event) → IsSettling event → Settles event
 settles-of event (inl is) = subst Settles (sym is) flush-settles
@@ -105,18 +109,29 @@ settles-of event (inr is) = subst Settles (sym is) stop-settles
 
 -- ---- what is kept, as a method leaves it
 
+-- each slot that wasn't found sound has failed
+abbrev pub HaveUnfoundFailed : Given → Scope → (ℕ → ℕ) → Type 0
+HaveUnfoundFailed given scope faults = (slot : ℕ) → slot < given.slots → has_slot scope.given slot ≡ false → 0 < faults slot
+
 -- the same after the call's last step in memory
 pub ready : {tells : Type 0} {given given' : Given} {tape' : List Operation} {scope scope' : Scope} {first first' : ℕ} {entries mid entries' : List Entry} {members' : Members}
-    {resync : Option ℕ} {steps room rows buffer : ℕ} (added : List Entry) → IsKept tells given tape' scope first (entries ++ added) members' resync
+    {work : Work} {steps room rows buffer : ℕ} {before after : ℕ → ℕ} (added : List Entry) → IsKept tells given tape' scope first (entries ++ added) members' work
+    → HaveUnfoundFailed given scope before → NeverFalls before after
     → given' ≡ given → scope' ≡ scope → first' ≡ first → mid ≡ entries → entries' ≡ mid ++ added → 50 * steps < room → 128 ≤ rows → 1048576 ≤ buffer
-    → IsReady tells given' tape' scope' first' entries' members' resync steps room rows buffer
+    → IsReady tells given' tape' scope' first' entries' members' work after steps room rows buffer
 ready {tells = tells} {given = given} {given' = given'} {tape' = tape'} {scope = scope} {scope' = scope'} {first = first} {first' = first'} {entries = entries} {mid = mid} {members' = members'}
-    {resync = resync} {steps = steps} {room = room} {rows = rows} {buffer = buffer} added kept same scope_is first_is mid_is is room_left rows_fit buffer_fits =
-    subst (λ (l : List Entry). IsReady tells given' tape' scope' first' l members' resync steps room rows buffer) (sym (is ∙ ap (λ (l : List Entry). l ++ added) mid_is))
-    (subst (λ (n : ℕ). IsReady tells given' tape' scope' n (entries ++ added) members' resync steps room rows buffer) (sym first_is)
-    (subst (λ (s : Scope). IsReady tells given' tape' s first (entries ++ added) members' resync steps room rows buffer) (sym scope_is)
-    (subst (λ (g : Given). IsReady tells g tape' scope first (entries ++ added) members' resync steps room rows buffer) (sym same)
-    (record { kept = kept; room_left = room_left; rows_fit = rows_fit; buffer_fits = buffer_fits }))))
+    {work = work} {steps = steps} {room = room} {rows = rows} {buffer = buffer} {after = after} added kept failed rises same scope_is first_is mid_is is room_left rows_fit buffer_fits =
+    subst (λ (l : List Entry). IsReady tells given' tape' scope' first' l members' work after steps room rows buffer) (sym (is ∙ ap (λ (l : List Entry). l ++ added) mid_is))
+    (subst (λ (n : ℕ). IsReady tells given' tape' scope' n (entries ++ added) members' work after steps room rows buffer) (sym first_is)
+    (subst (λ (s : Scope). IsReady tells given' tape' s first (entries ++ added) members' work after steps room rows buffer) (sym scope_is)
+    (subst (λ (g : Given). IsReady tells g tape' scope first (entries ++ added) members' work after steps room rows buffer) (sym same)
+    (record {
+      kept = kept;
+      failed = λ slot lt out. let had = failed slot lt out in let more = rises slot in omega (arith, had, more);
+      room_left = room_left;
+      rows_fit = rows_fit;
+      buffer_fits = buffer_fits;
+    }))))
 
 -- the same slots of the same bank are looked at
 pub scope-same : {given' : Given} {uuid uuid' : List ℕ} {slots slots' : ℕ} (given : Given) (backup : Option ℕ) → given' ≡ given → uuid' ≡ uuid → slots' ≡ slots
@@ -141,20 +156,20 @@ read_is world size entries at bytes opened all within holds = record {
 -- ---- an epoch that is handed out
 
 -- the history is legal, where what was filled in is right by it
-pub kept-legal : {tells : Type 0} {given : Given} {tape : List Operation} {scope : Scope} {first : ℕ} {entries : List Entry} {members : Members} {resync : Option ℕ} → IsKept tells given tape scope first entries members resync
+pub kept-legal : {tells : Type 0} {given : Given} {tape : List Operation} {scope : Scope} {first : ℕ} {entries : List Entry} {members : Members} {work : Work} → IsKept tells given tape scope first entries members work
     → tells → FillsRight (world_in given tape scope first) entries → IsOneShapeLegal (opening_in (world_in given tape scope first)) (length tape) entries
 kept-legal {given = given} {tape = tape} {scope = scope} {first = first} {entries = entries} {members = members} was t fills = (was.recorded t).legal (λ mended. right fills)
   where
-    right : FillsRight (world_in given tape scope first) entries → AreWhole members ⊎ OpensFit (world_in given tape scope first)
-    right (inl none) = inl (whole-told members entries was.told none)
+    right : FillsRight (world_in given tape scope first) entries → (AreWhole members × HasNoRebuilt entries) ⊎ OpensFit (world_in given tape scope first)
+    right (inl none) = inl (whole-told members entries was.told none, was.built none)
     right (inr fit) = inr fit
 
-pub epoch-right : {tells : Type 0} {entries : List Entry} {resync : Option ℕ} (given : Given) (tape : List Operation) (backup : Option ℕ) (epoch : Epoch) (members : Members)
-    → IsKept tells given tape (scope_in given epoch.uuid epoch.given backup) epoch.first entries members resync → epoch.entries.items ≡ entries → tells → epoch.last ≡ length tape
+pub epoch-right : {tells : Type 0} {entries : List Entry} {work : Work} (given : Given) (tape : List Operation) (backup : Option ℕ) (epoch : Epoch) (members : Members)
+    → IsKept tells given tape (scope_in given epoch.uuid epoch.given backup) epoch.first entries members work → epoch.entries.items ≡ entries → tells → epoch.last ≡ length tape
     → FillsRight (world_of given tape backup epoch) epoch.entries.items → HasRoomForEvents (world_of given tape backup epoch) → OpensAlike (world_of given tape backup epoch) → IsEpochRight given tape backup epoch
-epoch-right {tells = tells} {resync = resync} given tape backup epoch members was is t last fills room alike =
-    let kept : IsKept tells given tape (scope_in given epoch.uuid epoch.given backup) epoch.first epoch.entries.items members resync =
-    subst (λ (l : List Entry). IsKept tells given tape (scope_in given epoch.uuid epoch.given backup) epoch.first l members resync) (sym is) was in
+epoch-right {tells = tells} {work = work} given tape backup epoch members was is t last fills room alike =
+    let kept : IsKept tells given tape (scope_in given epoch.uuid epoch.given backup) epoch.first epoch.entries.items members work =
+    subst (λ (l : List Entry). IsKept tells given tape (scope_in given epoch.uuid epoch.given backup) epoch.first l members work) (sym is) was in
     let recorded = kept.recorded t in
     let world = world_of given tape backup epoch in
     let legal = one_shape-legal world (opening_in world) epoch.entries.items (found-in world) (kept-legal kept t fills) in

@@ -17,17 +17,13 @@ use Rattle.superblocks.specs.Update.{own_in}
 use Rattle.superblocks.specs.Held.{known_of, IsKnown}
 use Rattle.superblocks.proofs.ReadLists.{held-here}
 use Rattle.superblocks.proofs.SaidSlots.{below-length, role-below, role-known, role-said}
-use Rattle.row_io.specs.Rows.{reading_of, role_without, members_without}
+use Rattle.row_io.specs.Rows.{role_without, members_without}
 use Rattle.array.specs.Held.{IsHeldBy}
-use Rattle.array.specs.Lacking.{IsNamed}
-use Rattle.array.specs.Placed.{is_vacant, IsPlaced}
+use Rattle.array.specs.Lacking.{IsNamed, AreUnnamed}
+use Rattle.array.specs.Placed.{IsPlaced}
 use Rattle.array.specs.Views.{Ledger}
 use Rattle.array.specs.Steady.{IsSteady, IsNamedNow}
 use Rattle.array.proofs.PlacedLaws.{state-without, kept-roles}
-
--- no vacant role is named
-abbrev pub AreUnnamed : Members → Type 0
-AreUnnamed m = (role : ℕ) → role < (shape_of m.newest).disks → is_vacant (reading_of m) role ≡ true → IsNamed m.newest role → ⊥
 
 -- a slot's superblock that holds a role has the role's entry
 holds-entry : (newest : Sb) (role slot : ℕ) (sb : Sb) (state : Role) → held_in newest role slot (Some sb) ≡ Some state → entry_of newest sb.dev_number ≡ role

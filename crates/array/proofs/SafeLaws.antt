@@ -1,5 +1,5 @@
 -- A call whose marks are seen right leaves an array safe.
-use Rattle.std.proofs.Common.{◌≡◌, inl, inr, ℕ, ◌+◌, ◌-◌, ◌<◌, ◌≤◌, ◌&&◌, ◌||◌, Bool, not, List, [], ◌∷◌, ◌++◌, length, take, take_all, Option, Some, None, refl, sym, ◌∙◌, ap, subst, arith, length-append, append_assoc}
+use Rattle.std.proofs.Common.{◌≡◌, inl, inr, ℕ, ◌+◌, ◌-◌, ◌<◌, ◌≤◌, ◌&&◌, ◌||◌, Bool, true, not, List, [], ◌∷◌, ◌++◌, length, take, take_all, Option, Some, None, refl, sym, ◌∙◌, ap, subst, arith, length-append, append_assoc}
 use Rattle.std.specs.Prelude.{◌^◌, IfSome, ⊤}
 use Rattle.std.proofs.Math.Seq.{take-append_seam, drop-append_seam, take-length}
 use Rattle.std.proofs.lemmas.Bool.{cases_lt}
@@ -29,16 +29,18 @@ use Rattle.flat_history.specs.Plain.{entries_of}
 use Rattle.flat_history.proofs.GrowingLaws.{calls-owe}
 use Rattle.flat_history.proofs.OneShapeLegal.{opening-grown as shape-grown}
 use Rattle.array.specs.Safety.{HasLiveSlot, HasRoomLeft, IsRisen}
+use Rattle.array.specs.declared.work.Work.{Work}
+use Rattle.array.specs.Numbers.{is_carried}
 use Rattle.array.specs.Kept.{world_in, ledger_now, IsRecorded, IsCounted, IsSafe}
 use Rattle.array.specs.Views.{Ledger, ledger_of, AreViewsRight, IsJudgedBy}
 use Rattle.array.specs.Steady.{IsSafeNow, IsSafeOver, KeepsSafe}
 use Rattle.array.proofs.Judged.{views-are-safe}
 use Rattle.array.proofs.LosingLaws.{entries-both}
 use Rattle.array.proofs.CallLaws.{GivesNone}
-use Rattle.array.proofs.LedgerLaws.{told_by, told-ledger, now-ledger, none-lost-before}
+use Rattle.array.proofs.LedgerLaws.{told_by, any_carried, any-carried, told-ledger, now-ledger, none-lost-before}
 use Rattle.array.proofs.MadeLaws.{made-past, made-both, made-before, length-entries, call-length, made-from, ends-by, opening-grown}
 use Rattle.array.proofs.SoundViews.{throughout-kept}
-use Rattle.array.proofs.Steady.{safe-is-seen}
+use Rattle.array.proofs.Steady.{safe-is-seen, views-told}
 
 -- ---- room for events
 
@@ -101,13 +103,15 @@ module _ (world : World) (ops : List Operation) (within : world.first ≤ length
     values = values_of (opening-grown world ops within i) (take j entries);
     gone = is_gone_by entries k j;
     unclean = unsynced-grown (take k entries) i || is_written entries k j;
+    carried = λ number. true;
   }
 
-  now-grown : (entries : List Entry) → ledger_now (grown world ops) entries ≡ ledger_now world entries
-  now-grown entries = λ i. record {
+  now-grown : (work : Work) (entries : List Entry) → ledger_now (grown world ops) work entries ≡ ledger_now world work entries
+  now-grown work entries = λ i. record {
     values = values_of (opening-grown world ops within i) entries;
     gone = is_gone_now entries;
     unclean = unsynced-grown entries i || is_unsettled entries;
+    carried = is_carried work;
   }
 
 -- ---- the mark at which each entry is made
@@ -130,13 +134,14 @@ module _ (world : World) (given : Given) (size : ℕ) (entries : List Entry) (st
   }
 
   -- where what it may leave is seen right by them, it is safe
-  pub safe-last : AreViewsRight (OpensFit world) world.scope given size (ledger_now world entries) (disk given.start world.tape) → IsSafeAt world entries (length world.tape)
-  safe-last views =
+  pub safe-last : (work : Work) → AreViewsRight (OpensFit world) world.scope given size (ledger_now world work entries) (disk given.start world.tape) → IsSafeAt world entries (length world.tape)
+  safe-last work views =
       views-are-safe world given entries (length world.tape) (length entries) size (disk given.start world.tape) judged-last
       (λ s k v may. subst (λ (l : List Operation). IsIn (disk given.start l s k) v) (take_all (length world.tape) world.tape (omega arith))
       (subst (λ (c : Contents). IsIn (disk c (take (length world.tape) world.tape) s k) v) (sym start) may))
       (subst (λ (told : Ledger). AreViewsRight (OpensFit world) world.scope given size told (disk given.start world.tape))
-      (sym (ap (λ (k : ℕ). ledger_of world entries k (length entries)) made-all ∙ now-ledger world entries)) views)
+      (sym (ap (λ (k : ℕ). ledger_of world entries k (length entries)) made-all ∙ now-ledger world work entries))
+      (views-told (OpensFit world) given size (ledger_now world work entries) (any_carried (ledger_now world work entries)) (any-carried size (ledger_now world work entries)) world.scope (disk given.start world.tape) views))
 
 -- ---- a call
 
@@ -150,15 +155,15 @@ pub begun-of : {size : ℕ} {resync : Option ℕ} {members : Members} {entries :
 begun-of world was = record { begun = was.begun; opened = was.opened; ends = was.ends }
 
 -- The call enters some events that are told while it runs, and others behind them that stand only for its end.
-module _ (given : Given) (tape : List Operation) (scope : Scope) (first size : ℕ) (entries : List Entry) (old new : Members) (who : Who) (early late : List Event) (ops : List Operation)
+module _ (given : Given) (tape : List Operation) (scope : Scope) (first size : ℕ) (entries : List Entry) (old new : Members) (work work' : Work) (who : Who) (early late : List Event) (ops : List Operation)
     (sizes_are : scope.sizes ≡ sizes given) (begun : IsBegun (world_in given tape scope first) size entries)
     (sized : length_of size (entries ++ entries_of who (length (tape ++ ops)) early) ≡ size)
     (sized-all : length_of size (entries ++ entries_of who (length (tape ++ ops)) (early ++ late)) ≡ size)
     (keep : KeepShape (entries ++ entries_of who (length (tape ++ ops)) (early ++ late))) (none : GivesNone (entries_of who (length (tape ++ ops)) early))
     (fills : FillsRight (grown (world_in given tape scope first) ops) (entries ++ entries_of who (length (tape ++ ops)) (early ++ late)))
-    (was : IsSafe (world_in given tape scope first) given size old entries) (rise : IsRisen ⊤ old new tape (tape ++ ops))
-    (stretch : KeepsSafe (world_in given tape scope first) given size (told_by (world_in given tape scope first) entries (entries_of who (length (tape ++ ops)) early)) new tape (tape ++ ops))
-    (last : IsSafeOver (world_in given tape scope first) given size (ledger_now (world_in given tape scope first) (entries ++ entries_of who (length (tape ++ ops)) (early ++ late))) new (tape ++ ops)) where
+    (was : IsSafe (world_in given tape scope first) given size old work entries) (rise : IsRisen ⊤ old new tape (tape ++ ops))
+    (stretch : KeepsSafe (world_in given tape scope first) given size (told_by (world_in given tape scope first) work' entries (entries_of who (length (tape ++ ops)) early)) new tape (tape ++ ops))
+    (last : IsSafeOver (world_in given tape scope first) given size (ledger_now (world_in given tape scope first) work' (entries ++ entries_of who (length (tape ++ ops)) (early ++ late))) new (tape ++ ops)) where
   abbrev world : World
   world = world_in given tape scope first
 
@@ -228,29 +233,30 @@ module _ (given : Given) (tape : List Operation) (scope : Scope) (first size : �
       fills-early (inl whole) = inl (none-lost-before (entries ++ more) rest (λ role. ap (λ (l : List Entry). is_lost l role) (sym all-parts) ∙ whole role))
       fills-early (inr good) = inr good
 
-  ledger-early : (mark : ℕ) → length tape ≤ mark → mark < end → ledger_of later all (made_by mark all) (length (entries ++ more)) ≡ told_by world entries more
+  ledger-early : (mark : ℕ) → length tape ≤ mark → mark < end → ledger_of later all (made_by mark all) (length (entries ++ more)) ≡ any_carried (told_by world work' entries more)
   ledger-early mark low high =
       ap (λ (k : ℕ). ledger_of later all k (length (entries ++ more))) (made-early mark low high) ∙ ledger-grown world ops begun.begun all (length entries) (length (entries ++ more))
-      ∙ ap (λ (l : List Entry). ledger_of world l (length entries) (length (entries ++ more))) all-is ∙ told-ledger world entries more rest none
+      ∙ ap (λ (l : List Entry). ledger_of world l (length entries) (length (entries ++ more))) all-is ∙ told-ledger world work' entries more rest none
 
   safe-early : (mark : ℕ) → length tape ≤ mark → mark < end → IsSafeAt later all mark
   safe-early mark low high =
       views-are-safe later given all mark (length (entries ++ more)) size (disk given.start (take mark (tape ++ ops))) (judged-early mark low high) (λ s k v may. may)
       (subst (λ (told : Ledger). AreViewsRight (OpensFit later) scope given size told (disk given.start (take mark (tape ++ ops)))) (sym (ledger-early mark low high))
-      (subst (λ (sound : Type 0). AreViewsRight sound scope given size (told_by world entries more) (disk given.start (take mark (tape ++ ops)))) (sym (fit-grown world ops begun.begun))
-      (stretch.marks.each tt mark low (omega (arith, high)))))
+      (views-told (OpensFit later) given size (told_by world work' entries more) (any_carried (told_by world work' entries more)) (any-carried size (told_by world work' entries more)) scope (disk given.start (take mark (tape ++ ops)))
+      (subst (λ (sound : Type 0). AreViewsRight sound scope given size (told_by world work' entries more) (disk given.start (take mark (tape ++ ops)))) (sym (fit-grown world ops begun.begun))
+      (stretch.marks.each tt mark low (omega (arith, high))))))
 
   -- ---- its end
 
-  now-last : IsSafeOver later given size (ledger_now later all) new (tape ++ ops)
+  now-last : IsSafeOver later given size (ledger_now later work' all) new (tape ++ ops)
   now-last =
-      subst (λ (told : Ledger). IsSafeNow (OpensFit later) scope given size told new (disk given.start (tape ++ ops))) (sym (now-grown world ops begun.begun all))
-      (subst (λ (sound : Type 0). IsSafeNow sound scope given size (ledger_now world all) new (disk given.start (tape ++ ops))) (sym (fit-grown world ops begun.begun)) last)
+      subst (λ (told : Ledger). IsSafeNow (OpensFit later) scope given size told new (disk given.start (tape ++ ops))) (sym (now-grown world ops begun.begun work' all))
+      (subst (λ (sound : Type 0). IsSafeNow sound scope given size (ledger_now world work' all) new (disk given.start (tape ++ ops))) (sym (fit-grown world ops begun.begun)) last)
 
   safe-end : IsSafeAt later all end
   safe-end =
-      safe-last later given size all refl sizes_are ends-all (subst (λ (n : ℕ). length_of n all ≡ size) (sym list-long) sized-all) keep fills
-      (safe-is-seen (OpensFit later) scope given size (ledger_now later all) new (tape ++ ops) now-last)
+      safe-last later given size all refl sizes_are ends-all (subst (λ (n : ℕ). length_of n all ≡ size) (sym list-long) sized-all) keep fills work'
+      (safe-is-seen (OpensFit later) scope given size (ledger_now later work' all) new (tape ++ ops) now-last)
     where
       at-end : (events : List Event) → EndBy end (entries_of who end events)
       at-end [] = tt
@@ -269,10 +275,10 @@ module _ (given : Given) (tape : List Operation) (scope : Scope) (first size : �
     | inr after ↦ let is : mark ≡ end = omega (arith, high, after) in subst (λ (m : ℕ). IsSafeAt later all m) (sym is) safe-end
   ]
 
-  pub safe-call : IsSafe later given size new all
+  pub safe-call : IsSafe later given size new work' all
   safe-call = record {
     past = calls-owe world entries (entries_of who end (early ++ late)) ops begun.begun begun.ends (made-from (length tape) end who (early ++ late) longer) was.past owed;
-    sound = throughout-kept world given size (told_by world entries more) new ops refl begun.begun stretch was.sound;
+    sound = throughout-kept world given size (told_by world work' entries more) new ops refl begun.begun stretch was.sound;
     now = now-last;
     counted = λ live.
         let counted = was.counted (rise.left live) in
@@ -284,18 +290,18 @@ module _ (given : Given) (tape : List Operation) (scope : Scope) (first size : �
   }
 
 -- the same, over a tape and an end that are given
-abbrev pub IsSafeThen : Given → List Operation → Scope → ℕ → ℕ → List Entry → Members → Members → Who → List Event → List Event → List Operation → ℕ → Type 0
-IsSafeThen given tape scope first size entries old new who early late tape' end =
+abbrev pub IsSafeThen : Given → List Operation → Scope → ℕ → ℕ → List Entry → Members → Members → Work → Who → List Event → List Event → List Operation → ℕ → Type 0
+IsSafeThen given tape scope first size entries old new work' who early late tape' end =
     length_of size (entries ++ entries_of who end early) ≡ size → length_of size (entries ++ entries_of who end (early ++ late)) ≡ size
     → KeepShape (entries ++ entries_of who end (early ++ late)) → GivesNone (entries_of who end early) → FillsRight (world_in given tape' scope first) (entries ++ entries_of who end (early ++ late)) → IsRisen ⊤ old new tape tape'
-    → KeepsSafe (world_in given tape scope first) given size (told_by (world_in given tape scope first) entries (entries_of who end early)) new tape tape'
-    → IsSafeOver (world_in given tape scope first) given size (ledger_now (world_in given tape scope first) (entries ++ entries_of who end (early ++ late))) new tape'
-    → IsSafe (world_in given tape' scope first) given size new (entries ++ entries_of who end (early ++ late))
+    → KeepsSafe (world_in given tape scope first) given size (told_by (world_in given tape scope first) work' entries (entries_of who end early)) new tape tape'
+    → IsSafeOver (world_in given tape scope first) given size (ledger_now (world_in given tape scope first) work' (entries ++ entries_of who end (early ++ late))) new tape'
+    → IsSafe (world_in given tape' scope first) given size new work' (entries ++ entries_of who end (early ++ late))
 
-pub safe-called : (given : Given) (tape : List Operation) (scope : Scope) (first size : ℕ) (entries : List Entry) (old new : Members) (who : Who) (early late : List Event) (ops tape' : List Operation) (end : ℕ)
-    → tape' ≡ tape ++ ops → end ≡ length (tape ++ ops) → scope.sizes ≡ sizes given → IsBegun (world_in given tape scope first) size entries → IsSafe (world_in given tape scope first) given size old entries
-    → IsSafeThen given tape scope first size entries old new who early late tape' end
-safe-called given tape scope first size entries old new who early late ops tape' end grown_is end_is sizes_are begun was =
-    subst (λ (l : List Operation). IsSafeThen given tape scope first size entries old new who early late l end) (sym grown_is)
-    (subst (IsSafeThen given tape scope first size entries old new who early late (tape ++ ops)) (sym end_is)
-    (λ sized sized-all keep none fills rise stretch last. safe-call given tape scope first size entries old new who early late ops sizes_are begun sized sized-all keep none fills was rise stretch last))
+pub safe-called : (given : Given) (tape : List Operation) (scope : Scope) (first size : ℕ) (entries : List Entry) (old new : Members) (work work' : Work) (who : Who) (early late : List Event) (ops tape' : List Operation) (end : ℕ)
+    → tape' ≡ tape ++ ops → end ≡ length (tape ++ ops) → scope.sizes ≡ sizes given → IsBegun (world_in given tape scope first) size entries → IsSafe (world_in given tape scope first) given size old work entries
+    → IsSafeThen given tape scope first size entries old new work' who early late tape' end
+safe-called given tape scope first size entries old new work work' who early late ops tape' end grown_is end_is sizes_are begun was =
+    subst (λ (l : List Operation). IsSafeThen given tape scope first size entries old new work' who early late l end) (sym grown_is)
+    (subst (IsSafeThen given tape scope first size entries old new work' who early late (tape ++ ops)) (sym end_is)
+    (λ sized sized-all keep none fills rise stretch last. safe-call given tape scope first size entries old new work work' who early late ops sizes_are begun sized sized-all keep none fills was rise stretch last))

@@ -48,7 +48,7 @@ module _ (sound : Type 0) (scope : Scope) (given : Given) (size : ℕ) (told : L
     where
       here : IsSafeNow sound scope given size told new (disk given.start before)
       here = subst (λ (m : Members). IsSafeNow sound scope given size told m (disk given.start before)) (sym is)
-          (losing-stays-safe sound scope given size lost told told old (disk given.start before) (record { values = λ x lt v may. may; gone = λ role is. is; unclean = λ is. is }) safe)
+          (losing-stays-safe sound scope given size lost told told old (disk given.start before) (record { values = λ x lt v may. may; gone = λ role is. is; unclean = λ is. is; carried = λ number is. is }) safe)
 
   -- rows were written
   pub safe-put : {tells : Type 0} (old new : Members) (lost : ℕ) (list : ℕ → Sector) (rows : List ℕ) (before after : List Operation) → tells → new ≡ members_without lost old

@@ -23,6 +23,7 @@ use Rattle.flat_history.specs.declared.events.Event.TheVariants.{Refused}
 use Rattle.bank.specs.Tape.{IsIn, disk}
 use Rattle.std.specs.List.{list_any}
 use Rattle.std.specs.Prelude.{IsSome, is_some}
+use Rattle.array.specs.declared.work.Work.{Work}
 use Rattle.array.specs.Whole.{list_size}
 use Rattle.flat_history.specs.Flat.{now, values_of}
 use Rattle.flat_history.specs.Plain.{entries_of}
@@ -38,11 +39,12 @@ use Rattle.array.specs.Calls.{AreLeftFlushed}
 use Rattle.array.proofs.NowLaws.{values-more}
 use Rattle.array.proofs.CallLaws.{GivesNone, losses-are, length-losses, limit-losses, values-losses}
 use Rattle.array.proofs.LosingLaws.{entries-both}
-use Rattle.array.proofs.LedgerLaws.{told_by, HasNewest, pending-more, OnlyAdd, add-none, add-one, add-losses, keep-losses, told-more, told-unclean, more-safe, settled-now, unsettles-behind}
+use Rattle.array.proofs.LedgerLaws.{told_by, CarriesMore, HasNewest, pending-more, OnlyAdd, add-none, add-one, add-losses, keep-losses, told-more, told-unclean, more-safe, settled-now, unsettles-behind}
 use Rattle.array.proofs.PlainLaws.{one}
 use Rattle.array.proofs.RecordLaws.{AreSilent}
 use Rattle.array.proofs.ReadyLaws.{Settles, KeepsNewest, silent-behind}
-use Rattle.array.proofs.DegradedLaws.{LeavesSafe, without-before, newest-old, safe-by, leaves-unsettled, told-behind, told-alone, none-ended}
+use Rattle.array.proofs.KeptLaws.{StayPlaced, LeavesSafe, holds-before, newest-old, safe-by, leaves-unsettled}
+use Rattle.array.proofs.DegradedLaws.{stays-moved, without-before, told-behind, told-alone, none-ended}
 
 -- ---- what was told
 
@@ -74,12 +76,12 @@ all-mended m (Some mended) unsynced same synced = absurd (let no = sym same ∙ 
 losses-alone : (P : List Event → Type 0) (roles spares : ℕ) → P (losses_of roles spares ++ []) → P (losses_of roles spares)
 losses-alone P roles spares = subst P (append-nil (losses_of roles spares))
 
-module _ {tells : Type 0} {given : Given} {tape tape' : List Operation} {scope : Scope} {first : ℕ} {entries : List Entry} {members members' : Members} {resync : Option ℕ}
-    (who : Who) (end : ℕ) (was : IsKept tells given tape scope first entries members resync)
+module _ {tells : Type 0} {given : Given} {tape tape' : List Operation} {scope : Scope} {first : ℕ} {entries : List Entry} {members members' : Members} {work : Work}
+    (who : Who) (end : ℕ) (was : IsKept tells given tape scope first entries members work)
     (opens : IsCallOpen entries who) (caller : who.caller ≢ 254) (at_end : tells → end ≡ length tape')
     (moved : IsMoved given members members') (grows : Grows tells tape tape')
     (roles spares : ℕ) (before after : ℕ → ℕ) (since : AreLostSince members members' roles spares before after)
-    (rise : IsRisen tells members members' tape tape') (unsynced : Bool) (all : unsynced ≡ false → members.newest.size ≤ mended_rows resync members)
+    (rise : IsRisen tells members members' tape tape') (unsynced : Bool) (all : unsynced ≡ false → members.newest.size ≤ mended_rows work.resync members)
     (safe : tells → (world : World) → (size : ℕ) → (told : Ledger) → HasRoomLeft members tape tape' → AreGoneTold told members' → IsUncleanTold told members → (list : ℕ → Sector)
     → (DoesWithout members → ListStands members (present given tape) list) → (unsynced ≡ false → DoesWithout members → OpensFit world → RowsStand members (present given tape) list)
     → AreWritesAllowed members told.values list → IsSafeOver world given size told members tape → KeepsSafe world given size told members' tape tape') where
@@ -90,68 +92,73 @@ module _ {tells : Type 0} {given : Given} {tape tape' : List Operation} {scope :
   rows-old : (t : tells) → unsynced ≡ false → DoesWithout members → OpensFit (world_in given tape scope first) → RowsStand members (present given tape) (now (opening_list (world_in given tape scope first)) entries)
   rows-old t synced does fit row below = was.good t does fit row (let most = all synced in omega (arith, below, most)) below
 
-  -- what is told while it runs, and the list among it
-  newest-told : (events : List Event) (added : List Entry) → OnlyAdd (entries_of who end events) → (t : tells) → FillsRight (world_in given tape scope first) (entries ++ added)
-      → AreWritesAllowed members (values_of (opening_list (world_in given tape scope first)) (entries ++ entries_of who end events)) (now (opening_list (world_in given tape scope first)) entries)
-  newest-told events added adds t fills x lt =
-      (told-more (world_in given tape scope first) (list_size (places_of members)) entries (entries_of who end events) adds).values x lt _ (newest-old who end was opens caller at_end moved grows added t fills x lt)
+  stays : StayPlaced given members members'
+  stays = stays-moved was moved
 
-  unclean-told : (events : List Event) → OnlyAdd (entries_of who end events) → (t : tells) → IsUncleanTold (told_by (world_in given tape scope first) entries (entries_of who end events)) members
-  unclean-told events adds t is = told-unclean (world_in given tape scope first) (list_size (places_of members)) entries (entries_of who end events) adds (is_some resync) (was.recorded t).dirty (was.unclean is)
+  -- what is told while it runs, and the list among it
+  newest-told : (work' : Work) → CarriesMore work work' → (events : List Event) (added : List Entry) → OnlyAdd (entries_of who end events) → (t : tells) → FillsRight (world_in given tape scope first) (entries ++ added)
+      → AreWritesAllowed members (values_of (opening_list (world_in given tape scope first)) (entries ++ entries_of who end events)) (now (opening_list (world_in given tape scope first)) entries)
+  newest-told work' carries events added adds t fills x lt =
+      (told-more (world_in given tape scope first) (list_size (places_of members)) work work' carries entries (entries_of who end events) adds).values x lt _ (newest-old who end was opens caller at_end stays grows added t fills x lt)
+
+  unclean-told : (work' : Work) → CarriesMore work work' → (events : List Event) → OnlyAdd (entries_of who end events) → (t : tells) → IsUncleanTold (told_by (world_in given tape scope first) work' entries (entries_of who end events)) members
+  unclean-told work' carries events adds t is =
+      told-unclean (world_in given tape scope first) (list_size (places_of members)) work work' carries entries (entries_of who end events) adds (is_some work.resync) (was.recorded t).dirty (was.unclean is)
 
   -- one that was refused behind the losses, since too many are missing
-  pub leaves-refused : (refusal : Refusal) → AreTooMany members' refusal → LeavesSafe tells given tape' scope first (entries ++ entries_of who end (losses_of roles spares ++ Refused refusal ∷ [])) members' (is_some resync)
+  pub leaves-refused : (refusal : Refusal) → AreTooMany members' refusal → LeavesSafe tells given tape' scope first (entries ++ entries_of who end (losses_of roles spares ++ Refused refusal ∷ [])) members' work
   leaves-refused refusal many =
-      leaves-unsettled who end was opens caller at_end moved grows (losses ++ Refused refusal ∷ [])
+      leaves-unsettled who end was opens caller at_end stays grows work (λ number is. is) (losses ++ Refused refusal ∷ [])
       (silent-behind who end losses (Refused refusal) (losses-are roles spares) (record { length = λ n. refl; limit = refl })) adds rise
-      (λ t fills room began. safe t (world_in given tape scope first) (list_size (places_of members)) (told_by (world_in given tape scope first) entries (entries_of who end (losses ++ Refused refusal ∷ []))) room
-      (told-behind who end was opens caller at_end moved grows roles spares before after since (Refused refusal ∷ []) (λ role. refl)) (unclean-told (losses ++ Refused refusal ∷ []) adds t)
-      (now (opening_list (world_in given tape scope first)) entries) (was.holds t) (rows-old t)
-      (newest-told (losses ++ Refused refusal ∷ []) (entries_of who end (losses ++ Refused refusal ∷ [])) adds t fills) began)
+      (λ t fills room began. safe t (world_in given tape scope first) (list_size (places_of members)) (told_by (world_in given tape scope first) work entries (entries_of who end (losses ++ Refused refusal ∷ []))) room
+      (told-behind who end was opens caller at_end moved grows roles spares before after since (Refused refusal ∷ []) (λ role. refl)) (unclean-told work (λ number is. is) (losses ++ Refused refusal ∷ []) adds t)
+      (now (opening_list (world_in given tape scope first)) entries) (holds-before who end was opens caller at_end stays grows (entries_of who end (losses ++ Refused refusal ∷ [])) t fills) (rows-old t)
+      (newest-told work (λ number is. is) (losses ++ Refused refusal ∷ []) (entries_of who end (losses ++ Refused refusal ∷ [])) adds t fills) began)
       (λ does. absurd (let above = many.above in omega (arith, does, above))) (λ synced. unsettles-behind who end losses (Refused refusal ∷ []) (subst (λ (r : Refusal). list_any (λ e. unsettles e.event) (entries_of who end (Refused r ∷ [])) ≡ true) (sym many.told) refl))
     where
       adds : OnlyAdd (entries_of who end (losses ++ Refused refusal ∷ []))
       adds = add-losses who end losses (Refused refusal ∷ []) (losses-are roles spares) (add-one (one who end (Refused refusal)) [] (λ x values v may. may) refl refl (λ role. refl) add-none)
 
   -- an event that ends no resync leaves the array as unsynced as it was
-  pub unsynced-as : (event : Event) → is_resync_end event ≡ false → tells → is_unsynced (world_in given tape scope first) (entries ++ entries_of who end (losses_of roles spares ++ event ∷ [])) ≡ is_some resync
+  pub unsynced-as : (event : Event) → is_resync_end event ≡ false → tells → is_unsynced (world_in given tape scope first) (entries ++ entries_of who end (losses_of roles spares ++ event ∷ [])) ≡ is_some work.resync
   unsynced-as event other t =
       pending-more (was_dirty (world_in given tape scope first)) entries (entries_of who end (losses ++ event ∷ []))
       (none-ended who end was opens caller at_end moved grows roles spares before after since (event ∷ []) (ap (λ (b : Bool). b || false) other))
       ∙ (was.recorded t).dirty
 
   -- An event behind the losses that leaves each sector its newest value: a flush, a stop, or the end of a resync.
-  pub leaves-settled : (event : Event) → AreSilent who end (event ∷ []) → KeepShape (entries_of who end (event ∷ [])) → GivesNone (entries_of who end (event ∷ [])) → KeepsNewest who end event
+  pub leaves-settled : (work' : Work) → CarriesMore work work' → unsynced ≡ is_some work'.resync → (event : Event) → AreSilent who end (event ∷ []) → KeepShape (entries_of who end (event ∷ [])) → GivesNone (entries_of who end (event ∷ [])) → KeepsNewest who end event
       → (tells → is_unsynced (world_in given tape scope first) (entries ++ entries_of who end (losses_of roles spares ++ event ∷ [])) ≡ unsynced)
-      → (unsynced ≡ true → IsSome resync) → (unsynced ≡ true → is_clean members'.newest ≡ is_clean members.newest) → (unsynced ≡ false → is_clean members'.newest ≡ true)
+      → (unsynced ≡ true → IsSome work.resync) → (unsynced ≡ true → is_clean members'.newest ≡ is_clean members.newest) → (unsynced ≡ false → is_clean members'.newest ≡ true)
       → (tells → (world : World) → (size : ℕ) → (told : Ledger) → HasRoomLeft members tape tape' → AreGoneTold told members' → IsUncleanTold told members
       → (DoesWithout members → unsynced ≡ true → is_clean members.newest ≡ false) → (list : ℕ → Sector)
       → (DoesWithout members → ListStands members (present given tape) list) → (unsynced ≡ false → DoesWithout members → OpensFit world → RowsStand members (present given tape) list)
       → AreWritesAllowed members told.values list → IsSafeOver world given size told members tape
       → IsSafeOver world given size (settled_ledger unsynced list told) members' tape')
-      → LeavesSafe tells given tape' scope first (entries ++ entries_of who end (losses_of roles spares ++ event ∷ [])) members' unsynced
-  leaves-settled event silent keep none newest unsynced_is pending stays clean settled = record {
-    dirty = λ does is. stays is ∙ was.dirty (without-before given members members' was.placed moved does) (pending is);
-    unclean = λ is. by unsynced clean is;
-    safe = safe-by who end was opens caller at_end moved grows losses (event ∷ [])
+      → LeavesSafe tells given tape' scope first (entries ++ entries_of who end (losses_of roles spares ++ event ∷ [])) members' work'
+  leaves-settled work' carries pends event silent keep none newest unsynced_is pending alike clean settled = record {
+    dirty = λ does is. alike (pends ∙ is) ∙ was.dirty (without-before given members members' was.placed moved does) (pending (pends ∙ is));
+    unclean = λ is. ap (λ (b : Bool). b || is_unsettled (entries ++ entries_of who end (losses ++ event ∷ []))) (sym pends) ∙ by unsynced clean is;
+    safe = safe-by who end was opens caller at_end stays grows work' carries losses (event ∷ [])
         (losses-alone (AreSilent who end) roles spares (record { length = λ n. length-losses who end losses [] (losses-are roles spares) n; limit = limit-losses who end losses [] (losses-are roles spares) None }))
         (silent-behind who end losses event (losses-are roles spares) silent) adds (keep-losses who end losses (event ∷ []) (losses-are roles spares) keep) rise
-        (λ t fills room began. safe t (world_in given tape scope first) (list_size (places_of members)) (told_by (world_in given tape scope first) entries (entries_of who end losses)) room gone (unclean-told losses adds t)
-        (now (opening_list (world_in given tape scope first)) entries) (was.holds t) (rows-old t)
-        (newest-told losses (entries_of who end (losses ++ event ∷ [])) adds t fills) began)
+        (λ t fills room began. safe t (world_in given tape scope first) (list_size (places_of members)) (told_by (world_in given tape scope first) work' entries (entries_of who end losses)) room gone (unclean-told work' carries losses adds t)
+        (now (opening_list (world_in given tape scope first)) entries) (holds-before who end was opens caller at_end stays grows (entries_of who end (losses ++ event ∷ [])) t fills) (rows-old t)
+        (newest-told work' carries losses (entries_of who end (losses ++ event ∷ [])) adds t fills) began)
         (λ t fills room began.
         let world = world_in given tape scope first in
         let size = list_size (places_of members) in
-        let told = told_by world entries (entries_of who end losses) in
+        let told = told_by world work' entries (entries_of who end losses) in
         let list = now (opening_list world) entries in
-        subst (λ (l : List Entry). IsSafeOver world given size (ledger_now world (entries ++ l)) members' tape') (sym (entries-both who end losses (event ∷ [])))
-        (more-safe (OpensFit world) scope given size (settled_ledger unsynced list told) (ledger_now world (entries ++ (entries_of who end losses ++ entries_of who end (event ∷ [])))) members' (disk given.start tape')
-        (settled-now world size unsynced entries (entries_of who end losses) (entries_of who end (event ∷ []))
+        subst (λ (l : List Entry). IsSafeOver world given size (ledger_now world work' (entries ++ l)) members' tape') (sym (entries-both who end losses (event ∷ [])))
+        (more-safe (OpensFit world) scope given size (settled_ledger unsynced list told) (ledger_now world work' (entries ++ (entries_of who end losses ++ entries_of who end (event ∷ [])))) members' (disk given.start tape')
+        (settled-now world size work' unsynced entries (entries_of who end losses) (entries_of who end (event ∷ []))
         (subst (λ (l : List Entry). is_unsynced world (entries ++ l) ≡ unsynced) (entries-both who end losses (event ∷ [])) (unsynced_is t))
         (λ x lt. subst (λ (l : List Entry). IsIn (values_of (opening_list world) (entries ++ l) x) (list x)) (entries-both who end losses (event ∷ []))
-        (newest-stays x (newest-old who end was opens caller at_end moved grows (entries_of who end (losses ++ event ∷ [])) t fills x lt))) none)
-        (settled t world size told room gone (unclean-told losses adds t) (λ does is. was.dirty does (pending is)) list (was.holds t) (rows-old t)
-        (newest-told losses (entries_of who end (losses ++ event ∷ [])) adds t fills) began)));
+        (newest-stays x (newest-old who end was opens caller at_end stays grows (entries_of who end (losses ++ event ∷ [])) t fills x lt))) none)
+        (settled t world size told room gone (unclean-told work' carries losses adds t) (λ does is. was.dirty does (pending is)) list
+        (holds-before who end was opens caller at_end stays grows (entries_of who end (losses ++ event ∷ [])) t fills) (rows-old t)
+        (newest-told work' carries losses (entries_of who end (losses ++ event ∷ [])) adds t fills) began)));
   }
     where
       adds : OnlyAdd (entries_of who end losses)
@@ -172,13 +179,12 @@ module _ {tells : Type 0} {given : Given} {tape tape' : List Operation} {scope :
           (newest x (values_of (opening_list (world_in given tape scope first)) entries x) has)
 
   -- a flush or a stop, which leaves the resync as it is
-  pub leaves-flushed : (event : Event) → Settles event → unsynced ≡ is_some resync → (unsynced ≡ true → is_clean members'.newest ≡ is_clean members.newest) → (unsynced ≡ false → is_clean members'.newest ≡ true)
+  pub leaves-flushed : (event : Event) → Settles event → unsynced ≡ is_some work.resync → (unsynced ≡ true → is_clean members'.newest ≡ is_clean members.newest) → (unsynced ≡ false → is_clean members'.newest ≡ true)
       → (tells → (world : World) → (size : ℕ) → (told : Ledger) → HasRoomLeft members tape tape' → AreGoneTold told members' → IsUncleanTold told members
       → (DoesWithout members → unsynced ≡ true → is_clean members.newest ≡ false) → (list : ℕ → Sector)
       → (DoesWithout members → ListStands members (present given tape) list) → (unsynced ≡ false → DoesWithout members → OpensFit world → RowsStand members (present given tape) list)
       → AreWritesAllowed members told.values list → IsSafeOver world given size told members tape
       → IsSafeOver world given size (settled_ledger unsynced list told) members' tape')
-      → LeavesSafe tells given tape' scope first (entries ++ entries_of who end (losses_of roles spares ++ event ∷ [])) members' (is_some resync)
-  leaves-flushed event settles same stays clean settled =
-      subst (LeavesSafe tells given tape' scope first (entries ++ entries_of who end (losses_of roles spares ++ event ∷ [])) members') same
-      (leaves-settled event (settles.silent who end) (settles.keep who end) (settles.gives who end) (settles.newest who end) (λ t. unsynced-as event settles.ends t ∙ sym same) (λ is. sym same ∙ is) stays clean settled)
+      → LeavesSafe tells given tape' scope first (entries ++ entries_of who end (losses_of roles spares ++ event ∷ [])) members' work
+  leaves-flushed event settles same alike clean settled =
+      leaves-settled work (λ number is. is) same event (settles.silent who end) (settles.keep who end) (settles.gives who end) (settles.newest who end) (λ t. unsynced-as event settles.ends t ∙ sym same) (λ is. sym same ∙ is) alike clean settled

@@ -85,4 +85,5 @@ module _ (sound : Type 0) (scope : Scope) (given : Given) (size : ℕ) (told : L
       held = subst (λ (r : Reading). IsHeldBy r (λ x. list x ∷ []) (disk given.start tape)) (sym same) (holds-alone given m tape list placed flushed stands);
       settled = settled-here;
     };
+    numbers = named.steady.numbers;
   })

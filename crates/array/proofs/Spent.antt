@@ -22,7 +22,7 @@ use Rattle.array.proofs.MarkLaws.{holder-held}
 use Rattle.array.proofs.Without.{live-is}
 
 -- a slot that holds a role is among those that hold one
-any-holder : (s : ℕ) (roles : List Role) (role : ℕ) → holder (get_or roles role Missing) ≡ Some s → list_any (is_held_by s) roles ≡ true
+pub any-holder : (s : ℕ) (roles : List Role) (role : ℕ) → holder (get_or roles role Missing) ≡ Some s → list_any (is_held_by s) roles ≡ true
 any-holder s [] role is = absurd (cc)
 any-holder s (state ∷ roles) zero is = ap (λ (b : Bool). b || list_any (is_held_by s) roles) (holder-held s state is)
 any-holder s (state ∷ roles) (suc role) is = ap (λ (b : Bool). is_held_by s state || b) (any-holder s roles role is) ∙ or_true (is_held_by s state)

@@ -25,6 +25,7 @@ use Rattle.array.specs.Steady.{IsSafeNow, SafeIsSeen, IsMoreTold, LosingStaysSaf
 use Rattle.array.proofs.ReadOf.{held-read, disk-somewhere}
 use Rattle.array.proofs.Without.{in-both, live-before}
 use Rattle.array.proofs.Since.{since-more}
+use Rattle.array.proofs.Carried.{carried-more, carried-fewer}
 
 abbrev Disk : Type 0
 Disk = ℕ → ℕ → List Sector
@@ -65,7 +66,7 @@ module _ (sound : Type 0) (given : Given) (size : ℕ) (told more : Ledger) (is 
       in-list : (x : ℕ) → x < list_size (places_of m) → x < size
       in-list x lt = subst (λ (n : ℕ). x < n) right.sized lt
 
-  views-told : (scope : Scope) (d : Disk) → AreViewsRight sound scope given size told d → AreViewsRight sound scope given size more d
+  pub views-told : (scope : Scope) (d : Disk) → AreViewsRight sound scope given size told d → AreViewsRight sound scope given size more d
   views-told scope d views c drawn =
       let seen = views c drawn in
       record { found = seen.found; is = seen.is; view = seen.view; same = seen.same; right = view-told seen.view d seen.right }
@@ -86,6 +87,7 @@ losing-stays-safe sound scope given size lost told more members d is (inl steady
   former = steady.former;
   since = since-more scope steady.former members lost d steady.since;
   right = view-told sound given size told more is steady.former d steady.right;
+  numbers = carried-more scope told.carried more.carried steady.former.own d is.carried steady.numbers;
 })
 losing-stays-safe sound scope given size lost told more members d is (inr spent) = inr (record {
   right = views-told sound given size told more is scope d spent.right;
@@ -128,6 +130,7 @@ module _ (sound : Type 0) (scope : Scope) (given : Given) (size : ℕ) (told : L
       held = held-fewer scope d e some (record { eighth = λ s v looked may. fewer s 8 v may; ninth = λ s v looked may. fewer s 9 v may }) steady.former steady.since.held;
     };
     right = view-fewer steady.former steady.right;
+    numbers = carried-fewer scope told.carried steady.former.own d e (λ s v may. fewer s 8 v may) (λ s v may. fewer s 9 v may) steady.numbers;
   })
   safe-fewer some members (inr spent) = inr (record { right = views-fewer spent.right; none = spent.none })
 

@@ -30,7 +30,7 @@ use Rattle.flat_history.proofs.OneShapeGrowing.{one, IsOneShapeCall, AreFaults, 
 use Rattle.flat_history.proofs.OneShapeGoing.{open-more, open-numbered, going-on}
 use Rattle.array.proofs.CallLaws.{AreLossEvents, GivesNone, ends-losses}
 use Rattle.array.proofs.LosingLaws.{entries-both}
-use Rattle.array.proofs.LeftLaws.{TellLeft, fold-left, left-behind, left-more}
+use Rattle.array.proofs.LeftLaws.{fold-left}
 use Rattle.array.proofs.RecordLaws.{count-implied}
 
 -- ---- the number of a call that is open
@@ -119,27 +119,19 @@ faults-are (SpareLost slot ∷ xs) are = faults-are xs are
 faults-are (event ∷ xs) are = absurd are
 
 -- a step is legal where the steps left as last told are one more
-step-legal : (steps : ℕ) (before : List Entry) (e : Entry) (kind : StepKind) (left : ℕ) → IsIdleStep kind → left + 1 ≡ steps → IfSome (told_left before) (λ n. n ≡ steps) → IsOneShapeStep before e [] kind left
-step-legal steps before e kind left is less told = (is, by (list_any (λ e. disturbs e.event) (call_before before e ++ [])) (told_left before) told)
+step-legal : (before : List Entry) (e : Entry) (kind : StepKind) (left : ℕ) → IsIdleStep kind → IfSome (told_left before) (λ n. n ≡ left + 1) → IsOneShapeStep before e [] kind left
+step-legal before e kind left is told = (is, by (list_any (λ e. disturbs e.event) (call_before before e ++ [])) (told_left before) told)
   where
-    by : (b : Bool) (o : Option ℕ) → IfSome o (λ n. n ≡ steps) → IfSome (cond b None o) (λ n. left + 1 ≡ n)
+    by : (b : Bool) (o : Option ℕ) → IfSome o (λ n. n ≡ left + 1) → IfSome (cond b None o) (λ n. left + 1 ≡ n)
     by true o told = tt
     by false None told = tt
-    by false (Some n) told = less ∙ sym told
+    by false (Some n) told = sym told
 
--- A step behind the losses of its call is legal where the history tells one more step left, or none.
-pub call-stepped : (opening : ShapeOpening) (steps : ℕ) (entries : List Entry) (who : Who) (end : ℕ) (losses : List Event) (kind : StepKind) (left : ℕ) → AreLossEvents losses → IsIdleStep kind
-    → left + 1 ≡ steps → IfSome (told_left entries) (λ n. n ≡ steps) → IsOneShapeCall opening entries who end (losses ++ Step kind left ∷ [])
-call-stepped opening steps entries who end losses kind left are is less told =
-    call-faults opening entries who end losses (Step kind left ∷ []) (faults-are losses are) (
-      step-legal steps (entries ++ entries_of who end losses) (one who end (Step kind left)) kind left is less before,
-      tt,
-      tt,
-    )
-  where
-    before : IfSome (told_left (entries ++ entries_of who end losses)) (λ n. n ≡ steps)
-    before = left-more steps entries who end losses told
-        (subst (λ (l : List Event). TellLeft steps who end l) (append-nil losses) (left-behind steps who end losses [] are (λ left is. is)))
+-- A step behind the losses of its call is legal where the history tells one step more left behind them, or none.
+pub call-stepped : (opening : ShapeOpening) (entries : List Entry) (who : Who) (end : ℕ) (losses : List Event) (kind : StepKind) (left : ℕ) → AreLossEvents losses → IsIdleStep kind
+    → IfSome (told_left (entries ++ entries_of who end losses)) (λ n. n ≡ left + 1) → IsOneShapeCall opening entries who end (losses ++ Step kind left ∷ [])
+call-stepped opening entries who end losses kind left are is told =
+    call-faults opening entries who end losses (Step kind left ∷ []) (faults-are losses are) (step-legal (entries ++ entries_of who end losses) (one who end (Step kind left)) kind left is told, tt, tt)
 
 -- ---- what it tells
 

@@ -87,7 +87,7 @@ module _ (given : Given) (d e : Disk) (some : IsSomewhere d) (kept : AreOthersKe
 -- ---- fewer roles
 
 -- what is missing without some slots is so without more
-missing-more : (few many : ℕ) → IsWithin few many → (state : Role) → not (is_whole (role_without few state)) ≡ true → not (is_whole (role_without many state)) ≡ true
+pub missing-more : (few many : ℕ) → IsWithin few many → (state : Role) → not (is_whole (role_without few state)) ≡ true → not (is_whole (role_without many state)) ≡ true
 missing-more few many more (Whole s) missing = by (has_slot few s) refl missing
   where
     by : (b : Bool) → has_slot few s ≡ b → not (is_whole (cond b Missing (Whole s))) ≡ true → not (is_whole (role_without many (Whole s))) ≡ true
@@ -110,7 +110,7 @@ missing-still lost (Recovering s) missing = by (has_slot lost s)
     by false = refl
 missing-still lost Missing missing = missing
 
-count-implied : (n : ℕ) (f g : ℕ → Bool) → ((k : ℕ) → f k ≡ true → g k ≡ true) → count_below n f ≤ count_below n g
+pub count-implied : (n : ℕ) (f g : ℕ → Bool) → ((k : ℕ) → f k ≡ true → g k ≡ true) → count_below n f ≤ count_below n g
 unfolding count_below
 count-implied zero f g more = omega arith
 count-implied (suc n) f g more =

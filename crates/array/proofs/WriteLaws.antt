@@ -11,11 +11,12 @@ use Rattle.bank.specs.Tape.{Contents, IsIn}
 use Rattle.bank.specs.declared.bank.Operation.{Operation}
 use Rattle.layout.proofs.Places.{chunk_some, place-row_below}
 use Rattle.superblocks.specs.declared.members.Members.{Members}
-use Rattle.superblocks.specs.Reading.{Scope, shape_of, is_clean}
+use Rattle.md_base.specs.declared.status.Role.TheVariants.{Recovering}
+use Rattle.superblocks.specs.Reading.{Scope, shape_of, role_state, is_clean}
 use Rattle.row_io.specs.Rows.{reading_of, present}
 use Rattle.list_io.specs.Buffers.{IsTouched}
 use Rattle.list_io.specs.Full.{AreWholeIn, RowStands}
-use Rattle.list_io.specs.Writing.{IsWritten}
+use Rattle.list_io.specs.Writing.{IsWritten, HasFull}
 use Rattle.flat_history.specs.declared.events.Entry.{Entry}
 use Rattle.flat_history.specs.declared.events.Event.{Event}
 use Rattle.flat_history.specs.declared.events.Event.TheVariants.{Wrote, Torn, Refused}
@@ -28,6 +29,9 @@ use Rattle.md_base.proofs.SectorLaws.{length-sectors_of}
 use Rattle.std.specs.List.{list_any}
 use Rattle.std.specs.Prelude.{fold, IsSome, is_some}
 use Rattle.flat_history.specs.Plain.{entries_of}
+use Rattle.array.specs.declared.work.Work.{Work}
+use Rattle.array.specs.Status.{rebuilt_of}
+use Rattle.array.specs.Rebuilding.{AreRebuilt}
 use Rattle.array.specs.Whole.{list_size}
 use Rattle.array.specs.Placed.{places_of, AreWhole, IsPlaced}
 use Rattle.array.specs.Losing.{losses_of, failure_events}
@@ -47,7 +51,9 @@ use Rattle.array.proofs.NowLaws.{values-more}
 use Rattle.array.proofs.PlainLaws.{one}
 use Rattle.array.proofs.RecordLaws.{AreSilent, whole-told}
 use Rattle.array.proofs.ReadyLaws.{silent-behind}
-use Rattle.array.proofs.DegradedLaws.{LeavesSafe, without-before, too-many-here, pending-of, unwritten-here, newest-old, mended-are, leaves-unsettled, told-behind, degraded-refused, degraded-torn, degraded-wrote}
+use Rattle.array.proofs.KeptLaws.{LeavesSafe, newest-old, holds-before, mended-are, leaves-unsettled}
+use Rattle.array.proofs.LackingWrites.{recovering-before}
+use Rattle.array.proofs.DegradedLaws.{stays-moved, rows-same, without-before, too-many-here, pending-of, unwritten-here, told-behind, degraded-refused, degraded-torn, degraded-wrote}
 use Rattle.array.proofs.Stripes.{stripes-multiple}
 
 -- ---- rows whose parity is to be relied on
@@ -73,12 +79,12 @@ touched-stand given m placed resync shape same at count c list mended below row 
 
 -- ---- a write
 
-module _ {tells : Type 0} {given : Given} {tape tape' : List Operation} {scope : Scope} {first : ℕ} {entries : List Entry} {members members' : Members} {resync : Option ℕ}
-    (who : Who) (end : ℕ) (was : IsKept tells given tape scope first entries members resync) (opens : IsCallOpen entries who) (caller : who.caller ≢ 254) (at_end : tells → end ≡ length tape')
+module _ {tells : Type 0} {given : Given} {tape tape' : List Operation} {scope : Scope} {first : ℕ} {entries : List Entry} {members members' : Members} {work : Work}
+    (who : Who) (end : ℕ) (was : IsKept tells given tape scope first entries members work) (opens : IsCallOpen entries who) (caller : who.caller ≢ 254) (at_end : tells → end ≡ length tape')
     (moved : IsMoved given members members') (grows : Grows tells tape tape')
     (roles spares : ℕ) (before after : ℕ → ℕ) (since : AreLostSince members members' roles spares before after)
     (shape : Shape) (same : shape ≡ shape_of members.newest) (at : ℕ) (from : List ℕ) (within : at + length from / 512 ≤ list_size (places_of members)) (does : DoesWithout members) (begun : Bool)
-    (synced : Bool) (asked : synced ≡ are_mended (shape_of members.newest) (mended_rows resync members) (at + length from / 512))
+    (synced : Bool) (asked : synced ≡ are_mended (shape_of members.newest) (mended_rows work.resync members) (at + length from / 512))
     (rise : IsRisen tells members members' tape tape') (stays : is_clean members.newest ≡ false → is_clean members'.newest ≡ false)
     (safe : tells → (world : World) → (size : ℕ) → (told : Ledger) → HasRoomLeft members tape tape' → AreGoneTold told members' → told.unclean ≡ true → (list list' : ℕ → Sector) → IsWritten list list' at from
     → ListStands members (present given tape) list → (synced ≡ true → AreWhole members' ⊎ RowsStandAmong (IsTouched shape at (length from / 512)) members (present given tape) list)
@@ -88,12 +94,12 @@ module _ {tells : Type 0} {given : Given} {tape tape' : List Operation} {scope :
 
   -- The call tells these events, of which one unsettles, if it wasn't opened dirty; where rows had begun to be written, they allow its sectors.
   leaves-written : (events : List Event) → AreSilent who end events → OnlyAdd (entries_of who end events) → AreTold members' (entries ++ entries_of who end events)
-      → (is_some resync ≡ false → list_any (λ e. unsettles e.event) (entries_of who end events) ≡ true)
+      → (is_some work.resync ≡ false → list_any (λ e. unsettles e.event) (entries_of who end events) ≡ true)
       → (begun ≡ true → (x : ℕ) (values : List Sector) → HasNewest values → covers at (sectors_of from) x ≡ true
       → IsIn (fold (λ values e. values_after x values e.event) values (entries_of who end events)) (sector_at at (sectors_of from) x))
-      → LeavesSafe tells given tape' scope first (entries ++ entries_of who end events) members' (is_some resync)
+      → LeavesSafe tells given tape' scope first (entries ++ entries_of who end events) members' work
   leaves-written events silent adds told unsettled allows =
-      leaves-unsettled who end was opens caller at_end moved grows events silent adds rise stretch (λ left pending. stays (was.dirty (without-before given members members' was.placed moved left) pending)) unsettled
+      leaves-unsettled who end was opens caller at_end (stays-moved was moved) grows work (λ number is. is) events silent adds rise stretch (λ left pending. stays (was.dirty (without-before given members members' was.placed moved left) pending)) unsettled
     where
       list : ℕ → Sector
       list = now (opening_list (world_in given tape scope first)) entries
@@ -102,14 +108,14 @@ module _ {tells : Type 0} {given : Given} {tape tape' : List Operation} {scope :
           → AreWritesAllowed members (values_of (opening_list (world_in given tape scope first)) (entries ++ entries_of who end events)) (list-with list at from)
       allowed t fills is =
           let opened = opening_list (world_in given tape scope first) in
-          let newest = newest-old who end was opens caller at_end moved grows (entries_of who end events) t fills in
+          let newest = newest-old who end was opens caller at_end (stays-moved was moved) grows (entries_of who end events) t fills in
           written-allowed (list_size (places_of members)) at from list (list-with list at from) (values_of opened (entries ++ entries_of who end events)) (list-with-is list at from)
           (λ x lt. subst (λ (l : List Sector). IsIn l (list x)) (sym (values-more opened entries (entries_of who end events) x)) (adds.values x (values_of opened entries x) (list x) (newest x lt)))
           (λ x lt covered. subst (λ (l : List Sector). IsIn l (sector_at at (sectors_of from) x)) (sym (values-more opened entries (entries_of who end events) x))
           (allows is x (values_of opened entries x) (newest x lt) covered))
 
-      unclean : (t : tells) → (told_by (world_in given tape scope first) entries (entries_of who end events)).unclean ≡ true
-      unclean t = by (is_some resync) (is_unsynced (world_in given tape scope first) entries) (is_unsettled entries) (was.recorded t).dirty unsettled
+      unclean : (t : tells) → (told_by (world_in given tape scope first) work entries (entries_of who end events)).unclean ≡ true
+      unclean t = by (is_some work.resync) (is_unsynced (world_in given tape scope first) entries) (is_unsettled entries) (was.recorded t).dirty unsettled
         where
           by : (a b c : Bool) → b ≡ a → (a ≡ false → list_any (λ e. unsettles e.event) (entries_of who end events) ≡ true) → (b || (c || list_any (λ e. unsettles e.event) (entries_of who end events))) ≡ true
           by true b c same is = ap (λ (x : Bool). x || (c || list_any (λ e. unsettles e.event) (entries_of who end events))) same
@@ -122,25 +128,26 @@ module _ {tells : Type 0} {given : Given} {tape tape' : List Operation} {scope :
       rows : (t : tells) → FillsRight (world_in given tape scope first) (entries ++ entries_of who end events) → synced ≡ true
           → AreWhole members' ⊎ RowsStandAmong (IsTouched shape at (length from / 512)) members (present given tape) list
       rows t (inl none) mended = inl (whole-told members' (entries ++ entries_of who end events) told none)
-      rows t (inr fit) mended = inr (touched-stand given members was.placed resync shape same at (length from / 512) (present given tape) list (sym asked ∙ mended) (was.good t does fit))
+      rows t (inr fit) mended = inr (touched-stand given members was.placed work.resync shape same at (length from / 512) (present given tape) list (sym asked ∙ mended) (was.good t does fit))
 
       stretch : (t : tells) → FillsRight (world_in given tape scope first) (entries ++ entries_of who end events) → HasRoomLeft members tape tape'
-          → IsSafeOver (world_in given tape scope first) given (list_size (places_of members)) (told_by (world_in given tape scope first) entries (entries_of who end events)) members tape
-          → KeepsSafe (world_in given tape scope first) given (list_size (places_of members)) (told_by (world_in given tape scope first) entries (entries_of who end events)) members' tape tape'
+          → IsSafeOver (world_in given tape scope first) given (list_size (places_of members)) (told_by (world_in given tape scope first) work entries (entries_of who end events)) members tape
+          → KeepsSafe (world_in given tape scope first) given (list_size (places_of members)) (told_by (world_in given tape scope first) work entries (entries_of who end events)) members' tape tape'
       stretch t fills room began =
-          safe t (world_in given tape scope first) (list_size (places_of members)) (told_by (world_in given tape scope first) entries (entries_of who end events)) room told (unclean t)
-          list (list-with list at from) (list-with-is list at from) (was.holds t does) (rows t fills) (allowed t fills) began
+          safe t (world_in given tape scope first) (list_size (places_of members)) (told_by (world_in given tape scope first) work entries (entries_of who end events)) room told (unclean t)
+          list (list-with list at from) (list-with-is list at from)
+          (holds-before who end was opens caller at_end (stays-moved was moved) grows (entries_of who end events) t fills does) (rows t fills) (allowed t fills) began
 
   -- where the parity of the rows isn't to be relied on, a resync is pending
-  pending : synced ≡ false → IsSome resync
-  pending is = pending-of members resync (at + length from / 512) within (sym asked ∙ is)
+  pending : synced ≡ false → IsSome work.resync
+  pending is = pending-of members work.resync (at + length from / 512) within (sym asked ∙ is)
 
   -- a write that tore rows
-  kept-torn : IsRefusedHere (list_size (places_of members)) resync members' (too_many members')
-      → IsKept tells given tape' scope first (entries ++ entries_of who end ((losses_of roles spares ++ Torn at (sectors_of from) ∷ []) ++ Refused (too_many members') ∷ [])) members' resync
+  kept-torn : IsRefusedHere (list_size (places_of members)) work.resync members' (too_many members')
+      → IsKept tells given tape' scope first (entries ++ entries_of who end ((losses_of roles spares ++ Torn at (sectors_of from) ∷ []) ++ Refused (too_many members') ∷ [])) members' work
   kept-torn here =
       degraded-torn who end was opens caller at_end moved grows roles spares before after since at (sectors_of from) (lacking members') (tolerance (shape_of members'.newest)) all-within here
-      (subst (λ (l : List Event). LeavesSafe tells given tape' scope first (entries ++ entries_of who end l) members' (is_some resync)) (sym (append_assoc (losses_of roles spares) (Torn at (sectors_of from) ∷ []) (Refused (too_many members') ∷ [])))
+      (subst (λ (l : List Event). LeavesSafe tells given tape' scope first (entries ++ entries_of who end l) members' work) (sym (append_assoc (losses_of roles spares) (Torn at (sectors_of from) ∷ []) (Refused (too_many members') ∷ [])))
       (leaves-written (losses_of roles spares ++ tail)
       (record {
         length = λ n. length-losses who end (losses_of roles spares) tail (losses-are roles spares) n;
@@ -159,17 +166,17 @@ module _ {tells : Type 0} {given : Given} {tape tape' : List Operation} {scope :
 
   -- one that wasn't done
   pub kept-unwritten : (refusal : Refusal) → IsUnwritten synced members' refusal → (begun ≡ true → AreTooMany members' refusal) → (begun ≡ false → tells → AreOthersPresent (present given tape) (present given tape'))
-      → IsKept tells given tape' scope first (entries ++ entries_of who end (failure_events roles spares begun at (sectors_of from) refusal)) members' resync
+      → IsKept tells given tape' scope first (entries ++ entries_of who end (failure_events roles spares begun at (sectors_of from) refusal)) members' work
   kept-unwritten refusal why many others = by begun refl
     where
-      by : (b : Bool) → begun ≡ b → IsKept tells given tape' scope first (entries ++ entries_of who end (failure_events roles spares b at (sectors_of from) refusal)) members' resync
+      by : (b : Bool) → begun ≡ b → IsKept tells given tape' scope first (entries ++ entries_of who end (failure_events roles spares b at (sectors_of from) refusal)) members' work
       by true is =
           let told = (many is).told in
-          subst (λ (r : Refusal). IsKept tells given tape' scope first (entries ++ entries_of who end (failure_events roles spares true at (sectors_of from) r)) members' resync) (sym told)
-          (kept-torn (subst (IsRefusedHere (list_size (places_of members)) resync members') told (too-many-here (list_size (places_of members)) resync members' refusal (many is))))
+          subst (λ (r : Refusal). IsKept tells given tape' scope first (entries ++ entries_of who end (failure_events roles spares true at (sectors_of from) r)) members' work) (sym told)
+          (kept-torn (subst (IsRefusedHere (list_size (places_of members)) work.resync members') told (too-many-here (list_size (places_of members)) work.resync members' refusal (many is))))
       by false is =
           degraded-refused who end was opens caller at_end moved grows roles spares before after since refusal
-          (unwritten-here (list_size (places_of members)) resync synced members' refusal pending why) (others is)
+          (unwritten-here (list_size (places_of members)) work.resync synced members' refusal pending why) (others is)
           (leaves-written (losses_of roles spares ++ Refused refusal ∷ [])
           (silent-behind who end (losses_of roles spares) (Refused refusal) (losses-are roles spares) (record { length = λ n. refl; limit = refl }))
           (add-losses who end (losses_of roles spares) (Refused refusal ∷ []) (losses-are roles spares) (add-one (one who end (Refused refusal)) [] (λ x values v may. may) refl refl (λ role. refl) add-none))
@@ -177,7 +184,7 @@ module _ {tells : Type 0} {given : Given} {tape tape' : List Operation} {scope :
           (λ none. unsettles-behind who end (losses_of roles spares) (Refused refusal ∷ []) (gave-up why none))
           (λ now_begun. absurd (let no = sym is ∙ now_begun in cc)))
         where
-          gave-up : IsUnwritten synced members' refusal → is_some resync ≡ false → list_any (λ e. unsettles e.event) (entries_of who end (Refused refusal ∷ [])) ≡ true
+          gave-up : IsUnwritten synced members' refusal → is_some work.resync ≡ false → list_any (λ e. unsettles e.event) (entries_of who end (Refused refusal ∷ [])) ≡ true
           gave-up (inl too) none = subst (λ (r : Refusal). list_any (λ e. unsettles e.event) (entries_of who end (Refused r ∷ [])) ≡ true) (sym too.told) refl
           gave-up (inr found) none = absurd (let no = sym none ∙ pending found.2 in cc)
 
@@ -189,9 +196,13 @@ module _ {tells : Type 0} {given : Given} {tape tape' : List Operation} {scope :
       → (row : ℕ) → row < members.newest.size → AreWholeIn shape list row
       → IsTouched shape at (length from / 512) row ⊎ RowStands (reading_of members) (present given tape) shape list row
       → RowStands (reading_of members') (present given tape') shape list' row)
-      → IsKept tells given tape' scope first (entries ++ entries_of who end (losses_of roles spares ++ Wrote at (sectors_of from) ∷ [])) members' resync
-  kept-wrote whole bytes put good =
-      degraded-wrote who end was opens caller at_end moved grows roles spares before after since at from within (sectors-whole from whole bytes) put rows
+      → (tells → (list list' : ℕ → Sector) → IsWritten list list' at from → ListStands members (present given tape) list
+      → (synced ≡ true → AreWhole members' ⊎ RowsStandAmong (IsTouched shape at (length from / 512)) members (present given tape) list)
+      → (role slot row : ℕ) → role < shape.disks → role_state (reading_of members') role ≡ Recovering slot → row < members.newest.size
+      → HasFull (reading_of members) (present given tape) shape list row role slot → HasFull (reading_of members') (present given tape') shape list' row role slot)
+      → IsKept tells given tape' scope first (entries ++ entries_of who end (losses_of roles spares ++ Wrote at (sectors_of from) ∷ [])) members' work
+  kept-wrote whole bytes put good keeps =
+      degraded-wrote who end was opens caller at_end moved grows roles spares before after since at from within (sectors-whole from whole bytes) put rows rebuilt
       (leaves-written (losses_of roles spares ++ Wrote at (sectors_of from) ∷ [])
       (silent-behind who end (losses_of roles spares) (Wrote at (sectors_of from)) (losses-are roles spares) (record { length = λ n. refl; limit = refl }))
       (add-losses who end (losses_of roles spares) (Wrote at (sectors_of from) ∷ []) (losses-are roles spares)
@@ -202,11 +213,23 @@ module _ {tells : Type 0} {given : Given} {tape tape' : List Operation} {scope :
       (wrote-in at (sectors_of from) x values covered)))
     where
       -- each mended row stands on
-      rows : tells → (list list' : ℕ → Sector) → IsWritten list list' at from → ListStands members (present given tape) list → RowsStandBelow (mended_rows resync members) members (present given tape) list
-          → RowsStandBelow (mended_rows resync members') members' (present given tape') list'
+      rows : tells → (list list' : ℕ → Sector) → IsWritten list list' at from → ListStands members (present given tape) list → RowsStandBelow (mended_rows work.resync members) members (present given tape) list
+          → RowsStandBelow (mended_rows work.resync members') members' (present given tape') list'
       rows t list list' written stands below row mended low =
-          let rows_are = mended-are {resync = resync} who end was opens caller at_end moved grows in
+          let rows_are = mended-are who end was opens caller at_end (stays-moved was moved) grows in
           let size : row < members.newest.size = subst (λ (n : ℕ). row < n) moved.size low in
           let stood = subst (λ (s : Shape). RowStands (reading_of members) (present given tape) s list row) (sym same) (below row (subst (λ (n : ℕ). row < n) rows_are mended) size) in
           subst (λ (s : Shape). RowStands (reading_of members') (present given tape') s list' row) (same ∙ sym moved.shape)
-          (good t list list' written stands (λ is. inr (touched-stand given members was.placed resync shape same at (length from / 512) (present given tape) list (sym asked ∙ is) below)) row size stood.whole (inr stood))
+          (good t list list' written stands (λ is. inr (touched-stand given members was.placed work.resync shape same at (length from / 512) (present given tape) list (sym asked ∙ is) below)) row size stood.whole (inr stood))
+
+      -- and each row that was rebuilt stays so
+      rebuilt : tells → (list list' : ℕ → Sector) → IsWritten list list' at from → ListStands members (present given tape) list → RowsStandBelow (mended_rows work.resync members) members (present given tape) list
+          → AreRebuilt work members (present given tape) list → AreRebuilt work members' (present given tape') list'
+      rebuilt t list list' written stands below was_rebuilt role slot row lt is held high low =
+          let size : row < members.newest.size = subst (λ (n : ℕ). row < n) moved.size low in
+          let role_lt : role < (shape_of members.newest).disks = subst (λ (s : Shape). role < s.disks) moved.shape lt in
+          let full = was_rebuilt role slot row role_lt (recovering-before moved role slot is) (subst (λ (n : ℕ). n ≤ row) (rows-same moved role slot is) held)
+          (subst (λ (s : Shape). row < rebuilt_of work role * s.chunk) moved.shape high) size in
+          subst (λ (s : Shape). HasFull (reading_of members') (present given tape') s list' row role slot) (same ∙ sym moved.shape)
+          (keeps t list list' written stands (λ is. inr (touched-stand given members was.placed work.resync shape same at (length from / 512) (present given tape) list (sym asked ∙ is) below)) role slot row
+          (subst (λ (s : Shape). role < s.disks) (sym same) role_lt) is size (subst (λ (s : Shape). HasFull (reading_of members) (present given tape) s list row role slot) (sym same) full))

@@ -16,6 +16,7 @@ use Rattle.array.specs.Views.{Ledger, AreHeldAllowed, IsViewRight}
 use Rattle.array.specs.Steady.{IsSteady, IsSafeNow, AreWritesAllowed, WritesStaySafe}
 use Rattle.array.proofs.Steady.{losing-stays-safe}
 use Rattle.array.proofs.HeldAlike.{held-alike}
+use Rattle.array.proofs.Carried.{carried-fewer}
 use Rattle.array.proofs.Spent.{nothing-put}
 
 abbrev Disk : Type 0
@@ -76,6 +77,8 @@ module _ (sound : Type 0) (scope : Scope) (given : Given) (size : ℕ) (told : L
     right = subst
         (λ (m : Members). is_clean m.newest ≡ false → AreWritesAllowed m told.values list → IsPutting (reading_of m) (shape_of m.newest) list touched d e → IsViewRight sound given size told steady.former e)
         (sym steady.since.since) (λ is may put. view-written steady.former steady.since.gone is may put steady.right) dirty allowed putting;
+    numbers = carried-fewer scope told.carried steady.former.own d e (λ s v may. subst (λ (l : List Sector). IsIn l v) (kept s 8 (omega arith)) may)
+        (λ s v may. subst (λ (l : List Sector). IsIn l v) (kept s 9 (omega arith)) may) steady.numbers;
   }
 
   safe-written : (members : Members) → IsPlaced given members → is_clean members.newest ≡ false → AreUnlost members → AreWritesAllowed members told.values list
@@ -87,5 +90,5 @@ module _ (sound : Type 0) (scope : Scope) (given : Given) (size : ℕ) (told : L
 
 pub writes-stay-safe : (sound : Type 0) → WritesStaySafe sound
 writes-stay-safe sound scope given size told members list rows lost d e placed dirty unlost allowed putting kept safe =
-    losing-stays-safe sound scope given size lost told told members e (record { values = λ x lt v may. may; gone = λ role is. is; unclean = λ is. is })
+    losing-stays-safe sound scope given size lost told told members e (record { values = λ x lt v may. may; gone = λ role is. is; unclean = λ is. is; carried = λ number is. is })
     (safe-written sound scope given size told list (Contains rows) d e kept members placed dirty unlost allowed putting safe)

@@ -1,5 +1,5 @@
 -- An array that is taken over from its superblocks.
-use Rattle.std.specs.Prelude.{◌≡◌, ℕ, zero, suc, ◌<◌, ◌≤◌, true, not, List, [], ◌∷◌, ◌++◌, length, if◌then◌else◌, Option, Some, None, IsTrue}
+use Rattle.std.specs.Prelude.{◌≡◌, ℕ, zero, suc, ◌/◌, ◌<◌, ◌≤◌, ◌==◌, nat_lt, Bool, true, false, not, List, [], ◌∷◌, ◌++◌, length, if◌then◌else◌, Option, Some, None, IsTrue}
 use Rattle.md_base.specs.Shapes.{tolerance}
 use Rattle.md_base.specs.declared.answers.Who.{Who}
 use Rattle.bank.specs.declared.bank.Operation.{Operation}
@@ -8,7 +8,13 @@ use Rattle.bank.specs.Tape.{disk}
 use Rattle.superblocks.specs.declared.members.Members.{Members}
 use Rattle.md_base.specs.declared.status.Role.{Role}
 use Rattle.md_base.specs.declared.status.Role.TheVariants.{Whole, Recovering, Missing}
-use Rattle.superblocks.specs.Reading.{Scope, Reading, reading, is_clean, shape_of, role_state}
+use Rattle.std.specs.Option.{option_map_or}
+use Rattle.md_base.specs.Sectors.{Sector}
+use Rattle.md_base.specs.Search.{tabulate, any_below}
+use Rattle.sb1.specs.declared.sb.Sb.{Sb}
+use Rattle.superblocks.specs.Update.{own_in}
+use Rattle.superblocks.specs.Held.{MayRead}
+use Rattle.superblocks.specs.Reading.{Scope, Reading, reading, is_clean, shape_of, role_state, rows_held}
 use Rattle.row_io.specs.Rows.{reading_of, present, is_missing}
 use Rattle.flat_history.specs.declared.events.Event.{Event}
 use Rattle.flat_history.specs.declared.events.Event.TheVariants.{Lost}
@@ -25,6 +31,8 @@ use Rattle.array.specs.Placed.{places_of, IsPlaced, AreUnlost}
 use Rattle.array.specs.Lacking.{ListStands, RowsStand, AreHoldersFlushed}
 use Rattle.array.specs.Kept.{world_in, AreSectorsWhole}
 use Rattle.flat_history.specs.Opened.{OpensGood, OpensWhole}
+use Rattle.array.specs.Rebuilding.{AreSparesFree}
+use Rattle.array.specs.declared.work.Work.{Work}
 use Rattle.array.specs.Parts.{Parts}
 
 -- the caller of what an opening enters
@@ -49,6 +57,31 @@ absent_losses r (suc n) = absent_losses r n ++ absent_loss r n
 abbrev pub found_losses : Reading → List Event
 found_losses r = absent_losses r (shape_of r.newest).disks
 
+-- the stripes of a role that the slot holds which recovers it
+abbrev pub stripes_held : Reading → ℕ → Role → ℕ
+stripes_held r chunk (Recovering slot) = rows_held r (Recovering slot) / chunk
+stripes_held r chunk state = 0
+
+-- so it is of each role of so many disks
+abbrev pub found_stripes : Reading → ℕ → ℕ → ℕ → ℕ
+found_stripes r chunk disks role = if nat_lt role disks then stripes_held r chunk (role_state r role) else 0
+
+-- one of these superblocks bears the device number
+abbrev pub is_number_of : List (Option Sb) → ℕ → Bool
+is_number_of own number = any_below 32 (λ slot. option_map_or (λ sb. sb.dev_number == number) (own_in own slot) false)
+
+-- What is under way in an array that is found: a resync, where it is dirty.
+abbrev pub found_work : Members → Work
+found_work members = record {
+  resync = if is_clean members.newest then None else Some 0;
+  rebuilt = tabulate 16 (found_stripes (reading_of members) (shape_of members.newest).chunk (shape_of members.newest).disks);
+  carried = tabulate 128 (is_number_of members.own);
+}
+
+-- each superblock of the array that a slot may show has the number of the one that is kept of it
+abbrev pub AreNumbersKept : Scope → List (Option Sb) → (ℕ → ℕ → List Sector) → Type 0
+AreNumbersKept scope own d = (slot : ℕ) (sb : Sb) → MayRead scope d slot (Some sb) → (kept : Sb) × (own_in own slot ≡ Some kept) × (kept.dev_number ≡ sb.dev_number)
+
 -- What an array needs that begins here: the members are read from its slots; its list stands on them, and
 -- its rows where the opening finds them good; a stop leaves what is there, and the next update may start.
 pub record IsAdoptable (tells : Type 0) (given : Given) (tape : List Operation) (scope : Scope) (members : Members) : Type 0 where
@@ -56,6 +89,7 @@ pub record IsAdoptable (tells : Type 0) (given : Given) (tape : List Operation) 
   pub spares : length members.spares ≤ 32
   pub placed : IsPlaced given members
   pub unlost : AreUnlost members
+  pub free : AreSparesFree given members
   pub sizes_are : scope.sizes ≡ sizes given
   pub opened : tells → length (opening_list (world_in given tape scope (length tape))) ≡ list_size (places_of members)
   pub tolerated : tells → (opening_in (world_in given tape scope (length tape))).tolerance ≡ tolerance (shape_of members.newest)
@@ -67,6 +101,7 @@ pub record IsAdoptable (tells : Type 0) (given : Given) (tape : List Operation) 
   pub good : tells → OpensGood (world_in given tape scope (length tape)) → RowsStand members (present given tape) (now (opening_list (world_in given tape scope (length tape))) [])
   pub flushed : tells → AreHoldersFlushed (reading_of members) given tape
   pub next : tells → OpensAlike (world_in given tape scope (length tape)) → IsHeldBy scope members (disk given.start tape)
+  pub numbers : tells → AreNumbersKept scope members.own (disk given.start tape)
   pub newest : tells → (r : Reading) × (reading scope (present given tape) ≡ Some r) × (members.newest.events ≤ r.newest.events)
 
 -- an array that was just taken over: the losses that it found stand first
@@ -79,4 +114,4 @@ pub record IsAdopted {B : Type 0} (tells : Type 0) (bank : B) (tape : List Opera
   pub entries : made.entries ≡ entries_of opener made.first (found_losses (reading_of members))
   pub backup_is : made.backup ≡ backup
   pub members_are : made.members ≡ members
-  pub resync : made.resync ≡ (if is_clean members.newest then None else Some 0)
+  pub work : made.work ≡ found_work members

@@ -12,13 +12,14 @@ use Rattle.bank.specs.Tape.{Contents, disk}
 use Rattle.superblocks.specs.declared.members.Members.{Members}
 use Rattle.sb1.specs.declared.sb.Sb.{Sb}
 use Rattle.superblocks.specs.Reading.{Reading, shape_of, role_state, holder, data_offset_of, entry_of}
+use Rattle.superblocks.specs.Reads.{has_spare}
 use Rattle.row_io.specs.Rows.{reading_of, present, is_missing, missing_count, IsTolerated}
 use Rattle.array.specs.Placed.{is_vacant}
 use Rattle.list_io.specs.declared.outcome.Unavailable.{Unavailable}
 use Rattle.list_io.specs.declared.outcome.Unavailable.TheVariants.{TooManyMissing, NotResynced}
 use Rattle.list_io.specs.Full.{DataStands, RowStands}
 use Rattle.list_io.specs.Buffers.{buffered, AreStanding, HasData}
-use Rattle.list_io.specs.Writing.{IsWritten, AreDataFrom, IsFull, IsPutting, AreSuperblocksKept}
+use Rattle.list_io.specs.Writing.{IsWritten, AreDataFrom, IsFull, StaysRebuilt, IsPutting, AreSuperblocksKept}
 
 -- ---- why a call is refused
 
@@ -83,16 +84,23 @@ IsUnwritten synced members refusal = AreTooMany members refusal ⊎ IsNotResynce
 
 -- ---- what a call lost
 
--- Each role has the slot that held it, or that slot has failed since, and so have these spares.
-pub record HaveFailedSince (old new : Members) (spares : ℕ) (before after : ℕ → ℕ) : Type 0 where
-  pub roles : (role slot : ℕ) → holder (role_state (reading_of old) role) ≡ Some slot → (holder (role_state (reading_of new) role) ≡ Some slot) ⊎ IsFaulted slot before after
-  pub spares_are : (slot : ℕ) → has_slot spares slot ≡ true → IsFaulted slot before after
+-- Each role has the slot that held it, or that slot has failed since.
+abbrev pub HaveRolesFailed : Members → Members → (ℕ → ℕ) → (ℕ → ℕ) → Type 0
+HaveRolesFailed old new before after = (role slot : ℕ) → holder (role_state (reading_of old) role) ≡ Some slot → (holder (role_state (reading_of new) role) ≡ Some slot) ⊎ IsFaulted slot before after
 
--- Each role that no slot holds now had none before, or is one of these, the slot of each of which has failed since, as have these spares.
+-- So it is, and these spares have failed since too; each other spare is one still.
+pub record HaveFailedSince (old new : Members) (spares : ℕ) (before after : ℕ → ℕ) : Type 0 where
+  pub roles : HaveRolesFailed old new before after
+  pub spares_are : (slot : ℕ) → has_slot spares slot ≡ true → IsFaulted slot before after
+  pub told : (slot : ℕ) → has_spare old.spares slot ≡ true → (has_spare new.spares slot ≡ true) ⊎ (has_slot spares slot ≡ true)
+
+-- Each role that no slot holds now had none before, or is one of these, the slot of each of which has failed since, as have these spares; each
+-- other spare is one still.
 pub record AreLostSince (old new : Members) (roles spares : ℕ) (before after : ℕ → ℕ) : Type 0 where
   pub vacant : (role : ℕ) → role < (shape_of new.newest).disks → is_vacant (reading_of new) role ≡ true → (is_vacant (reading_of old) role ≡ true) ⊎ (has_slot roles role ≡ true)
   pub held : (role : ℕ) → has_slot roles role ≡ true → (slot : ℕ) × (holder (role_state (reading_of old) role) ≡ Some slot) × IsFaulted slot before after
   pub failed : (slot : ℕ) → has_slot spares slot ≡ true → IsFaulted slot before after
+  pub told : (slot : ℕ) → has_spare old.spares slot ≡ true → (has_spare new.spares slot ≡ true) ⊎ (has_slot spares slot ≡ true)
 
 -- ---- the list on the members that are there
 
@@ -122,6 +130,10 @@ AreHoldersFlushed r given tape = (role slot k : ℕ) → holder (role_state r ro
 abbrev pub IsNamed : Sb → ℕ → Type 0
 IsNamed newest role = (device : ℕ) × (device < 384) × (entry_of newest device ≡ role)
 
+-- it gives no device a role that no slot holds
+abbrev pub AreUnnamed : Members → Type 0
+AreUnnamed m = (role : ℕ) → role < (shape_of m.newest).disks → is_vacant (reading_of m) role ≡ true → IsNamed m.newest role → ⊥
+
 -- ---- a write
 
 -- what the holders of roles have of this row is as it was
@@ -143,6 +155,8 @@ pub record AreRowsRead (shape : Shape) (synced : Bool) (old new : Members) (c : 
 pub record AreRowsWritten (shape : Shape) (first : ℕ) (from rows : List ℕ) (start next : ℕ) (new : Members) (before after : Contents) (buffer buffer' : List ℕ) : Type 0 where
   pub full : (list list' : ℕ → Sector) → IsWritten list list' first from → AreDataFrom start shape list rows buffer
       → (i : ℕ) → start ≤ i → i < next → IsFull (reading_of new) after shape list' (slice_index rows i)
+  pub rebuilt : (list list' : ℕ → Sector) → IsWritten list list' first from → AreDataFrom start shape list rows buffer
+      → (i : ℕ) → start ≤ i → i < next → StaysRebuilt (reading_of new) before after shape list list' (slice_index rows i)
   pub others : (row : ℕ) → ((i : ℕ) → start ≤ i → i < next → slice_index rows i ≢ row) → IsHeldRowKept (reading_of new) before after row
   pub rest : (i role : ℕ) → next ≤ i → i < length rows → role < shape.disks → buffered buffer' i role ≡ buffered buffer i role
   pub standing : (i : ℕ) → next ≤ i → i < length rows → AreStanding (reading_of new) after shape (slice_index rows i) (buffered buffer' i)

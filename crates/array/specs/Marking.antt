@@ -1,10 +1,12 @@
--- The clean mark: an update of the superblocks that changes nothing else.
-use Rattle.std.specs.Prelude.{◌≡◌, ◌≢◌, ℕ, ◌+◌, ◌-◌, ◌^◌, min, Bool, true, false, List, replicate, if◌then◌else◌, None}
+-- What updates of the superblocks record: the clean mark, a slot that gets a role, and one that is made a spare.
+use Rattle.std.specs.Prelude.{◌≡◌, ◌≢◌, ℕ, ◌+◌, ◌-◌, ◌^◌, min, Bool, true, false, List, replicate, slice_set, if◌then◌else◌, Option, Some, None}
 use Rattle.md_base.specs.Shapes.{has_slot}
 use Rattle.bank.specs.declared.bank.Operation.{Operation}
 use Rattle.bank.specs.Given.{Given}
 use Rattle.bank.specs.Tape.{Contents, EachMark, disk}
+use Rattle.sb1.specs.declared.sb.Sb.{Sb}
 use Rattle.superblocks.specs.declared.change.Give.TheVariants.{Same}
+use Rattle.superblocks.specs.declared.change.Give.TheVariants as give
 use Rattle.superblocks.specs.declared.change.Change.{Change}
 use Rattle.superblocks.specs.declared.members.Members.{Members}
 use Rattle.superblocks.specs.Updating.{IsUpdate, IsWrittenBy, ArePlanned, AreNamed, IsLater, IsSomeLeft, RisesByOperations, planned_newest}
@@ -20,6 +22,14 @@ resync_of clean = if clean then 2 ^ 64 - 1 else 0
 -- the update that marks an array clean or dirty
 abbrev pub marking : Members → Bool → Change
 marking members clean = record { shared = record members.newest { resync_offset = resync_of clean }; gives = replicate 32 Same; added = None }
+
+-- the update that makes a slot the holder of a role, which it recovers from this row on, or that is whole
+abbrev pub giving : Members → ℕ → ℕ → Option ℕ → Change
+giving members slot role recovery = record { shared = members.newest; gives = slice_set (replicate 32 Same) slot (give.Role role recovery); added = None }
+
+-- the update that makes a slot a spare, with this superblock
+abbrev pub adding : Members → ℕ → Sb → Change
+adding members slot sb = record { shared = members.newest; gives = replicate 32 Same; added = Some (slot, sb) }
 
 -- What a mark did: the update that it is, at each mark of the tape and at its end.
 pub record IsMarked (tells : Type 0) (given : Given) (clean : Bool) (old new : Members) (before after : List Operation) : Type 0 where

@@ -1,12 +1,13 @@
 -- What device calls leave of an array.
 use Rattle.std.specs.Prelude.{◌≡◌, ℕ, ◌≤◌, true, List, ◌++◌, length, Some}
 use Rattle.md_base.specs.Shapes.{has_slot}
-use Rattle.md_base.specs.declared.status.Role.{Role}
 use Rattle.bank.specs.declared.bank.Operation.{Operation}
 use Rattle.bank.specs.Given.{Given, IsFaulted}
 use Rattle.superblocks.specs.declared.members.Members.{Members}
 use Rattle.superblocks.specs.Reading.{shape_of, role_state, rows_held, holder, data_offset_of}
+use Rattle.superblocks.specs.Reads.{has_spare}
 use Rattle.row_io.specs.Rows.{reading_of}
+use Rattle.array.specs.Rebuilding.{AreSparesFree}
 use Rattle.array.specs.Placed.{places_of, AreWhole, IsPlaced, AreUnlost, AreStillHeld, AreLess}
 
 -- more was done
@@ -20,8 +21,10 @@ pub record IsMoved (given : Given) (old new : Members) : Type 0 where
   pub unlost : AreUnlost new
   pub held : AreStillHeld old new
   pub states : (role slot : ℕ) → holder (role_state (reading_of new) role) ≡ Some slot → role_state (reading_of new) role ≡ role_state (reading_of old) role
-  pub rows : (state : Role) → rows_held (reading_of new) state ≡ rows_held (reading_of old) state
+  pub rows : (role : ℕ) → rows_held (reading_of new) (role_state (reading_of new) role) ≡ rows_held (reading_of old) (role_state (reading_of new) role)
   pub spares : length old.spares ≤ 32 → length new.spares ≤ 32
+  pub fewer : (slot : ℕ) → has_spare new.spares slot ≡ true → has_spare old.spares slot ≡ true
+  pub free : AreSparesFree given old → AreSparesFree given new
   pub shape : shape_of new.newest ≡ shape_of old.newest
   pub size : new.newest.size ≡ old.newest.size
   pub offsets : (slot : ℕ) → data_offset_of (reading_of new) slot ≡ data_offset_of (reading_of old) slot

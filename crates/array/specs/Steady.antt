@@ -1,11 +1,12 @@
 -- What is kept of an array that loses members, between and in the calls that write its superblocks and its rows.
-use Rattle.std.specs.Prelude.{◌≡◌, ◌⊎◌, ℕ, ◌<◌, ◌++◌, Bool, true, false, List, [], ◌∷◌, Contains, ⊤}
+use Rattle.std.specs.Prelude.{◌≡◌, ◌⊎◌, ℕ, ◌<◌, ◌++◌, Bool, true, false, not, ◌&&◌, ◌||◌, ◌==◌, List, [], ◌∷◌, Contains, ⊤}
 use Rattle.md_base.specs.Sectors.{Sector}
 use Rattle.bank.specs.declared.bank.Operation.{Operation}
 use Rattle.bank.specs.Given.{Given}
 use Rattle.bank.specs.Tape.{EachMark, IsIn, AreFlushes, disk}
 use Rattle.superblocks.specs.declared.members.Members.{Members}
-use Rattle.superblocks.specs.Reading.{Scope, is_clean, shape_of}
+use Rattle.md_base.specs.declared.status.Role.TheVariants.{Recovering}
+use Rattle.superblocks.specs.Reading.{Scope, is_clean, shape_of, role_state}
 use Rattle.superblocks.specs.Updating.{IsSomeLeft}
 use Rattle.superblocks.specs.Outcome.{live_set}
 use Rattle.row_io.specs.Rows.{reading_of, present, is_missing, members_without}
@@ -17,13 +18,17 @@ use Rattle.array.specs.Placed.{places_of, IsPlaced, AreUnlost}
 use Rattle.array.specs.Lacking.{DoesWithout, AreHoldersFlushed, RowsStand}
 use Rattle.array.specs.Marking.{marking}
 use Rattle.array.specs.Rounds.{IsHeldSince, IsMarkedInRounds}
+use Rattle.array.specs.Numbers.{AreCarried}
+use Rattle.array.specs.Rebuilding.{IsFilling}
 use Rattle.array.specs.Views.{Ledger, IsSettled, IsViewRight, AreViewsRight}
 
--- The superblocks are held as former members had it, of which slots may have been lost since, and that view is right.
+-- The superblocks are held as former members had it, of which slots may have been lost since, that view is right, and the device numbers
+-- are told.
 pub record IsSteady (sound : Type 0) (scope : Scope) (given : Given) (size : ℕ) (told : Ledger) (members : Members) (d : ℕ → ℕ → List Sector) : Type 0 where
   pub former : Members
   pub since : IsHeldSince scope former members d
   pub right : IsViewRight sound given size told former d
+  pub numbers : AreCarried scope told.carried former.own d
 
 -- no live slot is left, and each view is right: nothing is written any more
 pub record IsSpent (sound : Type 0) (scope : Scope) (given : Given) (size : ℕ) (told : Ledger) (members : Members) (d : ℕ → ℕ → List Sector) : Type 0 where
@@ -51,11 +56,12 @@ abbrev pub SafeIsSeen : (sound : Type 0) → Type 0
 SafeIsSeen sound = (scope : Scope) (given : Given) (size : ℕ) (told : Ledger) (members : Members) (tape : List Operation)
     → IsSafeNow sound scope given size told members (disk given.start tape) → AreViewsRight sound scope given size told (disk given.start tape)
 
--- more is told: values are only added, roles only lost, and what was unsettled stays so
+-- more is told: values and numbers are only added, roles only lost, and what was unsettled stays so
 pub record IsMoreTold (size : ℕ) (told more : Ledger) : Type 0 where
   pub values : (x : ℕ) → x < size → (v : Sector) → IsIn (told.values x) v → IsIn (more.values x) v
   pub gone : (role : ℕ) → told.gone role ≡ true → more.gone role ≡ true
   pub unclean : told.unclean ≡ true → more.unclean ≡ true
+  pub carried : (number : ℕ) → told.carried number ≡ true → more.carried number ≡ true
 
 -- slots that are lost leave it safe, and so does more that is told
 abbrev pub LosingStaysSafe : (sound : Type 0) → Type 0
@@ -99,6 +105,12 @@ WritesStaySafe sound = (scope : Scope) (given : Given) (size : ℕ) (told : Ledg
     → IsPutting (reading_of members) (shape_of members.newest) list (Contains rows) d e → AreSuperblocksKept d e
     → IsSafeNow sound scope given size told members d → IsSafeNow sound scope given size told (members_without lost members) e
 
+-- Rows of a role that its recovering slot doesn't hold yet are written there: no view has them.
+abbrev pub FillingStaysSafe : (sound : Type 0) → Type 0
+FillingStaysSafe sound = (scope : Scope) (given : Given) (size : ℕ) (told : Ledger) (members : Members) (role slot : ℕ) (tape : List Operation) (e : ℕ → ℕ → List Sector)
+    → IsPlaced given members → AreUnlost members → role_state (reading_of members) role ≡ Recovering slot → IsFilling members role slot (disk given.start tape) e
+    → IsSafeNow sound scope given size told members (disk given.start tape) → IsSafeNow sound scope given size told members e
+
 -- ---- the same in the world of an epoch, where the premise is that it opened clean and sound
 
 abbrev pub IsSafeOver : World → Given → ℕ → Ledger → Members → List Operation → Type 0
@@ -120,4 +132,12 @@ IsUncleanTold told members = is_clean members.newest ≡ false → told.unclean 
 
 -- this list alone is told, where all is settled but in an array whose resync is pending
 abbrev pub settled_ledger : Bool → (ℕ → Sector) → Ledger → Ledger
-settled_ledger unsynced list told = record { values = λ x. list x ∷ []; gone = told.gone; unclean = unsynced }
+settled_ledger unsynced list told = record { values = λ x. list x ∷ []; gone = told.gone; unclean = unsynced; carried = told.carried }
+
+-- the same, but for this role, which isn't gone any more
+abbrev pub given_back : ℕ → Ledger → Ledger
+given_back role told = record told { gone = λ r. told.gone r && not (r == role) }
+
+-- the same, and superblocks of the array bear this number
+abbrev pub with_number : ℕ → Ledger → Ledger
+with_number number told = record told { carried = λ n. told.carried n || (n == number) }

@@ -20,19 +20,21 @@ use Rattle.array.specs.Lacking.{DoesWithout}
 use Rattle.flat_history.specs.Sound.{LosesNoRole, OpensFit, LeavesSound}
 use Rattle.array.specs.Readings.{IsReadOf}
 
--- What a view is judged by: the values that each sector of the list may have, the roles that are gone, and whether a write may be
--- unsettled.
+-- What is told of an array, by which a view is judged: the values that each sector of the list may have, the roles that are gone, whether
+-- a write may be unsettled, and the device numbers that its superblocks may bear.
 pub record Ledger : Type 0 where
   pub values : ℕ → List Sector
   pub gone : ℕ → Bool
   pub unclean : Bool
+  pub carried : ℕ → Bool
 
--- by the first j entries, where the first k were made
+-- by the first j entries, where the first k were made; they tell nothing of numbers
 abbrev pub ledger_of : World → List Entry → ℕ → ℕ → Ledger
 ledger_of world entries k j = record {
   values = values_of (opening_list world) (take j entries);
   gone = is_gone_by entries k j;
   unclean = is_unsynced world (take k entries) || is_written entries k j;
+  carried = λ number. true;
 }
 
 -- each sector of the list that a slot holds may have only allowed values there

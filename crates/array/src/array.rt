@@ -9,17 +9,20 @@ ghost use Rattle.array.specs.Placed.{places_of};
 ghost use Rattle.array.specs.Lacking.{AreTooMany};
 ghost use Rattle.array.specs.Calls.{IsRefusalOf};
 
+mod adding;
 mod adopting;
 mod asking;
 mod ending;
 mod failing;
 mod reading;
+mod rebuilding;
 mod settling;
 mod stepping;
 mod writing;
 
 use crate::refusing::too_many;
 use crate::roles::{list_length, shape_in};
+use crate::work::Work;
 pub use adopting::Opened;
 use bank::Bank;
 use flat_history::Epoch;
@@ -37,7 +40,7 @@ pub struct Array<B: Bank> {
     epoch: Epoch,
     backup: Option<u32>,
     members: Members,
-    resync: Option<u64>,
+    work: Work,
     steps: u64,
     rows: Vec<u64>,
     buffer: Vec<u8>,
@@ -59,12 +62,12 @@ impl<B: Bank> Model for Array<B> {
       entries = a.epoch.entries.items;
       backup = a.backup;
       members = a.members;
-      resync = a.resync;
+      work = a.work;
       steps = a.steps;
     } };
 
     ghost invariant = { λ a. IsReady B.tells (B.given a.bank) (B.tape a.bank) (scope_in (B.given a.bank) a.epoch.uuid a.epoch.given a.backup)
-        a.epoch.first a.epoch.entries.items a.members a.resync a.steps a.epoch.entries.room (vec_capacity a.rows) (length a.buffer.items) };
+        a.epoch.first a.epoch.entries.items a.members a.work (B.faults_of a.bank) a.steps a.epoch.entries.room (vec_capacity a.rows) (length a.buffer.items) };
 }
 
 // The refusal of a call that ends at `to`, by the visible size and how many roles are missing.

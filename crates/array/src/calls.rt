@@ -62,6 +62,21 @@ pub fn enter_behind(epoch: &mut Epoch, who: Who, end: u64, roles: u32, spares: u
     enter(epoch, who, end, event);
 }
 
+/// The losses of these roles and spares alone.
+pub fn enter_lost(epoch: &mut Epoch, who: Who, end: u64, roles: u32, spares: u32)
+    requires room { 48 ≤ epoch.old.entries.room }
+    requires number { who.number ≤ length epoch.old.entries.items }
+    ensures items { epoch.new.entries.items ≡ epoch.old.entries.items ++ entries_of who end (losses_of roles spares) }
+    ensures room { epoch.old.entries.room ≤ epoch.new.entries.room + 48 }
+    ensures uuid { epoch.new.uuid ≡ epoch.old.uuid }
+    ensures given { epoch.new.given ≡ epoch.old.given }
+    ensures first { epoch.new.first ≡ epoch.old.first }
+    ensures last { epoch.new.last ≡ end }
+{
+    enter_losses(epoch, who, end, roles, spares);
+    epoch.last = end;
+}
+
 /// A write that lost these roles and spares, and is refused: what it may have left counts where its rows had begun to be
 /// written.
 pub fn enter_failure(

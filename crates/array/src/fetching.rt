@@ -10,6 +10,7 @@ ghost use Rattle.row_io.specs.Rows.{reading_of, present};
 ghost use Rattle.list_io.specs.Calls.{AreLost, IsAnswer};
 ghost use Rattle.array.specs.Whole.{list_size};
 ghost use Rattle.array.specs.Placed.{places_of, AreWhole, IsPlaced, AreUnlost};
+ghost use Rattle.array.specs.Rebuilding.{AreSparesFree};
 ghost use Rattle.array.specs.Marking.{AreOthersPresent};
 ghost use Rattle.array.specs.Moving.{Grows, IsMoved};
 ghost use Rattle.array.specs.Lacking.{HaveFailedSince, IsAskedBeyond, IsUnread, ListStands, RowsStandBelow};
@@ -87,6 +88,7 @@ pub fn fetch<B: Bank>(
     requires slots { (B.given bank.old).slots ≤ 32 }
     requires placed { IsPlaced (B.given bank.old) members.old }
     requires unlost { AreUnlost members.old }
+    requires free { AreSparesFree (B.given bank.old) members.old }
     requires shape { shape.now ≡ shape_of members.old.newest }
     requires into { IsWhole into.old }
     requires within { first + length into.old / 512 ≤ list_size (places_of members.old) }

@@ -5,7 +5,7 @@ ghost use Rattle.array.specs.Readings.{HeldIsRead};
 ghost use Rattle.array.specs.Refusals.{RefusedForMissing};
 ghost use Rattle.array.specs.Rounds.{MarkIsRead, MarkIsHeld};
 ghost use Rattle.array.specs.Views.{ViewsAreSafe, ViewsAreSound};
-ghost use Rattle.array.specs.Steady.{SafeIsSeen, LosingStaysSafe, FlushesStaySafe, FlushedIsSettled, WritesStaySafe, MarkStaysSafe};
+ghost use Rattle.array.specs.Steady.{SafeIsSeen, LosingStaysSafe, FlushesStaySafe, FlushedIsSettled, WritesStaySafe, FillingStaysSafe, MarkStaysSafe};
 ghost use Rattle.std.specs.Prelude.{⊤};
 
 /// What is written elsewhere than in the superblocks leaves them held.
@@ -46,8 +46,8 @@ pub fn views_are_sound()
     ensures { ViewsAreSound }
 {}
 
-/// An array that is safe stays so while slots are lost, over flushes, over rows that are written while it is dirty, and over a
-/// mark; each image is read as a view that is right. The premise of what is said of parity is only carried along; here it is
+/// An array that is safe stays so while slots are lost, over flushes, over rows that are written while it is dirty, over rows that
+/// are rebuilt, and over a mark; each image is read as a view that is right. The premise of what is said of parity is only carried along; here it is
 /// one that always holds.
 pub fn safety_is_kept()
     ensures seen { SafeIsSeen ⊤ }
@@ -55,5 +55,6 @@ pub fn safety_is_kept()
     ensures flushes { FlushesStaySafe ⊤ }
     ensures flushed { FlushedIsSettled }
     ensures writes { WritesStaySafe ⊤ }
+    ensures filling { FillingStaysSafe ⊤ }
     ensures mark { MarkStaysSafe ⊤ }
 {}

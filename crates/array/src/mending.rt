@@ -4,10 +4,13 @@ ghost use Rattle.std.specs.Prelude.{◌≡◌, ◌<◌, ◌≤◌, ℕ, true, fa
 ghost use Rattle.bank.specs.Given.{NeverFalls};
 ghost use Rattle.md_base.specs.Sectors.{Sector};
 ghost use Rattle.md_base.specs.Shapes.{is_valid_shape, is_multiple};
-ghost use Rattle.superblocks.specs.Reading.{shape_of, is_clean};
+ghost use Rattle.md_base.specs.declared.status.Role.TheVariants.{Recovering as IsRecovering};
+ghost use Rattle.superblocks.specs.Reading.{shape_of, is_clean, role_state};
 ghost use Rattle.row_io.specs.Rows.{reading_of, present};
 ghost use Rattle.list_io.specs.Full.{AreWholeIn, RowStands};
+ghost use Rattle.list_io.specs.Writing.{HasFull};
 ghost use Rattle.array.specs.Placed.{IsPlaced, AreUnlost};
+ghost use Rattle.array.specs.Rebuilding.{AreSparesFree};
 ghost use Rattle.array.specs.Moving.{Grows, IsMoved};
 ghost use Rattle.array.specs.Safety.{HasRoomLeft, IsRisen};
 ghost use Rattle.array.specs.Status.{stripes_of};
@@ -69,6 +72,7 @@ pub fn mend<B: Bank>(
     requires slots { (B.given bank.old).slots ≤ 32 }
     requires placed { IsPlaced (B.given bank.old) members.old }
     requires unlost { AreUnlost members.old }
+    requires free { AreSparesFree (B.given bank.old) members.old }
     requires shape { shape.now ≡ shape_of members.old.newest }
     requires stripe { stripe < stripes_of members.old }
     requires dirty { is_clean members.old.newest ≡ false }
@@ -86,6 +90,10 @@ pub fn mend<B: Bank>(
     ensures kept { DoesWithout members.new → B.tells → (list : ℕ → Sector) → ListStands members.old (present (B.given bank.old) (B.tape bank.old)) list
         → (row : ℕ) → row < members.old.newest.size → RowStands (reading_of members.old) (present (B.given bank.old) (B.tape bank.old)) shape.now list row
         → RowStands (reading_of members.new) (present (B.given bank.old) (B.tape bank.new)) shape.now list row }
+    ensures rebuilt { DoesWithout members.new → B.tells → (list : ℕ → Sector) → ListStands members.old (present (B.given bank.old) (B.tape bank.old)) list
+        → (role slot row : ℕ) → role < shape.now.disks → role_state (reading_of members.new) role ≡ IsRecovering slot → row < members.old.newest.size
+        → HasFull (reading_of members.old) (present (B.given bank.old) (B.tape bank.old)) shape.now list row role slot
+        → HasFull (reading_of members.new) (present (B.given bank.old) (B.tape bank.new)) shape.now list row role slot }
     ensures rise { IsRisen B.tells members.old members.new (B.tape bank.old) (B.tape bank.new) }
     ensures safe { B.tells → (world : World) → (size : ℕ) → (told : Ledger) → HasRoomLeft members.old (B.tape bank.old) (B.tape bank.new)
         → AreGoneTold told members.new → told.unclean ≡ true → (list : ℕ → Sector) → ListStands members.old (present (B.given bank.old) (B.tape bank.old)) list

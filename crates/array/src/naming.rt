@@ -7,10 +7,11 @@ ghost use Rattle.md_base.specs.Shapes.{has_slot, is_valid_shape};
 ghost use Rattle.superblocks.specs.Reading.{Scope, shape_of, is_clean};
 ghost use Rattle.row_io.specs.Rows.{reading_of, present};
 ghost use Rattle.array.specs.Placed.{places_of, is_vacant, AreWhole, IsPlaced, AreUnlost};
+ghost use Rattle.array.specs.Rebuilding.{AreSparesFree};
 ghost use Rattle.array.specs.Marking.{AreOthersPresent};
 ghost use Rattle.array.specs.Moving.{Grows, IsMoved};
 ghost use Rattle.array.specs.Safety.{HasMarkRoom, HasLiveSlot, HasRoomLeft, IsRisen};
-ghost use Rattle.array.specs.Lacking.{HaveFailedSince, AreHoldersFlushed, IsNamed};
+ghost use Rattle.array.specs.Lacking.{HaveFailedSince, AreHoldersFlushed, IsNamed, AreUnnamed};
 ghost use Rattle.bank.specs.Tape.{disk};
 ghost use Rattle.flat_history.specs.World.{World};
 ghost use Rattle.flat_history.specs.Sound.{OpensFit};
@@ -53,7 +54,7 @@ pub fn has_unnamed(members: &Members) -> bool
     requires shape { IsTrue (is_valid_shape (shape_of members.now.newest)) }
     requires roles { (shape_of members.now.newest).disks ≤ length members.now.roles }
     ensures some { result ≡ true → (role : ℕ) × (role < (shape_of members.now.newest).disks) × (is_vacant (reading_of members.now) role ≡ true) × IsNamed members.now.newest role }
-    ensures none { result ≡ false → (role : ℕ) → role < (shape_of members.now.newest).disks → is_vacant (reading_of members.now) role ≡ true → IsNamed members.now.newest role → ⊥ }
+    ensures none { result ≡ false → AreUnnamed members.now }
 {
     for role in 0..shape_in(members).disks {
         if is_vacant(members, role) && is_named(&members.newest, role) {
@@ -68,6 +69,7 @@ pub fn mark_members<B: Bank>(members: &mut Members, bank: &mut B, clean: bool) -
     requires slots { (B.given bank.old).slots ≤ 32 }
     requires placed { IsPlaced (B.given bank.old) members.old }
     requires unlost { AreUnlost members.old }
+    requires free { AreSparesFree (B.given bank.old) members.old }
     ensures moved { IsMoved (B.given bank.old) members.old members.new }
     ensures failed { HaveFailedSince members.old members.new result (B.faults_of bank.old) (B.faults_of bank.new) }
     ensures grows { Grows B.tells (B.tape bank.old) (B.tape bank.new) }
@@ -95,6 +97,7 @@ pub fn name_missing<B: Bank>(members: &mut Members, bank: &mut B) -> u32
     requires slots { (B.given bank.old).slots ≤ 32 }
     requires placed { IsPlaced (B.given bank.old) members.old }
     requires unlost { AreUnlost members.old }
+    requires free { AreSparesFree (B.given bank.old) members.old }
     ensures moved { IsMoved (B.given bank.old) members.old members.new }
     ensures failed { HaveFailedSince members.old members.new result (B.faults_of bank.old) (B.faults_of bank.new) }
     ensures grows { Grows B.tells (B.tape bank.old) (B.tape bank.new) }
@@ -125,6 +128,7 @@ pub fn raise<B: Bank>(members: &mut Members, bank: &mut B) -> u32
     requires slots { (B.given bank.old).slots ≤ 32 }
     requires placed { IsPlaced (B.given bank.old) members.old }
     requires unlost { AreUnlost members.old }
+    requires free { AreSparesFree (B.given bank.old) members.old }
     ensures moved { IsMoved (B.given bank.old) members.old members.new }
     ensures failed { HaveFailedSince members.old members.new result (B.faults_of bank.old) (B.faults_of bank.new) }
     ensures grows { Grows B.tells (B.tape bank.old) (B.tape bank.new) }

@@ -4,12 +4,14 @@ ghost use Rattle.std.specs.Prelude.{◌≡◌, ◌≢◌, ◌⊎◌, ◌+◌, �
 ghost use Rattle.bank.specs.Given.{NeverFalls};
 ghost use Rattle.bank.specs.Tape.{EachMark, disk};
 ghost use Rattle.md_base.specs.Sectors.{Sector, IsWhole};
-ghost use Rattle.superblocks.specs.Reading.{Scope, shape_of, is_clean};
+ghost use Rattle.md_base.specs.declared.status.Role.TheVariants.{Recovering as IsRecovering};
+ghost use Rattle.superblocks.specs.Reading.{Scope, shape_of, is_clean, role_state};
 ghost use Rattle.row_io.specs.Rows.{reading_of, present};
 ghost use Rattle.list_io.specs.Buffers.{buffered, AreDistinct, AreStanding, AreTouched, IsTouched};
 ghost use Rattle.list_io.specs.Full.{AreWholeIn, RowStands};
-ghost use Rattle.list_io.specs.Writing.{IsWritten, AreDataFrom};
+ghost use Rattle.list_io.specs.Writing.{IsWritten, AreDataFrom, HasFull};
 ghost use Rattle.array.specs.Placed.{places_of, AreWhole, IsPlaced, AreUnlost};
+ghost use Rattle.array.specs.Rebuilding.{AreSparesFree};
 ghost use Rattle.array.specs.Moving.{Grows, IsMoved};
 ghost use Rattle.array.specs.Whole.{list_size};
 ghost use Rattle.array.specs.Marking.{AreOthersPresent};
@@ -111,6 +113,7 @@ fn put_stretch<B: Bank>(
     requires slots { (B.given bank.old).slots ≤ 32 }
     requires placed { IsPlaced (B.given bank.old) members.old }
     requires unlost { AreUnlost members.old }
+    requires free { AreSparesFree (B.given bank.old) members.old }
     requires shape { shape.now ≡ shape_of members.old.newest }
     requires from { IsWhole from.now }
     requires short { first + length from.now / 512 < 2 ^ 63 }
@@ -172,6 +175,7 @@ fn put_rows<B: Bank>(
     requires slots { (B.given bank.old).slots ≤ 32 }
     requires placed { IsPlaced (B.given bank.old) members.old }
     requires unlost { AreUnlost members.old }
+    requires free { AreSparesFree (B.given bank.old) members.old }
     requires shape { shape.now ≡ shape_of members.old.newest }
     requires from { IsWhole from.now }
     requires short { first + length from.now / 512 < 2 ^ 63 }
@@ -236,6 +240,7 @@ fn prepare<B: Bank>(
     requires slots { (B.given bank.old).slots ≤ 32 }
     requires placed { IsPlaced (B.given bank.old) members.old }
     requires unlost { AreUnlost members.old }
+    requires free { AreSparesFree (B.given bank.old) members.old }
     requires shape { shape.now ≡ shape_of members.old.newest }
     requires few { count ≤ 128 }
     requires within { first + count ≤ list_size (places_of members.old) }
@@ -303,6 +308,7 @@ pub fn put<B: Bank>(
     requires slots { (B.given bank.old).slots ≤ 32 }
     requires placed { IsPlaced (B.given bank.old) members.old }
     requires unlost { AreUnlost members.old }
+    requires free { AreSparesFree (B.given bank.old) members.old }
     requires shape { shape.now ≡ shape_of members.old.newest }
     requires from { IsWhole from.now }
     requires few { count ≤ 128 }
@@ -324,6 +330,12 @@ pub fn put<B: Bank>(
         → (row : ℕ) → row < members.old.newest.size → AreWholeIn shape.now list row
         → IsTouched shape.now first count row ⊎ RowStands (reading_of members.old) (present (B.given bank.old) (B.tape bank.old)) shape.now list row
         → RowStands (reading_of members.new) (present (B.given bank.old) (B.tape bank.new)) shape.now list' row }
+    ensures rebuilt { result.refusal ≡ None → B.tells → (list list' : ℕ → Sector) → IsWritten list list' first from.now
+        → ListStands members.old (present (B.given bank.old) (B.tape bank.old)) list
+        → (synced ≡ true → AreWhole members.new ⊎ RowsStandAmong (IsTouched shape.now first count) members.old (present (B.given bank.old) (B.tape bank.old)) list)
+        → (role slot row : ℕ) → role < shape.now.disks → role_state (reading_of members.new) role ≡ IsRecovering slot → row < members.old.newest.size
+        → HasFull (reading_of members.old) (present (B.given bank.old) (B.tape bank.old)) shape.now list row role slot
+        → HasFull (reading_of members.new) (present (B.given bank.old) (B.tape bank.new)) shape.now list' row role slot }
     ensures dirty { result.refusal ≡ None → is_clean members.new.newest ≡ false }
     ensures stays { is_clean members.old.newest ≡ false → is_clean members.new.newest ≡ false }
     ensures untouched { result.begun ≡ false → B.tells → AreOthersPresent (present (B.given bank.old) (B.tape bank.old)) (present (B.given bank.old) (B.tape bank.new)) }

@@ -3,6 +3,7 @@
 ghost use Rattle.std.specs.Prelude.{◌≡◌, ◌*◌, ◌^◌, ◌<◌, ◌≤◌, ◌&&◌, ℕ, nat_lt, length, IsTrue};
 ghost use Rattle.md_base.specs.Shapes.{has_slot, is_valid_shape, data_disks};
 ghost use Rattle.superblocks.specs.Reading.{shape_of};
+ghost use Rattle.superblocks.specs.Reads.{has_spare};
 ghost use Rattle.row_io.specs.Rows.{reading_of};
 ghost use Rattle.array.specs.Placed.{is_vacant};
 
@@ -54,4 +55,16 @@ pub fn vacant_roles(members: &Members, disks: u32) -> u32
         }
     }
     roles
+}
+
+/// Whether the slot is a spare.
+pub fn is_spare(members: &Members, slot: u32) -> bool
+    ensures { result ≡ has_spare members.now.spares slot }
+{
+    for place in 0..members.spares.len() {
+        if members.spares.get(place) == slot {
+            return true;
+        }
+    }
+    false
 }

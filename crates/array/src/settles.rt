@@ -7,6 +7,7 @@ ghost use Rattle.md_base.specs.Sectors.{Sector};
 ghost use Rattle.superblocks.specs.Reading.{Scope, is_clean, shape_of, role_state, holder};
 ghost use Rattle.row_io.specs.Rows.{reading_of, present};
 ghost use Rattle.array.specs.Placed.{places_of, AreWhole, IsPlaced, AreUnlost};
+ghost use Rattle.array.specs.Rebuilding.{AreSparesFree};
 ghost use Rattle.array.specs.Marking.{AreOthersPresent};
 ghost use Rattle.array.specs.Flushing.{OnlyFlushesAdded};
 ghost use Rattle.array.specs.Moving.{Grows, IsMoved};
@@ -38,6 +39,7 @@ fn flush_naming<B: Bank>(members: &mut Members, bank: &mut B) -> u32
     requires slots { (B.given bank.old).slots ≤ 32 }
     requires placed { IsPlaced (B.given bank.old) members.old }
     requires unlost { AreUnlost members.old }
+    requires free { AreSparesFree (B.given bank.old) members.old }
     ensures moved { IsMoved (B.given bank.old) members.old members.new }
     ensures failed { HaveFailedSince members.old members.new result (B.faults_of bank.old) (B.faults_of bank.new) }
     ensures grows { Grows B.tells (B.tape bank.old) (B.tape bank.new) }
@@ -81,6 +83,7 @@ pub fn settle<B: Bank>(members: &mut Members, bank: &mut B, unsynced: bool) -> S
     requires slots { (B.given bank.old).slots ≤ 32 }
     requires placed { IsPlaced (B.given bank.old) members.old }
     requires unlost { AreUnlost members.old }
+    requires free { AreSparesFree (B.given bank.old) members.old }
     ensures moved { IsMoved (B.given bank.old) members.old members.new }
     ensures failed { HaveFailedSince members.old members.new result.spares (B.faults_of bank.old) (B.faults_of bank.new) }
     ensures refused { MatchOption result.refusal ⊤ (AreTooMany members.new) }

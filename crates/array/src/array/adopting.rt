@@ -1,6 +1,7 @@
 //! An array that is taken over from its superblocks.
 
-ghost use Rattle.std.specs.Prelude.{◌≡◌, ◌<◌, ◌≤◌, ◌+◌, ◌++◌, [], ℕ, length, vec_capacity, IfOk, IfErr};
+ghost use Rattle.std.specs.Prelude.{◌≡◌, ◌<◌, ◌≤◌, ◌+◌, ◌++◌, [], ℕ, false, length, vec_capacity, IfOk, IfErr};
+ghost use Rattle.md_base.specs.Shapes.{has_slot};
 ghost use Rattle.superblocks.specs.Reading.{shape_of};
 ghost use Rattle.row_io.specs.Rows.{reading_of};
 ghost use Rattle.flat_history.specs.Plain.{entries_of};
@@ -11,12 +12,12 @@ ghost use Rattle.array.specs.Adopting.{opener, absent_loss, absent_losses, IsAdo
 use crate::array::Array;
 use crate::calls::enter;
 use crate::roles::shape_in;
+use crate::work::found_work;
 use bank::Bank;
 use flat_history::{Entries, Epoch, Event, LostCause};
 use md_base::{NoMemory, Role, Who};
 use std::alloc::Global;
 use superblocks::Members;
-use superblocks::says::is_clean;
 
 /// What an opening found: the backup slot, the members, and a bit for each slot that was looked at.
 #[derive(Drop)]
@@ -100,7 +101,8 @@ impl<B: Bank> Array<B> {
     /// Takes an array over whose superblocks were found in the slots of the bank; its first entries tell the roles that aren't
     /// whole. It makes no device call. Refused only for want of memory, with the bank handed back.
     pub fn adopt(alloc: Global, bank: B, opened: Opened) -> Result<Array<B>, (B, NoMemory)>
-        requires { IsAdoptable B.tells (B.given bank) (B.tape bank) (scope_in (B.given bank) opened.members.newest.set_uuid opened.given opened.backup) opened.members }
+        requires adoptable { IsAdoptable B.tells (B.given bank) (B.tape bank) (scope_in (B.given bank) opened.members.newest.set_uuid opened.given opened.backup) opened.members }
+        requires failed { (slot : ℕ) → slot < (B.given bank).slots → has_slot opened.given slot ≡ false → 0 < B.faults_of bank slot }
         ensures adopted { IfOk result (λ made. IsAdopted B.tells bank (B.tape bank) opened.given opened.backup opened.members made) }
         ensures handed_back { IfErr result (λ e. e.0 ≡ bank) }
     {
@@ -123,18 +125,14 @@ impl<B: Bank> Array<B> {
         };
         let disks = shape_in(&members).disks;
         enter_all_absent(&mut epoch, &members, first, disks);
-        let resync = if is_clean(&members.newest) {
-            None
-        } else {
-            Some(0)
-        };
+        let work = found_work(&members);
         Ok(Array {
             alloc,
             bank,
             epoch,
             backup,
             members,
-            resync,
+            work,
             steps: 0,
             rows: room.rows,
             buffer: room.buffer,

@@ -1,20 +1,24 @@
 //! What an array tells of itself.
 
-ghost use Rattle.std.specs.Prelude.{◌≡◌, ◌≢◌, ◌^◌, ◌≤◌, [], ◌∷◌, length, IfOk, IfErr, IfSome, IsTrue};
+ghost use Rattle.std.specs.Prelude.{◌≡◌, ◌≢◌, ◌+◌, ◌*◌, ◌^◌, ◌<◌, ◌≤◌, [], ◌∷◌, length, IfOk, IfErr, IfSome, IsTrue};
 ghost use Rattle.md_base.specs.Shapes.{is_valid_shape};
+ghost use Rattle.md_base.specs.Search.{count_below};
 ghost use Rattle.superblocks.specs.Reading.{shape_of};
+ghost use Rattle.row_io.specs.Rows.{reading_of};
 ghost use Rattle.flat_history.specs.Flat.{next_number};
 ghost use Rattle.flat_history.specs.declared.events.Event.TheVariants.{Shown};
 ghost use Rattle.array.specs.Calls.{world_for, IsEntered, IsSameArray, IsEndOf};
-ghost use Rattle.array.specs.Status.{stripes_of, left_of, IsStatusFor};
+ghost use Rattle.array.specs.Placed.{is_vacant};
+ghost use Rattle.array.specs.Status.{stripes_of, rebuilt_of, spare_count, recovery_left, left_of, IsStatusFor};
 
 use crate::array::Array;
 use crate::calls::{check_number, enter};
 use crate::mending::stripes;
-use crate::roles::{list_length, shape_in};
+use crate::roles::{is_spare, is_vacant, list_length, shape_in};
+use crate::work::Work;
 use bank::Bank;
 use flat_history::Event;
-use md_base::{NoMemory, RoleList, SlotList, Status, Who};
+use md_base::{NoMemory, Role, RoleList, SlotList, Status, Who};
 use std::alloc::Global;
 use superblocks::Members;
 use superblocks::says::is_clean;
@@ -49,33 +53,104 @@ fn copy_slots(alloc: Global, slots: &SlotList) -> Result<SlotList, NoMemory>
     Ok(copy)
 }
 
-// The steps that are left: each stripe that a pending resync hasn't mended, and its end.
-pub(crate) fn steps_left(members: &Members, resync: Option<u64>) -> u64
+// The steps that are left of the roles that slots recover.
+fn recovery_left(members: &Members, work: &Work, disks: u32) -> u64
     requires shape { IsTrue (is_valid_shape (shape_of members.now.newest)) }
     requires size { members.now.newest.size ≤ 2 ^ 48 }
-    requires progress { IfSome resync (λ mended. mended ≤ stripes_of members.now) }
-    ensures { result ≡ left_of resync members.now }
+    requires disks { disks ≤ 16 }
+    requires roles { disks ≤ length members.now.roles }
+    ensures left { result ≡ recovery_left work.now members.now disks }
+    ensures few { result ≤ disks * (2 ^ 48 + 1) }
 {
-    match resync {
-        Some(mended) => stripes(members) - mended + 1,
-        None => 0,
+    let stripes = stripes(members);
+    let mut left = 0;
+    for role in 0..disks {
+        if let Role::Recovering(_) = members.roles.get(role) {
+            left += stripes.saturating_sub(work.rebuilt[role as usize]) + 1;
+        }
     }
+    left
+}
+
+// How many roles no slot holds.
+fn vacant_count(members: &Members, disks: u32) -> u64
+    requires disks { disks ≤ 16 }
+    requires roles { disks ≤ length members.now.roles }
+    ensures count { result ≡ count_below disks (is_vacant (reading_of members.now)) }
+    ensures few { result ≤ 16 }
+{
+    let mut count = 0;
+    for role in 0..disks {
+        if is_vacant(members, role) {
+            count += 1;
+        }
+    }
+    count
+}
+
+// How many spares there are.
+fn spare_count(members: &Members) -> u64
+    ensures count { result ≡ spare_count members.now }
+    ensures few { result ≤ 32 }
+{
+    let mut count = 0;
+    for slot in 0..32u32 {
+        if is_spare(members, slot) {
+            count += 1;
+        }
+    }
+    count
+}
+
+// The steps that are left: of a pending resync, of the roles that slots recover, and of those that there are spares for.
+pub(crate) fn steps_left(members: &Members, work: &Work) -> u64
+    requires shape { IsTrue (is_valid_shape (shape_of members.now.newest)) }
+    requires size { members.now.newest.size ≤ 2 ^ 48 }
+    requires roles { (shape_of members.now.newest).disks ≤ length members.now.roles }
+    requires progress { IfSome work.now.resync (λ mended. mended ≤ stripes_of members.now) }
+    ensures { result ≡ left_of work.now members.now }
+{
+    let disks = shape_in(members).disks;
+    let stripes = stripes(members);
+    let resync = match work.resync {
+        Some(mended) => stripes - mended + 1,
+        None => 0,
+    };
+    let waiting = vacant_count(members, disks).min(spare_count(members));
+    resync + recovery_left(members, work, disks) + waiting * (stripes + 2)
 }
 
 impl<B: Bank> Array<B> {
     /// How many background steps are left.
     pub fn left(&self) -> u64
-        ensures { result ≡ left_of self.now.resync self.now.members }
+        ensures { result ≡ left_of self.now.work self.now.members }
     {
-        steps_left(&self.members, self.resync)
+        steps_left(&self.members, &self.work)
     }
 
     /// How many stripes the pending resync has mended; None where none is pending.
     pub fn resync(&self) -> Option<u64>
-        ensures resync { result ≡ self.now.resync }
+        ensures resync { result ≡ self.now.work.resync }
         ensures progress { IfSome result (λ mended. mended ≤ stripes_of self.now.members) }
     {
-        self.resync
+        self.work.resync
+    }
+
+    /// How many stripes of a role are rebuilt on the slot that recovers it.
+    pub fn rebuilt(&self, role: u32) -> u64
+        requires { role < 16 }
+        ensures { result ≡ rebuilt_of self.now.work role }
+    {
+        self.work.rebuilt[role as usize]
+    }
+
+    /// How many disks there are, and so how many roles.
+    pub fn disks(&self) -> u32
+        ensures disks { result ≡ (shape_of self.now.members.newest).disks }
+        ensures roles { length self.now.members.roles ≡ result }
+        ensures few { result ≤ 16 }
+    {
+        shape_in(&self.members).disks
     }
 
     /// How many stripes there are.
@@ -108,7 +183,7 @@ impl<B: Bank> Array<B> {
             visible: sectors,
             clean: is_clean(&self.members.newest),
             events: self.members.newest.events,
-            left: steps_left(&self.members, self.resync),
+            left: steps_left(&self.members, &self.work),
             roles,
             spares,
         })
@@ -123,7 +198,7 @@ impl<B: Bank> Array<B> {
         ensures unchanged { IfErr result (λ none. self.new ≡ self.old) }
         ensures bank { self.new.bank ≡ self.old.bank }
         ensures members { self.new.members ≡ self.old.members }
-        ensures resync { self.new.resync ≡ self.old.resync }
+        ensures work { self.new.work ≡ self.old.work }
         ensures ended { IsEndOf B.tells self.new.first self.new.entries (B.tape self.new.bank) }
         ensures same { IsSameArray B.tells self.old self.new (world_for (B.given self.old.bank) (B.tape self.old.bank) self.old) (world_for (B.given self.new.bank) (B.tape self.new.bank) self.new) }
     {

@@ -12,9 +12,10 @@ ghost use Rattle.flat_history.specs.Flat.{next_number, now};
 ghost use Rattle.flat_history.specs.OneShape.{opening_in, IsOneShapeLegal};
 ghost use Rattle.flat_history.specs.declared.events.Event.TheVariants.{Halted, Stopped};
 ghost use Rattle.array.specs.Placed.{places_of, AreStillHeld};
-ghost use Rattle.array.specs.Lacking.{DoesWithout, ListStands, RowsStandBelow, mended_rows, AreTooMany, HaveFailedSince};
+ghost use Rattle.array.specs.Kept.{AreRebuildsRight};
+ghost use Rattle.array.specs.Lacking.{DoesWithout, ListStands, RowsStandBelow, mended_rows, AreTooMany, HaveRolesFailed};
 ghost use Rattle.flat_history.specs.Sound.{OpensFit, FillsRight};
-ghost use Rattle.array.specs.Calls.{world_for, IsEntered, IsBehind, IsUnsettled, IsFaultFor, IsEndOf, IsSameArray, AreLossesOf, AreLeftFlushed};
+ghost use Rattle.array.specs.Calls.{AreSparesFewer, world_for, IsEntered, IsBehind, IsUnsettled, IsFaultFor, IsEndOf, IsSameArray, AreLossesOf, AreLeftFlushed};
 
 use crate::array::Array;
 use crate::calls::{check_number, enter};
@@ -33,10 +34,10 @@ impl<B: Bank> Array<B> {
         ensures legal { B.tells → FillsRight (world_for (B.given self.bank) (B.tape self.bank) self) result.1.entries.items
             → IsOneShapeLegal (opening_in (world_for (B.given self.bank) (B.tape self.bank) self)) (length (B.tape self.bank)) result.1.entries.items }
         ensures ends { B.tells → EndBy (length (B.tape self.bank)) result.1.entries.items }
-        ensures holds { B.tells → DoesWithout self.members
+        ensures holds { B.tells → DoesWithout self.members → AreRebuildsRight (world_for (B.given self.bank) (B.tape self.bank) self) self.entries
             → ListStands self.members (present (B.given self.bank) (B.tape self.bank)) (now (opening_list (world_for (B.given self.bank) (B.tape self.bank) self)) self.entries) }
         ensures good { B.tells → DoesWithout self.members → OpensFit (world_for (B.given self.bank) (B.tape self.bank) self)
-            → RowsStandBelow (mended_rows self.resync self.members) self.members (present (B.given self.bank) (B.tape self.bank)) (now (opening_list (world_for (B.given self.bank) (B.tape self.bank) self)) self.entries) }
+            → RowsStandBelow (mended_rows self.work.resync self.members) self.members (present (B.given self.bank) (B.tape self.bank)) (now (opening_list (world_for (B.given self.bank) (B.tape self.bank) self)) self.entries) }
         ensures right { B.tells → FillsRight (world_of (B.given result.0) (B.tape result.0) self.backup result.1) result.1.entries.items → HasRoomForEvents (world_of (B.given result.0) (B.tape result.0) self.backup result.1) → OpensAlike (world_of (B.given result.0) (B.tape result.0) self.backup result.1)
             → IsEpochRight (B.given result.0) (B.tape result.0) self.backup result.1 }
         ensures uuid { result.1.uuid ≡ self.uuid }
@@ -50,7 +51,7 @@ impl<B: Bank> Array<B> {
             mut epoch,
             backup: _,
             members: _,
-            resync: _,
+            work: _,
             steps: _,
             rows: _,
             buffer: _,
@@ -85,11 +86,12 @@ impl<B: Bank> Array<B> {
         ensures never_falls { IfOk result (λ r. NeverFalls (B.faults_of self.bank) (B.faults_of r.0)) }
         ensures refused { IfErr result (λ e. IsUnsettled who self.entries e.0.entries e.1) }
         ensures caused { IfErr result (λ e. IsFaultFor (list_size (places_of self.members)) 0 AreTooMany self.members e.0.members e.1) }
-        ensures left_failed { IfErr result (λ e. HaveFailedSince self.members e.0.members 0 (B.faults_of self.bank) (B.faults_of e.0.bank)) }
+        ensures left_failed { IfErr result (λ e. HaveRolesFailed self.members e.0.members (B.faults_of self.bank) (B.faults_of e.0.bank)) }
         ensures left_grows { IfErr result (λ e. Grows B.tells (B.tape self.bank) (B.tape e.0.bank)) }
         ensures left_held { IfErr result (λ e. AreStillHeld self.members e.0.members) }
+        ensures left_spares { IfErr result (λ e. AreSparesFewer self.members e.0.members) }
         ensures left_losses { IfErr result (λ e. AreLossesOf self.members (B.faults_of self.bank) (B.faults_of e.0.bank) self.entries e.0.entries) }
-        ensures left_resync { IfErr result (λ e. e.0.resync ≡ self.resync) }
+        ensures left_work { IfErr result (λ e. e.0.work ≡ self.work) }
         ensures left_ended { IfErr result (λ e. IsEndOf B.tells e.0.first e.0.entries (B.tape e.0.bank)) }
         ensures left_never_falls { IfErr result (λ e. NeverFalls (B.faults_of self.bank) (B.faults_of e.0.bank)) }
         ensures left_given { IfErr result (λ e. B.given e.0.bank ≡ B.given self.bank) }
@@ -105,7 +107,7 @@ impl<B: Bank> Array<B> {
                     epoch,
                     backup: _,
                     members: _,
-                    resync: _,
+                    work: _,
                     steps: _,
                     rows: _,
                     buffer: _,

@@ -12,7 +12,7 @@ ghost use Rattle.array.specs.Whole.{list_size};
 ghost use Rattle.array.specs.Placed.{places_of, AreStillHeld};
 ghost use Rattle.array.specs.Marking.{AreOthersPresent};
 ghost use Rattle.array.specs.Moving.{Grows};
-ghost use Rattle.array.specs.Calls.{world_for, HasRole, IsAnswered, IsFailedFor, IsSameArray, AreLossesOf, IsEndOf, OnNoMemory};
+ghost use Rattle.array.specs.Calls.{world_for, AreSparesFewer, HasRole, IsAnswered, IsFailedFor, IsSameArray, AreLossesOf, IsEndOf, OnNoMemory};
 
 use crate::array::Array;
 use crate::calls::{check_number, enter, enter_behind};
@@ -54,8 +54,9 @@ impl<B: Bank> Array<B> {
         ensures clean { is_clean self.new.members.newest ≡ is_clean self.old.members.newest }
         ensures caused { IsFailedFor role self.old.members self.new.members result }
         ensures held { AreStillHeld self.old.members self.new.members }
+        ensures spares { AreSparesFewer self.old.members self.new.members }
         ensures losses { AreLossesOf self.old.members (B.faults_of self.old.bank) (B.faults_of self.new.bank) self.old.entries self.new.entries }
-        ensures resync { self.new.resync ≡ self.old.resync }
+        ensures work { self.new.work ≡ self.old.work }
         ensures ended { IsEndOf B.tells self.new.first self.new.entries (B.tape self.new.bank) }
         ensures never_falls { NeverFalls (B.faults_of self.old.bank) (B.faults_of self.new.bank) }
         ensures given { B.given self.new.bank ≡ B.given self.old.bank }

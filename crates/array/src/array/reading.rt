@@ -14,9 +14,9 @@ ghost use Rattle.array.specs.Whole.{list_size};
 ghost use Rattle.array.specs.Placed.{places_of, AreWhole, AreStillHeld};
 ghost use Rattle.array.specs.Marking.{AreOthersPresent};
 ghost use Rattle.array.specs.Moving.{Grows};
-ghost use Rattle.array.specs.Lacking.{HaveFailedSince, IsUnread, mended_rows};
+ghost use Rattle.array.specs.Lacking.{HaveRolesFailed, IsUnread, mended_rows};
 ghost use Rattle.array.specs.Kept.{AreFillsRight};
-ghost use Rattle.array.specs.Calls.{world_for, IsAnswered, IsCausedBy, IsRefusalOf, IsSameArray, AreLossesOf, IsEndOf, OnNoMemory};
+ghost use Rattle.array.specs.Calls.{world_for, AreSparesFewer, IsAnswered, IsCausedBy, IsRefusalOf, IsSameArray, AreLossesOf, IsEndOf, OnNoMemory};
 
 use crate::array::{Array, refusal_of};
 use crate::calls::{check_number, enter, enter_behind};
@@ -45,15 +45,15 @@ impl<B: Bank> Array<B> {
     // Why so many sectors from one on aren't read, before any is.
     fn unread(&self, at: u64, count: u64) -> Option<Refusal>
         requires short { at + count < 2 ^ 63 }
-        ensures { IsRefusalOf (list_size (places_of self.now.members)) (at + count) (IsUnread (mended_rows self.now.resync self.now.members) at count) self.now.members result }
+        ensures { IsRefusalOf (list_size (places_of self.now.members)) (at + count) (IsUnread (mended_rows self.now.work.resync self.now.members) at count) self.now.members result }
     {
         let shape = shape_in(&self.members);
         let visible = list_length(&shape, self.members.newest.size);
         let refusal = refusal_of(&self.members, visible, at + count);
-        if refusal.is_some() | self.resync.is_none() {
+        if refusal.is_some() | self.work.resync.is_none() {
             return refusal;
         }
-        let mended = mended_rows(&self.members, self.resync);
+        let mended = mended_rows(&self.members, self.work.resync);
         match missing_place(&self.members, &shape, at, count, mended) {
             Some(role) => Some(Refusal::NotResynced(role)),
             None => None,
@@ -68,18 +68,19 @@ impl<B: Bank> Array<B> {
         requires whole { IsWhole into.old }
         requires short { at + length into.old / 512 < 2 ^ 63 }
         ensures answered { IsAnswered (list_size (places_of self.old.members)) (AsksRead at (length into.old / 512)) who self.old.entries self.new.entries (Read at (sectors_of into.new)) result }
-        ensures holds { OnOk result (B.tells → AreFillsRight (world_for (B.given self.old.bank) (B.tape self.old.bank) self.old) self.old.resync self.new.members
+        ensures holds { OnOk result (B.tells → AreFillsRight (world_for (B.given self.old.bank) (B.tape self.old.bank) self.old) self.old.work.resync self.new.members self.new.entries
             → AreSectors (now (opening_list (world_for (B.given self.old.bank) (B.tape self.old.bank) self.old)) self.old.entries) at into.new) }
         ensures unread { OnErr result (into.new ≡ into.old) }
         ensures unchanged { OnNoMemory result (self.new ≡ self.old) }
         ensures grows { Grows B.tells (B.tape self.old.bank) (B.tape self.new.bank) }
         ensures tape { AreWhole self.new.members → B.tells → B.tape self.new.bank ≡ B.tape self.old.bank }
         ensures others { B.tells → AreOthersPresent (present (B.given self.old.bank) (B.tape self.old.bank)) (present (B.given self.old.bank) (B.tape self.new.bank)) }
-        ensures caused { IsCausedBy (list_size (places_of self.old.members)) (at + length into.old / 512) (IsUnread (mended_rows self.old.resync self.old.members) at (length into.old / 512)) self.old.members self.new.members result }
-        ensures failed { HaveFailedSince self.old.members self.new.members 0 (B.faults_of self.old.bank) (B.faults_of self.new.bank) }
+        ensures caused { IsCausedBy (list_size (places_of self.old.members)) (at + length into.old / 512) (IsUnread (mended_rows self.old.work.resync self.old.members) at (length into.old / 512)) self.old.members self.new.members result }
+        ensures failed { HaveRolesFailed self.old.members self.new.members (B.faults_of self.old.bank) (B.faults_of self.new.bank) }
         ensures held { AreStillHeld self.old.members self.new.members }
+        ensures spares { AreSparesFewer self.old.members self.new.members }
         ensures losses { AreLossesOf self.old.members (B.faults_of self.old.bank) (B.faults_of self.new.bank) self.old.entries self.new.entries }
-        ensures resync { self.new.resync ≡ self.old.resync }
+        ensures work { self.new.work ≡ self.old.work }
         ensures ended { IsEndOf B.tells self.new.first self.new.entries (B.tape self.new.bank) }
         ensures never_falls { NeverFalls (B.faults_of self.old.bank) (B.faults_of self.new.bank) }
         ensures given { B.given self.new.bank ≡ B.given self.old.bank }
@@ -102,7 +103,7 @@ impl<B: Bank> Array<B> {
         }
         let shape = shape_in(&self.members);
         let before = vacant_roles(&self.members, shape.disks);
-        let mended = mended_rows(&self.members, self.resync);
+        let mended = mended_rows(&self.members, self.work.resync);
         let fetched = fetch(
             &mut self.members,
             &mut self.bank,

@@ -11,8 +11,8 @@ ghost use Rattle.array.specs.Whole.{list_size};
 ghost use Rattle.array.specs.Placed.{places_of, AreStillHeld};
 ghost use Rattle.array.specs.Marking.{AreOthersPresent};
 ghost use Rattle.array.specs.Moving.{Grows};
-ghost use Rattle.array.specs.Lacking.{HaveFailedSince, AreHoldersFlushed, AreTooMany};
-ghost use Rattle.array.specs.Calls.{world_for, IsSettled, IsSettling, IsAnswered, IsCausedBy, IsSameArray, AreLossesOf, AreLeftFlushed, IsEndOf, OnNoMemory};
+ghost use Rattle.array.specs.Lacking.{HaveRolesFailed, AreHoldersFlushed, AreTooMany};
+ghost use Rattle.array.specs.Calls.{world_for, AreSparesFewer, IsSettled, IsSettling, IsAnswered, IsCausedBy, IsSameArray, AreLossesOf, AreLeftFlushed, IsEndOf, OnNoMemory};
 
 use crate::array::{Array, refusal_of};
 use crate::calls::{check_number, enter, enter_behind};
@@ -35,13 +35,14 @@ impl<B: Bank> Array<B> {
         ensures left { OnOk result (B.tells → AreLeftFlushed self.old.members self.new.entries (B.given self.old.bank) (B.tape self.new.bank)) }
         ensures grows { Grows B.tells (B.tape self.old.bank) (B.tape self.new.bank) }
         ensures others { B.tells → AreOthersPresent (present (B.given self.old.bank) (B.tape self.old.bank)) (present (B.given self.old.bank) (B.tape self.new.bank)) }
-        ensures clean { OnOk result (self.old.resync ≡ None → is_clean self.new.members.newest ≡ true) }
+        ensures clean { OnOk result (self.old.work.resync ≡ None → is_clean self.new.members.newest ≡ true) }
         ensures caused { IsCausedBy (list_size (places_of self.old.members)) 0 AreTooMany self.old.members self.new.members result }
         ensures last { OnOk result (B.tells → self.new.last ≡ length (B.tape self.new.bank)) }
-        ensures failed { HaveFailedSince self.old.members self.new.members 0 (B.faults_of self.old.bank) (B.faults_of self.new.bank) }
+        ensures failed { HaveRolesFailed self.old.members self.new.members (B.faults_of self.old.bank) (B.faults_of self.new.bank) }
         ensures held { AreStillHeld self.old.members self.new.members }
+        ensures spares { AreSparesFewer self.old.members self.new.members }
         ensures losses { AreLossesOf self.old.members (B.faults_of self.old.bank) (B.faults_of self.new.bank) self.old.entries self.new.entries }
-        ensures resync { self.new.resync ≡ self.old.resync }
+        ensures work { self.new.work ≡ self.old.work }
         ensures ended { IsEndOf B.tells self.new.first self.new.entries (B.tape self.new.bank) }
         ensures never_falls { NeverFalls (B.faults_of self.old.bank) (B.faults_of self.new.bank) }
         ensures given { B.given self.new.bank ≡ B.given self.old.bank }
@@ -60,7 +61,11 @@ impl<B: Bank> Array<B> {
         }
         let disks = shape_in(&self.members).disks;
         let before = vacant_roles(&self.members, disks);
-        let settled = settle(&mut self.members, &mut self.bank, self.resync.is_some());
+        let settled = settle(
+            &mut self.members,
+            &mut self.bank,
+            self.work.resync.is_some(),
+        );
         let roles = newly_vacant(&self.members, disks, before);
         let end = self.bank.ops();
         if let Some(refusal) = settled.refusal {
@@ -82,12 +87,13 @@ impl<B: Bank> Array<B> {
         ensures flushed { OnOk result (B.tells → AreHoldersFlushed (reading_of self.new.members) (B.given self.old.bank) (B.tape self.new.bank)) }
         ensures grows { Grows B.tells (B.tape self.old.bank) (B.tape self.new.bank) }
         ensures others { B.tells → AreOthersPresent (present (B.given self.old.bank) (B.tape self.old.bank)) (present (B.given self.old.bank) (B.tape self.new.bank)) }
-        ensures clean { OnOk result (self.old.resync ≡ None → is_clean self.new.members.newest ≡ true) }
+        ensures clean { OnOk result (self.old.work.resync ≡ None → is_clean self.new.members.newest ≡ true) }
         ensures caused { IsCausedBy (list_size (places_of self.old.members)) 0 AreTooMany self.old.members self.new.members result }
-        ensures failed { HaveFailedSince self.old.members self.new.members 0 (B.faults_of self.old.bank) (B.faults_of self.new.bank) }
+        ensures failed { HaveRolesFailed self.old.members self.new.members (B.faults_of self.old.bank) (B.faults_of self.new.bank) }
         ensures held { AreStillHeld self.old.members self.new.members }
+        ensures spares { AreSparesFewer self.old.members self.new.members }
         ensures losses { AreLossesOf self.old.members (B.faults_of self.old.bank) (B.faults_of self.new.bank) self.old.entries self.new.entries }
-        ensures resync { self.new.resync ≡ self.old.resync }
+        ensures work { self.new.work ≡ self.old.work }
         ensures ended { IsEndOf B.tells self.new.first self.new.entries (B.tape self.new.bank) }
         ensures never_falls { NeverFalls (B.faults_of self.old.bank) (B.faults_of self.new.bank) }
         ensures given { B.given self.new.bank ≡ B.given self.old.bank }

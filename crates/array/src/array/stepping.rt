@@ -16,8 +16,8 @@ ghost use Rattle.array.specs.Whole.{list_size};
 ghost use Rattle.array.specs.Placed.{places_of, AreStillHeld};
 ghost use Rattle.array.specs.Moving.{Grows};
 ghost use Rattle.array.specs.Status.{left_of};
-ghost use Rattle.array.specs.Lacking.{HaveFailedSince, AreHoldersFlushed, AreTooMany, IsUnwritten, DoesWithout, RowsStand};
-ghost use Rattle.array.specs.Calls.{world_for, HasStripeLeft, IsAllMended, one_more, IsStepsReply, by_answer, IsSettled, IsEntered, IsCausedBy, IsSameArray, AreLossesOf, IsEndOf};
+ghost use Rattle.array.specs.Lacking.{HaveRolesFailed, AreHoldersFlushed, AreTooMany, IsUnwritten, DoesWithout, RowsStand};
+ghost use Rattle.array.specs.Calls.{world_for, AreSparesFewer, HasStripeLeft, IsAllMended, one_more, AreStepsFewer, AreStepsKept, IsStepsReply, by_answer, IsSettled, IsEntered, IsCausedBy, IsSameArray, AreLossesOf, IsEndOf};
 
 use crate::array::asking::steps_left;
 use crate::array::{Array, refusal_of};
@@ -71,19 +71,21 @@ impl<B: Bank> Array<B> {
     pub fn mend_stripe(&mut self, who: Who) -> Result<(), Fault>
         requires open { IsCallOpen self.old.entries who }
         requires caller { who.caller ≢ 254 }
-        requires pending { HasStripeLeft self.old.resync self.old.members }
+        requires pending { HasStripeLeft self.old.work.resync self.old.members }
         requires room { 1 ≤ self.old.steps }
-        ensures entered { IsSettled who self.old.entries self.new.entries (Step MendsStripe (left_of self.new.resync self.new.members)) result }
+        ensures entered { IsSettled who self.old.entries self.new.entries (Step MendsStripe (left_of self.new.work self.new.members)) result }
         ensures memory { result ≢ Err WantsMemory }
         ensures open { IsCallOpen self.new.entries who }
         ensures room { self.new.steps + 1 ≡ self.old.steps }
-        ensures resync { self.new.resync ≡ by_answer result (one_more self.old.resync) self.old.resync }
-        ensures left { OnOk result (left_of self.new.resync self.new.members + 1 ≡ left_of self.old.resync self.old.members) }
+        ensures work { self.new.work ≡ record self.old.work { resync = by_answer result (one_more self.old.work.resync) self.old.work.resync } }
+        ensures left { OnOk result (AreStepsFewer self.old.entries self.new.entries (left_of self.old.work self.old.members) (left_of self.new.work self.new.members)) }
+        ensures stays { OnErr result (AreStepsKept self.old.entries self.new.entries (left_of self.old.work self.old.members) (left_of self.new.work self.new.members)) }
         ensures caused { IsCausedBy (list_size (places_of self.old.members)) 0 (IsUnwritten false) self.old.members self.new.members result }
         ensures dirty { OnOk result (is_clean self.new.members.newest ≡ false) }
         ensures grows { Grows B.tells (B.tape self.old.bank) (B.tape self.new.bank) }
-        ensures failed { HaveFailedSince self.old.members self.new.members 0 (B.faults_of self.old.bank) (B.faults_of self.new.bank) }
+        ensures failed { HaveRolesFailed self.old.members self.new.members (B.faults_of self.old.bank) (B.faults_of self.new.bank) }
         ensures held { AreStillHeld self.old.members self.new.members }
+        ensures spares { AreSparesFewer self.old.members self.new.members }
         ensures losses { AreLossesOf self.old.members (B.faults_of self.old.bank) (B.faults_of self.new.bank) self.old.entries self.new.entries }
         ensures ended { IsEndOf B.tells self.new.first self.new.entries (B.tape self.new.bank) }
         ensures never_falls { NeverFalls (B.faults_of self.old.bank) (B.faults_of self.new.bank) }
@@ -99,7 +101,7 @@ impl<B: Bank> Array<B> {
         }
         let shape = shape_in(&self.members);
         let before = vacant_roles(&self.members, shape.disks);
-        let stripe = self.resync.unwrap_or(0);
+        let stripe = self.work.resync.unwrap_or(0);
         let mended = mend(
             &mut self.members,
             &mut self.bank,
@@ -115,9 +117,9 @@ impl<B: Bank> Array<B> {
             enter_behind(&mut self.epoch, who, end, roles, mended.spares, event);
             return Err(Fault::Refused(refusal));
         }
-        self.resync = Some(stripe + 1);
+        self.work.resync = Some(stripe + 1);
         let kind = StepKind::ResyncStripe;
-        let left = steps_left(&self.members, self.resync);
+        let left = steps_left(&self.members, &self.work);
         let event = Event::Step { kind, left };
         enter_behind(&mut self.epoch, who, end, roles, mended.spares, event);
         Ok(())
@@ -128,22 +130,24 @@ impl<B: Bank> Array<B> {
     pub fn end_resync(&mut self, who: Who) -> Result<(), Fault>
         requires open { IsCallOpen self.old.entries who }
         requires caller { who.caller ≢ 254 }
-        requires pending { IsAllMended self.old.resync self.old.members }
+        requires pending { IsAllMended self.old.work.resync self.old.members }
         requires room { 1 ≤ self.old.steps }
-        ensures entered { IsSettled who self.old.entries self.new.entries (Step EndsResync (left_of self.new.resync self.new.members)) result }
+        ensures entered { IsSettled who self.old.entries self.new.entries (Step EndsResync (left_of self.new.work self.new.members)) result }
         ensures memory { result ≢ Err WantsMemory }
         ensures open { IsCallOpen self.new.entries who }
         ensures room { self.new.steps + 1 ≡ self.old.steps }
-        ensures resync { self.new.resync ≡ by_answer result None self.old.resync }
-        ensures left { OnOk result (left_of self.new.resync self.new.members + 1 ≡ left_of self.old.resync self.old.members) }
+        ensures work { self.new.work ≡ record self.old.work { resync = by_answer result None self.old.work.resync } }
+        ensures left { OnOk result (AreStepsFewer self.old.entries self.new.entries (left_of self.old.work self.old.members) (left_of self.new.work self.new.members)) }
+        ensures stays { OnErr result (AreStepsKept self.old.entries self.new.entries (left_of self.old.work self.old.members) (left_of self.new.work self.new.members)) }
         ensures caused { IsCausedBy (list_size (places_of self.old.members)) 0 AreTooMany self.old.members self.new.members result }
         ensures clean { OnOk result (is_clean self.new.members.newest ≡ true) }
         ensures flushed { OnOk result (B.tells → AreHoldersFlushed (reading_of self.new.members) (B.given self.old.bank) (B.tape self.new.bank)) }
         ensures good { OnOk result (B.tells → DoesWithout self.new.members → OpensFit (world_for (B.given self.new.bank) (B.tape self.new.bank) self.new)
             → RowsStand self.new.members (present (B.given self.old.bank) (B.tape self.new.bank)) (now (opening_list (world_for (B.given self.new.bank) (B.tape self.new.bank) self.new)) self.new.entries)) }
         ensures grows { Grows B.tells (B.tape self.old.bank) (B.tape self.new.bank) }
-        ensures failed { HaveFailedSince self.old.members self.new.members 0 (B.faults_of self.old.bank) (B.faults_of self.new.bank) }
+        ensures failed { HaveRolesFailed self.old.members self.new.members (B.faults_of self.old.bank) (B.faults_of self.new.bank) }
         ensures held { AreStillHeld self.old.members self.new.members }
+        ensures spares { AreSparesFewer self.old.members self.new.members }
         ensures losses { AreLossesOf self.old.members (B.faults_of self.old.bank) (B.faults_of self.new.bank) self.old.entries self.new.entries }
         ensures ended { IsEndOf B.tells self.new.first self.new.entries (B.tape self.new.bank) }
         ensures never_falls { NeverFalls (B.faults_of self.old.bank) (B.faults_of self.new.bank) }
@@ -167,11 +171,10 @@ impl<B: Bank> Array<B> {
             enter_behind(&mut self.epoch, who, end, roles, settled.spares, event);
             return Err(Fault::Refused(refusal));
         }
-        self.resync = None;
-        let event = Event::Step {
-            kind: StepKind::ResyncEnded,
-            left: 0,
-        };
+        self.work.resync = None;
+        let kind = StepKind::ResyncEnded;
+        let left = steps_left(&self.members, &self.work);
+        let event = Event::Step { kind, left };
         enter_behind(&mut self.epoch, who, end, roles, settled.spares, event);
         Ok(())
     }
@@ -182,12 +185,12 @@ impl<B: Bank> Array<B> {
         requires open { IsCallOpen self.old.entries who }
         requires caller { who.caller ≢ 254 }
         requires room { 1 ≤ self.old.steps }
-        requires reply { IsStepsReply self.old.resync self.old.members self.old.entries event }
+        requires reply { IsStepsReply self.old.work self.old.members self.old.entries event }
         ensures entered { IsEntered B.tells (B.tape self.old.bank) who self.old.entries self.new.entries (event ∷ []) }
         ensures room { self.new.steps + 1 ≡ self.old.steps }
         ensures bank { self.new.bank ≡ self.old.bank }
         ensures members { self.new.members ≡ self.old.members }
-        ensures resync { self.new.resync ≡ self.old.resync }
+        ensures work { self.new.work ≡ self.old.work }
         ensures ended { IsEndOf B.tells self.new.first self.new.entries (B.tape self.new.bank) }
         ensures same { IsSameArray B.tells self.old self.new (world_for (B.given self.old.bank) (B.tape self.old.bank) self.old) (world_for (B.given self.new.bank) (B.tape self.new.bank) self.new) }
     {

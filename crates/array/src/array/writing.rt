@@ -12,8 +12,8 @@ ghost use Rattle.array.specs.Whole.{list_size};
 ghost use Rattle.array.specs.Placed.{places_of, AreStillHeld};
 ghost use Rattle.array.specs.Marking.{AreOthersPresent};
 ghost use Rattle.array.specs.Moving.{Grows};
-ghost use Rattle.array.specs.Lacking.{HaveFailedSince, IsUnwritten, are_mended, mended_rows};
-ghost use Rattle.array.specs.Calls.{world_for, IsAnswered, IsCausedBy, IsRefusalOf, IsSameArray, AreLossesOf, IsEndOf, OnNoMemory, has_torn};
+ghost use Rattle.array.specs.Lacking.{HaveRolesFailed, IsUnwritten, are_mended, mended_rows};
+ghost use Rattle.array.specs.Calls.{world_for, AreSparesFewer, IsAnswered, IsCausedBy, IsRefusalOf, IsSameArray, AreLossesOf, IsEndOf, OnNoMemory, has_torn};
 
 use crate::array::{Array, refusal_of};
 use crate::calls::{check_number, enter, enter_behind, enter_failure};
@@ -30,15 +30,15 @@ impl<B: Bank> Array<B> {
     // Whether the sectors of the list below this one are all in rows whose parity is to be relied on.
     fn are_mended(&self, shape: &Shape, to: u64) -> bool
         requires shape { shape.now ≡ shape_of self.now.members.newest }
-        ensures { result ≡ are_mended shape.now (mended_rows self.now.resync self.now.members) to }
+        ensures { result ≡ are_mended shape.now (mended_rows self.now.work.resync self.now.members) to }
     {
-        to <= list_length(shape, mended_rows(&self.members, self.resync))
+        to <= list_length(shape, mended_rows(&self.members, self.work.resync))
     }
 
     // Why so many sectors from one on aren't written, before any row is read.
     fn unwritten(&self, at: u64, count: u64) -> Option<Refusal>
         requires short { at + count < 2 ^ 63 }
-        ensures { IsRefusalOf (list_size (places_of self.now.members)) (at + count) (IsUnwritten (are_mended (shape_of self.now.members.newest) (mended_rows self.now.resync self.now.members) (at + count))) self.now.members result }
+        ensures { IsRefusalOf (list_size (places_of self.now.members)) (at + count) (IsUnwritten (are_mended (shape_of self.now.members.newest) (mended_rows self.now.work.resync self.now.members) (at + count))) self.now.members result }
     {
         let shape = shape_in(&self.members);
         let visible = list_length(&shape, self.members.newest.size);
@@ -66,11 +66,12 @@ impl<B: Bank> Array<B> {
         ensures dirty { OnOk result (is_clean self.new.members.newest ≡ false) }
         ensures untouched { OnErr result (IsFalse (has_torn self.old.entries self.new.entries) → B.tells
             → AreOthersPresent (present (B.given self.old.bank) (B.tape self.old.bank)) (present (B.given self.old.bank) (B.tape self.new.bank))) }
-        ensures caused { IsCausedBy (list_size (places_of self.old.members)) (at + length from.now / 512) (IsUnwritten (are_mended (shape_of self.old.members.newest) (mended_rows self.old.resync self.old.members) (at + length from.now / 512))) self.old.members self.new.members result }
-        ensures failed { HaveFailedSince self.old.members self.new.members 0 (B.faults_of self.old.bank) (B.faults_of self.new.bank) }
+        ensures caused { IsCausedBy (list_size (places_of self.old.members)) (at + length from.now / 512) (IsUnwritten (are_mended (shape_of self.old.members.newest) (mended_rows self.old.work.resync self.old.members) (at + length from.now / 512))) self.old.members self.new.members result }
+        ensures failed { HaveRolesFailed self.old.members self.new.members (B.faults_of self.old.bank) (B.faults_of self.new.bank) }
         ensures held { AreStillHeld self.old.members self.new.members }
+        ensures spares { AreSparesFewer self.old.members self.new.members }
         ensures losses { AreLossesOf self.old.members (B.faults_of self.old.bank) (B.faults_of self.new.bank) self.old.entries self.new.entries }
-        ensures resync { self.new.resync ≡ self.old.resync }
+        ensures work { self.new.work ≡ self.old.work }
         ensures ended { IsEndOf B.tells self.new.first self.new.entries (B.tape self.new.bank) }
         ensures never_falls { NeverFalls (B.faults_of self.old.bank) (B.faults_of self.new.bank) }
         ensures given { B.given self.new.bank ≡ B.given self.old.bank }

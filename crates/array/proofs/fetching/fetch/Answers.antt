@@ -12,9 +12,10 @@ use Rattle.list_io.specs.declared.outcome.Unavailable.{Unavailable}
 use Rattle.list_io.specs.declared.outcome.Unavailable.TheVariants.{TooManyMissing, NotResynced}
 use Rattle.list_io.specs.Calls.{IsAnswer}
 use Rattle.array.specs.Placed.{AreWhole, IsPlaced, AreLost}
+use Rattle.array.specs.Rebuilding.{AreSparesFree}
 use Rattle.array.specs.Lacking.{IsAskedBeyond, IsUnread, refused_by}
 use Rattle.array.proofs.MovedLaws.{moved-lost, moved-then, lost-none, moved-from}
-use Rattle.array.proofs.LackingLaws.{since-lost, since-then}
+use Rattle.array.proofs.LackingLaws.{since-lost, since-then, in-second}
 use Rattle.array.proofs.LackingWrites.{lost-of, ok-of}
 use Rattle.flat_history.specs.Sound.{OpensFit}
 use Rattle.array.specs.Steady.{IsUncleanTold}
@@ -68,6 +69,18 @@ name_missing-spares-requires-clause-unlost g c =
     let shape = c.args.shape.now in
     (moved-lost given shape m n r f0 f1 c.requires.placed (lost-of given shape m n r f0 f1 c.requires.placed c.read_parts-read.ensures.lost) c.requires.unlost).unlost
 
+pub name_missing-spares-requires-clause-free : goal.name_missing-spares-requires-clause-free
+name_missing-spares-requires-clause-free g c =
+    let m = c.args.members.now in
+    let n = c.read_parts-read.new.members in
+    let given = g.B.Bank.given c.args.bank.now in
+    let f0 = g.B.Bank.faults_of c.args.bank.now in
+    let f1 = g.B.Bank.faults_of c.read_parts-read.new.bank in
+    let r = c.read_parts-read.result.lost in
+    let shape = c.args.shape.now in
+    subst (λ (b : Given). AreSparesFree b n) (sym c.read_parts-read.ensures.given)
+    ((moved-lost given shape m n r f0 f1 c.requires.placed (lost-of given shape m n r f0 f1 c.requires.placed c.read_parts-read.ensures.lost) c.requires.unlost).free c.requires.free)
+
 pub returns-clause-moved : goal.returns-clause-moved
 returns-clause-moved g c =
     let m = c.args.members.now in
@@ -92,7 +105,7 @@ returns-clause-failed g c =
     let r = c.read_parts-read.result.lost in
     let shape = c.args.shape.now in
     since-then m n c.name_missing-spares.new.members 0 c.name_missing-spares.result c.name_missing-spares.result f0 f1 f2 c.read_parts-read.ensures.lost.never_falls c.name_missing-spares.ensures.counts
-    (since-lost given shape m n r f0 f1 (lost-of given shape m n r f0 f1 c.requires.placed c.read_parts-read.ensures.lost)) c.name_missing-spares.ensures.failed (λ slot has. inr has)
+    (since-lost given shape m n r f0 f1 (lost-of given shape m n r f0 f1 c.requires.placed c.read_parts-read.ensures.lost)) c.name_missing-spares.ensures.failed (in-second c.name_missing-spares.result)
 
 -- why the sectors weren't read
 unread : (shape : Shape) (n : Members) (mended first count : ℕ) (answer : Result (Unit {0}) Unavailable) → shape ≡ shape_of n.newest

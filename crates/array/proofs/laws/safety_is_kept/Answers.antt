@@ -1,6 +1,7 @@
 use Rattle.std.specs.Prelude.{⊤}
 use Rattle.array.proofs.Steady.{safe-is-seen, losing-stays-safe, flushes-stay-safe, flushed-is-settled}
 use Rattle.array.proofs.WriteSafe.{writes-stay-safe}
+use Rattle.array.proofs.FillingSafe.{filling-stays-safe}
 use Rattle.array.proofs.MarkSafe.{mark-stays-safe}
 use Rattle.array.proofs.laws.safety_is_kept.Goals as goal
 
@@ -18,6 +19,9 @@ returns-clause-flushed c = flushed-is-settled
 
 pub returns-clause-writes : goal.returns-clause-writes
 returns-clause-writes c = writes-stay-safe ⊤
+
+pub returns-clause-filling : goal.returns-clause-filling
+returns-clause-filling c = filling-stays-safe ⊤
 
 pub returns-clause-mark : goal.returns-clause-mark
 returns-clause-mark c = mark-stays-safe ⊤

@@ -1,13 +1,13 @@
 use Rattle.std.proofs.Common.{inl, inr, ◌+◌, ◌*◌, ◌≤◌, refl, sym, ◌∙◌, subst, arith}
 use Rattle.bank.specs.Given.{Given}
-use Rattle.superblocks.proofs.SlotSets.{none_there}
 use Rattle.row_io.specs.Rows.{present}
 use Rattle.list_io.specs.Buffers.{IsTouched}
 use Rattle.flat_history.specs.Sound.{OpensFit}
 use Rattle.array.specs.Moving.{IsMoved}
+use Rattle.array.specs.Rebuilding.{AreSparesFree}
 use Rattle.array.specs.Lacking.{ListStands}
 use Rattle.array.proofs.MovedLaws.{moved-then, moved-same, grows-none, grows-then, moved-from, size-moved}
-use Rattle.array.proofs.LackingLaws.{since-then, in-either}
+use Rattle.array.proofs.LackingLaws.{since-same, since-then, in-either}
 use Rattle.array.proofs.LackingLists.{none-of}
 use Rattle.array.proofs.Risen.{risen-none, risen-then}
 use Rattle.array.proofs.SafeStretch.{safe-none, allowed-later}
@@ -26,7 +26,7 @@ loop-done-init g c =
     let tape0 = g.B.Bank.tape c.args.bank.now in
     record {
       moved = moved-same given given m m refl refl c.requires.placed c.requires.unlost;
-      failed = record { roles = λ role slot held. inl held; spares_are = λ slot has. absurd (let e = none_there slot in cc) };
+      failed = since-same m (g.B.Bank.faults_of c.args.bank.now) (g.B.Bank.faults_of c.args.bank.now);
       grows = grows-none (λ told. refl);
       dirty = c.requires.dirty;
       within = omega arith;
@@ -45,6 +45,9 @@ overflow_add-first g c =
     let fits = part-within (g.B.Bank.given c.args.bank.now) c.args.members.now c.requires.placed c.args.shape.now c.requires.shape c.args.stripe c.requires.stripe c.list_length.result c.list_length.ensures c.loop-done.done 0
     (omega (arith, within)) in
     omega (arith, fits.0, fits.1)
+
+pub put-part-requires-clause-free : goal.put-part-requires-clause-free
+put-part-requires-clause-free g c = subst (λ (b : Given). AreSparesFree b c.loop-done.members) (sym c.loop-done.invariant.given) (c.loop-done.invariant.moved.free c.requires.free)
 
 pub put-part-requires-clause-within : goal.put-part-requires-clause-within
 put-part-requires-clause-within g c =
@@ -102,6 +105,19 @@ returns-then-is_some-clause-kept g c = λ does told list stands row lt here.
     (put-untouched given given1 was.given c.args.shape.now _ m n new (g.B.Bank.tape c.args.bank.now) (g.B.Bank.tape c.loop-done.bank) (g.B.Bank.tape c.put-part.new.bank) c.requires.shape was.moved
     (moved-from given given1 n n new was.given refl did.moved) others (was.put told)).rows list stands row lt here.whole (inr here)
 
+pub returns-then-is_some-clause-rebuilt : goal.returns-then-is_some-clause-rebuilt
+returns-then-is_some-clause-rebuilt g c = λ does told list stands.
+    let was = c.loop-done.invariant in
+    let did = c.put-part.ensures in
+    let given = g.B.Bank.given c.args.bank.now in
+    let given1 = g.B.Bank.given c.loop-done.bank in
+    let m = c.args.members.now in
+    let n = c.loop-done.members in
+    let new = c.put-part.new.members in
+    let others = did.untouched (not-begun new c.put-part.result.begun c.put-part.result.refusal (sym c.is_some.ensures ∙ c.if-is_some.true) does did.torn) told in
+    (put-untouched given given1 was.given c.args.shape.now _ m n new (g.B.Bank.tape c.args.bank.now) (g.B.Bank.tape c.loop-done.bank) (g.B.Bank.tape c.put-part.new.bank) c.requires.shape was.moved
+    (moved-from given given1 n n new was.given refl did.moved) others (was.put told)).rebuilt list stands
+
 pub returns-then-is_some-clause-rise : goal.returns-then-is_some-clause-rise
 returns-then-is_some-clause-rise g c = risen-then c.loop-done.invariant.rise c.put-part.ensures.rise
 
@@ -148,12 +164,13 @@ loop-done-preserved g c =
           let none = none-of c.put-part.result.refusal (sym c.is_some.ensures ∙ c.if-is_some.false) in
           let first = c.args.stripe * c.list_length.result + c.loop-done.done in
           let touched = IsTouched c.args.shape.now first c.min-count.result in
-          put-then given c.args.shape.now _ touched _ m n new tape0 tape1 tape2 was.moved.size
+          put-then given c.args.shape.now _ touched _ m n new tape0 tape1 tape2 was.moved.size moved
           (part-touches c.args.shape.now (valid-in given m c.requires.placed c.args.shape.now c.requires.shape) c.args.stripe c.list_length.result c.list_length.ensures c.loop-done.done c.min-count.result part)
           (was.put told)
           (subst (λ (b : Given). ArePut b c.args.shape.now touched n new tape1 tape2) was.given (record {
             stands = λ list stands. did.put none told list list (nothing-written list first) stands;
             rows = λ list stands row lt whole is. did.good none told list list (nothing-written list first) no-bytes stands (λ is. absurd (cc)) row lt whole is;
+            rebuilt = λ list stands. did.rebuilt none told list list (nothing-written list first) stands (λ is. absurd (cc));
           }));
       rise = risen-then was.rise did.rise;
       safe = λ told world size ledger room gone unclean list stands allowed safe.
@@ -183,3 +200,6 @@ returns-clause-stands g c = λ does told. (c.loop-done.invariant.put told).stand
 
 pub returns-clause-kept : goal.returns-clause-kept
 returns-clause-kept g c = λ does told list stands row lt here. (c.loop-done.invariant.put told).rows list stands row lt here.whole (inr here)
+
+pub returns-clause-rebuilt : goal.returns-clause-rebuilt
+returns-clause-rebuilt g c = λ does told. (c.loop-done.invariant.put told).rebuilt

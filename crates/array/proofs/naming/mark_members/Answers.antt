@@ -8,6 +8,7 @@ use Rattle.array.specs.Placed.{IsPlaced}
 use Rattle.array.specs.Marking.{marking}
 use Rattle.array.proofs.MarkLaws.{few-planned}
 use Rattle.array.proofs.MovedLaws.{moved-less}
+use Rattle.array.proofs.SparesLaws.{spare-left, spare-stays, free-told}
 use Rattle.array.proofs.MarkedLaws.{grows-marks, others-present, failed-marked}
 use Rattle.array.proofs.LackingLaws.{since-failed, holders-marked}
 use Rattle.array.proofs.MarkedSafe.{marked-safe, marked-named}
@@ -24,6 +25,8 @@ returns-clause-moved g c =
     moved-less (g.B.Bank.given c.args.bank.now) c.mark-lost.new.members.lost c.args.members.now c.mark-lost.new.members did.less c.requires.placed
     (subst (λ (b : Given). IsPlaced b c.mark-lost.new.members) did.given did.placed) did.unlost
     (λ few. subst (λ (slots : List ℕ). length slots ≤ 32) (sym did.marked.spares) (few-planned c.args.members.now (marking c.args.members.now c.args.clean) c.mark-lost.new.members.lost))
+    (λ slot has. (spare-left c.args.members.now c.args.clean c.mark-lost.new.members.lost c.mark-lost.new.members.spares did.marked.spares slot has).0)
+    (λ slot has free. (spare-left c.args.members.now c.args.clean c.mark-lost.new.members.lost c.mark-lost.new.members.spares did.marked.spares slot has).1)
 
 pub returns-clause-grows : goal.returns-clause-grows
 returns-clause-grows g c = grows-marks c.mark-lost.ensures.marked.update.marks
@@ -42,6 +45,12 @@ returns-clause-failed g c =
     let parts = both (has_slot c.mark-lost.result slot) (not (has_slot c.holders-held.result slot)) (sym (c.without.ensures slot below) ∙ has) in
     let lost = both (has_slot c.mark-lost.new.members.lost slot) (not (has_slot c.args.members.now.lost slot)) (sym (did.result slot) ∙ parts.0) in
     (lost.0, flip (has_slot c.args.members.now.lost slot) lost.1)))
+    (λ slot has.
+    let free = c.requires.free slot has in
+    elim (free-told c.args.members.now c.holders-held.result c.mark-lost.new.members.lost c.mark-lost.result c.without.result slot free c.holders-held.ensures (did.result slot) (c.without.ensures slot free.room.small)) [
+      | inl kept ↦ inl (spare-stays c.args.members.now c.args.clean c.mark-lost.new.members.lost c.mark-lost.new.members.spares did.marked.spares slot free.room.small kept has)
+      | inr told ↦ inr told
+    ])
   where
     both : (a b : Bool) → (a && b) ≡ true → (a ≡ true) × (b ≡ true)
     both true b e = (refl, e)

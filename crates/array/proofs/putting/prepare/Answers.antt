@@ -1,4 +1,4 @@
-use Rattle.std.proofs.Common.{◌<◌, ℕ, List, length, arith, inr, refl, sym, ◌∙◌, ap, subst}
+use Rattle.std.proofs.Common.{◌<◌, ℕ, List, length, arith, refl, sym, ◌∙◌, ap, subst}
 use Rattle.std.specs.Prelude.{Option, is_some}
 use Rattle.md_base.specs.declared.places.Shape.{Shape}
 use Rattle.md_base.specs.declared.answers.Refusal.{Refusal}
@@ -11,8 +11,9 @@ use Rattle.list_io.specs.Full.{DataStands, RowStands}
 use Rattle.list_io.proofs.BufferLaws.{data_read}
 use Rattle.array.specs.Placed.{IsPlaced, AreLost}
 use Rattle.array.specs.Moving.{IsMoved}
+use Rattle.array.specs.Rebuilding.{AreSparesFree}
 use Rattle.array.proofs.MovedLaws.{moved-lost, moved-then, moved-from}
-use Rattle.array.proofs.LackingLaws.{since-lost, since-then}
+use Rattle.array.proofs.LackingLaws.{since-lost, since-then, in-second}
 use Rattle.array.proofs.LackingWrites.{lost-of, ok-of, standing-later}
 use Rattle.flat_history.specs.Sound.{OpensFit}
 use Rattle.array.specs.Safety.{IsRisen}
@@ -58,6 +59,18 @@ raise-spares-requires-clause-unlost g c =
     let shape = c.args.shape.now in
     (moved-lost given shape m n r f0 f1 c.requires.placed (lost-of given shape m n r f0 f1 c.requires.placed c.read_touched-read.ensures.lost) c.requires.unlost).unlost
 
+pub raise-spares-requires-clause-free : goal.raise-spares-requires-clause-free
+raise-spares-requires-clause-free g c =
+    let m = c.args.members.now in
+    let n = c.read_touched-read.new.members in
+    let given = g.B.Bank.given c.args.bank.now in
+    let f0 = g.B.Bank.faults_of c.args.bank.now in
+    let f1 = g.B.Bank.faults_of c.read_touched-read.new.bank in
+    let r = c.read_touched-read.result.lost in
+    let shape = c.args.shape.now in
+    subst (λ (b : Given). AreSparesFree b n) (sym c.read_touched-read.ensures.given)
+    ((moved-lost given shape m n r f0 f1 c.requires.placed (lost-of given shape m n r f0 f1 c.requires.placed c.read_touched-read.ensures.lost) c.requires.unlost).free c.requires.free)
+
 pub returns-clause-moved : goal.returns-clause-moved
 returns-clause-moved g c =
     let m = c.args.members.now in
@@ -81,7 +94,7 @@ returns-clause-failed g c =
     let r = c.read_touched-read.result.lost in
     let shape = c.args.shape.now in
     since-then m n c.raise-spares.new.members 0 c.raise-spares.result c.raise-spares.result f0 f1 f2 c.read_touched-read.ensures.lost.never_falls c.raise-spares.ensures.counts
-    (since-lost given shape m n r f0 f1 (lost-of given shape m n r f0 f1 c.requires.placed c.read_touched-read.ensures.lost)) c.raise-spares.ensures.failed (λ slot has. inr has)
+    (since-lost given shape m n r f0 f1 (lost-of given shape m n r f0 f1 c.requires.placed c.read_touched-read.ensures.lost)) c.raise-spares.ensures.failed (in-second c.raise-spares.result)
 
 pub returns-clause-read : goal.returns-clause-read
 returns-clause-read g c = λ none told.

@@ -6,14 +6,14 @@ use Rattle.superblocks.specs.Reading.{shape_of}
 use Rattle.row_io.specs.Rows.{reading_of, present}
 use Rattle.list_io.specs.Buffers.{buffered, AreStanding, AreTouched, IsTouched}
 use Rattle.list_io.specs.Full.{AreWholeIn, RowStands}
-use Rattle.list_io.specs.Writing.{AreDataFrom}
+use Rattle.list_io.specs.Writing.{AreDataFrom, HasFull}
 use Rattle.array.specs.Moving.{IsMoved}
 use Rattle.array.specs.Lacking.{RowsStandAmong, AreRowsRead, AreRowsWritten}
 use Rattle.array.specs.Placed.{AreWhole}
 use Rattle.array.proofs.MovedLaws.{moved-then, moved-same, moved-from}
 use Rattle.array.proofs.LackingLaws.{since-then, in-either}
 use Rattle.array.proofs.LackingWrites.{standing-later}
-use Rattle.array.proofs.LackingLists.{list-written, row-written, data-read, sectors-whole, none-of}
+use Rattle.array.proofs.LackingLists.{list-written, row-written, rebuilt-written, data-read, sectors-whole, none-of}
 use Rattle.flat_history.specs.Sound.{OpensFit}
 use Rattle.array.proofs.Risen.{risen-then, room-first, room-then}
 use Rattle.array.proofs.SafeStretch.{gone-before, safe-then, allowed-later, grows-longer, over-at, keeps-from}
@@ -112,6 +112,41 @@ returns-clause-good g c = λ ok told list list' w small stands full row below wh
     (row-written given m m2 m3 did1.moved two c.requires.placed c0 (present given tape2) (present given tape3) (did1.others told) first c.args.count from rows buffer buffer' c.requires.from_few touched
     (subst (λ (s : Shape). AreRowsWritten s first from rows 0 (length rows) m3 (present given tape2) (present given tape3) buffer buffer') c.requires.shape done)
     list list' w has (λ x low high. sectors-whole from c.requires.from small (x - first) (omega (arith, low, high))) row) whole which
+
+pub returns-clause-rebuilt : goal.returns-clause-rebuilt
+returns-clause-rebuilt g c = λ ok told list list' w stands full role slot row lt is below.
+    let given = g.B.Bank.given c.args.bank.now in
+    let given2 = g.B.Bank.given c.prepare-begun.new.bank in
+    let m = c.args.members.now in
+    let m2 = c.prepare-begun.new.members in
+    let m3 = c.put_rows-done.new.members in
+    let did1 = c.prepare-begun.ensures in
+    let did2 = c.put_rows-done.ensures in
+    let tape0 = g.B.Bank.tape c.args.bank.now in
+    let tape2 = g.B.Bank.tape c.prepare-begun.new.bank in
+    let tape3 = g.B.Bank.tape c.put_rows-done.new.bank in
+    let rows = c.prepare-begun.new.rows.items in
+    let buffer = c.prepare-begun.new.buffer.items in
+    let buffer' = c.put_rows-done.new.buffer.items in
+    let shape = c.args.shape.now in
+    let first = c.args.first in
+    let from = c.args.from.now in
+    let two : IsMoved given m2 m3 = moved-from given given2 m2 m2 m3 did1.given refl did2.moved in
+    let read = did1.read (none-of c.prepare-begun.result.refusal (sym c.is_some.ensures ∙ c.if-is_some.false)) told in
+    let done : AreRowsWritten shape first from rows 0 (length rows) m3 (present given tape2) (present given tape3) buffer buffer' =
+    subst (λ (b : Given). AreRowsWritten shape first from rows 0 (length rows) m3 (present b tape2) (present b tape3) buffer buffer') did1.given
+    (subst (λ (n : ℕ). AreRowsWritten shape first from rows 0 n m3 (present given2 tape2) (present given2 tape3) buffer buffer') (did2.done ok ∙ ap length c.as_slice.ensures.value)
+    (subst (λ (l : List ℕ). AreRowsWritten shape first from l 0 c.put_rows-done.result.next m3 (present given2 tape2) (present given2 tape3) buffer buffer') c.as_slice.ensures.value (did2.written told))) in
+    let c0 = present given tape0 in
+    let touched : AreTouched (shape_of m.newest) first c.args.count rows = subst (λ (s : Shape). AreTouched s first c.args.count rows) c.requires.shape did1.touched in
+    let has : AreDataFrom 0 (shape_of m.newest) list rows buffer =
+    data-read given m m2 m3 did1.moved two c.requires.placed c0 first c.args.count rows buffer list c.args.synced touched did1.below
+    (subst (λ (s : Shape). AreRowsRead s c.args.synced m m2 c0 rows buffer) c.requires.shape read) stands
+    (subst (λ (s : Shape). c.args.synced ≡ true → AreWhole m3 ⊎ RowsStandAmong (IsTouched s first c.args.count) m c0 list) c.requires.shape full) in
+    subst (λ (s : Shape). HasFull (reading_of m) c0 s list row role slot → HasFull (reading_of m3) (present given tape3) s list' row role slot) (sym c.requires.shape)
+    (rebuilt-written given m m2 m3 did1.moved two c.requires.placed c0 (present given tape2) (present given tape3) (did1.others told) first c.args.count from rows buffer buffer' c.requires.from_few touched
+    (subst (λ (s : Shape). AreRowsWritten s first from rows 0 (length rows) m3 (present given tape2) (present given tape3) buffer buffer') c.requires.shape done)
+    list list' w has role slot row (subst (λ (s : Shape). role < s.disks) c.requires.shape lt) is)
 
 pub returns-then-is_some-clause-safe : goal.returns-then-is_some-clause-safe
 returns-then-is_some-clause-safe g c = λ told world size ledger room gone unclean list list' w stands full allowed safe. c.prepare-begun.ensures.safe told world size ledger room gone unclean safe

@@ -1,11 +1,11 @@
-use Rattle.std.proofs.Common.{inl, ◌<◌, ℕ, refl, sym, ◌∙◌, subst, arith}
+use Rattle.std.proofs.Common.{◌<◌, ℕ, refl, sym, ◌∙◌, subst, arith}
 use Rattle.bank.specs.Given.{Given}
 use Rattle.row_io.specs.Rows.{present}
 use Rattle.array.specs.Moving.{IsMoved}
+use Rattle.array.specs.Rebuilding.{AreSparesFree}
 use Rattle.array.specs.Lacking.{AreRowsWritten}
-use Rattle.superblocks.proofs.SlotSets.{none_there}
 use Rattle.array.proofs.MovedLaws.{moved-then, moved-same, grows-none, grows-then, moved-from}
-use Rattle.array.proofs.LackingLaws.{since-then, in-either}
+use Rattle.array.proofs.LackingLaws.{since-same, since-then, in-either}
 use Rattle.array.proofs.LackingWrites.{written-then}
 use Rattle.std.specs.Prelude.{IsTrue}
 use Rattle.md_base.specs.Shapes.{is_valid_shape}
@@ -23,10 +23,11 @@ loop-next-init g c =
     let tape0 = g.B.Bank.tape c.args.bank.now in
     record {
       moved = moved-same given given m m refl refl c.requires.placed c.requires.unlost;
-      failed = record { roles = λ role slot held. inl held; spares_are = λ slot has. absurd (let e = none_there slot in cc) };
+      failed = since-same m (g.B.Bank.faults_of c.args.bank.now) (g.B.Bank.faults_of c.args.bank.now);
       grows = grows-none (λ told. refl);
       written = λ told. record {
         full = λ list list' w has i low lt. absurd (omega (arith, lt));
+        rebuilt = λ list list' w has i low lt. absurd (omega (arith, lt));
         others = λ row none role slot held. refl;
         rest = λ i role low lt below. refl;
         standing = λ i low lt. c.requires.standing told i lt;
@@ -40,6 +41,10 @@ loop-next-init g c =
       counts = λ s. omega arith;
       size = refl;
     }
+
+pub put_stretch-one-requires-clause-free : goal.put_stretch-one-requires-clause-free
+put_stretch-one-requires-clause-free g c =
+    subst (λ (b : Given). AreSparesFree b c.loop-next.members) (sym c.loop-next.invariant.given) (c.loop-next.invariant.moved.free c.requires.free)
 
 pub put_stretch-one-requires-clause-below : goal.put_stretch-one-requires-clause-below
 put_stretch-one-requires-clause-below g c row has = subst (λ (n : ℕ). row < n) (sym c.loop-next.invariant.moved.size) (c.requires.below row has)

@@ -1,14 +1,20 @@
-use Rattle.std.proofs.Common.{inr, refl, subst}
+use Rattle.std.proofs.Common.{refl, sym, subst}
 use Rattle.bank.specs.Given.{Given}
 use Rattle.row_io.specs.Rows.{present}
 use Rattle.array.specs.Marking.{AreOthersPresent}
+use Rattle.array.specs.Rebuilding.{AreSparesFree}
 use Rattle.array.proofs.MovedLaws.{moved-then, moved-from}
-use Rattle.array.proofs.LackingLaws.{since-then}
+use Rattle.array.proofs.LackingLaws.{since-then, in-second}
 use Rattle.array.proofs.LackingWrites.{written-later}
 use Rattle.flat_history.specs.Sound.{OpensFit}
 use Rattle.array.proofs.Risen.{risen-then, room-then}
 use Rattle.array.proofs.SafeStretch.{safe-then, over-at, keeps-from}
 use Rattle.array.proofs.putting.put_stretch.Goals as goal
+
+pub name_missing-spares-requires-clause-free : goal.name_missing-spares-requires-clause-free
+name_missing-spares-requires-clause-free g c =
+    let did = c.write_stretch-next.ensures in
+    subst (λ (b : Given). AreSparesFree b c.write_stretch-next.new.members) (sym did.given) (did.moved.free c.requires.free)
 
 pub returns-clause-moved : goal.returns-clause-moved
 returns-clause-moved g c =
@@ -22,7 +28,7 @@ pub returns-clause-failed : goal.returns-clause-failed
 returns-clause-failed g c =
     since-then c.args.members.now c.write_stretch-next.new.members c.name_missing-spares.new.members 0 c.name_missing-spares.result c.name_missing-spares.result
     (g.B.Bank.faults_of c.args.bank.now) (g.B.Bank.faults_of c.write_stretch-next.new.bank) (g.B.Bank.faults_of c.name_missing-spares.new.bank)
-    c.write_stretch-next.ensures.counts c.name_missing-spares.ensures.counts c.write_stretch-next.ensures.failed c.name_missing-spares.ensures.failed (λ slot has. inr has)
+    c.write_stretch-next.ensures.counts c.name_missing-spares.ensures.counts c.write_stretch-next.ensures.failed c.name_missing-spares.ensures.failed (in-second c.name_missing-spares.result)
 
 pub returns-clause-written : goal.returns-clause-written
 returns-clause-written g c = λ told.

@@ -71,6 +71,7 @@ returns-clause-written g c = λ told.
     subst (λ (b : Given). AreRowsWritten c.args.shape.now c.args.first c.args.from.now c.args.rows.now c.args.start c.write_touched-written.result.next_row c.write_touched-written.new.members
     (present given tape0) (present b tape1) c.args.buffer.now.items c.write_touched-written.new.buffer.items) did.given (record {
       full = λ list list' w has. did.full list list' w told has;
+      rebuilt = λ list list' w has. did.rebuilt list list' w told has;
       others = λ row none role slot held. did.others told row none slot;
       rest = did.rest;
       standing = did.standing told;

@@ -1,14 +1,15 @@
-use Rattle.std.proofs.Common.{refl, sym, ◌∙◌, ap, subst, inr}
+use Rattle.std.proofs.Common.{refl, sym, ◌∙◌, ap, subst}
 use Rattle.bank.specs.Given.{Given}
 use Rattle.bank.specs.Tape.{Contents}
 use Rattle.superblocks.specs.Reading.{shape_of, is_clean}
 use Rattle.row_io.specs.Rows.{present, reading_of}
 use Rattle.array.specs.Placed.{AreWhole, AreLost, IsPlaced}
 use Rattle.array.specs.Marking.{AreOthersPresent}
+use Rattle.array.specs.Rebuilding.{AreSparesFree}
 use Rattle.array.proofs.Flushed.{contents-added}
 use Rattle.array.proofs.MemberLaws.{are_lost}
 use Rattle.array.proofs.MovedLaws.{moved-lost, moved-then, lost-none, moved-from}
-use Rattle.array.proofs.LackingLaws.{since-lost, since-then, holders-flushed, holders-fewer, holders-at}
+use Rattle.array.proofs.LackingLaws.{since-lost, since-then, in-second, holders-flushed, holders-fewer, holders-at}
 use Rattle.flat_history.specs.Sound.{OpensFit}
 use Rattle.superblocks.specs.declared.members.Members.{Members}
 use Rattle.array.specs.Steady.{IsNamedOver, IsUncleanTold}
@@ -44,6 +45,19 @@ name_missing-requires-clause-unlost g c =
     are_lost given (shape_of m.newest) m n c.flush_members-failed.result f0 f1 c.requires.placed c.lose_slots.ensures did1.failed did1.counts.never_falls in
     (moved-lost given (shape_of m.newest) m n c.flush_members-failed.result f0 f1 c.requires.placed lost c.requires.unlost).unlost
 
+pub name_missing-requires-clause-free : goal.name_missing-requires-clause-free
+name_missing-requires-clause-free g c =
+    let m = c.args.members.now in
+    let given = g.B.Bank.given c.args.bank.now in
+    let did1 = c.flush_members-failed.ensures in
+    let f0 = g.B.Bank.faults_of c.args.bank.now in
+    let f1 = g.B.Bank.faults_of c.flush_members-failed.new.bank in
+    let n = c.lose_slots.new.members in
+    let lost : AreLost given (shape_of m.newest) m n c.flush_members-failed.result f0 f1 =
+    are_lost given (shape_of m.newest) m n c.flush_members-failed.result f0 f1 c.requires.placed c.lose_slots.ensures did1.failed did1.counts.never_falls in
+    subst (λ (b : Given). AreSparesFree b n) (sym did1.given)
+    ((moved-lost given (shape_of m.newest) m n c.flush_members-failed.result f0 f1 c.requires.placed lost c.requires.unlost).free c.requires.free)
+
 pub returns-clause-moved : goal.returns-clause-moved
 returns-clause-moved g c =
     let m = c.args.members.now in
@@ -69,7 +83,7 @@ returns-clause-failed g c =
     let lost : AreLost given (shape_of m.newest) m n c.flush_members-failed.result f0 f1 =
     are_lost given (shape_of m.newest) m n c.flush_members-failed.result f0 f1 c.requires.placed c.lose_slots.ensures did1.failed did1.counts.never_falls in
     since-then m n c.name_missing.new.members 0 c.name_missing.result c.name_missing.result f0 f1 f2 did1.counts.never_falls c.name_missing.ensures.counts
-    (since-lost given (shape_of m.newest) m n c.flush_members-failed.result f0 f1 lost) c.name_missing.ensures.failed (λ slot has. inr has)
+    (since-lost given (shape_of m.newest) m n c.flush_members-failed.result f0 f1 lost) c.name_missing.ensures.failed (in-second c.name_missing.result)
 
 pub returns-clause-others : goal.returns-clause-others
 returns-clause-others g c = λ told s k other.

@@ -6,6 +6,7 @@ use Rattle.bank.specs.Tape.{disk}
 use Rattle.flat_history.specs.Sound.{OpensFit}
 use Rattle.array.specs.Lacking.{DoesWithout, AreTooMany, RowsStand}
 use Rattle.array.specs.Marking.{AreOthersPresent}
+use Rattle.array.specs.Rebuilding.{AreSparesFree}
 use Rattle.array.specs.Steady.{IsMarkable, IsNamedOver}
 use Rattle.array.proofs.DegradedLaws.{without-before}
 use Rattle.array.proofs.LackingLists.{list-moved, rows-moved}
@@ -19,6 +20,11 @@ use Rattle.row_io.specs.Rows.{reading_of, present}
 use Rattle.array.proofs.MovedLaws.{moved-then, moved-from}
 use Rattle.array.proofs.LackingLaws.{since-then, in-either, holders-fewer, holders-at}
 use Rattle.array.proofs.settles.settle.Goals as goal
+
+pub mark_members-marked-requires-clause-free : goal.mark_members-marked-requires-clause-free
+mark_members-marked-requires-clause-free g c =
+    let did = c.flush_naming-named.ensures in
+    subst (λ (b : Given). AreSparesFree b c.flush_naming-named.new.members) (sym did.given) (did.moved.free c.requires.free)
 
 pub returns-clause-moved : goal.returns-clause-moved
 returns-clause-moved g c =

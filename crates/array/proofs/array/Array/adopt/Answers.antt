@@ -1,15 +1,15 @@
-use Rattle.std.proofs.Common.{◌≡◌, ◌∙◌, ◌++◌, ℕ, List, refl, sym, ap, subst, arith}
+use Rattle.std.proofs.Common.{◌≡◌, ◌∙◌, ◌++◌, ℕ, ◌<◌, false, List, refl, sym, ap, subst, arith}
 use Rattle.md_base.specs.declared.places.Shape.{Shape}
-use Rattle.superblocks.specs.Reading.{Scope, is_clean}
+use Rattle.md_base.specs.Shapes.{has_slot}
+use Rattle.superblocks.specs.Reading.{Scope}
 use Rattle.row_io.specs.Rows.{reading_of}
 use Rattle.flat_history.specs.declared.events.Entry.{Entry}
 use Rattle.flat_history.specs.Plain.{entries_of}
 use Rattle.array.specs.Kept.{scope_in}
 use Rattle.array.specs.Adopting.{opener, absent_losses, found_losses, IsAdoptable}
 use Rattle.array.proofs.ReadyLaws.{scope-same}
-use Rattle.array.proofs.AdoptingLaws.{resync_of, ready_adopted}
+use Rattle.array.proofs.AdoptingLaws.{ready_adopted}
 use Rattle.array.proofs.array.Array.adopt.Goals as goal
-use Rattle.array.proofs.array.Array.adopt.Goals.{then-is_clean, else-is_clean}
 
 pub invariant_of-result : goal.invariant_of-result
 invariant_of-result g c =
@@ -20,12 +20,12 @@ invariant_of-result g c =
     let did = c.enter_all_absent.ensures in
     let epoch = c.enter_all_absent.new.epoch in
     let adoptable : IsAdoptable g.B.Bank.tells given tape (scope_in given epoch.uuid epoch.given c.args.opened.backup) m =
-    subst (λ (s : Scope). IsAdoptable g.B.Bank.tells given tape s m) (sym (scope-same given c.args.opened.backup refl did.same.uuid did.same.given)) c.requires in
+    subst (λ (s : Scope). IsAdoptable g.B.Bank.tells given tape s m) (sym (scope-same given c.args.opened.backup refl did.same.uuid did.same.given)) c.requires.adoptable in
     let entries : epoch.entries.items ≡ entries_of opener epoch.first (found_losses (reading_of m)) =
     did.items ∙ ap (λ (l : List Entry). l ++ entries_of opener c.ops-first.result (absent_losses (reading_of m) c.shape_in-disks.result.disks)) room.empty
     ∙ ap (λ (s : Shape). entries_of opener c.ops-first.result (absent_losses (reading_of m) s.disks)) c.shape_in-disks.ensures ∙ ap (λ (n : ℕ). entries_of opener n (found_losses (reading_of m))) (sym did.same.first) in
-    let resync : c.if-is_clean.resync ≡ resync_of (is_clean m.newest) = elim c.if-is_clean.branch [
-      | then-is_clean w ↦ w.resync-is ∙ ap resync_of (sym w.if-is_clean.true ∙ c.is_clean.ensures)
-      | else-is_clean w ↦ w.resync-is ∙ ap resync_of (sym w.if-is_clean.false ∙ c.is_clean.ensures)
-    ] in
-    rw resync (ready_adopted adoptable entries (λ t. did.same.first ∙ c.ops-first.ensures t) did.room room.rows (omega (arith, room.buffer)))
+    rw c.found_work-work.ensures.work (ready_adopted adoptable c.found_work-work.ensures.slots (subst (λ (slots : ℕ). (slot : ℕ) → slot < given.slots → has_slot slots slot ≡ false → 0 < g.B.Bank.faults_of c.args.bank slot) (sym did.same.given) c.requires.failed)
+    entries (λ t. did.same.first ∙ c.ops-first.ensures t) did.room room.rows (omega (arith, room.buffer)))
+
+pub found_work-work-requires-clause-small : goal.found_work-work-requires-clause-small
+found_work-work-requires-clause-small g c = λ role slot is. (c.requires.adoptable.placed.holders role slot is).small

@@ -1,4 +1,4 @@
-use Rattle.std.proofs.Common.{◌≡◌, ◌++◌, ◌∷◌, [], ◌≤◌, ℕ, false, List, Option, Some, refl, sym, ap, subst, arith}
+use Rattle.std.proofs.Common.{◌≡◌, ◌++◌, ◌∷◌, [], ◌≤◌, ℕ, false, List, Option, Some, None, refl, sym, ap, subst, arith}
 use Rattle.std.specs.Prelude.{MatchOption, ⊤}
 use Rattle.md_base.specs.declared.answers.Refusal.{Refusal}
 use Rattle.md_base.specs.declared.places.Shape.{Shape}
@@ -13,6 +13,7 @@ use Rattle.flat_history.specs.OneShape.{IsCallOpen}
 use Rattle.flat_history.specs.Plain.{entries_of}
 use Rattle.array.specs.Whole.{list_size}
 use Rattle.array.specs.Placed.{places_of}
+use Rattle.array.specs.Status.{left_of}
 use Rattle.array.specs.Losing.{losses_of}
 use Rattle.array.specs.Lacking.{AreTooMany, RowsStand, RowsStandBelow}
 use Rattle.array.specs.Kept.{scope_in}
@@ -25,6 +26,7 @@ use Rattle.array.proofs.LossLaws.{losses-behind, ended-behind, behind-alone}
 use Rattle.array.proofs.StepLaws.{losses-go_on, still-open, synced-behind}
 use Rattle.array.proofs.DegradedLaws.{kept-refused, degraded-refused, too-many-here, refused-here}
 use Rattle.array.proofs.SettledLaws.{leaves-refused, leaves-settled}
+use Rattle.array.proofs.StepsLeft.{left-ended, steps-fewer, steps-kept}
 use Rattle.array.proofs.EndLaws.{enough-mended, end-silent, degraded-ended}
 use Rattle.array.proofs.array.Array.end_resync.Goals as goal
 
@@ -45,10 +47,10 @@ invariant_of-self g c =
     let some : 1 ≤ a.steps = subst (λ p. 1 ≤ p.steps) (sym c.self.view_is) c.requires.room in
     let visible = list_size (places_of a.members) in
     let refusal = c.in-Some.refusal in
-    let why = refused-here visible 0 a.resync AreTooMany a.members refusal (λ within. too-many-here visible a.resync a.members refusal) (refused-zero visible AreTooMany a.members refusal c.in-Some.ensures) in
+    let why = refused-here visible 0 a.work.resync AreTooMany a.members refusal (λ within. too-many-here visible a.work.resync a.members refusal) (refused-zero visible AreTooMany a.members refusal c.in-Some.ensures) in
     ready (entries_of c.args.who c.ops-end.result (Refused refusal ∷ []))
     (kept-refused c.args.who c.ops-end.result was.kept opens c.requires.caller c.ops-end.ensures refusal why)
-    refl (scope-same (g.B.Bank.given a.bank) a.backup refl c.enter.ensures.uuid c.enter.ensures.given) c.enter.ensures.first refl c.enter.ensures.items
+    was.failed (λ slot. omega arith) refl (scope-same (g.B.Bank.given a.bank) a.backup refl c.enter.ensures.uuid c.enter.ensures.given) c.enter.ensures.first refl c.enter.ensures.items
     (omega (arith, c.enter.ensures.room, was.room_left, some)) was.rows_fit was.buffer_fits
 
 pub returns-in-Some-clause-entered : goal.returns-in-Some-clause-entered
@@ -71,7 +73,7 @@ invariant_of-self-in-Some-refusal g c =
     let a = c.self.inside in
     let given = g.B.Bank.given a.bank in
     let opens : IsCallOpen a.epoch.entries.items c.args.who = subst (λ p. IsCallOpen p.entries c.args.who) (sym c.self.view_is) c.requires.open in
-    let all : IsAllMended a.resync a.members = subst (λ p. IsAllMended p.resync p.members) (sym c.self.view_is) c.requires.pending in
+    let all : IsAllMended a.work.resync a.members = subst (λ p. IsAllMended p.work.resync p.members) (sym c.self.view_is) c.requires.pending in
     let some : 1 ≤ a.steps = subst (λ p. 1 ≤ p.steps) (sym c.self.view_is) c.requires.room in
     let m = c.settle-settled.new.members in
     let did = c.settle-settled.ensures in
@@ -86,9 +88,9 @@ invariant_of-self-in-Some-refusal g c =
     let many = too-many-of m c.settle-settled.result.refusal refusal c.in-Some-refusal.is did.refused in
     ready (entries_of c.args.who end (losses_of roles spares ++ Refused refusal ∷ []))
     (degraded-refused c.args.who end was.kept opens c.requires.caller c.ops-end-2.ensures did.moved did.grows roles spares before after since refusal
-    (too-many-here (list_size (places_of a.members)) a.resync m refusal many) did.others
+    (too-many-here (list_size (places_of a.members)) a.work.resync m refusal many) did.others
     (leaves-refused c.args.who end was.kept opens c.requires.caller c.ops-end-2.ensures did.moved did.grows roles spares before after since did.rise false (λ synced. enough-mended was.kept.placed all) did.safe refusal many))
-    did.given (scope-same given a.backup did.given c.enter_behind.ensures.uuid c.enter_behind.ensures.given) c.enter_behind.ensures.first refl c.enter_behind.ensures.items
+    was.failed did.counts did.given (scope-same given a.backup did.given c.enter_behind.ensures.uuid c.enter_behind.ensures.given) c.enter_behind.ensures.first refl c.enter_behind.ensures.items
     (omega (arith, c.enter_behind.ensures.room, was.room_left, some)) was.rows_fit was.buffer_fits
 
 pub returns-in-Some-refusal-clause-open : goal.returns-in-Some-refusal-clause-open
@@ -114,6 +116,24 @@ returns-in-Some-refusal-clause-losses g c =
     c.vacant_roles-before.ensures c.newly_vacant-roles.ensures in
     rw (← c.self.view_is) (losses-behind a.members m before after a.epoch.entries.items a.epoch.entries.items c.enter_behind.new.epoch.entries.items c.args.who c.ops-end-2.result roles spares
     (Refused c.in-Some-refusal.refusal) since tt refl c.enter_behind.ensures.items)
+
+pub returns-in-Some-refusal-clause-stays : goal.returns-in-Some-refusal-clause-stays
+returns-in-Some-refusal-clause-stays g c =
+    let was = c.self.invariant in
+    let a = c.self.inside in
+    let given = g.B.Bank.given a.bank in
+    let m = c.settle-settled.new.members in
+    let did = c.settle-settled.ensures in
+    let before = g.B.Bank.faults_of a.bank in
+    let after = g.B.Bank.faults_of c.settle-settled.new.bank in
+    let roles = c.newly_vacant-roles.result in
+    let spares = c.settle-settled.result.spares in
+    let since = lost-since given a.members m c.shape_in-disks.result.disks c.vacant_roles-before.result roles spares before after was.kept.placed did.moved did.failed (ap (λ (s : Shape). s.disks) c.shape_in-disks.ensures)
+    c.vacant_roles-before.ensures c.newly_vacant-roles.ensures in
+    rw (← c.self.view_is) (steps-kept a.work c.args.who c.ops-end-2.result (Refused c.in-Some-refusal.refusal ∷ []) did.moved since c.enter_behind.ensures.items)
+
+pub returns-in-Some-refusal-clause-spares : goal.returns-in-Some-refusal-clause-spares
+returns-in-Some-refusal-clause-spares g c = rw (← c.self.view_is) c.settle-settled.ensures.moved.fewer
 
 pub returns-in-Some-refusal-clause-ended : goal.returns-in-Some-refusal-clause-ended
 returns-in-Some-refusal-clause-ended g c =
@@ -144,7 +164,7 @@ invariant_of-self-2 g c =
     let a = c.self.inside in
     let given = g.B.Bank.given a.bank in
     let opens : IsCallOpen a.epoch.entries.items c.args.who = subst (λ p. IsCallOpen p.entries c.args.who) (sym c.self.view_is) c.requires.open in
-    let all : IsAllMended a.resync a.members = subst (λ p. IsAllMended p.resync p.members) (sym c.self.view_is) c.requires.pending in
+    let all : IsAllMended a.work.resync a.members = subst (λ p. IsAllMended p.work.resync p.members) (sym c.self.view_is) c.requires.pending in
     let some : 1 ≤ a.steps = subst (λ p. 1 ≤ p.steps) (sym c.self.view_is) c.requires.room in
     let m = c.settle-settled.new.members in
     let did = c.settle-settled.ensures in
@@ -155,24 +175,44 @@ invariant_of-self-2 g c =
     let end = c.ops-end-2.result in
     let since = lost-since given a.members m c.shape_in-disks.result.disks c.vacant_roles-before.result roles spares before after was.kept.placed did.moved did.failed (ap (λ (s : Shape). s.disks) c.shape_in-disks.ensures)
     c.vacant_roles-before.ensures c.newly_vacant-roles.ensures in
-    ready (entries_of c.args.who end (losses_of roles spares ++ Step ResyncEnded 0 ∷ []))
-    (degraded-ended c.args.who end was.kept opens c.requires.caller c.ops-end-2.ensures did.moved did.grows roles spares before after since all did.others
+    ready (entries_of c.args.who end (losses_of roles spares ++ Step ResyncEnded c.steps_left-left.result ∷ []))
+    (degraded-ended c.args.who end was.kept opens c.requires.caller c.ops-end-2.ensures did.moved did.grows roles spares before after since all c.steps_left-left.result c.steps_left-left.ensures did.others
     (leaves-settled c.args.who end was.kept opens c.requires.caller c.ops-end-2.ensures did.moved did.grows roles spares before after since did.rise false (λ synced. enough-mended was.kept.placed all) did.safe
-    (Step ResyncEnded 0) (end-silent c.args.who end 0) refl (λ role. refl) (λ x values has. has) (λ t. synced-behind _ a.epoch.entries.items c.args.who end (losses_of roles spares) 0 (losses-are roles spares))
+    (record a.work { resync = None }) (λ number is. is) refl (Step ResyncEnded c.steps_left-left.result) (end-silent c.args.who end c.steps_left-left.result) refl (λ role. refl) (λ x values has. has) (λ t. synced-behind _ a.epoch.entries.items c.args.who end (losses_of roles spares) c.steps_left-left.result (losses-are roles spares))
     (λ no. absurd (cc)) did.stays (did.clean c.in_default-refusal.is) (did.settled c.in_default-refusal.is)))
-    did.given (scope-same given a.backup did.given c.enter_behind-2.ensures.uuid c.enter_behind-2.ensures.given) c.enter_behind-2.ensures.first refl c.enter_behind-2.ensures.items
+    was.failed did.counts did.given (scope-same given a.backup did.given c.enter_behind-2.ensures.uuid c.enter_behind-2.ensures.given) c.enter_behind-2.ensures.first refl c.enter_behind-2.ensures.items
     (omega (arith, c.enter_behind-2.ensures.room, was.room_left, some)) was.rows_fit was.buffer_fits
 
 pub returns-clause-open : goal.returns-clause-open
 returns-clause-open g c =
     let roles = c.newly_vacant-roles.result in
     let spares = c.settle-settled.result.spares in
-    let event = Step ResyncEnded 0 in
+    let event = Step ResyncEnded c.steps_left-left.result in
     still-open c.args.who c.ops-end-2.result (losses_of roles spares ++ event ∷ []) c.requires.open (losses-go_on (losses_of roles spares) event (losses-are roles spares) tt)
     (ap (λ p. p.entries) c.self.view_is) c.enter_behind-2.ensures.items
 
 pub returns-clause-caused : goal.returns-clause-caused
 returns-clause-caused g c = rw (← c.self.view_is) (omega arith, c.in_default.ensures.1)
+
+pub returns-clause-flushed : goal.returns-clause-flushed
+returns-clause-flushed g c = rw (← c.self.view_is) c.settle-settled.ensures.flushed
+
+pub returns-clause-left : goal.returns-clause-left
+returns-clause-left g c =
+    let was = c.self.invariant in
+    let a = c.self.inside in
+    let given = g.B.Bank.given a.bank in
+    let all : IsAllMended a.work.resync a.members = subst (λ p. IsAllMended p.work.resync p.members) (sym c.self.view_is) c.requires.pending in
+    let m = c.settle-settled.new.members in
+    let did = c.settle-settled.ensures in
+    let before = g.B.Bank.faults_of a.bank in
+    let after = g.B.Bank.faults_of c.settle-settled.new.bank in
+    let roles = c.newly_vacant-roles.result in
+    let spares = c.settle-settled.result.spares in
+    let since = lost-since given a.members m c.shape_in-disks.result.disks c.vacant_roles-before.result roles spares before after was.kept.placed did.moved did.failed (ap (λ (s : Shape). s.disks) c.shape_in-disks.ensures)
+    c.vacant_roles-before.ensures c.newly_vacant-roles.ensures in
+    rw (← c.self.view_is) (steps-fewer (record a.work { resync = None }) (left_of a.work a.members) c.args.who c.ops-end-2.result (Step ResyncEnded c.steps_left-left.result ∷ []) did.moved since
+    (left-ended a.work a.members all) c.enter_behind-2.ensures.items)
 
 pub returns-clause-good : goal.returns-clause-good
 returns-clause-good g c = rw (← c.self.view_is) (λ t does fit.
@@ -192,12 +232,15 @@ returns-clause-losses g c =
     let since = lost-since given a.members m c.shape_in-disks.result.disks c.vacant_roles-before.result roles spares before after was.kept.placed did.moved did.failed (ap (λ (s : Shape). s.disks) c.shape_in-disks.ensures)
     c.vacant_roles-before.ensures c.newly_vacant-roles.ensures in
     rw (← c.self.view_is) (losses-behind a.members m before after a.epoch.entries.items a.epoch.entries.items c.enter_behind-2.new.epoch.entries.items c.args.who c.ops-end-2.result roles spares
-    (Step ResyncEnded 0) since tt refl c.enter_behind-2.ensures.items)
+    (Step ResyncEnded c.steps_left-left.result) since tt refl c.enter_behind-2.ensures.items)
+
+pub returns-clause-spares : goal.returns-clause-spares
+returns-clause-spares g c = rw (← c.self.view_is) c.settle-settled.ensures.moved.fewer
 
 pub returns-clause-ended : goal.returns-clause-ended
 returns-clause-ended g c =
     ended-behind (g.B.Bank.tape c.settle-settled.new.bank) c.enter_behind-2.new.epoch.first c.self.inside.epoch.entries.items c.args.who c.ops-end-2.result (losses_of c.newly_vacant-roles.result c.settle-settled.result.spares)
-    (Step ResyncEnded 0) c.enter_behind-2.ensures.items c.ops-end-2.ensures
+    (Step ResyncEnded c.steps_left-left.result) c.enter_behind-2.ensures.items c.ops-end-2.ensures
 
 pub returns-clause-same : goal.returns-clause-same
 returns-clause-same g c =

@@ -36,7 +36,7 @@ invariant_of-self-in_default g c =
     let number : c.args.who.number ≡ next_number c.args.who.caller a.epoch.entries.items = c.requires.next ∙ ap (λ p. next_number c.args.who.caller p.entries) (sym c.self.view_is) in
     ready (entries_of c.args.who c.ops-end.result (Refused (NoSuchRole c.args.role) ∷ []))
     (kept-refused c.args.who c.ops-end.result was.kept (begins-open a.epoch.entries.items c.args.who number) c.requires.caller c.ops-end.ensures (NoSuchRole c.args.role) tt)
-    refl (scope-same given a.backup refl c.enter.ensures.uuid c.enter.ensures.given) c.enter.ensures.first c.make_room.ensures.items c.enter.ensures.items
+    was.failed (λ slot. omega arith) refl (scope-same given a.backup refl c.enter.ensures.uuid c.enter.ensures.given) c.enter.ensures.first c.make_room.ensures.items c.enter.ensures.items
     (omega (arith, c.enter.ensures.room, c.in-Ok.ensures.ok)) was.rows_fit was.buffer_fits
 
 pub returns-in_default-clause-answered : goal.returns-in_default-clause-answered
@@ -67,6 +67,12 @@ name_missing-spares-requires-clause-unlost g c =
     unlost-out (g.B.Bank.given c.self.inside.bank) c.self.inside.members c.lose_slot.new.members c.lose_slot.result c.in-Some.slot c.args.role was.placed was.unlost
     c.lose_slot.ensures.members c.lose_slot.ensures.alone c.in-Some.ensures.held
 
+pub name_missing-spares-requires-clause-free : goal.name_missing-spares-requires-clause-free
+name_missing-spares-requires-clause-free g c =
+    let was = c.self.invariant.kept in
+    (moved-out (g.B.Bank.given c.self.inside.bank) c.self.inside.members c.lose_slot.new.members c.lose_slot.result c.in-Some.slot c.args.role was.placed was.unlost
+    c.lose_slot.ensures.members c.lose_slot.ensures.alone c.in-Some.ensures.held).free was.free
+
 pub invariant_of-self-2 : goal.invariant_of-self-2
 invariant_of-self-2 g c =
     let was = c.self.invariant in
@@ -94,7 +100,7 @@ invariant_of-self-2 g c =
     (rise-out a.members mid c.lose_slot.result c.lose_slot.ensures.members m (g.B.Bank.tape a.bank) (g.B.Bank.tape c.name_missing-spares.new.bank) did.rise)
     (did.clean ∙ clean-out a.members mid c.lose_slot.result c.lose_slot.ensures.members)
     (named-out a.members mid c.lose_slot.result c.lose_slot.ensures.members given m (g.B.Bank.tape a.bank) (g.B.Bank.tape c.name_missing-spares.new.bank) did.safe)))
-    did.given (scope-same given a.backup did.given (c.enter_behind.ensures.uuid ∙ c.enter-2.ensures.uuid) (c.enter_behind.ensures.given ∙ c.enter-2.ensures.given)) (c.enter_behind.ensures.first ∙ c.enter-2.ensures.first)
+    was.failed did.counts did.given (scope-same given a.backup did.given (c.enter_behind.ensures.uuid ∙ c.enter-2.ensures.uuid) (c.enter_behind.ensures.given ∙ c.enter-2.ensures.given)) (c.enter_behind.ensures.first ∙ c.enter-2.ensures.first)
     c.make_room.ensures.items items (omega (arith, c.enter_behind.ensures.room, c.enter-2.ensures.room, c.in-Ok.ensures.ok)) was.rows_fit was.buffer_fits
 
 pub returns-clause-answered : goal.returns-clause-answered
@@ -202,3 +208,6 @@ returns-clause-same g c =
           (scope-same given a.backup did.given (c.enter_behind.ensures.uuid ∙ c.enter-2.ensures.uuid) (c.enter_behind.ensures.given ∙ c.enter-2.ensures.given)) (c.enter_behind.ensures.first ∙ c.enter-2.ensures.first)
           did.grows (λ t. (was.kept.recorded t).begun);
     })
+
+pub returns-clause-others : goal.returns-clause-others
+returns-clause-others g c = rw (← c.self.view_is) c.name_missing-spares.ensures.others

@@ -48,8 +48,8 @@ returns-clause-right g c = λ t fills room alike.
     let tape = g.B.Bank.tape a.bank in
     let number : c.args.who.number ≡ next_number c.args.who.caller a.epoch.entries.items = c.requires.next ∙ ap (λ p. next_number c.args.who.caller p.entries) (sym c.self.view_is) in
     let kept = kept-halted c.args.who c.ops-end.result was.kept (begins-open a.epoch.entries.items c.args.who number) c.requires.caller c.ops-end.ensures in
-    let same = subst (λ (n : ℕ). IsKept g.B.Bank.tells given tape (scope_in given c.enter.new.epoch.uuid c.enter.new.epoch.given a.backup) n (a.epoch.entries.items ++ entries_of c.args.who c.ops-end.result (Halted ∷ [])) a.members a.resync) (sym c.enter.ensures.first)
-    (subst (λ (s : Scope). IsKept g.B.Bank.tells given tape s a.epoch.first (a.epoch.entries.items ++ entries_of c.args.who c.ops-end.result (Halted ∷ [])) a.members a.resync)
+    let same = subst (λ (n : ℕ). IsKept g.B.Bank.tells given tape (scope_in given c.enter.new.epoch.uuid c.enter.new.epoch.given a.backup) n (a.epoch.entries.items ++ entries_of c.args.who c.ops-end.result (Halted ∷ [])) a.members a.work) (sym c.enter.ensures.first)
+    (subst (λ (s : Scope). IsKept g.B.Bank.tells given tape s a.epoch.first (a.epoch.entries.items ++ entries_of c.args.who c.ops-end.result (Halted ∷ [])) a.members a.work)
     (sym (scope-same given a.backup refl c.enter.ensures.uuid c.enter.ensures.given)) kept) in
     let backup : a.backup ≡ c.args.self.backup = ap (λ p. p.backup) c.self.view_is in
     subst (λ (b : Option ℕ). IsEpochRight given tape b c.enter.new.epoch) backup

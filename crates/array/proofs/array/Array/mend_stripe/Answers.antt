@@ -1,4 +1,4 @@
-use Rattle.std.proofs.Common.{◌≤◌, ◌∷◌, ◌++◌, [], false, inl, refl, sym, ap, subst, arith}
+use Rattle.std.proofs.Common.{◌≤◌, ◌+◌, ◌∷◌, ◌++◌, [], false, Some, inl, refl, sym, ap, subst, arith}
 use Rattle.md_base.specs.declared.places.Shape.{Shape}
 use Rattle.flat_history.specs.declared.events.Event.TheVariants.{Refused, Step}
 use Rattle.flat_history.specs.declared.events.StepKind.TheVariants.{ResyncStripe}
@@ -6,6 +6,7 @@ use Rattle.flat_history.specs.OneShape.{IsCallOpen}
 use Rattle.flat_history.specs.Plain.{entries_of}
 use Rattle.array.specs.Whole.{list_size}
 use Rattle.array.specs.Placed.{places_of}
+use Rattle.array.specs.Status.{left_of}
 use Rattle.array.specs.Losing.{losses_of}
 use Rattle.array.specs.Lacking.{AreLostSince, IsUnwritten}
 use Rattle.array.specs.Kept.{scope_in}
@@ -17,6 +18,7 @@ use Rattle.array.proofs.ReplyLaws.{unwritten-of, refused-for}
 use Rattle.array.proofs.ReadLaws.{some-of}
 use Rattle.array.proofs.LossLaws.{losses-behind, ended-behind, behind-alone}
 use Rattle.array.proofs.StepLaws.{losses-go_on, still-open}
+use Rattle.array.proofs.StepsLeft.{left-mended, steps-fewer, steps-kept}
 use Rattle.array.proofs.MendLaws.{is-pending, next-stripe, degraded-unmended, degraded-mended}
 use Rattle.array.proofs.DegradedLaws.{kept-refused, unwritten-here}
 use Rattle.array.proofs.array.Array.mend_stripe.Goals as goal
@@ -28,13 +30,13 @@ invariant_of-self-in-Some g c =
     let was = c.self.invariant in
     let a = c.self.inside in
     let opens : IsCallOpen a.epoch.entries.items c.args.who = subst (λ p. IsCallOpen p.entries c.args.who) (sym c.self.view_is) c.requires.open in
-    let left : HasStripeLeft a.resync a.members = subst (λ p. HasStripeLeft p.resync p.members) (sym c.self.view_is) c.requires.pending in
+    let left : HasStripeLeft a.work.resync a.members = subst (λ p. HasStripeLeft p.work.resync p.members) (sym c.self.view_is) c.requires.pending in
     let some : 1 ≤ a.steps = subst (λ p. 1 ≤ p.steps) (sym c.self.view_is) c.requires.room in
     let refusal = c.in-Some.refusal in
-    let why = unwritten-here (list_size (places_of a.members)) a.resync false a.members refusal (λ no. is-pending a.resync a.members left) c.in-Some.ensures in
+    let why = unwritten-here (list_size (places_of a.members)) a.work.resync false a.members refusal (λ no. is-pending a.work.resync a.members left) c.in-Some.ensures in
     ready (entries_of c.args.who c.ops-end.result (Refused refusal ∷ []))
     (kept-refused c.args.who c.ops-end.result was.kept opens c.requires.caller c.ops-end.ensures refusal why)
-    refl (scope-same (g.B.Bank.given a.bank) a.backup refl c.enter.ensures.uuid c.enter.ensures.given) c.enter.ensures.first refl c.enter.ensures.items
+    was.failed (λ slot. omega arith) refl (scope-same (g.B.Bank.given a.bank) a.backup refl c.enter.ensures.uuid c.enter.ensures.given) c.enter.ensures.first refl c.enter.ensures.items
     (omega (arith, c.enter.ensures.room, was.room_left, some)) was.rows_fit was.buffer_fits
 
 pub returns-in-Some-clause-entered : goal.returns-in-Some-clause-entered
@@ -54,8 +56,8 @@ returns-in-Some-clause-ended g c =
 pub mend-mended-requires-clause-dirty : goal.mend-mended-requires-clause-dirty
 mend-mended-requires-clause-dirty g c =
     let a = c.self.inside in
-    let left : HasStripeLeft a.resync a.members = subst (λ p. HasStripeLeft p.resync p.members) (sym c.self.view_is) c.requires.pending in
-    c.self.invariant.kept.dirty (does-without a.members (λ refusal many. c.in_default.ensures refusal (inl many))) (is-pending a.resync a.members left)
+    let left : HasStripeLeft a.work.resync a.members = subst (λ p. HasStripeLeft p.work.resync p.members) (sym c.self.view_is) c.requires.pending in
+    c.self.invariant.kept.dirty (does-without a.members (λ refusal many. c.in_default.ensures refusal (inl many))) (is-pending a.work.resync a.members left)
 
 -- ---- it isn't mended
 
@@ -65,7 +67,7 @@ invariant_of-self-in-Some-refusal g c =
     let a = c.self.inside in
     let given = g.B.Bank.given a.bank in
     let opens : IsCallOpen a.epoch.entries.items c.args.who = subst (λ p. IsCallOpen p.entries c.args.who) (sym c.self.view_is) c.requires.open in
-    let left : HasStripeLeft a.resync a.members = subst (λ p. HasStripeLeft p.resync p.members) (sym c.self.view_is) c.requires.pending in
+    let left : HasStripeLeft a.work.resync a.members = subst (λ p. HasStripeLeft p.work.resync p.members) (sym c.self.view_is) c.requires.pending in
     let some : 1 ≤ a.steps = subst (λ p. 1 ≤ p.steps) (sym c.self.view_is) c.requires.room in
     let did = c.mend-mended.ensures in
     let m = c.mend-mended.new.members in
@@ -75,16 +77,16 @@ invariant_of-self-in-Some-refusal g c =
     let spares = c.mend-mended.result.spares in
     let end = c.ops-end-2.result in
     let stripe = c.unwrap_or-stripe.result in
-    let next = next-stripe a.resync a.members stripe left c.unwrap_or-stripe.ensures in
+    let next = next-stripe a.work.resync a.members stripe left c.unwrap_or-stripe.ensures in
     let does = does-without a.members (λ refusal many. c.in_default.ensures refusal (inl many)) in
     let since : AreLostSince a.members m roles spares before after = lost-since given a.members m c.shape_in-shape.result.disks c.vacant_roles-before.result roles spares before after was.kept.placed did.moved did.failed
     (ap (λ (s : Shape). s.disks) c.shape_in-shape.ensures) c.vacant_roles-before.ensures c.newly_vacant-roles.ensures in
     let refusal = c.in-Some-refusal.refusal in
     ready (entries_of c.args.who end (losses_of roles spares ++ Refused refusal ∷ []))
     (degraded-unmended c.args.who end was.kept opens c.requires.caller c.ops-end-2.ensures did.moved did.grows roles spares before after since stripe next.0 does did.dirty did.rise
-    c.shape_in-shape.result c.shape_in-shape.ensures did.stands did.kept did.safe
+    c.shape_in-shape.result c.shape_in-shape.ensures did.stands did.kept did.rebuilt did.safe
     refusal (some-of (IsUnwritten false m) c.mend-mended.result.refusal refusal c.in-Some-refusal.is did.refused))
-    did.given (scope-same given a.backup did.given c.enter_behind.ensures.uuid c.enter_behind.ensures.given) c.enter_behind.ensures.first refl c.enter_behind.ensures.items
+    was.failed did.counts did.given (scope-same given a.backup did.given c.enter_behind.ensures.uuid c.enter_behind.ensures.given) c.enter_behind.ensures.first refl c.enter_behind.ensures.items
     (omega (arith, c.enter_behind.ensures.room, was.room_left, some)) (omega (arith, was.rows_fit, did.rows)) (rw did.buffer was.buffer_fits)
 
 pub returns-in-Some-refusal-clause-open : goal.returns-in-Some-refusal-clause-open
@@ -121,6 +123,23 @@ returns-in-Some-refusal-clause-losses g c =
     rw (← c.self.view_is) (losses-behind a.members m before after a.epoch.entries.items a.epoch.entries.items c.enter_behind.new.epoch.entries.items c.args.who c.ops-end-2.result roles spares
     (Refused c.in-Some-refusal.refusal) since tt refl c.enter_behind.ensures.items)
 
+pub returns-in-Some-refusal-clause-stays : goal.returns-in-Some-refusal-clause-stays
+returns-in-Some-refusal-clause-stays g c =
+    let was = c.self.invariant in
+    let a = c.self.inside in
+    let did = c.mend-mended.ensures in
+    let m = c.mend-mended.new.members in
+    let before = g.B.Bank.faults_of a.bank in
+    let after = g.B.Bank.faults_of c.mend-mended.new.bank in
+    let roles = c.newly_vacant-roles.result in
+    let spares = c.mend-mended.result.spares in
+    let since : AreLostSince a.members m roles spares before after = lost-since (g.B.Bank.given a.bank) a.members m c.shape_in-shape.result.disks c.vacant_roles-before.result roles spares before after was.kept.placed did.moved did.failed
+    (ap (λ (s : Shape). s.disks) c.shape_in-shape.ensures) c.vacant_roles-before.ensures c.newly_vacant-roles.ensures in
+    rw (← c.self.view_is) (steps-kept a.work c.args.who c.ops-end-2.result (Refused c.in-Some-refusal.refusal ∷ []) did.moved since c.enter_behind.ensures.items)
+
+pub returns-in-Some-refusal-clause-spares : goal.returns-in-Some-refusal-clause-spares
+returns-in-Some-refusal-clause-spares g c = rw (← c.self.view_is) c.mend-mended.ensures.moved.fewer
+
 pub returns-in-Some-refusal-clause-ended : goal.returns-in-Some-refusal-clause-ended
 returns-in-Some-refusal-clause-ended g c =
     ended-behind (g.B.Bank.tape c.mend-mended.new.bank) c.enter_behind.new.epoch.first c.self.inside.epoch.entries.items c.args.who c.ops-end-2.result
@@ -151,7 +170,7 @@ invariant_of-self-2 g c =
     let a = c.self.inside in
     let given = g.B.Bank.given a.bank in
     let opens : IsCallOpen a.epoch.entries.items c.args.who = subst (λ p. IsCallOpen p.entries c.args.who) (sym c.self.view_is) c.requires.open in
-    let left : HasStripeLeft a.resync a.members = subst (λ p. HasStripeLeft p.resync p.members) (sym c.self.view_is) c.requires.pending in
+    let left : HasStripeLeft a.work.resync a.members = subst (λ p. HasStripeLeft p.work.resync p.members) (sym c.self.view_is) c.requires.pending in
     let some : 1 ≤ a.steps = subst (λ p. 1 ≤ p.steps) (sym c.self.view_is) c.requires.room in
     let did = c.mend-mended.ensures in
     let m = c.mend-mended.new.members in
@@ -161,15 +180,15 @@ invariant_of-self-2 g c =
     let spares = c.mend-mended.result.spares in
     let end = c.ops-end-2.result in
     let stripe = c.unwrap_or-stripe.result in
-    let next = next-stripe a.resync a.members stripe left c.unwrap_or-stripe.ensures in
+    let next = next-stripe a.work.resync a.members stripe left c.unwrap_or-stripe.ensures in
     let does = does-without a.members (λ refusal many. c.in_default.ensures refusal (inl many)) in
     let since : AreLostSince a.members m roles spares before after = lost-since given a.members m c.shape_in-shape.result.disks c.vacant_roles-before.result roles spares before after was.kept.placed did.moved did.failed
     (ap (λ (s : Shape). s.disks) c.shape_in-shape.ensures) c.vacant_roles-before.ensures c.newly_vacant-roles.ensures in
     ready (entries_of c.args.who end (losses_of roles spares ++ Step ResyncStripe c.steps_left-left.result ∷ []))
     (degraded-mended c.args.who end was.kept opens c.requires.caller c.ops-end-2.ensures did.moved did.grows roles spares before after since stripe next.0 does did.dirty did.rise
-    c.shape_in-shape.result c.shape_in-shape.ensures did.stands did.kept did.safe
+    c.shape_in-shape.result c.shape_in-shape.ensures did.stands did.kept did.rebuilt did.safe
     next.1 c.steps_left-left.result c.steps_left-left.ensures (did.mended c.in_default-refusal.is))
-    did.given (scope-same given a.backup did.given c.enter_behind-2.ensures.uuid c.enter_behind-2.ensures.given) c.enter_behind-2.ensures.first refl c.enter_behind-2.ensures.items
+    was.failed did.counts did.given (scope-same given a.backup did.given c.enter_behind-2.ensures.uuid c.enter_behind-2.ensures.given) c.enter_behind-2.ensures.first refl c.enter_behind-2.ensures.items
     (omega (arith, c.enter_behind-2.ensures.room, was.room_left, some)) (omega (arith, was.rows_fit, did.rows)) (rw did.buffer was.buffer_fits)
 
 pub returns-clause-open : goal.returns-clause-open
@@ -182,6 +201,25 @@ returns-clause-open g c =
 
 pub returns-clause-caused : goal.returns-clause-caused
 returns-clause-caused g c = rw (← c.self.view_is) (omega arith, c.in_default.ensures)
+
+pub returns-clause-left : goal.returns-clause-left
+returns-clause-left g c =
+    let was = c.self.invariant in
+    let a = c.self.inside in
+    let given = g.B.Bank.given a.bank in
+    let left : HasStripeLeft a.work.resync a.members = subst (λ p. HasStripeLeft p.work.resync p.members) (sym c.self.view_is) c.requires.pending in
+    let did = c.mend-mended.ensures in
+    let m = c.mend-mended.new.members in
+    let before = g.B.Bank.faults_of a.bank in
+    let after = g.B.Bank.faults_of c.mend-mended.new.bank in
+    let roles = c.newly_vacant-roles.result in
+    let spares = c.mend-mended.result.spares in
+    let stripe = c.unwrap_or-stripe.result in
+    let next = next-stripe a.work.resync a.members stripe left c.unwrap_or-stripe.ensures in
+    let since : AreLostSince a.members m roles spares before after = lost-since given a.members m c.shape_in-shape.result.disks c.vacant_roles-before.result roles spares before after was.kept.placed did.moved did.failed
+    (ap (λ (s : Shape). s.disks) c.shape_in-shape.ensures) c.vacant_roles-before.ensures c.newly_vacant-roles.ensures in
+    rw (← c.self.view_is) (steps-fewer (record a.work { resync = Some (stripe + 1) }) (left_of a.work a.members) c.args.who c.ops-end-2.result (Step ResyncStripe c.steps_left-left.result ∷ []) did.moved since
+    (left-mended a.work a.members stripe next.0 next.1) c.enter_behind-2.ensures.items)
 
 pub returns-clause-held : goal.returns-clause-held
 returns-clause-held g c = rw (← c.self.view_is) c.mend-mended.ensures.moved.held
@@ -200,6 +238,12 @@ returns-clause-losses g c =
     (ap (λ (s : Shape). s.disks) c.shape_in-shape.ensures) c.vacant_roles-before.ensures c.newly_vacant-roles.ensures in
     rw (← c.self.view_is) (losses-behind a.members m before after a.epoch.entries.items a.epoch.entries.items c.enter_behind-2.new.epoch.entries.items c.args.who c.ops-end-2.result roles spares
     (Step ResyncStripe c.steps_left-left.result) since tt refl c.enter_behind-2.ensures.items)
+
+pub returns-clause-never_falls : goal.returns-clause-never_falls
+returns-clause-never_falls g c = rw (← c.self.view_is) c.mend-mended.ensures.counts
+
+pub returns-clause-spares : goal.returns-clause-spares
+returns-clause-spares g c = rw (← c.self.view_is) c.mend-mended.ensures.moved.fewer
 
 pub returns-clause-ended : goal.returns-clause-ended
 returns-clause-ended g c =

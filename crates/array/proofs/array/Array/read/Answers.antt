@@ -15,10 +15,10 @@ use Rattle.array.specs.Rows.{row_sector}
 use Rattle.array.specs.Placed.{places_of}
 use Rattle.array.specs.Losing.{losses_of}
 use Rattle.array.specs.Lacking.{AreLostSince, IsUnread, mended_rows}
-use Rattle.array.specs.Kept.{scope_in, AreFillsRight}
+use Rattle.array.specs.Kept.{scope_in, world_in, AreFillsRight}
 use Rattle.array.specs.Calls.{world_for}
 use Rattle.flat_history.proofs.OneShapeGoing.{begins-open}
-use Rattle.array.proofs.LackingLaws.{lost-since, since-held, does-without}
+use Rattle.array.proofs.LackingLaws.{lost-since, does-without}
 use Rattle.array.proofs.ReadyLaws.{ready, scope-same, list-same}
 use Rattle.array.proofs.DegradedLaws.{refused-here, kept-refused, unread-here}
 use Rattle.array.proofs.LossLaws.{losses-behind, ended-behind}
@@ -44,12 +44,12 @@ invariant_of-self-in-Some g c =
     let number : c.args.who.number ≡ next_number c.args.who.caller a.epoch.entries.items = c.requires.next ∙ ap (λ p. next_number c.args.who.caller p.entries) (sym c.self.view_is) in
     let count = length c.args.into.now / 512 in
     let size = list_size (places_of a.members) in
-    let mended = mended_rows a.resync a.members in
-    let why = refused-here size (c.args.at + count) a.resync (IsUnread mended c.args.at count) a.members c.in-Some.refusal
-    (λ within. unread-here (g.B.Bank.given a.bank) size c.args.at count mended a.resync a.members c.in-Some.refusal was.kept.placed within (λ none. ap (λ (o : Option ℕ). mended_rows o a.members) none)) c.in-Some.ensures in
+    let mended = mended_rows a.work.resync a.members in
+    let why = refused-here size (c.args.at + count) a.work.resync (IsUnread mended c.args.at count) a.members c.in-Some.refusal
+    (λ within. unread-here (g.B.Bank.given a.bank) size c.args.at count mended a.work.resync a.members c.in-Some.refusal was.kept.placed within (λ none. ap (λ (o : Option ℕ). mended_rows o a.members) none)) c.in-Some.ensures in
     ready (entries_of c.args.who c.ops-end.result (Refused c.in-Some.refusal ∷ []))
     (kept-refused c.args.who c.ops-end.result was.kept (begins-open a.epoch.entries.items c.args.who number) c.requires.caller c.ops-end.ensures c.in-Some.refusal why)
-    refl (scope-same (g.B.Bank.given a.bank) a.backup refl c.enter.ensures.uuid c.enter.ensures.given) c.enter.ensures.first c.make_room.ensures.items c.enter.ensures.items
+    was.failed (λ slot. omega arith) refl (scope-same (g.B.Bank.given a.bank) a.backup refl c.enter.ensures.uuid c.enter.ensures.given) c.enter.ensures.first c.make_room.ensures.items c.enter.ensures.items
     (omega (arith, c.enter.ensures.room, c.in-Ok-make_room.ensures.ok)) was.rows_fit was.buffer_fits
 
 pub returns-in-Some-clause-answered : goal.returns-in-Some-clause-answered
@@ -59,8 +59,8 @@ returns-in-Some-clause-answered g c =
     let number : c.args.who.number ≡ next_number c.args.who.caller a.epoch.entries.items = c.requires.next ∙ ap (λ p. next_number c.args.who.caller p.entries) (sym c.self.view_is) in
     let count = length c.args.into.now / 512 in
     rw (← c.self.view_is) (refused_reply (list_size (places_of a.members)) a.epoch.entries.items was.kept.sized was.kept.unlimited (AsksRead c.args.at count) c.args.who (c.args.at + count)
-    (IsUnread (mended_rows a.resync a.members) c.args.at count) c.enter.new.epoch.entries.items c.ops-end.result a.members c.in-Some.refusal (read_kind c.args.at count)
-    (unread-of (mended_rows a.resync a.members) c.args.at count a.members c.in-Some.refusal) c.in-Some.ensures
+    (IsUnread (mended_rows a.work.resync a.members) c.args.at count) c.enter.new.epoch.entries.items c.ops-end.result a.members c.in-Some.refusal (read_kind c.args.at count)
+    (unread-of (mended_rows a.work.resync a.members) c.args.at count a.members c.in-Some.refusal) c.in-Some.ensures
     (c.enter.ensures.items ∙ ap (λ (l : List Entry). l ++ entries_of c.args.who c.ops-end.result (Refused c.in-Some.refusal ∷ [])) c.make_room.ensures.items) number)
 
 pub returns-in-Some-clause-ended : goal.returns-in-Some-clause-ended
@@ -93,7 +93,7 @@ invariant_of-self-in-Some-refusal g c =
     (kept-unread c.args.who end was.kept (begins-open a.epoch.entries.items c.args.who number) c.requires.caller c.ops-end-2.ensures did.moved did.grows roles spares before after since did.others did.rise did.clean did.safe c.args.at count c.mended_rows-mended.result refusal
     (subst (λ (n : ℕ). c.args.at + n ≤ list_size (places_of a.members)) (sym (asked-is c.in-Ok.bytes.items c.as_mut_slice.result.now c.args.into.now c.in-Ok.ensures.len c.as_mut_slice.ensures.value)) c.in_default.ensures.0) c.mended_rows-mended.ensures.rows
     (some-of (IsUnread c.mended_rows-mended.result c.args.at count m) c.fetch-fetched.result.refusal refusal c.in-Some-refusal.is did.refused))
-    did.given (scope-same given a.backup did.given c.enter_behind.ensures.uuid c.enter_behind.ensures.given) c.enter_behind.ensures.first c.make_room.ensures.items c.enter_behind.ensures.items
+    was.failed did.counts did.given (scope-same given a.backup did.given c.enter_behind.ensures.uuid c.enter_behind.ensures.given) c.enter_behind.ensures.first c.make_room.ensures.items c.enter_behind.ensures.items
     (omega (arith, c.enter_behind.ensures.room, c.in-Ok-make_room.ensures.ok)) was.rows_fit
     (let len = (with_items a.buffer c.fetch-fetched.new.scratch).ok.0 in let ok = a.buffer.ok.0 in omega (arith, len, ok, was.buffer_fits))
 
@@ -123,7 +123,7 @@ returns-in-Some-refusal-clause-caused g c =
     let asked = length c.as_mut_slice.result.now / 512 in
     let same : asked ≡ count = asked-is c.in-Ok.bytes.items c.as_mut_slice.result.now c.args.into.now c.in-Ok.ensures.len c.as_mut_slice.ensures.value in
     let why = some-of (IsUnread c.mended_rows-mended.result c.args.at asked m) c.fetch-fetched.result.refusal refusal c.in-Some-refusal.is c.fetch-fetched.ensures.refused in
-    rw (← c.self.view_is) (refused-for (list_size (places_of a.members)) (c.args.at + count) (IsUnread (mended_rows a.resync a.members) c.args.at count) a.members m refusal
+    rw (← c.self.view_is) (refused-for (list_size (places_of a.members)) (c.args.at + count) (IsUnread (mended_rows a.work.resync a.members) c.args.at count) a.members m refusal
     (unread-of c.mended_rows-mended.result c.args.at asked m refusal why) c.in_default.ensures.0
     (subst (λ (n : ℕ). IsUnread n c.args.at count m refusal) c.mended_rows-mended.ensures.rows (subst (λ (n : ℕ). IsUnread c.mended_rows-mended.result c.args.at n m refusal) same why)))
 
@@ -134,8 +134,7 @@ pub returns-in-Some-refusal-clause-others : goal.returns-in-Some-refusal-clause-
 returns-in-Some-refusal-clause-others g c = rw (← c.self.view_is) c.fetch-fetched.ensures.others
 
 pub returns-in-Some-refusal-clause-failed : goal.returns-in-Some-refusal-clause-failed
-returns-in-Some-refusal-clause-failed g c = rw (← c.self.view_is) (since-held c.self.inside.members c.fetch-fetched.new.members c.fetch-fetched.result.spares
-    (g.B.Bank.faults_of c.self.inside.bank) (g.B.Bank.faults_of c.fetch-fetched.new.bank) c.fetch-fetched.ensures.failed)
+returns-in-Some-refusal-clause-failed g c = rw (← c.self.view_is) c.fetch-fetched.ensures.failed.roles
 
 pub returns-in-Some-refusal-clause-held : goal.returns-in-Some-refusal-clause-held
 returns-in-Some-refusal-clause-held g c = rw (← c.self.view_is) c.fetch-fetched.ensures.moved.held
@@ -206,8 +205,8 @@ invariant_of-self-3 g c =
     (ap (λ (s : Shape). s.disks) c.shape_in-shape.ensures) c.vacant_roles-before.ensures c.newly_vacant-roles.ensures in
     ready (entries_of c.args.who end (losses_of roles spares ++ Read c.args.at (sectors_of bytes) ∷ []))
     (kept-read c.args.who end was.kept (begins-open a.epoch.entries.items c.args.who number) c.requires.caller c.ops-end-2.ensures did.moved did.grows roles spares before after since did.others did.rise did.clean did.safe c.args.at bytes within
-    (fetched was.kept m c.args.at c.mended_rows-mended.result bytes does c.mended_rows-mended.ensures.rows (λ t list stands filled i lt. did.holds c.in_default-refusal.is t list stands filled i (subst (λ (n : ℕ). i < n) same lt))))
-    did.given (scope-same given a.backup did.given c.enter_behind-2.ensures.uuid c.enter_behind-2.ensures.given) c.enter_behind-2.ensures.first c.make_room.ensures.items
+    (fetched was.kept (entries_of c.args.who end (losses_of roles spares ++ Read c.args.at (sectors_of bytes) ∷ [])) m c.args.at c.mended_rows-mended.result bytes does c.mended_rows-mended.ensures.rows (λ t list stands filled i lt. did.holds c.in_default-refusal.is t list stands filled i (subst (λ (n : ℕ). i < n) same lt))))
+    was.failed did.counts did.given (scope-same given a.backup did.given c.enter_behind-2.ensures.uuid c.enter_behind-2.ensures.given) c.enter_behind-2.ensures.first c.make_room.ensures.items
     (c.enter_behind-2.ensures.items ∙ ap (λ (b : List Sector). c.make_room.new.self.items ++ entries_of c.args.who end (losses_of roles spares ++ Read c.args.at b ∷ [])) (c.from_bytes-body.ensures ∙ ap sectors_of whole))
     (omega (arith, c.enter_behind-2.ensures.room, c.in-Ok-make_room.ensures.ok)) was.rows_fit
     (let len = (with_items a.buffer c.fetch-fetched.new.scratch).ok.0 in let ok = a.buffer.ok.0 in omega (arith, len, ok, was.buffer_fits))
@@ -240,9 +239,12 @@ returns-clause-holds g c = λ t fills i lt.
     let copied : c.copy_from_slice.new.self ≡ bytes = c.copy_from_slice.ensures.after ∙ c.as_slice.ensures.value ∙ whole in
     let same : length bytes / 512 ≡ length c.as_mut_slice.result.now / 512 = ap (λ (n : ℕ). n / 512) c.fetch-fetched.auto.into in
     let does = does-without a.members (λ refusal many. c.in_default.ensures.1 refusal (inl many)) in
+    let added = entries_of c.args.who c.ops-end-2.result (losses_of c.newly_vacant-roles.result c.fetch-fetched.result.spares ++ Read c.args.at c.from_bytes-body.result ∷ []) in
+    let items : c.enter_behind-2.new.epoch.entries.items ≡ a.epoch.entries.items ++ added = c.enter_behind-2.ensures.items ∙ ap (λ (l : List Entry). l ++ added) c.make_room.ensures.items in
     ap (λ (l : List ℕ). row_sector l i) copied
-    ∙ fetched was.kept m c.args.at c.mended_rows-mended.result bytes does c.mended_rows-mended.ensures.rows (λ t list stands filled k below. did.holds c.in_default-refusal.is t list stands filled k (subst (λ (n : ℕ). k < n) same below)) t
-    (subst (λ p. AreFillsRight (world_for (g.B.Bank.given p.bank) (g.B.Bank.tape p.bank) p) p.resync m) (sym c.self.view_is) fills) i (subst (λ (l : List ℕ). i < length l / 512) copied lt)
+    ∙ fetched was.kept added m c.args.at c.mended_rows-mended.result bytes does c.mended_rows-mended.ensures.rows (λ t list stands filled k below. did.holds c.in_default-refusal.is t list stands filled k (subst (λ (n : ℕ). k < n) same below)) t
+    (subst (λ (l : List Entry). AreFillsRight (world_in (g.B.Bank.given a.bank) (g.B.Bank.tape a.bank) (scope_in (g.B.Bank.given a.bank) a.epoch.uuid a.epoch.given a.backup) a.epoch.first) a.work.resync m l) items
+    (subst (λ p. AreFillsRight (world_for (g.B.Bank.given p.bank) (g.B.Bank.tape p.bank) p) p.work.resync m c.enter_behind-2.new.epoch.entries.items) (sym c.self.view_is) fills)) i (subst (λ (l : List ℕ). i < length l / 512) copied lt)
     ∙ ap (λ p. now (opening_list (world_for (g.B.Bank.given p.bank) (g.B.Bank.tape p.bank) p)) p.entries (c.args.at + i)) c.self.view_is
 
 pub returns-clause-tape : goal.returns-clause-tape
@@ -255,8 +257,7 @@ pub returns-clause-caused : goal.returns-clause-caused
 returns-clause-caused g c = rw (← c.self.view_is) c.in_default.ensures
 
 pub returns-clause-failed : goal.returns-clause-failed
-returns-clause-failed g c = rw (← c.self.view_is) (since-held c.self.inside.members c.fetch-fetched.new.members c.fetch-fetched.result.spares
-    (g.B.Bank.faults_of c.self.inside.bank) (g.B.Bank.faults_of c.fetch-fetched.new.bank) c.fetch-fetched.ensures.failed)
+returns-clause-failed g c = rw (← c.self.view_is) c.fetch-fetched.ensures.failed.roles
 
 pub returns-clause-held : goal.returns-clause-held
 returns-clause-held g c = rw (← c.self.view_is) c.fetch-fetched.ensures.moved.held
@@ -300,3 +301,9 @@ returns-clause-same g c =
       list = list-same given (scope_in given a.epoch.uuid a.epoch.given a.backup) a.epoch.first did.given
           (scope-same given a.backup did.given c.enter_behind-2.ensures.uuid c.enter_behind-2.ensures.given) c.enter_behind-2.ensures.first did.grows (λ t. (was.kept.recorded t).begun);
     })
+
+pub returns-in-Some-refusal-clause-spares : goal.returns-in-Some-refusal-clause-spares
+returns-in-Some-refusal-clause-spares g c = rw (← c.self.view_is) c.fetch-fetched.ensures.moved.fewer
+
+pub returns-clause-spares : goal.returns-clause-spares
+returns-clause-spares g c = rw (← c.self.view_is) c.fetch-fetched.ensures.moved.fewer

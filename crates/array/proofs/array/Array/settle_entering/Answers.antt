@@ -15,7 +15,7 @@ use Rattle.array.specs.Placed.{places_of}
 use Rattle.array.specs.Losing.{losses_of}
 use Rattle.array.specs.Lacking.{AreTooMany}
 use Rattle.array.specs.Kept.{scope_in, AreTold}
-use Rattle.array.proofs.LackingLaws.{lost-since, since-held}
+use Rattle.array.proofs.LackingLaws.{lost-since}
 use Rattle.array.proofs.ReadyLaws.{ready, settles-of, scope-same, list-same}
 use Rattle.array.proofs.ReplyLaws.{refused-zero}
 use Rattle.array.proofs.LossLaws.{losses-behind, ended-behind, behind-alone, settling-no-loss}
@@ -34,10 +34,10 @@ invariant_of-self-in-Some g c =
     let number : c.args.who.number ≡ next_number c.args.who.caller a.epoch.entries.items = c.requires.next ∙ ap (λ p. next_number c.args.who.caller p.entries) (sym c.self.view_is) in
     let visible = list_size (places_of a.members) in
     let refusal = c.in-Some.refusal in
-    let why = refused-here visible 0 a.resync AreTooMany a.members refusal (λ within. too-many-here visible a.resync a.members refusal) (refused-zero visible AreTooMany a.members refusal c.in-Some.ensures) in
+    let why = refused-here visible 0 a.work.resync AreTooMany a.members refusal (λ within. too-many-here visible a.work.resync a.members refusal) (refused-zero visible AreTooMany a.members refusal c.in-Some.ensures) in
     ready (entries_of c.args.who c.ops-end.result (Refused refusal ∷ []))
     (kept-refused c.args.who c.ops-end.result was.kept (begins-open a.epoch.entries.items c.args.who number) c.requires.caller c.ops-end.ensures refusal why)
-    refl (scope-same given a.backup refl c.enter.ensures.uuid c.enter.ensures.given) c.enter.ensures.first c.make_room.ensures.items c.enter.ensures.items
+    was.failed (λ slot. omega arith) refl (scope-same given a.backup refl c.enter.ensures.uuid c.enter.ensures.given) c.enter.ensures.first c.make_room.ensures.items c.enter.ensures.items
     (omega (arith, c.enter.ensures.room, c.in-Ok.ensures.ok)) was.rows_fit was.buffer_fits
 
 pub returns-in-Some-clause-answered : goal.returns-in-Some-clause-answered
@@ -67,14 +67,13 @@ invariant_of-self-in-Some-refusal g c =
     let many = too-many-of m c.settle-settled.result.refusal refusal c.in-Some-refusal.is did.refused in
     ready (entries_of c.args.who end (losses_of roles spares ++ Refused refusal ∷ []))
     (degraded-refused c.args.who end was.kept (begins-open a.epoch.entries.items c.args.who number) c.requires.caller c.ops-end-2.ensures did.moved did.grows roles spares before after since refusal
-    (too-many-here (list_size (places_of a.members)) a.resync m refusal many) did.others
-    (leaves-refused c.args.who end was.kept (begins-open a.epoch.entries.items c.args.who number) c.requires.caller c.ops-end-2.ensures did.moved did.grows roles spares before after since did.rise c.is_some.result (all-mended a.members a.resync c.is_some.result c.is_some.ensures) did.safe refusal many))
-    did.given (scope-same given a.backup did.given c.enter_behind.ensures.uuid c.enter_behind.ensures.given) c.enter_behind.ensures.first c.make_room.ensures.items c.enter_behind.ensures.items
+    (too-many-here (list_size (places_of a.members)) a.work.resync m refusal many) did.others
+    (leaves-refused c.args.who end was.kept (begins-open a.epoch.entries.items c.args.who number) c.requires.caller c.ops-end-2.ensures did.moved did.grows roles spares before after since did.rise c.is_some.result (all-mended a.members a.work.resync c.is_some.result c.is_some.ensures) did.safe refusal many))
+    was.failed did.counts did.given (scope-same given a.backup did.given c.enter_behind.ensures.uuid c.enter_behind.ensures.given) c.enter_behind.ensures.first c.make_room.ensures.items c.enter_behind.ensures.items
     (omega (arith, c.enter_behind.ensures.room, c.in-Ok.ensures.ok)) was.rows_fit was.buffer_fits
 
 pub returns-in-Some-refusal-clause-failed : goal.returns-in-Some-refusal-clause-failed
-returns-in-Some-refusal-clause-failed g c = rw (← c.self.view_is) (since-held c.self.inside.members c.settle-settled.new.members c.settle-settled.result.spares
-    (g.B.Bank.faults_of c.self.inside.bank) (g.B.Bank.faults_of c.settle-settled.new.bank) c.settle-settled.ensures.failed)
+returns-in-Some-refusal-clause-failed g c = rw (← c.self.view_is) c.settle-settled.ensures.failed.roles
 
 pub returns-in-Some-refusal-clause-held : goal.returns-in-Some-refusal-clause-held
 returns-in-Some-refusal-clause-held g c = rw (← c.self.view_is) c.settle-settled.ensures.moved.held
@@ -137,8 +136,8 @@ invariant_of-self-2 g c =
     ready (entries_of c.args.who end (losses_of roles spares ++ c.args.event ∷ []))
     (degraded-settled c.args.who end was.kept (begins-open a.epoch.entries.items c.args.who number) c.requires.caller c.ops-end-2.ensures did.moved did.grows roles spares before after since c.args.event settles did.others
     (leaves-flushed c.args.who end was.kept (begins-open a.epoch.entries.items c.args.who number) c.requires.caller c.ops-end-2.ensures did.moved did.grows roles spares before after since did.rise c.is_some.result
-    (all-mended a.members a.resync c.is_some.result c.is_some.ensures) did.safe c.args.event settles c.is_some.ensures did.stays (did.clean c.in_default-refusal.is) (did.settled c.in_default-refusal.is)))
-    did.given (scope-same given a.backup did.given c.enter_behind-2.ensures.uuid c.enter_behind-2.ensures.given) c.enter_behind-2.ensures.first c.make_room.ensures.items c.enter_behind-2.ensures.items
+    (all-mended a.members a.work.resync c.is_some.result c.is_some.ensures) did.safe c.args.event settles c.is_some.ensures did.stays (did.clean c.in_default-refusal.is) (did.settled c.in_default-refusal.is)))
+    was.failed did.counts did.given (scope-same given a.backup did.given c.enter_behind-2.ensures.uuid c.enter_behind-2.ensures.given) c.enter_behind-2.ensures.first c.make_room.ensures.items c.enter_behind-2.ensures.items
     (omega (arith, c.enter_behind-2.ensures.room, c.in-Ok.ensures.ok)) was.rows_fit was.buffer_fits
 
 pub returns-clause-left : goal.returns-clause-left
@@ -204,3 +203,9 @@ returns-clause-same g c =
       list = list-same (g.B.Bank.given a.bank) (scope_in (g.B.Bank.given a.bank) a.epoch.uuid a.epoch.given a.backup) a.epoch.first did.given
           (scope-same (g.B.Bank.given a.bank) a.backup did.given c.enter_behind-2.ensures.uuid c.enter_behind-2.ensures.given) c.enter_behind-2.ensures.first did.grows (λ t. (was.kept.recorded t).begun);
     })
+
+pub returns-in-Some-refusal-clause-spares : goal.returns-in-Some-refusal-clause-spares
+returns-in-Some-refusal-clause-spares g c = rw (← c.self.view_is) c.settle-settled.ensures.moved.fewer
+
+pub returns-clause-spares : goal.returns-clause-spares
+returns-clause-spares g c = rw (← c.self.view_is) c.settle-settled.ensures.moved.fewer

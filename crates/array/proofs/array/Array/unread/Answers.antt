@@ -72,8 +72,8 @@ pub returns-then-is_some-is_none : goal.returns-then-is_some-is_none
 returns-then-is_some-is_none g c =
     let m = c.self.inside.members in
     let visible : c.list_length-visible.result ≡ list_size (places_of m) = c.list_length-visible.ensures ∙ ap (λ (s : Shape). data_disks s * m.newest.size) c.shape_in-shape.ensures in
-    rw (← c.self.view_is) (alone (g.B.Bank.given c.self.inside.bank) c.list_length-visible.result c.args.at c.args.count m c.self.inside.resync c.refusal_of-refusal.result c.self.invariant.kept.placed visible
-    (one c.is_some.result c.is_none.result c.refusal_of-refusal.result c.self.inside.resync c.is_some.ensures c.is_none.ensures c.if-is_some-is_none.true) c.refusal_of-refusal.ensures)
+    rw (← c.self.view_is) (alone (g.B.Bank.given c.self.inside.bank) c.list_length-visible.result c.args.at c.args.count m c.self.inside.work.resync c.refusal_of-refusal.result c.self.invariant.kept.placed visible
+    (one c.is_some.result c.is_none.result c.refusal_of-refusal.result c.self.inside.work.resync c.is_some.ensures c.is_none.ensures c.if-is_some-is_none.true) c.refusal_of-refusal.ensures)
 
 pub returns-in-Some : goal.returns-in-Some
 returns-in-Some g c =
@@ -87,7 +87,7 @@ returns-in-Some g c =
         c.in-Some.role,
         refl,
         c.in-Some.ensures.0,
-        subst (λ (s : Shape). IsAskedBeyond s (mended_rows c.self.inside.resync m) c.args.at c.args.count c.in-Some.role) c.shape_in-shape.ensures
+        subst (λ (s : Shape). IsAskedBeyond s (mended_rows c.self.inside.work.resync m) c.args.at c.args.count c.in-Some.role) c.shape_in-shape.ensures
             (subst (λ (n : ℕ). IsAskedBeyond c.shape_in-shape.result n c.args.at c.args.count c.in-Some.role) c.mended_rows-mended.ensures.rows c.in-Some.ensures.1),
       ),
     )

@@ -35,5 +35,5 @@ returns-in-None g c =
     let none = none-refused c.list_length-visible.result (c.args.at + c.args.count) m c.refusal_of-refusal.result (sym c.is_some.ensures ∙ free) c.refusal_of-refusal.ensures in
     rw (← c.self.view_is) (
       (let within = none.0 in omega (arith, visible, within)),
-      none-unwritten m c.shape_in-shape.result (are_mended (shape_of m.newest) (mended_rows c.self.inside.resync m) (c.args.at + c.args.count)) c.shape_in-shape.ensures none.1 c.in-None.ensures,
+      none-unwritten m c.shape_in-shape.result (are_mended (shape_of m.newest) (mended_rows c.self.inside.work.resync m) (c.args.at + c.args.count)) c.shape_in-shape.ensures none.1 c.in-None.ensures,
     )

@@ -15,13 +15,14 @@ use Rattle.array.specs.Losing.{losses_of, failure_events}
 use Rattle.array.specs.Lacking.{AreLostSince, IsUnwritten, AreTooMany, AreBytes, are_mended, mended_rows}
 use Rattle.array.specs.Kept.{scope_in}
 use Rattle.array.specs.Calls.{IsRefusedFor}
-use Rattle.array.proofs.LackingLaws.{lost-since, since-held, does-without}
+use Rattle.array.proofs.LackingLaws.{lost-since, does-without}
 use Rattle.array.proofs.ReadyLaws.{ready, scope-same, list-same}
 use Rattle.array.proofs.DegradedLaws.{refused-here, kept-refused, pending-of, unwritten-here}
 use Rattle.array.proofs.LossLaws.{losses-behind, losses-failure, ended-behind, ended-failure, torn-told}
 use Rattle.array.proofs.ReplyLaws.{refused_reply, failed_reply, replied, write_kind, unwritten-of, refused-for}
 use Rattle.array.proofs.ReadLaws.{some-of}
 use Rattle.array.proofs.WriteLaws.{kept-unwritten, kept-wrote}
+use Rattle.array.proofs.MemberLaws.{list-few}
 use Rattle.array.proofs.CallLaws.{losses-are, torn-losses}
 use Rattle.array.proofs.array.Array.write.Goals as goal
 
@@ -34,12 +35,12 @@ invariant_of-self-in-Some g c =
     let number : c.args.who.number ≡ next_number c.args.who.caller a.epoch.entries.items = c.requires.next ∙ ap (λ p. next_number c.args.who.caller p.entries) (sym c.self.view_is) in
     let size = list_size (places_of a.members) in
     let to = c.args.at + length c.args.from.now / 512 in
-    let synced = are_mended (shape_of a.members.newest) (mended_rows a.resync a.members) to in
-    let why = refused-here size to a.resync (IsUnwritten synced) a.members c.in-Some.refusal
-    (λ within. unwritten-here size a.resync synced a.members c.in-Some.refusal (pending-of a.members a.resync to within)) c.in-Some.ensures in
+    let synced = are_mended (shape_of a.members.newest) (mended_rows a.work.resync a.members) to in
+    let why = refused-here size to a.work.resync (IsUnwritten synced) a.members c.in-Some.refusal
+    (λ within. unwritten-here size a.work.resync synced a.members c.in-Some.refusal (pending-of a.members a.work.resync to within)) c.in-Some.ensures in
     ready (entries_of c.args.who c.ops-end.result (Refused c.in-Some.refusal ∷ []))
     (kept-refused c.args.who c.ops-end.result was.kept (begins-open a.epoch.entries.items c.args.who number) c.requires.caller c.ops-end.ensures c.in-Some.refusal why)
-    refl (scope-same (g.B.Bank.given a.bank) a.backup refl c.enter.ensures.uuid c.enter.ensures.given) c.enter.ensures.first c.make_room.ensures.items c.enter.ensures.items
+    was.failed (λ slot. omega arith) refl (scope-same (g.B.Bank.given a.bank) a.backup refl c.enter.ensures.uuid c.enter.ensures.given) c.enter.ensures.first c.make_room.ensures.items c.enter.ensures.items
     (omega (arith, c.enter.ensures.room, c.in-Ok-make_room.ensures.ok)) was.rows_fit was.buffer_fits
 
 pub returns-in-Some-clause-answered : goal.returns-in-Some-clause-answered
@@ -49,7 +50,7 @@ returns-in-Some-clause-answered g c =
     let number : c.args.who.number ≡ next_number c.args.who.caller a.epoch.entries.items = c.requires.next ∙ ap (λ p. next_number c.args.who.caller p.entries) (sym c.self.view_is) in
     let size = list_size (places_of a.members) in
     let body = sectors_of c.args.from.now in
-    let synced = are_mended (shape_of a.members.newest) (mended_rows a.resync a.members) (c.args.at + length c.args.from.now / 512) in
+    let synced = are_mended (shape_of a.members.newest) (mended_rows a.work.resync a.members) (c.args.at + length c.args.from.now / 512) in
     let why = subst (λ (n : ℕ). IsRefusedFor size (c.args.at + n) (IsUnwritten synced) a.members a.members c.in-Some.refusal) (sym (length-sectors_of c.args.from.now)) c.in-Some.ensures in
     rw (← c.self.view_is) (refused_reply size a.epoch.entries.items was.kept.sized was.kept.unlimited (AsksWrite c.args.at body) c.args.who (c.args.at + length body)
     (IsUnwritten synced) c.enter.new.epoch.entries.items c.ops-end.result a.members c.in-Some.refusal (write_kind c.args.at body)
@@ -60,7 +61,16 @@ pub returns-in-Some-clause-ended : goal.returns-in-Some-clause-ended
 returns-in-Some-clause-ended g c =
     ended-behind (g.B.Bank.tape c.self.inside.bank) c.enter.new.epoch.first c.make_room.new.self.items c.args.who c.ops-end.result [] (Refused c.in-Some.refusal) c.enter.ensures.items c.ops-end.ensures
 
+pub returns-in-Some-clause-caused : goal.returns-in-Some-clause-caused
+returns-in-Some-clause-caused g c = rw (← c.self.view_is) c.in-Some.ensures
+
 -- ---- refused since members are missing
+
+pub put-done-requires-clause-short : goal.put-done-requires-clause-short
+put-done-requires-clause-short g c =
+    let few = list-few (g.B.Bank.given c.self.inside.bank) c.self.inside.members c.self.invariant.kept.placed in
+    let within = c.in_default.ensures.0 in
+    omega (arith, few, within)
 
 pub invariant_of-self-in-Some-refusal : goal.invariant_of-self-in-Some-refusal
 invariant_of-self-in-Some-refusal g c =
@@ -80,14 +90,14 @@ invariant_of-self-in-Some-refusal g c =
     let body = sectors_of c.args.from.now in
     let does = does-without a.members (λ refusal many. c.in_default.ensures.1 refusal (inl many)) in
     let synced = c.are_mended-synced.result in
-    let asked : synced ≡ are_mended (shape_of a.members.newest) (mended_rows a.resync a.members) (c.args.at + length c.args.from.now / 512) = c.are_mended-synced.ensures ∙ ap (λ (s : Shape). are_mended s (mended_rows a.resync a.members) (c.args.at + length c.args.from.now / 512)) c.shape_in-shape.ensures in
+    let asked : synced ≡ are_mended (shape_of a.members.newest) (mended_rows a.work.resync a.members) (c.args.at + length c.args.from.now / 512) = c.are_mended-synced.ensures ∙ ap (λ (s : Shape). are_mended s (mended_rows a.work.resync a.members) (c.args.at + length c.args.from.now / 512)) c.shape_in-shape.ensures in
     let since : AreLostSince a.members m roles spares before after = lost-since given a.members m c.shape_in-shape.result.disks c.vacant_roles-before.result roles spares before after was.kept.placed did.moved did.failed
     (ap (λ (s : Shape). s.disks) c.shape_in-shape.ensures) c.vacant_roles-before.ensures c.newly_vacant-roles.ensures in
     ready (entries_of c.args.who end (failure_events roles spares torn c.args.at body refusal))
     (kept-unwritten c.args.who end was.kept (begins-open a.epoch.entries.items c.args.who number) c.requires.caller c.ops-end-2.ensures did.moved did.grows roles spares before after since c.shape_in-shape.result c.shape_in-shape.ensures c.args.at c.args.from.now c.in_default.ensures.0 does torn synced asked did.rise did.stays did.safe refusal
     (some-of (IsUnwritten synced m) c.put-done.result.refusal refusal c.in-Some-refusal.is did.refused)
     (λ begun. some-of (AreTooMany m) c.put-done.result.refusal refusal c.in-Some-refusal.is (did.torn begun)) did.untouched)
-    did.given (scope-same given a.backup did.given c.enter_failure.ensures.uuid c.enter_failure.ensures.given) c.enter_failure.ensures.first c.make_room.ensures.items
+    was.failed did.counts did.given (scope-same given a.backup did.given c.enter_failure.ensures.uuid c.enter_failure.ensures.given) c.enter_failure.ensures.first c.make_room.ensures.items
     (c.enter_failure.ensures.items ∙ ap (λ (b : List Sector). c.make_room.new.self.items ++ entries_of c.args.who end (failure_events roles spares torn c.args.at b refusal)) c.in-Ok.ensures)
     (omega (arith, c.enter_failure.ensures.room, c.in-Ok-make_room.ensures.ok)) (omega (arith, was.rows_fit, did.rows)) (rw did.buffer was.buffer_fits)
 
@@ -126,15 +136,14 @@ returns-in-Some-refusal-clause-caused g c =
     let m = c.put-done.new.members in
     let refusal = c.in-Some-refusal.refusal in
     let synced = c.are_mended-synced.result in
-    let asked : synced ≡ are_mended (shape_of a.members.newest) (mended_rows a.resync a.members) (c.args.at + length c.args.from.now / 512) = c.are_mended-synced.ensures ∙ ap (λ (s : Shape). are_mended s (mended_rows a.resync a.members) (c.args.at + length c.args.from.now / 512)) c.shape_in-shape.ensures in
+    let asked : synced ≡ are_mended (shape_of a.members.newest) (mended_rows a.work.resync a.members) (c.args.at + length c.args.from.now / 512) = c.are_mended-synced.ensures ∙ ap (λ (s : Shape). are_mended s (mended_rows a.work.resync a.members) (c.args.at + length c.args.from.now / 512)) c.shape_in-shape.ensures in
     let why = some-of (IsUnwritten synced m) c.put-done.result.refusal refusal c.in-Some-refusal.is c.put-done.ensures.refused in
     rw (← c.self.view_is) (refused-for (list_size (places_of a.members)) (c.args.at + length c.args.from.now / 512)
-    (IsUnwritten (are_mended (shape_of a.members.newest) (mended_rows a.resync a.members) (c.args.at + length c.args.from.now / 512))) a.members m refusal
+    (IsUnwritten (are_mended (shape_of a.members.newest) (mended_rows a.work.resync a.members) (c.args.at + length c.args.from.now / 512))) a.members m refusal
     (unwritten-of synced m refusal why) c.in_default.ensures.0 (subst (λ (b : Bool). IsUnwritten b m refusal) asked why))
 
 pub returns-in-Some-refusal-clause-failed : goal.returns-in-Some-refusal-clause-failed
-returns-in-Some-refusal-clause-failed g c = rw (← c.self.view_is) (since-held c.self.inside.members c.put-done.new.members c.put-done.result.spares
-    (g.B.Bank.faults_of c.self.inside.bank) (g.B.Bank.faults_of c.put-done.new.bank) c.put-done.ensures.failed)
+returns-in-Some-refusal-clause-failed g c = rw (← c.self.view_is) c.put-done.ensures.failed.roles
 
 pub returns-in-Some-refusal-clause-held : goal.returns-in-Some-refusal-clause-held
 returns-in-Some-refusal-clause-held g c = rw (← c.self.view_is) c.put-done.ensures.moved.held
@@ -199,13 +208,13 @@ invariant_of-self-4 g c =
     let bytes : AreBytes c.args.from.now = λ i. (c.type_inv.from i).fits in
     let does = does-without a.members (λ refusal many. c.in_default.ensures.1 refusal (inl many)) in
     let synced = c.are_mended-synced.result in
-    let asked : synced ≡ are_mended (shape_of a.members.newest) (mended_rows a.resync a.members) (c.args.at + length c.args.from.now / 512) = c.are_mended-synced.ensures ∙ ap (λ (s : Shape). are_mended s (mended_rows a.resync a.members) (c.args.at + length c.args.from.now / 512)) c.shape_in-shape.ensures in
+    let asked : synced ≡ are_mended (shape_of a.members.newest) (mended_rows a.work.resync a.members) (c.args.at + length c.args.from.now / 512) = c.are_mended-synced.ensures ∙ ap (λ (s : Shape). are_mended s (mended_rows a.work.resync a.members) (c.args.at + length c.args.from.now / 512)) c.shape_in-shape.ensures in
     let since : AreLostSince a.members m roles spares before after = lost-since given a.members m c.shape_in-shape.result.disks c.vacant_roles-before.result roles spares before after was.kept.placed did.moved did.failed
     (ap (λ (s : Shape). s.disks) c.shape_in-shape.ensures) c.vacant_roles-before.ensures c.newly_vacant-roles.ensures in
     ready (entries_of c.args.who end (losses_of roles spares ++ Wrote c.args.at body ∷ []))
     (kept-wrote c.args.who end was.kept (begins-open a.epoch.entries.items c.args.who number) c.requires.caller c.ops-end-2.ensures did.moved did.grows roles spares before after since c.shape_in-shape.result c.shape_in-shape.ensures c.args.at c.args.from.now c.in_default.ensures.0 does c.put-done.result.begun synced asked did.rise did.stays did.safe
-    c.requires.whole bytes (did.put done) (λ t list more written. did.good done t list more written bytes))
-    did.given (scope-same given a.backup did.given c.enter_behind.ensures.uuid c.enter_behind.ensures.given) c.enter_behind.ensures.first c.make_room.ensures.items
+    c.requires.whole bytes (did.put done) (λ t list more written. did.good done t list more written bytes) (did.rebuilt done))
+    was.failed did.counts did.given (scope-same given a.backup did.given c.enter_behind.ensures.uuid c.enter_behind.ensures.given) c.enter_behind.ensures.first c.make_room.ensures.items
     (c.enter_behind.ensures.items ∙ ap (λ (b : List Sector). c.make_room.new.self.items ++ entries_of c.args.who end (losses_of roles spares ++ Wrote c.args.at b ∷ [])) c.in-Ok.ensures)
     (omega (arith, c.enter_behind.ensures.room, c.in-Ok-make_room.ensures.ok)) (omega (arith, was.rows_fit, did.rows)) (rw did.buffer was.buffer_fits)
 
@@ -228,8 +237,7 @@ pub returns-clause-caused : goal.returns-clause-caused
 returns-clause-caused g c = rw (← c.self.view_is) c.in_default.ensures
 
 pub returns-clause-failed : goal.returns-clause-failed
-returns-clause-failed g c = rw (← c.self.view_is) (since-held c.self.inside.members c.put-done.new.members c.put-done.result.spares
-    (g.B.Bank.faults_of c.self.inside.bank) (g.B.Bank.faults_of c.put-done.new.bank) c.put-done.ensures.failed)
+returns-clause-failed g c = rw (← c.self.view_is) c.put-done.ensures.failed.roles
 
 pub returns-clause-held : goal.returns-clause-held
 returns-clause-held g c = rw (← c.self.view_is) c.put-done.ensures.moved.held
@@ -273,3 +281,9 @@ returns-clause-same g c =
       list = list-same given (scope_in given a.epoch.uuid a.epoch.given a.backup) a.epoch.first did.given
           (scope-same given a.backup did.given c.enter_behind.ensures.uuid c.enter_behind.ensures.given) c.enter_behind.ensures.first did.grows (λ t. (was.kept.recorded t).begun);
     })
+
+pub returns-in-Some-refusal-clause-spares : goal.returns-in-Some-refusal-clause-spares
+returns-in-Some-refusal-clause-spares g c = rw (← c.self.view_is) c.put-done.ensures.moved.fewer
+
+pub returns-clause-spares : goal.returns-clause-spares
+returns-clause-spares g c = rw (← c.self.view_is) c.put-done.ensures.moved.fewer

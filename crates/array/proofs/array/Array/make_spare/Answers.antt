@@ -1,0 +1,483 @@
+use Rattle.std.proofs.Common.{◌≡◌, inr, ◌+◌, ◌≤◌, ℕ, List, [], ◌∷◌, ◌++◌, Some, refl, sym, ◌∙◌, ap, subst, arith}
+use Rattle.md_base.specs.declared.answers.Refusal.{Refusal}
+use Rattle.md_base.specs.declared.answers.Refusal.TheVariants.{SlotFault}
+use Rattle.md_base.specs.declared.places.Shape.{Shape}
+use Rattle.bank.specs.Given.{Given}
+use Rattle.flat_history.specs.declared.events.Entry.{Entry}
+use Rattle.flat_history.specs.declared.events.Event.TheVariants.{Refused, Added}
+use Rattle.flat_history.specs.Flat.{next_number}
+use Rattle.flat_history.specs.Plain.{entries_of}
+use Rattle.flat_history.proofs.OneShapeGoing.{begins-open}
+use Rattle.array.specs.Whole.{list_size}
+use Rattle.array.specs.Placed.{places_of, IsPlaced}
+use Rattle.array.specs.Losing.{losses_of}
+use Rattle.array.specs.Numbers.{is_carried, free_number}
+use Rattle.array.specs.Kept.{scope_in, IsKept}
+use Rattle.array.specs.Calls.{IsFirstOffset, IsUnaddable}
+use Rattle.array.specs.Rebuilding.{AreSparesFree}
+use Rattle.array.proofs.AddLaws.{slot-there, slot-free, slot-does, slot-unspare, slot-fits, slot-room, slot-of-scope, is-free, second-half, stored-as, added_reply, faulted_reply}
+use Rattle.array.proofs.AddedKept.{AddsSafe, with_carried, carries-number, carries-only, kept-looked, looked-others, looked-grows, kept-spare, kept-lost}
+use Rattle.array.proofs.AddedLosses.{add-done, others-lost, since-added, spares-added}
+use Rattle.array.proofs.CallLaws.{losses-are}
+use Rattle.array.proofs.Flushed.{contents-added}
+use Rattle.array.proofs.MovedLaws.{grows-then}
+use Rattle.array.proofs.LiveLeft.{without-left}
+use Rattle.array.proofs.LossLaws.{losses-behind, ended-behind}
+use Rattle.array.proofs.ReadyLaws.{ready, scope-same, list-same}
+use Rattle.array.proofs.array.Array.make_spare.Goals as goal
+
+pub look_at-requires-clause-slot : goal.look_at-requires-clause-slot
+look_at-requires-clause-slot g c =
+    let addable = subst (λ v. (refusal : Refusal) → IsUnaddable (g.B.Bank.given v.bank) v.backup c.args.slot v.members refusal → ⊥) (sym c.self.view_is) c.requires.addable in
+    slot-there (g.B.Bank.given c.self.inside.bank) c.self.inside.backup c.args.slot c.self.inside.members c.self.invariant.kept.placed addable
+
+pub look_at-requires-clause-room : goal.look_at-requires-clause-room
+look_at-requires-clause-room g c =
+    let addable = subst (λ v. (refusal : Refusal) → IsUnaddable (g.B.Bank.given v.bank) v.backup c.args.slot v.members refusal → ⊥) (sym c.self.view_is) c.requires.addable in
+    slot-room (g.B.Bank.given c.self.inside.bank) c.self.inside.backup c.args.slot c.self.inside.members c.self.invariant.kept.placed addable
+
+-- ---- where it fails at the first look
+
+pub invariant_of-self-in_default : goal.invariant_of-self-in_default
+invariant_of-self-in_default g c =
+    let opens = begins-open c.self.inside.epoch.entries.items c.args.who (c.requires.next ∙ ap (λ p. next_number c.args.who.caller p.entries) (sym c.self.view_is)) in
+    let was = c.self.invariant in
+    let a = c.self.inside in
+    ready (entries_of c.args.who c.ops-end.result (Refused (SlotFault c.args.slot) ∷ []))
+    (kept-looked c.args.who c.ops-end.result c.args.slot was.kept opens c.requires.caller c.ops-end.ensures c.look_at.ensures.tape)
+    was.failed c.look_at.ensures.counts c.look_at.ensures.given (scope-same (g.B.Bank.given a.bank) a.backup c.look_at.ensures.given c.enter.ensures.uuid c.enter.ensures.given) c.enter.ensures.first
+    c.make_room.ensures.items c.enter.ensures.items (omega (arith, c.enter.ensures.room, c.in-Ok.ensures.ok)) was.rows_fit was.buffer_fits
+
+pub returns-in_default-clause-answered : goal.returns-in_default-clause-answered
+returns-in_default-clause-answered g c =
+    faulted_reply (list_size (places_of c.args.self.now.members)) c.args.who c.args.self.now.entries c.enter.new.epoch.entries.items c.ops-end.result c.args.slot [] tt
+    (c.enter.ensures.items ∙ ap (λ (l : List Entry). l ++ entries_of c.args.who c.ops-end.result (Refused (SlotFault c.args.slot) ∷ [])) (c.make_room.ensures.items ∙ ap (λ p. p.entries) c.self.view_is))
+    c.requires.next
+
+pub returns-in_default-clause-caused : goal.returns-in_default-clause-caused
+returns-in_default-clause-caused g c =
+    let addable = subst (λ v. (refusal : Refusal) → IsUnaddable (g.B.Bank.given v.bank) v.backup c.args.slot v.members refusal → ⊥) (sym c.self.view_is) c.requires.addable in
+    let a = c.self.inside in
+    rw (← c.self.view_is) (
+      refl,
+      addable,
+      c.in_default.ensures.failed,
+      slot-unspare (g.B.Bank.given a.bank) a.backup c.args.slot a.members c.self.invariant.kept.placed addable,
+    )
+
+pub returns-in_default-clause-others : goal.returns-in_default-clause-others
+returns-in_default-clause-others g c =
+    let opens = begins-open c.self.inside.epoch.entries.items c.args.who (c.requires.next ∙ ap (λ p. next_number c.args.who.caller p.entries) (sym c.self.view_is)) in
+    rw (← c.self.view_is) (looked-others c.args.who c.ops-end.result c.args.slot c.self.invariant.kept opens c.requires.caller c.ops-end.ensures c.look_at.ensures.tape)
+
+pub returns-in_default-clause-ended : goal.returns-in_default-clause-ended
+returns-in_default-clause-ended g c =
+    ended-behind (g.B.Bank.tape c.look_at.new.bank) c.enter.new.epoch.first c.make_room.new.self.items c.args.who c.ops-end.result [] (Refused (SlotFault c.args.slot)) c.enter.ensures.items c.ops-end.ensures
+
+pub returns-in_default-clause-same : goal.returns-in_default-clause-same
+returns-in_default-clause-same g c =
+    let opens = begins-open c.self.inside.epoch.entries.items c.args.who (c.requires.next ∙ ap (λ p. next_number c.args.who.caller p.entries) (sym c.self.view_is)) in
+    let was = c.self.invariant in
+    let a = c.self.inside in
+    rw (← c.self.view_is) (record {
+      uuid = c.enter.ensures.uuid;
+      given = c.enter.ensures.given;
+      first = c.enter.ensures.first;
+      backup = refl;
+      shape = refl;
+      size = refl;
+      list = list-same (g.B.Bank.given a.bank) (scope_in (g.B.Bank.given a.bank) a.epoch.uuid a.epoch.given a.backup) a.epoch.first c.look_at.ensures.given
+          (scope-same (g.B.Bank.given a.bank) a.backup c.look_at.ensures.given c.enter.ensures.uuid c.enter.ensures.given) c.enter.ensures.first
+          (looked-grows c.args.who c.ops-end.result c.args.slot was.kept opens c.requires.caller c.ops-end.ensures c.look_at.ensures.tape) (λ t. (was.kept.recorded t).begun);
+    })
+
+-- ---- what the update needs
+
+pub spare_for-sb-requires-clause-placed : goal.spare_for-sb-requires-clause-placed
+spare_for-sb-requires-clause-placed g c = subst (λ (b : Given). IsPlaced b c.self.inside.members) (sym c.look_at.ensures.given) c.self.invariant.kept.placed
+
+pub spare_for-sb-requires-clause-slot : goal.spare_for-sb-requires-clause-slot
+spare_for-sb-requires-clause-slot g c =
+    let addable = subst (λ v. (refusal : Refusal) → IsUnaddable (g.B.Bank.given v.bank) v.backup c.args.slot v.members refusal → ⊥) (sym c.self.view_is) c.requires.addable in
+    rw (c.look_at.ensures.given) (slot-there (g.B.Bank.given c.self.inside.bank) c.self.inside.backup c.args.slot c.self.inside.members c.self.invariant.kept.placed addable)
+
+pub spare_for-sb-requires-clause-does : goal.spare_for-sb-requires-clause-does
+spare_for-sb-requires-clause-does g c =
+    let addable = subst (λ v. (refusal : Refusal) → IsUnaddable (g.B.Bank.given v.bank) v.backup c.args.slot v.members refusal → ⊥) (sym c.self.view_is) c.requires.addable in
+    slot-does (g.B.Bank.given c.self.inside.bank) c.self.inside.backup c.args.slot c.self.inside.members c.self.invariant.kept.placed addable
+
+pub spare_for-sb-requires-clause-fits : goal.spare_for-sb-requires-clause-fits
+spare_for-sb-requires-clause-fits g c =
+    let addable = subst (λ v. (refusal : Refusal) → IsUnaddable (g.B.Bank.given v.bank) v.backup c.args.slot v.members refusal → ⊥) (sym c.self.view_is) c.requires.addable in
+    subst (λ (b : Given). (offset : ℕ) → IsFirstOffset c.self.inside.members offset → offset + c.self.inside.members.newest.size ≤ b.sectors c.args.slot) (sym c.look_at.ensures.given)
+    (slot-fits (g.B.Bank.given c.self.inside.bank) c.self.inside.backup c.args.slot c.self.inside.members c.self.invariant.kept.placed addable)
+
+pub spare_for-sb-requires-clause-few : goal.spare_for-sb-requires-clause-few
+spare_for-sb-requires-clause-few g c =
+    let free = is-free c.self.inside.members.newest c.self.inside.work c.args.number (subst (λ v. free_number v.members.newest v.work ≡ Some c.args.number) (sym c.self.view_is) c.requires.number) in
+    free.0
+
+pub spare_for-sb-requires-clause-free : goal.spare_for-sb-requires-clause-free
+spare_for-sb-requires-clause-free g c =
+    let free = is-free c.self.inside.members.newest c.self.inside.work c.args.number (subst (λ v. free_number v.members.newest v.work ≡ Some c.args.number) (sym c.self.view_is) c.requires.number) in
+    free.2
+
+pub add_member-lost-requires-clause-free : goal.add_member-lost-requires-clause-free
+add_member-lost-requires-clause-free g c = subst (λ (b : Given). AreSparesFree b c.self.inside.members) (sym c.look_at.ensures.given) c.self.invariant.kept.free
+
+pub add_member-lost-requires-clause-slot : goal.add_member-lost-requires-clause-slot
+add_member-lost-requires-clause-slot g c =
+    let addable = subst (λ v. (refusal : Refusal) → IsUnaddable (g.B.Bank.given v.bank) v.backup c.args.slot v.members refusal → ⊥) (sym c.self.view_is) c.requires.addable in
+    rw (c.look_at.ensures.given) (slot-there (g.B.Bank.given c.self.inside.bank) c.self.inside.backup c.args.slot c.self.inside.members c.self.invariant.kept.placed addable)
+
+pub add_member-lost-requires-clause-untaken : goal.add_member-lost-requires-clause-untaken
+add_member-lost-requires-clause-untaken g c =
+    let addable = subst (λ v. (refusal : Refusal) → IsUnaddable (g.B.Bank.given v.bank) v.backup c.args.slot v.members refusal → ⊥) (sym c.self.view_is) c.requires.addable in
+    λ role may. slot-free (g.B.Bank.given c.self.inside.bank) c.self.inside.backup c.args.slot c.self.inside.members c.self.invariant.kept.placed addable (inr (role, may))
+
+pub with-requires : goal.with-requires
+with-requires g c =
+    let addable = subst (λ v. (refusal : Refusal) → IsUnaddable (g.B.Bank.given v.bank) v.backup c.args.slot v.members refusal → ⊥) (sym c.self.view_is) c.requires.addable in
+    let few = c.self.invariant.kept.slots in let lt = slot-there (g.B.Bank.given c.self.inside.bank) c.self.inside.backup c.args.slot c.self.inside.members c.self.invariant.kept.placed addable in omega (arith, few, lt)
+
+pub contains-requires : goal.contains-requires
+contains-requires g c =
+    let addable = subst (λ v. (refusal : Refusal) → IsUnaddable (g.B.Bank.given v.bank) v.backup c.args.slot v.members refusal → ⊥) (sym c.self.view_is) c.requires.addable in
+    let few = c.self.invariant.kept.slots in let lt = slot-there (g.B.Bank.given c.self.inside.bank) c.self.inside.backup c.args.slot c.self.inside.members c.self.invariant.kept.placed addable in omega (arith, few, lt)
+
+-- ---- where it was lost in the update
+
+pub invariant_of-self-then-contains : goal.invariant_of-self-then-contains
+invariant_of-self-then-contains g c =
+    let addable = subst (λ v. (refusal : Refusal) → IsUnaddable (g.B.Bank.given v.bank) v.backup c.args.slot v.members refusal → ⊥) (sym c.self.view_is) c.requires.addable in
+    let was = c.self.invariant in
+    let a = c.self.inside in
+    let given = g.B.Bank.given a.bank in
+    let e = c.add_member-lost.ensures in
+    let look = c.look_at.ensures in
+    let did = add-done look.given was.kept.slots was.kept.placed was.kept.unlost was.kept.free (slot-there given a.backup c.args.slot a.members was.kept.placed addable)
+    (λ role may. slot-free given a.backup c.args.slot a.members was.kept.placed addable (inr (role, may))) look.counts c.spare_for-sb.ensures.made e.own e.moved e.failed e.lost e.grows e.others e.clean e.rise e.counts in
+    let since = since-added did c.shape_in-disks.result.disks c.vacant_roles-before.result c.newly_vacant-roles.result c.without-spares.result (ap (λ (s : Shape). s.disks) c.shape_in-disks.ensures)
+    c.vacant_roles-before.ensures c.newly_vacant-roles.ensures
+    (others-lost c.args.slot c.add_member-lost.result c.with.result c.without-spares.result c.with.ensures c.without-spares.ensures (omega (arith, c.without-spares.type_inv))) in
+    let opens = begins-open c.self.inside.epoch.entries.items c.args.who (c.requires.next ∙ ap (λ p. next_number c.args.who.caller p.entries) (sym c.self.view_is)) in
+    let free = is-free c.self.inside.members.newest c.self.inside.work c.args.number (subst (λ v. free_number v.members.newest v.work ≡ Some c.args.number) (sym c.self.view_is) c.requires.number) in
+    let sb = c.spare_for-sb.result in
+    let tape = g.B.Bank.tape c.look_at.new.bank in
+    let tape' = g.B.Bank.tape c.add_member-lost.new.bank in
+    let given_is = e.given ∙ look.given in
+    let safe = subst (λ (b : Given). AddsSafe g.B.Bank.tells b c.args.slot sb a.members c.add_member-lost.new.members tape tape') look.given e.safe in
+    let events = losses_of c.newly_vacant-roles.result c.without-spares.result ++ Refused (SlotFault c.args.slot) ∷ [] in
+    ready (entries_of c.args.who c.ops-end-2.result events)
+    (subst (λ (n : ℕ). IsKept g.B.Bank.tells given tape' (scope_in given a.epoch.uuid a.epoch.given a.backup) a.epoch.first (a.epoch.entries.items ++ entries_of c.args.who c.ops-end-2.result events)
+    c.add_member-lost.new.members (with_carried n a.work)) c.spare_for-sb.ensures.number
+    (kept-lost c.args.who c.ops-end-2.result was.kept opens c.requires.caller c.ops-end-2.ensures look.tape did c.newly_vacant-roles.result c.without-spares.result since
+    (without-left given a.members was.kept.placed was.kept.unlost (slot-does given a.backup c.args.slot a.members was.kept.placed addable))
+    (slot-of-scope given a.backup c.args.slot a.members was.kept.placed addable a.epoch.uuid a.epoch.given sb (g.B.Bank.faults_of a.bank) was.failed c.in-Some.ensures.sound c.spare_for-sb.ensures.uuid)
+    (ap (λ (n : ℕ). is_carried a.work n) c.spare_for-sb.ensures.number ∙ free.1)
+    (λ t sector may. second-half sb c.in-Some.second sector c.spare_for-sb.ensures.second (c.in-Some.ensures.second t sector may)) safe (c.add_member-lost.ensures.lost (sym c.contains.ensures ∙ c.if-contains.true))))
+    was.failed did.counts given_is (scope-same given a.backup given_is c.enter_behind.ensures.uuid c.enter_behind.ensures.given) c.enter_behind.ensures.first
+    c.make_room.ensures.items c.enter_behind.ensures.items (omega (arith, c.enter_behind.ensures.room, c.in-Ok.ensures.ok)) was.rows_fit was.buffer_fits
+
+pub returns-then-contains-clause-answered : goal.returns-then-contains-clause-answered
+returns-then-contains-clause-answered g c =
+    faulted_reply (list_size (places_of c.args.self.now.members)) c.args.who c.args.self.now.entries c.enter_behind.new.epoch.entries.items c.ops-end-2.result c.args.slot (losses_of c.newly_vacant-roles.result c.without-spares.result)
+    (losses-are c.newly_vacant-roles.result c.without-spares.result)
+    (c.enter_behind.ensures.items ∙ ap (λ (l : List Entry). l ++ entries_of c.args.who c.ops-end-2.result (losses_of c.newly_vacant-roles.result c.without-spares.result ++ Refused (SlotFault c.args.slot) ∷ [])) (c.make_room.ensures.items ∙ ap (λ p. p.entries) c.self.view_is))
+    c.requires.next
+
+pub returns-then-contains-clause-caused : goal.returns-then-contains-clause-caused
+returns-then-contains-clause-caused g c =
+    let addable = subst (λ v. (refusal : Refusal) → IsUnaddable (g.B.Bank.given v.bank) v.backup c.args.slot v.members refusal → ⊥) (sym c.self.view_is) c.requires.addable in
+    let was = c.self.invariant in
+    let a = c.self.inside in
+    let given = g.B.Bank.given a.bank in
+    let e = c.add_member-lost.ensures in
+    let look = c.look_at.ensures in
+    let did = add-done look.given was.kept.slots was.kept.placed was.kept.unlost was.kept.free (slot-there given a.backup c.args.slot a.members was.kept.placed addable)
+    (λ role may. slot-free given a.backup c.args.slot a.members was.kept.placed addable (inr (role, may))) look.counts c.spare_for-sb.ensures.made e.own e.moved e.failed e.lost e.grows e.others e.clean e.rise e.counts in
+    let since = since-added did c.shape_in-disks.result.disks c.vacant_roles-before.result c.newly_vacant-roles.result c.without-spares.result (ap (λ (s : Shape). s.disks) c.shape_in-disks.ensures)
+    c.vacant_roles-before.ensures c.newly_vacant-roles.ensures
+    (others-lost c.args.slot c.add_member-lost.result c.with.result c.without-spares.result c.with.ensures c.without-spares.ensures (omega (arith, c.without-spares.type_inv))) in
+    let gone = sym c.contains.ensures ∙ c.if-contains.true in
+    rw (← c.self.view_is) (refl, addable, did.failed.spares_are c.args.slot gone, e.lost gone)
+
+pub returns-then-contains-clause-spares : goal.returns-then-contains-clause-spares
+returns-then-contains-clause-spares g c =
+    let addable = subst (λ v. (refusal : Refusal) → IsUnaddable (g.B.Bank.given v.bank) v.backup c.args.slot v.members refusal → ⊥) (sym c.self.view_is) c.requires.addable in
+    let was = c.self.invariant in
+    let a = c.self.inside in
+    let given = g.B.Bank.given a.bank in
+    let e = c.add_member-lost.ensures in
+    let look = c.look_at.ensures in
+    let did = add-done look.given was.kept.slots was.kept.placed was.kept.unlost was.kept.free (slot-there given a.backup c.args.slot a.members was.kept.placed addable)
+    (λ role may. slot-free given a.backup c.args.slot a.members was.kept.placed addable (inr (role, may))) look.counts c.spare_for-sb.ensures.made e.own e.moved e.failed e.lost e.grows e.others e.clean e.rise e.counts in
+    let since = since-added did c.shape_in-disks.result.disks c.vacant_roles-before.result c.newly_vacant-roles.result c.without-spares.result (ap (λ (s : Shape). s.disks) c.shape_in-disks.ensures)
+    c.vacant_roles-before.ensures c.newly_vacant-roles.ensures
+    (others-lost c.args.slot c.add_member-lost.result c.with.result c.without-spares.result c.with.ensures c.without-spares.ensures (omega (arith, c.without-spares.type_inv))) in
+    rw (← c.self.view_is) (spares-added did)
+
+pub returns-then-contains-clause-grows : goal.returns-then-contains-clause-grows
+returns-then-contains-clause-grows g c =
+    let looked = c.look_at.ensures.tape in
+    rw (← c.self.view_is) (grows-then (record { more = λ t. ((looked t).0, (looked t).2) }) c.add_member-lost.ensures.grows)
+
+pub returns-then-contains-clause-others : goal.returns-then-contains-clause-others
+returns-then-contains-clause-others g c =
+    let addable = subst (λ v. (refusal : Refusal) → IsUnaddable (g.B.Bank.given v.bank) v.backup c.args.slot v.members refusal → ⊥) (sym c.self.view_is) c.requires.addable in
+    let was = c.self.invariant in
+    let a = c.self.inside in
+    let given = g.B.Bank.given a.bank in
+    let e = c.add_member-lost.ensures in
+    let look = c.look_at.ensures in
+    let did = add-done look.given was.kept.slots was.kept.placed was.kept.unlost was.kept.free (slot-there given a.backup c.args.slot a.members was.kept.placed addable)
+    (λ role may. slot-free given a.backup c.args.slot a.members was.kept.placed addable (inr (role, may))) look.counts c.spare_for-sb.ensures.made e.own e.moved e.failed e.lost e.grows e.others e.clean e.rise e.counts in
+    let since = since-added did c.shape_in-disks.result.disks c.vacant_roles-before.result c.newly_vacant-roles.result c.without-spares.result (ap (λ (s : Shape). s.disks) c.shape_in-disks.ensures)
+    c.vacant_roles-before.ensures c.newly_vacant-roles.ensures
+    (others-lost c.args.slot c.add_member-lost.result c.with.result c.without-spares.result c.with.ensures c.without-spares.ensures (omega (arith, c.without-spares.type_inv))) in
+    rw (← c.self.view_is) (λ t s k apart. did.others t s k apart ∙ (λ i. contents-added given.start (g.B.Bank.tape a.bank) (g.B.Bank.tape c.look_at.new.bank) (look.tape t) i s k))
+
+pub returns-then-contains-clause-failed : goal.returns-then-contains-clause-failed
+returns-then-contains-clause-failed g c =
+    let addable = subst (λ v. (refusal : Refusal) → IsUnaddable (g.B.Bank.given v.bank) v.backup c.args.slot v.members refusal → ⊥) (sym c.self.view_is) c.requires.addable in
+    let was = c.self.invariant in
+    let a = c.self.inside in
+    let given = g.B.Bank.given a.bank in
+    let e = c.add_member-lost.ensures in
+    let look = c.look_at.ensures in
+    let did = add-done look.given was.kept.slots was.kept.placed was.kept.unlost was.kept.free (slot-there given a.backup c.args.slot a.members was.kept.placed addable)
+    (λ role may. slot-free given a.backup c.args.slot a.members was.kept.placed addable (inr (role, may))) look.counts c.spare_for-sb.ensures.made e.own e.moved e.failed e.lost e.grows e.others e.clean e.rise e.counts in
+    let since = since-added did c.shape_in-disks.result.disks c.vacant_roles-before.result c.newly_vacant-roles.result c.without-spares.result (ap (λ (s : Shape). s.disks) c.shape_in-disks.ensures)
+    c.vacant_roles-before.ensures c.newly_vacant-roles.ensures
+    (others-lost c.args.slot c.add_member-lost.result c.with.result c.without-spares.result c.with.ensures c.without-spares.ensures (omega (arith, c.without-spares.type_inv))) in
+    rw (← c.self.view_is) did.failed.roles
+
+pub returns-then-contains-clause-held : goal.returns-then-contains-clause-held
+returns-then-contains-clause-held g c =
+    rw (← c.self.view_is) c.add_member-lost.ensures.moved.held
+
+pub returns-then-contains-clause-losses : goal.returns-then-contains-clause-losses
+returns-then-contains-clause-losses g c =
+    let addable = subst (λ v. (refusal : Refusal) → IsUnaddable (g.B.Bank.given v.bank) v.backup c.args.slot v.members refusal → ⊥) (sym c.self.view_is) c.requires.addable in
+    let was = c.self.invariant in
+    let a = c.self.inside in
+    let given = g.B.Bank.given a.bank in
+    let e = c.add_member-lost.ensures in
+    let look = c.look_at.ensures in
+    let did = add-done look.given was.kept.slots was.kept.placed was.kept.unlost was.kept.free (slot-there given a.backup c.args.slot a.members was.kept.placed addable)
+    (λ role may. slot-free given a.backup c.args.slot a.members was.kept.placed addable (inr (role, may))) look.counts c.spare_for-sb.ensures.made e.own e.moved e.failed e.lost e.grows e.others e.clean e.rise e.counts in
+    let since = since-added did c.shape_in-disks.result.disks c.vacant_roles-before.result c.newly_vacant-roles.result c.without-spares.result (ap (λ (s : Shape). s.disks) c.shape_in-disks.ensures)
+    c.vacant_roles-before.ensures c.newly_vacant-roles.ensures
+    (others-lost c.args.slot c.add_member-lost.result c.with.result c.without-spares.result c.with.ensures c.without-spares.ensures (omega (arith, c.without-spares.type_inv))) in
+    rw (← c.self.view_is) (losses-behind a.members c.add_member-lost.new.members (g.B.Bank.faults_of a.bank) (g.B.Bank.faults_of c.add_member-lost.new.bank) a.epoch.entries.items c.make_room.new.self.items c.enter_behind.new.epoch.entries.items c.args.who
+    c.ops-end-2.result c.newly_vacant-roles.result c.without-spares.result (Refused (SlotFault c.args.slot)) since tt c.make_room.ensures.items c.enter_behind.ensures.items)
+
+pub returns-then-contains-clause-work : goal.returns-then-contains-clause-work
+returns-then-contains-clause-work g c =
+    rw (← c.self.view_is) (record {
+      resync = refl;
+      rebuilt = refl;
+      carried = carries-number c.args.number c.self.inside.work;
+      one = carries-only c.self.inside.members.newest c.args.number c.self.inside.work (subst (λ v. free_number v.members.newest v.work ≡ Some c.args.number) (sym c.self.view_is) c.requires.number);
+    })
+
+pub returns-then-contains-clause-ended : goal.returns-then-contains-clause-ended
+returns-then-contains-clause-ended g c =
+    ended-behind (g.B.Bank.tape c.add_member-lost.new.bank) c.enter_behind.new.epoch.first c.make_room.new.self.items c.args.who c.ops-end-2.result (losses_of c.newly_vacant-roles.result c.without-spares.result)
+    (Refused (SlotFault c.args.slot)) c.enter_behind.ensures.items c.ops-end-2.ensures
+
+pub returns-then-contains-clause-never_falls : goal.returns-then-contains-clause-never_falls
+returns-then-contains-clause-never_falls g c =
+    let addable = subst (λ v. (refusal : Refusal) → IsUnaddable (g.B.Bank.given v.bank) v.backup c.args.slot v.members refusal → ⊥) (sym c.self.view_is) c.requires.addable in
+    let was = c.self.invariant in
+    let a = c.self.inside in
+    let given = g.B.Bank.given a.bank in
+    let e = c.add_member-lost.ensures in
+    let look = c.look_at.ensures in
+    let did = add-done look.given was.kept.slots was.kept.placed was.kept.unlost was.kept.free (slot-there given a.backup c.args.slot a.members was.kept.placed addable)
+    (λ role may. slot-free given a.backup c.args.slot a.members was.kept.placed addable (inr (role, may))) look.counts c.spare_for-sb.ensures.made e.own e.moved e.failed e.lost e.grows e.others e.clean e.rise e.counts in
+    let since = since-added did c.shape_in-disks.result.disks c.vacant_roles-before.result c.newly_vacant-roles.result c.without-spares.result (ap (λ (s : Shape). s.disks) c.shape_in-disks.ensures)
+    c.vacant_roles-before.ensures c.newly_vacant-roles.ensures
+    (others-lost c.args.slot c.add_member-lost.result c.with.result c.without-spares.result c.with.ensures c.without-spares.ensures (omega (arith, c.without-spares.type_inv))) in
+    rw (← c.self.view_is) did.counts
+
+pub returns-then-contains-clause-same : goal.returns-then-contains-clause-same
+returns-then-contains-clause-same g c =
+    let was = c.self.invariant in
+    let a = c.self.inside in
+    let looked = c.look_at.ensures.tape in
+    let given_is = c.add_member-lost.ensures.given ∙ c.look_at.ensures.given in
+    rw (← c.self.view_is) (record {
+      uuid = c.enter_behind.ensures.uuid;
+      given = c.enter_behind.ensures.given;
+      first = c.enter_behind.ensures.first;
+      backup = refl;
+      shape = c.add_member-lost.ensures.moved.shape;
+      size = c.add_member-lost.ensures.moved.size;
+      list = list-same (g.B.Bank.given a.bank) (scope_in (g.B.Bank.given a.bank) a.epoch.uuid a.epoch.given a.backup) a.epoch.first given_is
+          (scope-same (g.B.Bank.given a.bank) a.backup given_is c.enter_behind.ensures.uuid c.enter_behind.ensures.given) c.enter_behind.ensures.first
+          (grows-then (record { more = λ t. ((looked t).0, (looked t).2) }) c.add_member-lost.ensures.grows) (λ t. (was.kept.recorded t).begun);
+    })
+
+-- ---- where it wasn't
+
+pub invariant_of-self-2 : goal.invariant_of-self-2
+invariant_of-self-2 g c =
+    let addable = subst (λ v. (refusal : Refusal) → IsUnaddable (g.B.Bank.given v.bank) v.backup c.args.slot v.members refusal → ⊥) (sym c.self.view_is) c.requires.addable in
+    let was = c.self.invariant in
+    let a = c.self.inside in
+    let given = g.B.Bank.given a.bank in
+    let e = c.add_member-lost.ensures in
+    let look = c.look_at.ensures in
+    let did = add-done look.given was.kept.slots was.kept.placed was.kept.unlost was.kept.free (slot-there given a.backup c.args.slot a.members was.kept.placed addable)
+    (λ role may. slot-free given a.backup c.args.slot a.members was.kept.placed addable (inr (role, may))) look.counts c.spare_for-sb.ensures.made e.own e.moved e.failed e.lost e.grows e.others e.clean e.rise e.counts in
+    let since = since-added did c.shape_in-disks.result.disks c.vacant_roles-before.result c.newly_vacant-roles.result c.without-spares.result (ap (λ (s : Shape). s.disks) c.shape_in-disks.ensures)
+    c.vacant_roles-before.ensures c.newly_vacant-roles.ensures
+    (others-lost c.args.slot c.add_member-lost.result c.with.result c.without-spares.result c.with.ensures c.without-spares.ensures (omega (arith, c.without-spares.type_inv))) in
+    let opens = begins-open c.self.inside.epoch.entries.items c.args.who (c.requires.next ∙ ap (λ p. next_number c.args.who.caller p.entries) (sym c.self.view_is)) in
+    let free = is-free c.self.inside.members.newest c.self.inside.work c.args.number (subst (λ v. free_number v.members.newest v.work ≡ Some c.args.number) (sym c.self.view_is) c.requires.number) in
+    let sb = c.spare_for-sb.result in
+    let tape = g.B.Bank.tape c.look_at.new.bank in
+    let tape' = g.B.Bank.tape c.add_member-lost.new.bank in
+    let given_is = e.given ∙ look.given in
+    let safe = subst (λ (b : Given). AddsSafe g.B.Bank.tells b c.args.slot sb a.members c.add_member-lost.new.members tape tape') look.given e.safe in
+    let events = losses_of c.newly_vacant-roles.result c.without-spares.result ++ Added c.args.slot ∷ [] in
+    ready (entries_of c.args.who c.ops-end-2.result events)
+    (subst (λ (n : ℕ). IsKept g.B.Bank.tells given tape' (scope_in given a.epoch.uuid a.epoch.given a.backup) a.epoch.first (a.epoch.entries.items ++ entries_of c.args.who c.ops-end-2.result events)
+    c.add_member-lost.new.members (with_carried n a.work)) c.spare_for-sb.ensures.number
+    (kept-spare c.args.who c.ops-end-2.result was.kept opens c.requires.caller c.ops-end-2.ensures look.tape did c.newly_vacant-roles.result c.without-spares.result since
+    (without-left given a.members was.kept.placed was.kept.unlost (slot-does given a.backup c.args.slot a.members was.kept.placed addable))
+    (slot-of-scope given a.backup c.args.slot a.members was.kept.placed addable a.epoch.uuid a.epoch.given sb (g.B.Bank.faults_of a.bank) was.failed c.in-Some.ensures.sound c.spare_for-sb.ensures.uuid)
+    (ap (λ (n : ℕ). is_carried a.work n) c.spare_for-sb.ensures.number ∙ free.1)
+    (λ t sector may. second-half sb c.in-Some.second sector c.spare_for-sb.ensures.second (c.in-Some.ensures.second t sector may)) safe))
+    was.failed did.counts given_is (scope-same given a.backup given_is c.enter_behind-2.ensures.uuid c.enter_behind-2.ensures.given) c.enter_behind-2.ensures.first
+    c.make_room.ensures.items c.enter_behind-2.ensures.items (omega (arith, c.enter_behind-2.ensures.room, c.in-Ok.ensures.ok)) was.rows_fit was.buffer_fits
+
+pub returns-clause-answered : goal.returns-clause-answered
+returns-clause-answered g c =
+    added_reply (list_size (places_of c.args.self.now.members)) c.args.who c.args.self.now.entries c.enter_behind-2.new.epoch.entries.items c.ops-end-2.result c.args.slot c.newly_vacant-roles.result c.without-spares.result
+    (c.enter_behind-2.ensures.items ∙ ap (λ (l : List Entry). l ++ entries_of c.args.who c.ops-end-2.result (losses_of c.newly_vacant-roles.result c.without-spares.result ++ Added c.args.slot ∷ [])) (c.make_room.ensures.items ∙ ap (λ p. p.entries) c.self.view_is))
+    c.requires.next
+
+pub returns-clause-stored : goal.returns-clause-stored
+returns-clause-stored g c =
+    let e = c.add_member-lost.ensures in
+    rw (← c.self.view_is) (stored-as c.add_member-lost.new.members c.self.inside.members c.self.inside.work c.args.slot c.args.number c.spare_for-sb.result
+    (subst (λ v. free_number v.members.newest v.work ≡ Some c.args.number) (sym c.self.view_is) c.requires.number) c.spare_for-sb.ensures.number c.spare_for-sb.ensures.offset (e.stored (sym c.contains.ensures ∙ c.if-contains.false)))
+
+pub returns-clause-spares : goal.returns-clause-spares
+returns-clause-spares g c =
+    let addable = subst (λ v. (refusal : Refusal) → IsUnaddable (g.B.Bank.given v.bank) v.backup c.args.slot v.members refusal → ⊥) (sym c.self.view_is) c.requires.addable in
+    let was = c.self.invariant in
+    let a = c.self.inside in
+    let given = g.B.Bank.given a.bank in
+    let e = c.add_member-lost.ensures in
+    let look = c.look_at.ensures in
+    let did = add-done look.given was.kept.slots was.kept.placed was.kept.unlost was.kept.free (slot-there given a.backup c.args.slot a.members was.kept.placed addable)
+    (λ role may. slot-free given a.backup c.args.slot a.members was.kept.placed addable (inr (role, may))) look.counts c.spare_for-sb.ensures.made e.own e.moved e.failed e.lost e.grows e.others e.clean e.rise e.counts in
+    let since = since-added did c.shape_in-disks.result.disks c.vacant_roles-before.result c.newly_vacant-roles.result c.without-spares.result (ap (λ (s : Shape). s.disks) c.shape_in-disks.ensures)
+    c.vacant_roles-before.ensures c.newly_vacant-roles.ensures
+    (others-lost c.args.slot c.add_member-lost.result c.with.result c.without-spares.result c.with.ensures c.without-spares.ensures (omega (arith, c.without-spares.type_inv))) in
+    rw (← c.self.view_is) (spares-added did)
+
+pub returns-clause-grows : goal.returns-clause-grows
+returns-clause-grows g c =
+    let looked = c.look_at.ensures.tape in
+    rw (← c.self.view_is) (grows-then (record { more = λ t. ((looked t).0, (looked t).2) }) c.add_member-lost.ensures.grows)
+
+pub returns-clause-others : goal.returns-clause-others
+returns-clause-others g c =
+    let addable = subst (λ v. (refusal : Refusal) → IsUnaddable (g.B.Bank.given v.bank) v.backup c.args.slot v.members refusal → ⊥) (sym c.self.view_is) c.requires.addable in
+    let was = c.self.invariant in
+    let a = c.self.inside in
+    let given = g.B.Bank.given a.bank in
+    let e = c.add_member-lost.ensures in
+    let look = c.look_at.ensures in
+    let did = add-done look.given was.kept.slots was.kept.placed was.kept.unlost was.kept.free (slot-there given a.backup c.args.slot a.members was.kept.placed addable)
+    (λ role may. slot-free given a.backup c.args.slot a.members was.kept.placed addable (inr (role, may))) look.counts c.spare_for-sb.ensures.made e.own e.moved e.failed e.lost e.grows e.others e.clean e.rise e.counts in
+    let since = since-added did c.shape_in-disks.result.disks c.vacant_roles-before.result c.newly_vacant-roles.result c.without-spares.result (ap (λ (s : Shape). s.disks) c.shape_in-disks.ensures)
+    c.vacant_roles-before.ensures c.newly_vacant-roles.ensures
+    (others-lost c.args.slot c.add_member-lost.result c.with.result c.without-spares.result c.with.ensures c.without-spares.ensures (omega (arith, c.without-spares.type_inv))) in
+    rw (← c.self.view_is) (λ t s k apart. did.others t s k apart ∙ (λ i. contents-added given.start (g.B.Bank.tape a.bank) (g.B.Bank.tape c.look_at.new.bank) (look.tape t) i s k))
+
+pub returns-clause-failed : goal.returns-clause-failed
+returns-clause-failed g c =
+    let addable = subst (λ v. (refusal : Refusal) → IsUnaddable (g.B.Bank.given v.bank) v.backup c.args.slot v.members refusal → ⊥) (sym c.self.view_is) c.requires.addable in
+    let was = c.self.invariant in
+    let a = c.self.inside in
+    let given = g.B.Bank.given a.bank in
+    let e = c.add_member-lost.ensures in
+    let look = c.look_at.ensures in
+    let did = add-done look.given was.kept.slots was.kept.placed was.kept.unlost was.kept.free (slot-there given a.backup c.args.slot a.members was.kept.placed addable)
+    (λ role may. slot-free given a.backup c.args.slot a.members was.kept.placed addable (inr (role, may))) look.counts c.spare_for-sb.ensures.made e.own e.moved e.failed e.lost e.grows e.others e.clean e.rise e.counts in
+    let since = since-added did c.shape_in-disks.result.disks c.vacant_roles-before.result c.newly_vacant-roles.result c.without-spares.result (ap (λ (s : Shape). s.disks) c.shape_in-disks.ensures)
+    c.vacant_roles-before.ensures c.newly_vacant-roles.ensures
+    (others-lost c.args.slot c.add_member-lost.result c.with.result c.without-spares.result c.with.ensures c.without-spares.ensures (omega (arith, c.without-spares.type_inv))) in
+    rw (← c.self.view_is) did.failed.roles
+
+pub returns-clause-held : goal.returns-clause-held
+returns-clause-held g c =
+    rw (← c.self.view_is) c.add_member-lost.ensures.moved.held
+
+pub returns-clause-losses : goal.returns-clause-losses
+returns-clause-losses g c =
+    let addable = subst (λ v. (refusal : Refusal) → IsUnaddable (g.B.Bank.given v.bank) v.backup c.args.slot v.members refusal → ⊥) (sym c.self.view_is) c.requires.addable in
+    let was = c.self.invariant in
+    let a = c.self.inside in
+    let given = g.B.Bank.given a.bank in
+    let e = c.add_member-lost.ensures in
+    let look = c.look_at.ensures in
+    let did = add-done look.given was.kept.slots was.kept.placed was.kept.unlost was.kept.free (slot-there given a.backup c.args.slot a.members was.kept.placed addable)
+    (λ role may. slot-free given a.backup c.args.slot a.members was.kept.placed addable (inr (role, may))) look.counts c.spare_for-sb.ensures.made e.own e.moved e.failed e.lost e.grows e.others e.clean e.rise e.counts in
+    let since = since-added did c.shape_in-disks.result.disks c.vacant_roles-before.result c.newly_vacant-roles.result c.without-spares.result (ap (λ (s : Shape). s.disks) c.shape_in-disks.ensures)
+    c.vacant_roles-before.ensures c.newly_vacant-roles.ensures
+    (others-lost c.args.slot c.add_member-lost.result c.with.result c.without-spares.result c.with.ensures c.without-spares.ensures (omega (arith, c.without-spares.type_inv))) in
+    rw (← c.self.view_is) (losses-behind a.members c.add_member-lost.new.members (g.B.Bank.faults_of a.bank) (g.B.Bank.faults_of c.add_member-lost.new.bank) a.epoch.entries.items c.make_room.new.self.items c.enter_behind-2.new.epoch.entries.items c.args.who
+    c.ops-end-2.result c.newly_vacant-roles.result c.without-spares.result (Added c.args.slot) since tt c.make_room.ensures.items c.enter_behind-2.ensures.items)
+
+pub returns-clause-work : goal.returns-clause-work
+returns-clause-work g c =
+    rw (← c.self.view_is) (record {
+      resync = refl;
+      rebuilt = refl;
+      carried = carries-number c.args.number c.self.inside.work;
+      one = carries-only c.self.inside.members.newest c.args.number c.self.inside.work (subst (λ v. free_number v.members.newest v.work ≡ Some c.args.number) (sym c.self.view_is) c.requires.number);
+    })
+
+pub returns-clause-ended : goal.returns-clause-ended
+returns-clause-ended g c =
+    ended-behind (g.B.Bank.tape c.add_member-lost.new.bank) c.enter_behind-2.new.epoch.first c.make_room.new.self.items c.args.who c.ops-end-2.result (losses_of c.newly_vacant-roles.result c.without-spares.result)
+    (Added c.args.slot) c.enter_behind-2.ensures.items c.ops-end-2.ensures
+
+pub returns-clause-never_falls : goal.returns-clause-never_falls
+returns-clause-never_falls g c =
+    let addable = subst (λ v. (refusal : Refusal) → IsUnaddable (g.B.Bank.given v.bank) v.backup c.args.slot v.members refusal → ⊥) (sym c.self.view_is) c.requires.addable in
+    let was = c.self.invariant in
+    let a = c.self.inside in
+    let given = g.B.Bank.given a.bank in
+    let e = c.add_member-lost.ensures in
+    let look = c.look_at.ensures in
+    let did = add-done look.given was.kept.slots was.kept.placed was.kept.unlost was.kept.free (slot-there given a.backup c.args.slot a.members was.kept.placed addable)
+    (λ role may. slot-free given a.backup c.args.slot a.members was.kept.placed addable (inr (role, may))) look.counts c.spare_for-sb.ensures.made e.own e.moved e.failed e.lost e.grows e.others e.clean e.rise e.counts in
+    let since = since-added did c.shape_in-disks.result.disks c.vacant_roles-before.result c.newly_vacant-roles.result c.without-spares.result (ap (λ (s : Shape). s.disks) c.shape_in-disks.ensures)
+    c.vacant_roles-before.ensures c.newly_vacant-roles.ensures
+    (others-lost c.args.slot c.add_member-lost.result c.with.result c.without-spares.result c.with.ensures c.without-spares.ensures (omega (arith, c.without-spares.type_inv))) in
+    rw (← c.self.view_is) did.counts
+
+pub returns-clause-same : goal.returns-clause-same
+returns-clause-same g c =
+    let was = c.self.invariant in
+    let a = c.self.inside in
+    let looked = c.look_at.ensures.tape in
+    let given_is = c.add_member-lost.ensures.given ∙ c.look_at.ensures.given in
+    rw (← c.self.view_is) (record {
+      uuid = c.enter_behind-2.ensures.uuid;
+      given = c.enter_behind-2.ensures.given;
+      first = c.enter_behind-2.ensures.first;
+      backup = refl;
+      shape = c.add_member-lost.ensures.moved.shape;
+      size = c.add_member-lost.ensures.moved.size;
+      list = list-same (g.B.Bank.given a.bank) (scope_in (g.B.Bank.given a.bank) a.epoch.uuid a.epoch.given a.backup) a.epoch.first given_is
+          (scope-same (g.B.Bank.given a.bank) a.backup given_is c.enter_behind-2.ensures.uuid c.enter_behind-2.ensures.given) c.enter_behind-2.ensures.first
+          (grows-then (record { more = λ t. ((looked t).0, (looked t).2) }) c.add_member-lost.ensures.grows) (λ t. (was.kept.recorded t).begun);
+    })

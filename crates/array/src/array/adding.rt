@@ -1,0 +1,220 @@
+//! Slots that are made spares.
+
+ghost use Rattle.std.specs.Prelude.{◌≡◌, ◌≢◌, ◌⊎◌, ◌+◌, ◌<◌, ◌≤◌, ℕ, true, false, drop, length, Some, MatchOption, OnOk};
+ghost use Rattle.bank.specs.Given.{NeverFalls};
+ghost use Rattle.md_base.specs.Shapes.{has_slot};
+ghost use Rattle.md_base.specs.declared.answers.Refusal.{Refusal};
+ghost use Rattle.superblocks.specs.Reading.{is_clean, entry_of};
+ghost use Rattle.superblocks.specs.Reads.{has_spare};
+ghost use Rattle.row_io.specs.Rows.{present};
+ghost use Rattle.flat_history.specs.Flat.{next_number};
+ghost use Rattle.flat_history.specs.declared.events.Event.TheVariants.{Added};
+ghost use Rattle.flat_history.specs.declared.events.Request.TheVariants.{Add as AsksAdd};
+ghost use Rattle.array.specs.Whole.{list_size};
+ghost use Rattle.array.specs.Placed.{places_of, IsPlaced, AreStillHeld};
+ghost use Rattle.array.specs.Marking.{AreOthersPresent};
+ghost use Rattle.array.specs.Moving.{Grows};
+ghost use Rattle.array.specs.Lacking.{DoesWithout, HaveRolesFailed, AreUnnamed};
+ghost use Rattle.array.specs.Numbers.{IsSpareSb, free_number};
+ghost use Rattle.array.specs.Calls.{world_for, Held, IsTaken, IsFirstOffset, IsUnaddable, IsAddedFor, IsAddedAs, IsWorkAdded, IsAnswered, IsSameArray, AreLossesOf, IsEndOf, OnNoMemory};
+
+use crate::adding::{add_member, data_offset, look_at};
+use crate::array::{Array, refusal_of};
+use crate::calls::{check_number, enter, enter_behind};
+use crate::device::{free_number, spare_sb};
+use crate::naming::{has_unnamed, newly_vacant};
+use crate::roles::{is_spare, shape_in, vacant_roles};
+use bank::Bank;
+use flat_history::Event;
+use md_base::{Fault, Refusal, Role, Who};
+use sb1::Sb;
+use superblocks::Members;
+use superblocks::sets::{contains, with, without};
+
+// Whether the slot is the backup, holds a role or is a spare.
+fn is_taken(members: &Members, backup: Option<u32>, slot: u32) -> bool
+    requires few { length members.now.roles ≤ 16 }
+    ensures yes { result ≡ true → IsTaken backup members.now slot }
+    ensures no { result ≡ false → IsTaken backup members.now slot → ⊥ }
+{
+    backup == Some(slot) || holds_role(members, slot) || is_spare(members, slot)
+}
+
+// Whether the slot holds a role.
+fn holds_role(members: &Members, slot: u32) -> bool
+    requires few { length members.now.roles ≤ 16 }
+    ensures yes { result ≡ true → (role : ℕ) × Held members.now role slot }
+    ensures no { result ≡ false → (role : ℕ) → Held members.now role slot → ⊥ }
+{
+    for role in 0..members.roles.len() as u32 {
+        match members.roles.get(role) {
+            Role::Whole(held) | Role::Recovering(held) if held == slot => return true,
+            _ => {}
+        }
+    }
+    false
+}
+
+// The sector at which the rows begin on the slot of the lowest role that one holds; 0 where none is held.
+fn first_offset(members: &Members) -> u64
+    requires few { length members.now.roles ≤ 16 }
+    requires small { (role slot : ℕ) → Held members.now role slot → slot < 32 }
+    ensures { IsFirstOffset members.now result }
+{
+    for role in 0..members.roles.len() as u32 {
+        match members.roles.get(role) {
+            Role::Whole(slot) | Role::Recovering(slot) => return data_offset(members, slot),
+            Role::Missing => {}
+        }
+    }
+    0
+}
+
+// The superblock of a slot that is made a spare, with this device number and these role entries in its second sector.
+fn spare_for<B: Bank>(
+    members: &Members,
+    bank: &B,
+    uuid: &[u8; 16],
+    slot: u32,
+    number: u32,
+    second: &[u16; 256],
+) -> Sb
+    requires placed { IsPlaced (B.given bank.now) members.now }
+    requires slot { slot < (B.given bank.now).slots }
+    requires does { DoesWithout members.now }
+    requires fits { (offset : ℕ) → IsFirstOffset members.now offset → offset + members.now.newest.size ≤ (B.given bank.now).sectors slot }
+    requires few { number < 128 }
+    requires free { 0xfffe ≤ entry_of members.now.newest number }
+    ensures made { IsSpareSb (B.given bank.now) members.now.newest slot result }
+    ensures number { result.dev_number ≡ number }
+    ensures offset { IsFirstOffset members.now result.data_offset }
+    ensures uuid { result.set_uuid ≡ uuid.now }
+    ensures second { drop 128 result.dev_roles ≡ second.now }
+{
+    let offset = first_offset(members);
+    let sectors = bank.len(slot);
+    spare_sb(&members.newest, uuid, number, offset, sectors, second)
+}
+
+impl<B: Bank> Array<B> {
+    // Why a slot isn't made a spare, before it is touched.
+    fn unaddable(&self, slot: u32) -> Option<Refusal>
+        ensures { MatchOption result ((refusal : Refusal) → IsUnaddable (B.given self.now.bank) self.now.backup slot self.now.members refusal → ⊥) (IsUnaddable (B.given self.now.bank) self.now.backup slot self.now.members) }
+    {
+        if slot >= self.bank.slots() {
+            return Some(Refusal::NoSuchSlot(slot));
+        }
+        if is_taken(&self.members, self.backup, slot) {
+            return Some(Refusal::SlotTaken(slot));
+        }
+        if let Some(refusal) = refusal_of(&self.members, 0, 0) {
+            return Some(refusal);
+        }
+        let have = self.bank.len(slot);
+        let want = first_offset(&self.members) + self.members.newest.size;
+        if have < want {
+            return Some(Refusal::SlotTooSmall(have, want));
+        }
+        None
+    }
+
+    // Makes a slot a spare that may be one, with this device number, which is free.
+    fn make_spare(&mut self, who: Who, slot: u32, number: u32) -> Result<(), Fault>
+        requires next { who.number ≡ next_number who.caller self.old.entries }
+        requires caller { who.caller ≢ 254 }
+        requires addable { (refusal : Refusal) → IsUnaddable (B.given self.old.bank) self.old.backup slot self.old.members refusal → ⊥ }
+        requires number { free_number self.old.members.newest self.old.work ≡ Some number }
+        requires fresh { has_slot self.old.members.lost slot ≡ true → AreUnnamed self.old.members }
+        ensures answered { IsAnswered (list_size (places_of self.old.members)) (AsksAdd slot) who self.old.entries self.new.entries (Added slot) result }
+        ensures unchanged { OnNoMemory result (self.new ≡ self.old) }
+        ensures caused { IsAddedFor (B.given self.old.bank) self.old.backup slot self.old.members self.new.members (B.faults_of self.old.bank) (B.faults_of self.new.bank) result }
+        ensures stored { OnOk result (IsAddedAs self.old.members self.old.work self.new.members slot) }
+        ensures spares { (s : ℕ) → has_spare self.new.members.spares s ≡ true → (has_spare self.old.members.spares s ≡ true) ⊎ (s ≡ slot) }
+        ensures grows { Grows B.tells (B.tape self.old.bank) (B.tape self.new.bank) }
+        ensures others { B.tells → AreOthersPresent (present (B.given self.old.bank) (B.tape self.old.bank)) (present (B.given self.old.bank) (B.tape self.new.bank)) }
+        ensures clean { is_clean self.new.members.newest ≡ is_clean self.old.members.newest }
+        ensures failed { HaveRolesFailed self.old.members self.new.members (B.faults_of self.old.bank) (B.faults_of self.new.bank) }
+        ensures held { AreStillHeld self.old.members self.new.members }
+        ensures losses { AreLossesOf self.old.members (B.faults_of self.old.bank) (B.faults_of self.new.bank) self.old.entries self.new.entries }
+        ensures work { IsWorkAdded self.old.members.newest self.old.work self.new.work }
+        ensures ended { IsEndOf B.tells self.new.first self.new.entries (B.tape self.new.bank) }
+        ensures never_falls { NeverFalls (B.faults_of self.old.bank) (B.faults_of self.new.bank) }
+        ensures given { B.given self.new.bank ≡ B.given self.old.bank }
+        ensures same { IsSameArray B.tells self.old self.new (world_for (B.given self.old.bank) (B.tape self.old.bank) self.old) (world_for (B.given self.new.bank) (B.tape self.new.bank) self.new) }
+    {
+        match self.epoch.entries.make_room(50) {
+            Ok(()) => {}
+            Err(_) => return Err(Fault::NoMemory),
+        }
+        self.steps = 0;
+        check_number(&self.epoch.entries, who);
+        let refusal = Refusal::SlotFault(slot);
+        let Some(second) = look_at(&mut self.bank, slot) else {
+            let end = self.bank.ops();
+            enter(&mut self.epoch, who, end, Event::Refused { refusal });
+            return Err(Fault::Refused(refusal));
+        };
+        let uuid = &self.epoch.uuid;
+        let sb = spare_for(&self.members, &self.bank, uuid, slot, number, &second);
+        self.work.carried[number as usize] = true;
+        let disks = shape_in(&self.members).disks;
+        let before = vacant_roles(&self.members, disks);
+        let lost = add_member(&mut self.members, &mut self.bank, slot, &sb);
+        let roles = newly_vacant(&self.members, disks, before);
+        let spares = without(lost, with(0, slot));
+        let end = self.bank.ops();
+        if contains(lost, slot) {
+            let event = Event::Refused { refusal };
+            enter_behind(&mut self.epoch, who, end, roles, spares, event);
+            return Err(Fault::Refused(refusal));
+        }
+        let event = Event::Added { slot };
+        enter_behind(&mut self.epoch, who, end, roles, spares, event);
+        Ok(())
+    }
+
+    /// Makes a slot a spare: flushes it, and writes its superblock, with the smallest device number that has no role and that
+    /// no superblock of the array bears, and with the data offset of the slot that holds the lowest role. Refusals, in
+    /// this order: `NoSuchSlot`, `SlotTaken`, `TooManyMissing`, `SlotTooSmall` and `SlotFault`. Where no number is left, or the
+    /// slot was lost and the superblocks still name a role that none holds, as until the next call that goes on where a device
+    /// failed, it counts as want of memory.
+    pub fn add(&mut self, who: Who, slot: u32) -> Result<(), Fault>
+        requires next { who.number ≡ next_number who.caller self.old.entries }
+        requires caller { who.caller ≢ 254 }
+        ensures answered { IsAnswered (list_size (places_of self.old.members)) (AsksAdd slot) who self.old.entries self.new.entries (Added slot) result }
+        ensures unchanged { OnNoMemory result (self.new ≡ self.old) }
+        ensures caused { IsAddedFor (B.given self.old.bank) self.old.backup slot self.old.members self.new.members (B.faults_of self.old.bank) (B.faults_of self.new.bank) result }
+        ensures stored { OnOk result (IsAddedAs self.old.members self.old.work self.new.members slot) }
+        ensures spares { (s : ℕ) → has_spare self.new.members.spares s ≡ true → (has_spare self.old.members.spares s ≡ true) ⊎ (s ≡ slot) }
+        ensures grows { Grows B.tells (B.tape self.old.bank) (B.tape self.new.bank) }
+        ensures others { B.tells → AreOthersPresent (present (B.given self.old.bank) (B.tape self.old.bank)) (present (B.given self.old.bank) (B.tape self.new.bank)) }
+        ensures clean { is_clean self.new.members.newest ≡ is_clean self.old.members.newest }
+        ensures failed { HaveRolesFailed self.old.members self.new.members (B.faults_of self.old.bank) (B.faults_of self.new.bank) }
+        ensures held { AreStillHeld self.old.members self.new.members }
+        ensures losses { AreLossesOf self.old.members (B.faults_of self.old.bank) (B.faults_of self.new.bank) self.old.entries self.new.entries }
+        ensures work { IsWorkAdded self.old.members.newest self.old.work self.new.work }
+        ensures ended { IsEndOf B.tells self.new.first self.new.entries (B.tape self.new.bank) }
+        ensures never_falls { NeverFalls (B.faults_of self.old.bank) (B.faults_of self.new.bank) }
+        ensures given { B.given self.new.bank ≡ B.given self.old.bank }
+        ensures same { IsSameArray B.tells self.old self.new (world_for (B.given self.old.bank) (B.tape self.old.bank) self.old) (world_for (B.given self.new.bank) (B.tape self.new.bank) self.new) }
+    {
+        let Some(number) = free_number(&self.members.newest, &self.work) else {
+            return Err(Fault::NoMemory);
+        };
+        let Some(refusal) = self.unaddable(slot) else {
+            if contains(self.members.lost, slot) && has_unnamed(&self.members) {
+                return Err(Fault::NoMemory);
+            }
+            return self.make_spare(who, slot, number);
+        };
+        match self.epoch.entries.make_room(50) {
+            Ok(()) => {}
+            Err(_) => return Err(Fault::NoMemory),
+        }
+        self.steps = 0;
+        check_number(&self.epoch.entries, who);
+        let end = self.bank.ops();
+        enter(&mut self.epoch, who, end, Event::Refused { refusal });
+        Err(Fault::Refused(refusal))
+    }
+}
