@@ -1,4 +1,4 @@
--- What was opened, with each role whole or missing, can be taken over as an array.
+-- What was opened can be taken over as an array.
 use Rattle.std.proofs.Common.{◌≡◌, ℕ, ◌<◌, ◌≤◌, Bool, true, false, not, ◌&&◌, nat_lt, List, [], length, take, Option, Some, IfSome, refl, sym, ◌∙◌, ap, subst, arith, le_refl}
 use Rattle.std.specs.Option.{option_map_or}
 use Rattle.std.proofs.lemmas.Bool.Decides.{nat_tests}
@@ -23,20 +23,21 @@ use Rattle.array.specs.Placed.{places_of, IsPlaced, AreUnlost}
 use Rattle.array.specs.Held.{IsHeldBy}
 use Rattle.array.specs.Lacking.{DoesWithout, ListStands, RowsStand, AreHoldersFlushed}
 use Rattle.array.specs.Kept.{world_in, AreSectorsWhole}
+use Rattle.array.specs.Rebuilding.{AreSparesFree}
 use Rattle.array.specs.Adopting.{IsAdoptable}
 use Rattle.assemble.specs.declared.opening.Opened.{Opened}
 use Rattle.assemble.specs.Opening.{scope_of, IsOpened, AreFlushed}
 use Rattle.assemble.proofs.FoundRows.{list-length, list-stands, list-whole, rows-stand}
 use Rattle.assemble.proofs.Judged.{elected-does}
 use Rattle.assemble.proofs.PlacedFound.{count-is, few-spares}
-use Rattle.assemble.proofs.OpenedHeld.{opened-held}
+use Rattle.assemble.proofs.OpenedHeld.{numbers-kept, opened-held}
 
 module _ {tells : Type 0} (bank : Given) (tape : List Operation) (backup : Option ℕ) (asked : Option (List ℕ)) (opened : Opened) (few : bank.slots ≤ 32)
     (is : IsOpened tells bank (contents bank.start tape (length tape)) backup asked opened)
     (inside : (s : ℕ) → has_slot opened.given s ≡ true → s < bank.slots)
     (flushed : tells → AreFlushed bank.start tape opened.given)
     (stand : tells → AreInSectors (contents bank.start tape (length tape)) opened.members.own)
-    (placed : IsPlaced bank opened.members) (unlost : AreUnlost opened.members) where
+    (placed : IsPlaced bank opened.members) (unlost : AreUnlost opened.members) (free : AreSparesFree bank opened.members) where
   abbrev m : Members
   m = opened.members
 
@@ -117,7 +118,7 @@ module _ {tells : Type 0} (bank : Given) (tape : List Operation) (backup : Optio
     alike-is alike = subst (λ (o : Option Reading). IfSome o (λ q. AreLikeNewest scope q.newest c)) (is.says told) alike
 
     held-next : OpensAlike world → IsHeldBy scope m (disk bank.start tape)
-    held-next alike = opened-held bank tape backup asked opened told few is (flushed told) inside (alike-is alike) (stand told)
+    held-next alike = opened-held bank tape backup asked opened told is inside (flushed told) few (alike-is alike) (stand told)
 
     newest-is : (q : Reading) × (reading scope c ≡ Some q) × (m.newest.events ≤ q.newest.events)
     newest-is = (r, is.says told, le_refl m.newest.events)
@@ -132,6 +133,7 @@ module _ {tells : Type 0} (bank : Given) (tape : List Operation) (backup : Optio
     spares = few-spares bank opened.members few is.elected;
     placed = placed;
     unlost = unlost;
+    free = free;
     sizes_are = refl;
     opened = length-is;
     tolerated = tolerance-is;
@@ -142,5 +144,6 @@ module _ {tells : Type 0} (bank : Given) (tape : List Operation) (backup : Optio
     good = rows-are;
     flushed = holders-flushed;
     next = held-next;
+    numbers = λ told. numbers-kept bank tape backup asked opened told is inside (flushed told);
     newest = newest-is;
   }

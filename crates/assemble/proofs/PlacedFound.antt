@@ -1,4 +1,4 @@
--- Where the rows of an opened array stand: each role whole, on a slot of its own, or missing.
+-- Where the rows of an opened array stand, each role that is held on a slot of its own, and what room its spares have.
 use Rattle.std.proofs.Common.{◌≡◌, inl, inr, ℕ, zero, suc, ◌+◌, ◌*◌, ◌^◌, ◌<◌, ◌≤◌, ◌==◌, Bool, true, false, cond, not, ◌||◌, ◌&&◌, nat_lt, nat_le, List, [], ◌∷◌, length, take, drop, get_or, Option, Some, None, unwrap_or, option_map, refl, sym, ◌∙◌, ap, subst, arith}
 use Rattle.std.specs.Prelude.{find, max}
 use Rattle.std.specs.Option.{option_or, option_map_or}
@@ -18,15 +18,17 @@ use Rattle.md_base.proofs.Tabulated.{length-tabulate, get_or-tabulate}
 use Rattle.sb1.specs.declared.sb.Sb.{Sb}
 use Rattle.bank.specs.Given.{Given, sizes}
 use Rattle.superblocks.specs.declared.members.Members.{Members}
-use Rattle.superblocks.specs.Reading.{Reading, reading_by, newest_of, holder_from, spares_from, holds_role, state_of, is_fresh, is_spare, is_recovering, is_reshaping, entry_of, role_count, shape_of, target_of, role_state, holder, data_offset_of}
+use Rattle.superblocks.specs.Reading.{Reading, reading_by, newest_of, holder_from, spares_from, holds_role, state_of, is_fresh, is_spare, is_recovering, lies_within, is_reshaping, entry_of, role_count, shape_of, target_of, role_state, holder, data_offset_of}
 use Rattle.superblocks.specs.Verdict.{members_refusal, bad_field, judged_fields, is_bad_entry, is_bad_size}
 use Rattle.superblocks.specs.Election.{reading_in, IsElected}
 use Rattle.superblocks.specs.Update.{is_held_by, is_live}
 use Rattle.superblocks.specs.Writing.{IsMember, AreWritable}
 use Rattle.superblocks.proofs.Accepted.{IsAccepted, is-accepted}
+use Rattle.superblocks.proofs.ValidFields.{few-roles}
 use Rattle.row_io.specs.Rows.{reading_of}
 use Rattle.row_io.proofs.Apart.{readings-are-apart}
 use Rattle.array.specs.Placed.{IsPlaced, AreUnlost}
+use Rattle.array.specs.Rebuilding.{AreSparesFree}
 use Rattle.assemble.specs.Opening.{AreOfGiven, AreCounted}
 use Rattle.assemble.proofs.Judged.{elected-valid, reading-made}
 
@@ -104,28 +106,35 @@ record IsThere (i : ℕ) (X : List (Option Sb)) (s : ℕ) : Type 0 where
   pub sb : Sb
   pub own : get_or X index None ≡ Some sb
 
-spare-there : (N : Sb) (sectors : ℕ → ℕ) (i : ℕ) (X : List (Option Sb)) (s : ℕ) → list_any (λ spare. spare == s) (spares_from N sectors i X) ≡ true → IsThere i X s
+spare-there : (N : Sb) (sectors : ℕ → ℕ) (i : ℕ) (X : List (Option Sb)) (s : ℕ) → list_any (λ spare. spare == s) (spares_from N sectors i X) ≡ true
+    → (found : IsThere i X s) × (is_spare N (sectors s) found.sb ≡ true)
 spare-there N sectors i [] s is = absurd (cc)
 spare-there N sectors i (None ∷ X) s is =
     let found = spare-there N sectors (i + 1) X s is in
-    record { index = suc found.index; at = omega (arith, found.at); sb = found.sb; own = found.own }
-spare-there N sectors i (Some sb ∷ X) s is = by (is_spare N (sectors i) sb) (λ e. later (spare-there N sectors (i + 1) X s e)) is
+    (record { index = suc found.0.index; at = omega (arith, found.0.at); sb = found.0.sb; own = found.0.own }, found.1)
+spare-there N sectors i (Some sb ∷ X) s is = by (is_spare N (sectors i) sb) refl (λ e. later (spare-there N sectors (i + 1) X s e)) is
   where
-    later : IsThere (i + 1) X s → IsThere i (Some sb ∷ X) s
-    later found = record { index = suc found.index; at = omega (arith, found.at); sb = found.sb; own = found.own }
+    later : (found : IsThere (i + 1) X s) × (is_spare N (sectors s) found.sb ≡ true) → (found : IsThere i (Some sb ∷ X) s) × (is_spare N (sectors s) found.sb ≡ true)
+    later found = (record { index = suc found.0.index; at = omega (arith, found.0.at); sb = found.0.sb; own = found.0.own }, found.1)
 
     equal : (a b : ℕ) → (a == b) ≡ true → b ≡ a + 0
     equal a b e = grind (arith, nat_tests, e)
 
-    here : (b : Bool) → (i == s) ≡ b → (list_any (λ spare. spare == s) (spares_from N sectors (i + 1) X) ≡ true → IsThere i (Some sb ∷ X) s)
-        → (b || list_any (λ spare. spare == s) (spares_from N sectors (i + 1) X)) ≡ true → IsThere i (Some sb ∷ X) s
-    here true same rest is = record { index = 0; at = equal i s same; sb = sb; own = refl }
-    here false other rest is = rest is
+    here : (b : Bool) → (i == s) ≡ b → is_spare N (sectors i) sb ≡ true
+        → (list_any (λ spare. spare == s) (spares_from N sectors (i + 1) X) ≡ true → (found : IsThere i (Some sb ∷ X) s) × (is_spare N (sectors s) found.sb ≡ true))
+        → (b || list_any (λ spare. spare == s) (spares_from N sectors (i + 1) X)) ≡ true
+        → (found : IsThere i (Some sb ∷ X) s) × (is_spare N (sectors s) found.sb ≡ true)
+    here true same spare rest is =
+        let at : i ≡ s = sym (equal i s same ∙ omega arith) in
+        (record { index = 0; at = equal i s same; sb = sb; own = refl }, subst (λ (n : ℕ). is_spare N (sectors n) sb ≡ true) at spare)
+    here false other spare rest is = rest is
 
-    by : (b : Bool) → (list_any (λ spare. spare == s) (spares_from N sectors (i + 1) X) ≡ true → IsThere i (Some sb ∷ X) s)
-        → list_any (λ spare. spare == s) (cond b (i ∷ spares_from N sectors (i + 1) X) (spares_from N sectors (i + 1) X)) ≡ true → IsThere i (Some sb ∷ X) s
-    by true rest is = here (i == s) refl rest is
-    by false rest is = rest is
+    by : (b : Bool) → is_spare N (sectors i) sb ≡ b
+        → (list_any (λ spare. spare == s) (spares_from N sectors (i + 1) X) ≡ true → (found : IsThere i (Some sb ∷ X) s) × (is_spare N (sectors s) found.sb ≡ true))
+        → list_any (λ spare. spare == s) (cond b (i ∷ spares_from N sectors (i + 1) X) (spares_from N sectors (i + 1) X)) ≡ true
+        → (found : IsThere i (Some sb ∷ X) s) × (is_spare N (sectors s) found.sb ≡ true)
+    by true spare rest is = here (i == s) refl spare rest is
+    by false isnt rest is = rest is
 
 held-by : (s : ℕ) (state : Role) → is_held_by s state ≡ true → holder state ≡ Some s
 held-by s (Whole slot) is = ap (λ (n : ℕ). Some n) (equal slot s is)
@@ -183,6 +192,13 @@ both : (a b : Bool) → (a && b) ≡ true → (a ≡ true) × (b ≡ true)
 both true b e = (refl, e)
 both false b e = absurd (cc)
 
+-- the last two of five
+last-two : (a b c d e : Bool) → (a && b && c && d && e) ≡ true → (d ≡ true) × (e ≡ true)
+last-two true true true d e is = both d e is
+last-two true true false d e is = absurd (cc)
+last-two true false c d e is = absurd (cc)
+last-two false b c d e is = absurd (cc)
+
 module _ (bank : Given) (few : bank.slots ≤ 32) (m : Members) (elected : IsElected (sizes bank).sectors (take bank.slots m.own) m.lost m)
     (still : is_reshaping m.newest ≡ false) (writable : AreWritable bank m.own) (counted : AreCounted bank) where
   abbrev X : List (Option Sb)
@@ -228,8 +244,27 @@ module _ (bank : Given) (few : bank.slots ≤ 32) (m : Members) (elected : IsEle
     pub known : s < bank.slots
     pub sb : Sb
     pub own : get_or m.own s None ≡ Some sb
+    pub entry : entry_of m.newest sb.dev_number ≡ role
     pub behind : 10 ≤ sb.data_offset
     pub within : sb.data_offset + m.newest.size ≤ bank.sectors s
+
+  equal : (a b : ℕ) → (a == b) ≡ true → a ≡ b
+  equal a b e = grind (arith, nat_tests, e)
+
+  less : (a b : ℕ) → a < b → nat_lt a b ≡ true
+  less a b h = grind (arith, nat_tests, h)
+
+  -- where the data of a slot's superblock lies
+  data-lies : (s : ℕ) (sb : Sb) → s < bank.slots → lies_within m.newest (sec s) sb ≡ true → (10 ≤ sb.data_offset) × (sb.data_offset + m.newest.size ≤ bank.sectors s)
+  data-lies s sb known is =
+      let lies = both (nat_le 10 sb.data_offset) (nat_le (sb.data_offset + m.newest.size) (sec s)) is in
+      let long : sec s ≡ bank.sectors s = ap (λ (b : Bool). cond b (bank.sectors s) 0) (less s bank.slots known) in (
+        at_most 10 sb.data_offset lies.0,
+        subst (λ (n : ℕ). sb.data_offset + m.newest.size ≤ n) long (at_most (sb.data_offset + m.newest.size) (sec s) lies.1),
+      )
+    where
+      at_most : (a b : ℕ) → nat_le a b ≡ true → a ≤ b
+      at_most a b e = grind (arith, nat_tests, e)
 
   held-at : (role s : ℕ) → holder (role_state (reading_of m) role) ≡ Some s → IsHeldAt role s
   held-at role s is = elim (cases_lt role (role_count m.newest)) [
@@ -243,15 +278,6 @@ module _ (bank : Given) (few : bank.slots ≤ 32) (m : Members) (elected : IsEle
       none : (s : ℕ) → ◌≡◌ {A = Option ℕ} None (Some s) → ⊥
       none s e = absurd (cc)
 
-      equal : (a b : ℕ) → (a == b) ≡ true → a ≡ b
-      equal a b e = grind (arith, nat_tests, e)
-
-      less : (a b : ℕ) → a < b → nat_lt a b ≡ true
-      less a b h = grind (arith, nat_tests, h)
-
-      at_most : (a b : ℕ) → nat_le a b ≡ true → a ≤ b
-      at_most a b e = grind (arith, nat_tests, e)
-
       of : role < role_count m.newest → IsHolderFrom m.newest role 0 (take bank.slots m.own) s → IsHeldAt role s
       of lt found =
           let same : found.index ≡ s = omega (arith, found.at) in
@@ -259,29 +285,60 @@ module _ (bank : Given) (few : bank.slots ≤ 32) (m : Members) (elected : IsEle
           let there = own-at s found.sb own in
           let holds = both (is_fresh m.newest found.sb) (entry_of m.newest found.sb.dev_number == role) found.holds in
           let entry : entry_of m.newest found.sb.dev_number ≡ role = equal (entry_of m.newest found.sb.dev_number) role holds.1 in
-          let lies = both (nat_le 10 found.sb.data_offset) (nat_le (found.sb.data_offset + m.newest.size) (sec s))
-          (accepted.within s found.sb own holds.0 (less (entry_of m.newest found.sb.dev_number) (role_count m.newest) (omega (arith, lt, entry)))) in
-          let long : sec s ≡ bank.sectors s = ap (λ (b : Bool). cond b (bank.sectors s) 0) (less s bank.slots there.0) in
+          let lies = data-lies s found.sb there.0 (accepted.within s found.sb own holds.0 (less (entry_of m.newest found.sb.dev_number) (role_count m.newest) (omega (arith, lt, entry)))) in
           record {
             role_below = lt;
             known = there.0;
             sb = found.sb;
             own = there.1;
-            behind = at_most 10 found.sb.data_offset lies.0;
-            within = subst (λ (n : ℕ). found.sb.data_offset + m.newest.size ≤ n) long (at_most (found.sb.data_offset + m.newest.size) (sec s) lies.1);
+            entry = entry;
+            behind = lies.0;
+            within = lies.1;
           }
 
-  offset-at : (role s : ℕ) → (found : IsHeldAt role s) → data_offset_of (reading_of m) s ≡ found.sb.data_offset
-  offset-at role s found = ap (λ (o : Option Sb). option_map_or (λ sb. sb.data_offset) o 0) found.own
+  offset-at : (s : ℕ) (sb : Sb) → get_or m.own s None ≡ Some sb → data_offset_of (reading_of m) s ≡ sb.data_offset
+  offset-at s sb own = ap (λ (o : Option Sb). option_map_or (λ sb. sb.data_offset) o 0) own
 
-  pub unlost-found : (given : ℕ) → AreOfGiven given m.own → ((s : ℕ) → has_slot m.lost s ≡ (nat_lt s bank.slots && not (has_slot given s))) → AreUnlost m
-  unlost-found given own lost role slot held =
-      let found = held-at role slot held in
-      lost slot ∙ ap (λ (b : Bool). nat_lt slot bank.slots && not b) (own slot found.sb found.own) ∙ never (nat_lt slot bank.slots)
-    where
-      never : (b : Bool) → (b && false) ≡ false
-      never true = refl
-      never false = refl
+  -- a slot with a superblock of the array is a given one, and so isn't lost
+  module _ (given : ℕ) (own : AreOfGiven given m.own) (lost : (s : ℕ) → has_slot m.lost s ≡ (nat_lt s bank.slots && not (has_slot given s))) where
+    not-lost : (s : ℕ) (sb : Sb) → get_or m.own s None ≡ Some sb → has_slot m.lost s ≡ false
+    not-lost s sb there = lost s ∙ ap (λ (b : Bool). nat_lt s bank.slots && not b) (own s sb there) ∙ never (nat_lt s bank.slots)
+      where
+        never : (b : Bool) → (b && false) ≡ false
+        never true = refl
+        never false = refl
+
+    pub unlost-found : AreUnlost m
+    unlost-found role slot held = let found = held-at role slot held in not-lost slot found.sb found.own
+
+    -- a spare's device number has no role's entry
+    pub free-found : AreSparesFree bank m
+    free-found slot is =
+        let found = spare-there m.newest sec 0 X slot (sym (ap (λ (l : List ℕ). list_any (λ spare. spare == slot) l) spares-are) ∙ is) in
+        let sb : Sb = found.0.sb in
+        let same : found.0.index ≡ slot = omega (arith, found.0.at) in
+        let there = own-at slot sb (subst (λ (k : ℕ). get_or X k None ≡ Some sb) same found.0.own) in
+        let spare = last-two (is_fresh m.newest sb) (not (is_recovering sb)) (nat_lt sb.dev_number 128) (entry_of m.newest sb.dev_number == 0xffff) (lies_within m.newest (sec slot) sb) found.1 in
+        let lies = data-lies slot sb there.0 spare.1 in
+        let offset : data_offset_of (reading_of m) slot ≡ sb.data_offset = offset-at slot sb there.1 in
+        let entry : entry_of m.newest sb.dev_number ≡ 0xffff = equal (entry_of m.newest sb.dev_number) 0xffff spare.0 in
+        record {
+          room = record {
+            small = omega (arith, there.0, few);
+            known = there.0;
+            short = counted slot there.0;
+            within = omega (arith, offset, lies.1);
+          };
+          behind = omega (arith, offset, lies.0);
+          none = λ role held. (let holds = held-at role slot held in
+              let other : entry_of m.newest sb.dev_number ≡ role = ap (λ (s : Sb). entry_of m.newest s.dev_number) (one sb holds.sb (sym there.1 ∙ holds.own)) ∙ holds.entry in
+              let below : role_count m.newest ≤ 16 = few-roles m.newest (elected-valid sec X m.lost m elected) in
+              absurd (let so : 0xffff < 16 = omega (arith, entry, other, holds.role_below, below) in omega (arith, so)));
+          unlost = not-lost slot sb there.1;
+        }
+      where
+        one : (a b : Sb) → Some a ≡ Some b → a ≡ b
+        one a b e = cc
 
   sized : (m.newest.size ≤ 2 ^ 48) × (is_multiple m.newest.size m.newest.chunksize ≡ true)
   sized = size-parts m.newest.size (is_multiple m.newest.size m.newest.chunksize) (not (is_reshaping m.newest) || is_multiple m.newest.size m.newest.new_chunk) (good-size m.newest accepted.fields)
@@ -299,7 +356,7 @@ module _ (bank : Given) (few : bank.slots ≤ 32) (m : Members) (elected : IsEle
           let role = held-any (role_count m.newest) (λ role. holder_from m.newest role 0 X) s (sym (ap (λ (l : List Role). list_any (is_held_by s) l) roles-are) ∙ held) in
           let found = holder-there m.newest role.0 0 X s role.1 in
           spare (record { index = found.index; at = found.at; sb = found.sb; own = found.own })
-      by false held is = spare (spare-there m.newest sec 0 X s (sym (ap (λ (l : List ℕ). list_any (λ spare. spare == s) l) spares-are) ∙ is))
+      by false held is = spare (spare-there m.newest sec 0 X s (sym (ap (λ (l : List ℕ). list_any (λ spare. spare == s) l) spares-are) ∙ is)).0
 
   pub valid-is : is_valid_shape (shape_of m.newest) ≡ true
   valid-is = (elected-valid sec X m.lost m elected).old
@@ -316,9 +373,9 @@ module _ (bank : Given) (few : bank.slots ≤ 32) (m : Members) (elected : IsEle
           small = omega (arith, found.known, few);
           known = found.known;
           short = counted slot found.known;
-          within = omega (arith, offset-at role slot found, found.within);
+          within = omega (arith, offset-at slot found.sb found.own, found.within);
         });
-    behind = λ role slot is. (let found = held-at role slot is in omega (arith, offset-at role slot found, found.behind));
+    behind = λ role slot is. (let found = held-at role slot is in omega (arith, offset-at slot found.sb found.own, found.behind));
     apart = λ a b slot is is'. readings-are-apart sec X m.newest a b slot
         (sym (ap (λ (l : List Role). holder (get_or l a Missing)) roles-are) ∙ is) (sym (ap (λ (l : List Role). holder (get_or l b Missing)) roles-are) ∙ is');
     live = λ slot is. (let found = live-there slot is in

@@ -1,12 +1,9 @@
 -- What runs was made, or found, as it is answered.
-use Rattle.std.proofs.Common.{◌≡◌, ◌⊎◌, inl, inr, ℕ, zero, suc, ◌*◌, ◌<◌, ◌≤◌, Bool, true, false, cond, not, if◌then◌else◌, ◌&&◌, nat_lt, List, [], ◌++◌, length, take, get_or, Option, Some, None, IfSome, Result, Ok, Err, IfOk, refl, sym, ◌∙◌, ap, ap₂, subst, arith}
+use Rattle.std.proofs.Common.{◌≡◌, ◌⊎◌, inl, inr, ℕ, zero, suc, ◌*◌, ◌<◌, ◌≤◌, Bool, true, false, cond, not, ◌&&◌, nat_lt, List, [], ◌++◌, length, take, get_or, Option, Some, None, IfSome, Result, Ok, Err, IfOk, refl, sym, ◌∙◌, ap, ap₂, subst, arith}
 use Rattle.std.proofs.lemmas.Bool.{cases_lt}
 use Rattle.std.proofs.lemmas.Bool.Decides.{nat_tests}
-use Rattle.std.proofs.lemmas.List.{get_or-take}
 use Rattle.md_base.specs.declared.answers.Fault.{Fault}
 use Rattle.md_base.specs.declared.answers.Fault.TheVariants.{Refused, NoMemory}
-use Rattle.md_base.specs.declared.answers.Refusal.{Refusal}
-use Rattle.md_base.specs.declared.answers.Refusal.TheVariants.{MembersMissing}
 use Rattle.md_base.specs.declared.status.Role.{Role}
 use Rattle.md_base.specs.declared.status.Role.TheVariants.{Whole, Recovering, Missing}
 use Rattle.md_base.specs.declared.places.Shape.{Shape}
@@ -14,19 +11,16 @@ use Rattle.md_base.specs.Shapes.{has_slot, data_disks}
 use Rattle.md_base.proofs.Tabulated.{get_or-tabulate}
 use Rattle.sb1.specs.declared.sb.Sb.{Sb}
 use Rattle.bank.specs.declared.bank.Operation.{Operation}
-use Rattle.bank.specs.Given.{Given, sizes}
+use Rattle.bank.specs.Given.{Given, sizes, IsFaulted, NeverFalls}
 use Rattle.bank.specs.Tape.{Contents, contents}
 use Rattle.superblocks.specs.declared.members.Members.{Members}
-use Rattle.superblocks.specs.Reading.{Scope, Reading, is_reshaping, is_backward, is_clean, is_backup, entry_of, shape_of, is_whole, role_state}
+use Rattle.superblocks.specs.Reading.{Reading, is_reshaping, is_backward, entry_of, shape_of, is_whole, role_state}
 use Rattle.superblocks.specs.Verdict.{is_role}
 use Rattle.superblocks.specs.Election.{reading_in}
-use Rattle.superblocks.specs.Held.{own_at}
-use Rattle.superblocks.specs.Reads.{HasNoLateRoles, IsNewestLike}
+use Rattle.superblocks.specs.Reads.{HasNoLateRoles, IsNewestLike, has_spare}
 use Rattle.superblocks.specs.Found.{AreLikeNewest, AreInSectors}
-use Rattle.superblocks.proofs.SaidSlots.{read-parts}
 use Rattle.superblocks.proofs.SlotSets.{none_there}
-use Rattle.superblocks.proofs.FoundHeld.{found-of}
-use Rattle.row_io.specs.Rows.{reading_of, is_missing, missing_count}
+use Rattle.row_io.specs.Rows.{reading_of, is_missing}
 use Rattle.flat_history.specs.declared.events.Event.{Event}
 use Rattle.flat_history.specs.Stands.{verdict}
 use Rattle.flat_history.specs.Plain.{entries_of}
@@ -37,20 +31,22 @@ use Rattle.array.specs.declared.spec.CreateSpec.{CreateSpec}
 use Rattle.array.specs.Parts.{Parts}
 use Rattle.array.specs.Placed.{places_of, AreWhole, AreUnlost}
 use Rattle.array.specs.Lacking.{DoesWithout}
+use Rattle.array.specs.Rebuilding.{AreSparesFree}
 use Rattle.array.specs.Kept.{world_in, scope_in}
 use Rattle.array.specs.Calls.{world_for}
-use Rattle.array.specs.Adopting.{opener, found_loss, absent_losses, found_losses, IsAdoptable, IsAdopted}
+use Rattle.array.specs.Adopting.{opener, found_loss, absent_losses, found_losses, found_work, IsAdoptable, IsAdopted}
 use Rattle.assemble.specs.declared.opening.Opened.{Opened}
 use Rattle.assemble.specs.Opening.{scope_of, array_of, AreGiven, AreFlushed, IsOpened, IsReshapeRefused, HasCause}
 use Rattle.assemble.specs.Making.{created_sb}
 use Rattle.assemble.specs.Filling.{IsMade, AreZeros}
 use Rattle.assemble.specs.Made.{IsNew}
-use Rattle.assemble.specs.Running.{opened_of, IsBegun, OpensWithZeros, IsCreated, IsAssembled, HasRebuilding, IsRebuildingSome, HasAssembleCause}
+use Rattle.assemble.specs.Running.{opened_of, IsBegun, OpensWithZeros, IsCreated, IsAssembled}
 use Rattle.assemble.proofs.Judged.{elected-does}
 use Rattle.assemble.proofs.MadeLaws.{entry-is}
 use Rattle.assemble.proofs.SafeLaws.{opened-told}
 use Rattle.assemble.proofs.NewSound.{whole-sound}
 use Rattle.assemble.proofs.NewZeros.{new-arrays-are-zeros}
+use Rattle.assemble.proofs.OpenedHeld.{own-found}
 use Rattle.assemble.proofs.Adopting.{adoptable}
 
 below : (a b : ℕ) → a < b → nat_lt a b ≡ true
@@ -98,20 +94,6 @@ made-alike spec n n' sectors sectors' a b one other = record {
   late = entry-late spec n' sectors' b other;
 }
 
--- ---- what is found in a slot is the member's
-
-module _ {tells : Type 0} (bank : Given) (c : Contents) (backup : Option ℕ) (asked : Option (List ℕ)) (opened : Opened)
-    (is : IsOpened tells bank c backup asked opened) (inside : (s : ℕ) → has_slot opened.given s ≡ true → s < bank.slots) (told : tells) where
-  abbrev scope : Scope
-  scope = scope_of bank backup opened.given opened.members.newest.set_uuid
-
-  own-found : (s : ℕ) (sb : Sb) → own_at (scope_of bank backup opened.given opened.members.newest.set_uuid) s (c s) ≡ Some sb → get_or opened.members.own s None ≡ Some sb
-  own-found s sb here =
-      let within : s < bank.slots = inside s (both (has_slot opened.given s) (not (is_backup backup s)) (found-of scope s (c s) sb here).seen).0 in
-      let parts = read-parts scope c (reading_in bank.slots opened.members) (is.says told) in
-      sym (get_or-take bank.slots opened.members.own s None within) ∙ ap (λ (q : Reading). get_or q.own s None) parts.1
-      ∙ get_or-tabulate bank.slots (λ slot. own_at scope slot (c slot)) s None within ∙ here
-
 -- ---- an array that was just made
 
 module _ {tells : Type 0} (bank : Given) (tape : List Operation) (backup : Option ℕ) (spec : CreateSpec) (opened : Opened) (new : IsNew bank spec opened)
@@ -134,6 +116,9 @@ module _ {tells : Type 0} (bank : Given) (tape : List Operation) (backup : Optio
   pub new-unlost : AreUnlost opened.members
   new-unlost role slot held = ap (λ (n : ℕ). has_slot n slot) new.members.lost ∙ none_there slot
 
+  new-free : AreSparesFree bank opened.members
+  new-free slot is = absurd (let both : false ≡ true = sym (ap (λ (l : List ℕ). has_spare l slot) new.members.spares) ∙ is in cc)
+
   made-of : (s : ℕ) (sb : Sb) → get_or opened.members.own s None ≡ Some sb → IsMade spec s (bank.sectors s) sb
   made-of s sb at = elim (cases_lt s spec.shape.disks) [
     | inl lt ↦ (let found = new.members.own.made s lt in subst (λ (x : Sb). IsMade spec s (bank.sectors s) x) (one found.0 sb (sym found.1 ∙ at)) found.2)
@@ -149,8 +134,8 @@ module _ {tells : Type 0} (bank : Given) (tape : List Operation) (backup : Optio
   new-like : tells → AreLikeNewest (scope_of bank backup opened.given opened.members.newest.set_uuid) opened.members.newest (contents bank.start tape (length tape))
   new-like told = record {
     level = λ s sb here same. made-alike spec 0 s (bank.sectors 0) (bank.sectors s) opened.members.newest sb (made-of 0 opened.members.newest new.members.newest)
-        (made-of s sb (own-found bank c backup (Some spec.uuid) opened is inside told s sb here));
-    late = λ s sb here. entry-late spec s (bank.sectors s) sb (made-of s sb (own-found bank c backup (Some spec.uuid) opened is inside told s sb here));
+        (made-of s sb (own-found bank tape backup (Some spec.uuid) opened told is inside s sb here));
+    late = λ s sb here. entry-late spec s (bank.sectors s) sb (made-of s sb (own-found bank tape backup (Some spec.uuid) opened told is inside s sb here));
   }
 
   new-alike : tells → OpensAlike (world_in bank tape (scope_of bank backup opened.given opened.members.newest.set_uuid) (length tape))
@@ -178,9 +163,22 @@ module _ {tells : Type 0} (bank : Given) (tape : List Operation) (backup : Optio
 
   pub new-adoptable : bank.slots ≤ 32 → (tells → AreFlushed bank.start tape opened.given) → (tells → AreInSectors (contents bank.start tape (length tape)) opened.members.own)
       → IsAdoptable tells bank tape (scope_of bank backup opened.given opened.members.newest.set_uuid) opened.members
-  new-adoptable few flushed stand = adoptable bank tape backup (Some spec.uuid) opened few is inside flushed stand new.placed new-unlost
+  new-adoptable few flushed stand = adoptable bank tape backup (Some spec.uuid) opened few is inside flushed stand new.placed new-unlost new-free
+
+  -- all slots are given
+  pub new-failed : (after : ℕ → ℕ) (slot : ℕ) → slot < bank.slots → has_slot opened.given slot ≡ false → 0 < after slot
+  new-failed after slot known out = absurd (let both : true ≡ false = sym (new.given slot ∙ below slot bank.slots known) ∙ out in cc)
 
 -- ---- what was taken over
+
+-- a slot that isn't given has failed
+pub slots-failed : (bank : Given) (given : ℕ) (before after : ℕ → ℕ) → NeverFalls before after → AreGiven bank given before after
+    → (slot : ℕ) → slot < bank.slots → has_slot given slot ≡ false → 0 < after slot
+slots-failed bank given before after falls was slot known out = by (was.failed slot known out)
+  where
+    by : IsFaulted slot before after → 0 < after slot
+    by (inl rose) = omega (arith, rose)
+    by (inr full) = omega (arith, full, falls slot)
 
 does-without : {tells : Type 0} (bank : Given) (tape : List Operation) (backup : Option ℕ) (asked : Option (List ℕ)) (opened : Opened)
     → IsOpened tells bank (contents bank.start tape (length tape)) backup asked opened → DoesWithout opened.members
@@ -213,7 +211,7 @@ module _ {B tells : Type 0} (device : B) (bank : Given) (tape : List Operation) 
     last = adopted.last;
     backup_is = adopted.backup_is;
     uuid = adopted.uuid ∙ sym (ap (λ (m : Members). m.newest.set_uuid) adopted.members_are);
-    resync = adopted.resync ∙ sym (ap (λ (m : Members). if is_clean m.newest then None else Some 0) adopted.members_are);
+    work = adopted.work ∙ sym (ap found_work adopted.members_are);
     does = subst (λ (m : Members). DoesWithout m) (sym adopted.members_are) does;
   }
 
@@ -247,33 +245,14 @@ module _ {B tells : Type 0} (device : B) (bank : Given) (tape : List Operation) 
 -- ---- what is refused
 
 pub caused : (tells : Type 0) (bank : Given) (c c' : Contents) (backup : Option ℕ) (asked : Option (List ℕ)) (before after : ℕ → ℕ) (fault : Fault)
-    → (tells → c' ≡ c) → HasCause tells bank c' backup asked before after fault → HasAssembleCause tells bank c backup asked before after fault
-caused tells bank c c' backup asked before after (Refused refusal) same cause = inl (record {
+    → (tells → c' ≡ c) → HasCause tells bank c' backup asked before after fault → HasCause tells bank c backup asked before after fault
+caused tells bank c c' backup asked before after (Refused refusal) same cause = record {
   given = cause.given;
   slots = cause.slots;
   why = λ told. subst (λ (k : Contents). (verdict (scope_of bank backup cause.given (array_of bank backup cause.given asked k)) k ≡ Some refusal)
       ⊎ IsReshapeRefused (scope_of bank backup cause.given (array_of bank backup cause.given asked k)) k refusal) (same told) (cause.why told);
-})
+}
 caused tells bank c c' backup asked before after NoMemory same cause = tt
-
-pub rebuilding : (tells : Type 0) (bank : Given) (c c' : Contents) (backup : Option ℕ) (asked : Option (List ℕ)) (before after : ℕ → ℕ) (opened : Opened) (refusal : Refusal)
-    → (tells → c' ≡ c) → IsOpened tells bank c' backup asked opened → AreGiven bank opened.given before after
-    → HasRebuilding (reading_of opened.members)
-    → refusal ≡ MembersMissing (missing_count (reading_of opened.members) (shape_of opened.members.newest)) 0
-    → HasAssembleCause tells bank c backup asked before after (Refused refusal)
-rebuilding tells bank c c' backup asked before after opened refusal same is given some count = inr (record {
-  given = opened.given;
-  slots = given;
-  why = λ told. subst (λ (k : Contents). IsRebuildingSome (scope_of bank backup opened.given (array_of bank backup opened.given asked k)) k refusal) (same told)
-      (subst (λ (u : List ℕ). IsRebuildingSome (scope_of bank backup opened.given u) c' refusal) (is.array told) (record {
-        accepted = is.accepted told;
-        found = reading_in bank.slots opened.members;
-        says = is.says told;
-        still = is.still;
-        rebuilding = some;
-        count = count;
-      }));
-})
 
 pub ok-then : {T E : Type 0} (result : Result T E) (P Q : T → Type 0) → ((x : T) → P x → Q x) → IfOk result P → IfOk result Q
 ok-then (Ok x) P Q step p = step x p

@@ -27,7 +27,7 @@ use Rattle.assemble.specs.declared.opening.Opened.{Opened}
 use Rattle.assemble.specs.Opening.{IsOpened, AreFlushed}
 use Rattle.assemble.specs.Safe.{world_of, OpeningsAreSafe}
 
-one : {a v : Sector} → IsIn (v ∷ []) a → a ≡ v
+pub one : {a v : Sector} → IsIn (v ∷ []) a → a ≡ v
 one (inl same) = same
 one (inr none) = absurd none
 

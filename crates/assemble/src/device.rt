@@ -2,19 +2,10 @@
 
 ghost use Rattle.std.specs.Prelude.{◌≡◌, ◌≤◌, ◌++◌, length};
 ghost use Rattle.flat_history.specs.Created.{first_entries};
-ghost use Rattle.assemble.specs.Making.{device_uuid, created_sb};
+ghost use Rattle.assemble.specs.Making.{created_sb};
 
-use array::CreateSpec;
+use array::{CreateSpec, device_uuid};
 use sb1::Sb;
-use uuid::Uuid;
-
-// The uuid of a device: version 5, of the array's uuid and the decimal digits of the device's number.
-fn device_uuid(array: &[u8; 16], number: u32) -> [u8; 16]
-    ensures { result ≡ device_uuid array.now number }
-{
-    let mut digits = itoa::Buffer::new();
-    *Uuid::new_v5(&Uuid::from_bytes(*array), digits.format(number).as_bytes()).as_bytes()
-}
 
 // The role entries: device n has role n, no other one below 128 has a role, and the last 256 entries are given.
 fn role_entries(disks: u32, second: &[u16]) -> [u16; 384]

@@ -1,31 +1,27 @@
 //! An array that runs, made in a bank's slots or found there.
 
-ghost use Rattle.std.specs.Prelude.{◌≡◌, ◌<◌, ◌≤◌, ℕ, length, Some, None, IfOk, IfErr, IfSome, IfNone, IsTrue};
-ghost use Rattle.md_base.specs.Shapes.{is_valid_shape};
+ghost use Rattle.std.specs.Prelude.{◌≡◌, ◌<◌, ◌≤◌, ℕ, false, length, Some, None, IfOk, IfErr, IfSome};
+ghost use Rattle.md_base.specs.Shapes.{has_slot};
 ghost use Rattle.md_base.specs.declared.answers.Fault.TheVariants.{Refused as IsRefused, NoMemory as WantsMemory};
 ghost use Rattle.md_base.specs.declared.answers.Refusal.{Refusal as AnyRefusal};
-ghost use Rattle.md_base.specs.declared.answers.Refusal.TheVariants.{UuidInUse as IsInUse, MembersMissing as AreMissing};
+ghost use Rattle.md_base.specs.declared.answers.Refusal.TheVariants.{UuidInUse as IsInUse};
 ghost use Rattle.bank.specs.Tape.{contents};
-ghost use Rattle.superblocks.specs.Reading.{shape_of};
-ghost use Rattle.row_io.specs.Rows.{present, reading_of, missing_count};
+ghost use Rattle.row_io.specs.Rows.{present};
 ghost use Rattle.array.specs.Flushing.{OnlyFlushesAdded, OnlyItsSlotsFail};
 ghost use Rattle.array.specs.Kept.{scope_in};
 ghost use Rattle.array.specs.Adopting.{IsAdoptable, IsAdopted};
-ghost use Rattle.assemble.specs.Opening.{scope_of};
+ghost use Rattle.assemble.specs.Opening.{scope_of, HasCause};
 ghost use Rattle.assemble.specs.Creating.{IsLastSlot, create_refusal};
 ghost use Rattle.assemble.specs.Filling.{OnlyBelow};
 ghost use Rattle.assemble.specs.Made.{used_slot, HasCreateCause};
-ghost use Rattle.assemble.specs.Running.{HasRebuilding, IsCreated, IsAssembled, HasAssembleCause};
+ghost use Rattle.assemble.specs.Running.{IsCreated, IsAssembled};
 
 use crate::making::make;
 use crate::opening::{Opened, open};
 use array::{Array, CreateSpec};
 use bank::Bank;
-use md_base::{Fault, Refusal, Role};
-use row_io::missing_count;
+use md_base::Fault;
 use std::alloc::Global;
-use superblocks::Members;
-use superblocks::says::shape_of;
 
 // Takes over what was opened.
 fn take_over<B: Bank>(
@@ -34,7 +30,8 @@ fn take_over<B: Bank>(
     backup: Option<u32>,
     opened: Opened,
 ) -> Result<Array<B>, (B, Fault)>
-    requires { IsAdoptable B.tells (B.given bank) (B.tape bank) (scope_in (B.given bank) opened.members.newest.set_uuid opened.given backup) opened.members }
+    requires adoptable { IsAdoptable B.tells (B.given bank) (B.tape bank) (scope_in (B.given bank) opened.members.newest.set_uuid opened.given backup) opened.members }
+    requires failed { (slot : ℕ) → slot < (B.given bank).slots → has_slot opened.given slot ≡ false → 0 < B.faults_of bank slot }
     ensures adopted { IfOk result (λ made. IsAdopted B.tells bank (B.tape bank) opened.given backup opened.members made) }
     ensures handed_back { IfErr result (λ e. e.0 ≡ bank) }
     ensures short { IfErr result (λ e. e.1 ≡ WantsMemory) }
@@ -82,27 +79,8 @@ pub fn create<B: Bank>(
     take_over(alloc, bank, backup, opened)
 }
 
-// The refusal of an array in which a role is being rebuilt: it can't go on yet.
-fn rebuilding_refusal(members: &Members) -> Option<Refusal>
-    requires valid { IsTrue (is_valid_shape (shape_of members.now.newest)) }
-    requires roles { (shape_of members.now.newest).disks ≤ length members.now.roles }
-    ensures none { IfNone result (HasRebuilding (reading_of members.now) → ⊥) }
-    ensures some { IfSome result (λ refusal. HasRebuilding (reading_of members.now)) }
-    ensures count { IfSome result (λ refusal. refusal ≡ AreMissing (missing_count (reading_of members.now) (shape_of members.now.newest)) 0) }
-{
-    let disks = shape_of(&members.newest).disks;
-    for role in 0..disks {
-        if let Role::Recovering(_) = members.roles.get(role) {
-            let count = missing_count(members, disks);
-            return Some(Refusal::MembersMissing(count as u64, 0));
-        }
-    }
-    None
-}
-
-/// Opens an array as `open` does, and runs it; its first entries tell the roles that are missing. Where nothing else is
-/// refused but a role is being rebuilt, it is refused by `MembersMissing`, with 0 for what is tolerated. A refusal hands the
-/// bank back, as `open` leaves it.
+/// Opens an array as `open` does, and runs it; its first entries tell the roles that aren't whole. A refusal hands the bank
+/// back, as `open` leaves it.
 pub fn assemble<B: Bank>(
     alloc: Global,
     mut bank: B,
@@ -113,7 +91,7 @@ pub fn assemble<B: Bank>(
     requires backup { IfSome backup (λ slot. slot < (B.given bank).slots) }
     ensures assembled { IfOk result (λ found. IsAssembled B.tells (B.given bank) (B.tape found.bank) backup uuid
         (B.faults_of bank) (B.faults_of found.bank) found) }
-    ensures refused { IfErr result (λ e. HasAssembleCause B.tells (B.given bank) (present (B.given bank) (B.tape bank)) backup uuid
+    ensures refused { IfErr result (λ e. HasCause B.tells (B.given bank) (present (B.given bank) (B.tape bank)) backup uuid
         (B.faults_of bank) (B.faults_of e.0) e.1) }
     ensures tape { IfOk result (λ found. B.tells → OnlyFlushesAdded (B.tape bank) (B.tape found.bank)) }
     ensures left_tape { IfErr result (λ e. B.tells → OnlyFlushesAdded (B.tape bank) (B.tape e.0)) }
@@ -126,12 +104,9 @@ pub fn assemble<B: Bank>(
     ensures counts { IfOk result (λ found. OnlyItsSlotsFail (B.given bank) (B.faults_of bank) (B.faults_of found.bank)) }
     ensures left_counts { IfErr result (λ e. OnlyItsSlotsFail (B.given bank) (B.faults_of bank) (B.faults_of e.0)) }
 {
-    let opened = match open(alloc, &mut bank, backup, uuid) {
+    let found = match open(alloc, &mut bank, backup, uuid) {
         Err(fault) => return Err((bank, fault)),
-        Ok(opened) => opened,
+        Ok(found) => found,
     };
-    match rebuilding_refusal(&opened.members) {
-        Some(refusal) => Err((bank, Fault::Refused(refusal))),
-        None => take_over(alloc, bank, backup, opened),
-    }
+    take_over(alloc, bank, backup, found)
 }

@@ -2,6 +2,7 @@
 
 mod images;
 mod made;
+mod rebuilding;
 mod running;
 
 use super::*;
@@ -41,13 +42,17 @@ fn bank_of(
     Ok(bank)
 }
 
-// An array's members: the first one's superblock, of which these are the first bytes, with what each has of its own. The
-// role entries behind those bytes are unused.
-fn members_of(alloc: Global, image: &[u8; 272], members: &[Own]) -> Result<Vec<Sb>, Fail> {
+// The superblock of which these are the first bytes. The role entries behind those bytes are unused.
+fn first_of(image: &[u8; 272]) -> Sb {
     let mut sectors = [0; 1024];
     sectors[..272].copy_from_slice(image);
     sectors[272..512].fill(0xff);
-    let first = fields_of(&sectors);
+    fields_of(&sectors)
+}
+
+// An array's members: the first one's superblock, of which these are the first bytes, with what each has of its own.
+fn members_of(alloc: Global, image: &[u8; 272], members: &[Own]) -> Result<Vec<Sb>, Fail> {
+    let first = first_of(image);
     let mut superblocks = Vec::new(alloc);
     for own in members {
         superblocks.push(Sb {

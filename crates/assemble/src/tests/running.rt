@@ -6,7 +6,7 @@ use crate::{assemble, create};
 use array::Array;
 use bank::{Bank, MemoryBank};
 use flat_history::{Event, LostCause};
-use md_base::{Fault, Refusal, Who};
+use md_base::{Fault, Who};
 use sb1::Sb;
 use std::alloc::Global;
 use std::process::Abort;
@@ -23,7 +23,7 @@ fn created(rt: &impl Abort, alloc: Global) -> Result<Array<MemoryBank>, Fail> {
 }
 
 // The array that is found there.
-fn assembled(
+pub fn assembled(
     rt: &impl Abort,
     alloc: Global,
     bank: MemoryBank,
@@ -42,7 +42,7 @@ fn write(array: &mut Array<MemoryBank>, at: u32, bytes: &[u8; 1024]) -> Result<(
 }
 
 // The answer of a read of two sectors, and their bytes.
-fn read(array: &mut Array<MemoryBank>, at: u32) -> (Result<(), Fault>, [u8; 1024]) {
+pub fn read(array: &mut Array<MemoryBank>, at: u32) -> (Result<(), Fault>, [u8; 1024]) {
     let who = Who {
         caller: 3,
         number: array.next_number(3),
@@ -147,27 +147,5 @@ fn finds_no_resync_where_clean(rt: HostRuntime) -> Result<(), Fail> {
     let array = created(&rt, rt.alloc())?;
     assert_eq!(rt; array.resync(), None);
     assert_eq!(rt; array.left(), 0);
-    Ok(())
-}
-
-/// Slot 1 has the first 8 rows of its role.
-#[test]
-fn refuses_what_is_rebuilt(rt: HostRuntime) -> Result<(), Fail> {
-    let alloc = rt.alloc();
-    let mut bank = bank_of(alloc, &[])?;
-    let opened = made(&rt, alloc, &mut bank, &SPEC).expect(&rt, "an array");
-    let second = Sb {
-        dev_number: 1,
-        feature_map: 2,
-        recovery_offset: 8,
-        ..opened.members.newest
-    };
-    put(&rt, &mut bank, 1, &second);
-    match assembled(&rt, alloc, bank) {
-        Err((_, Fault::Refused(refusal))) => {
-            assert_eq!(rt; refusal, Refusal::MembersMissing(1, 0))
-        }
-        _ => return Err(Fail::from("found in spite of a role that is rebuilt")),
-    }
     Ok(())
 }
