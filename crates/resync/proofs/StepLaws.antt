@@ -14,10 +14,10 @@ use Rattle.flat_history.specs.Flat.{values_after, values_of}
 use Rattle.flat_history.specs.Plain.{entries_of}
 use Rattle.array.specs.Losing.{losses_of}
 use Rattle.array.specs.Status.{stripes_of}
-use Rattle.array.specs.Calls.{IsBehind, IsSettled, IsCausedBy}
+use Rattle.array.specs.Calls.{IsBehind, IsSettled, IsCausedBy, AreValuesKept}
 use Rattle.array.proofs.CallLaws.{losses-are, values-losses}
 use Rattle.array.proofs.NowLaws.{values-more}
-use Rattle.resync.specs.Steps.{is_at_end, IsUnmended, AreValuesKept}
+use Rattle.resync.specs.Steps.{is_at_end, IsUnmended}
 
 -- ---- the list
 

@@ -1,12 +1,9 @@
 -- The next step of an array's pending resync.
-use Rattle.std.specs.Prelude.{◌≡◌, ℕ, ◌==◌, Bool, true, false, List, if◌then◌else◌, Option, Some, None}
-use Rattle.md_base.specs.Sectors.{Sector}
+use Rattle.std.specs.Prelude.{ℕ, ◌==◌, Bool, true, false, if◌then◌else◌, Option, Some, None}
 use Rattle.md_base.specs.declared.answers.Refusal.{Refusal}
 use Rattle.superblocks.specs.declared.members.Members.{Members}
-use Rattle.flat_history.specs.declared.events.Entry.{Entry}
 use Rattle.flat_history.specs.declared.events.StepKind.{StepKind}
 use Rattle.flat_history.specs.declared.events.StepKind.TheVariants.{ResyncStripe, ResyncEnded}
-use Rattle.flat_history.specs.Flat.{values_of}
 use Rattle.array.specs.Status.{stripes_of}
 use Rattle.array.specs.Lacking.{AreTooMany, IsUnwritten}
 use Rattle.array.specs.Calls.{one_more}
@@ -28,7 +25,3 @@ after_step resync members = if is_at_end resync members then None else one_more 
 abbrev pub IsUnmended : Bool → Members → Refusal → Type 0
 IsUnmended true members refusal = AreTooMany members refusal
 IsUnmended false members refusal = IsUnwritten false members refusal
-
--- each sector of the list that stood at the opening holds what it held, and a stop may leave the same in its place
-abbrev pub AreValuesKept : List Entry → List Entry → Type 0
-AreValuesKept old new = (list : List Sector) (x : ℕ) → values_of list new x ≡ values_of list old x

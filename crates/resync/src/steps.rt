@@ -14,9 +14,9 @@ ghost use Rattle.array.specs.Whole.{list_size};
 ghost use Rattle.array.specs.Placed.{places_of, AreStillHeld};
 ghost use Rattle.array.specs.Moving.{Grows};
 ghost use Rattle.array.specs.Status.{left_of};
-ghost use Rattle.array.specs.Lacking.{HaveFailedSince, AreHoldersFlushed, DoesWithout, RowsStand};
-ghost use Rattle.array.specs.Calls.{world_for, by_answer, IsSettled, IsCausedBy, IsSameArray, AreLossesOf, IsEndOf};
-ghost use Rattle.resync.specs.Steps.{is_at_end, next_kind, after_step, IsUnmended, AreValuesKept};
+ghost use Rattle.array.specs.Lacking.{HaveRolesFailed, AreHoldersFlushed, DoesWithout, RowsStand};
+ghost use Rattle.array.specs.Calls.{world_for, AreSparesFewer, by_answer, AreStepsFewer, AreStepsKept, AreValuesKept, IsSettled, IsCausedBy, IsSameArray, AreLossesOf, IsEndOf};
+ghost use Rattle.resync.specs.Steps.{is_at_end, next_kind, after_step, IsUnmended};
 
 use array::Array;
 use bank::Bank;
@@ -27,24 +27,25 @@ use md_base::{Fault, Who};
 pub fn resync_step<B: Bank>(array: &mut Array<B>, who: Who) -> Result<(), Fault>
     requires open { IsCallOpen array.old.entries who }
     requires caller { who.caller ≢ 254 }
-    requires pending { IsSome array.old.resync }
+    requires pending { IsSome array.old.work.resync }
     requires room { 1 ≤ array.old.steps }
-    ensures entered { IsSettled who array.old.entries array.new.entries (Step (next_kind array.old.resync array.old.members) (left_of array.new.resync array.new.members)) result }
+    ensures entered { IsSettled who array.old.entries array.new.entries (Step (next_kind array.old.work.resync array.old.members) (left_of array.new.work array.new.members)) result }
     ensures memory { result ≢ Err WantsMemory }
     ensures open { IsCallOpen array.new.entries who }
     ensures room { array.new.steps + 1 ≡ array.old.steps }
-    ensures resync { array.new.resync ≡ by_answer result (after_step array.old.resync array.old.members) array.old.resync }
-    ensures left { OnOk result (left_of array.new.resync array.new.members + 1 ≡ left_of array.old.resync array.old.members) }
-    ensures kept { OnErr result (left_of array.new.resync array.new.members ≡ left_of array.old.resync array.old.members) }
+    ensures work { array.new.work ≡ record array.old.work { resync = by_answer result (after_step array.old.work.resync array.old.members) array.old.work.resync } }
+    ensures left { OnOk result (AreStepsFewer array.old.entries array.new.entries (left_of array.old.work array.old.members) (left_of array.new.work array.new.members)) }
+    ensures stays { OnErr result (AreStepsKept array.old.entries array.new.entries (left_of array.old.work array.old.members) (left_of array.new.work array.new.members)) }
     ensures list { AreValuesKept array.old.entries array.new.entries }
-    ensures caused { IsCausedBy (list_size (places_of array.old.members)) 0 (IsUnmended (is_at_end array.old.resync array.old.members)) array.old.members array.new.members result }
-    ensures clean { OnOk result (is_clean array.new.members.newest ≡ is_at_end array.old.resync array.old.members) }
-    ensures flushed { OnOk result (IsTrue (is_at_end array.old.resync array.old.members) → B.tells → AreHoldersFlushed (reading_of array.new.members) (B.given array.old.bank) (B.tape array.new.bank)) }
-    ensures good { OnOk result (IsTrue (is_at_end array.old.resync array.old.members) → B.tells → DoesWithout array.new.members → OpensFit (world_for (B.given array.new.bank) (B.tape array.new.bank) array.new)
+    ensures caused { IsCausedBy (list_size (places_of array.old.members)) 0 (IsUnmended (is_at_end array.old.work.resync array.old.members)) array.old.members array.new.members result }
+    ensures clean { OnOk result (is_clean array.new.members.newest ≡ is_at_end array.old.work.resync array.old.members) }
+    ensures flushed { OnOk result (IsTrue (is_at_end array.old.work.resync array.old.members) → B.tells → AreHoldersFlushed (reading_of array.new.members) (B.given array.old.bank) (B.tape array.new.bank)) }
+    ensures good { OnOk result (IsTrue (is_at_end array.old.work.resync array.old.members) → B.tells → DoesWithout array.new.members → OpensFit (world_for (B.given array.new.bank) (B.tape array.new.bank) array.new)
         → RowsStand array.new.members (present (B.given array.old.bank) (B.tape array.new.bank)) (now (opening_list (world_for (B.given array.new.bank) (B.tape array.new.bank) array.new)) array.new.entries)) }
     ensures grows { Grows B.tells (B.tape array.old.bank) (B.tape array.new.bank) }
-    ensures failed { HaveFailedSince array.old.members array.new.members 0 (B.faults_of array.old.bank) (B.faults_of array.new.bank) }
+    ensures failed { HaveRolesFailed array.old.members array.new.members (B.faults_of array.old.bank) (B.faults_of array.new.bank) }
     ensures held { AreStillHeld array.old.members array.new.members }
+    ensures spares { AreSparesFewer array.old.members array.new.members }
     ensures losses { AreLossesOf array.old.members (B.faults_of array.old.bank) (B.faults_of array.new.bank) array.old.entries array.new.entries }
     ensures ended { IsEndOf B.tells array.new.first array.new.entries (B.tape array.new.bank) }
     ensures never_falls { NeverFalls (B.faults_of array.old.bank) (B.faults_of array.new.bank) }

@@ -1,3 +1,4 @@
 pub mod EntryLaws
 pub mod GoneOn
+pub mod NextLaws
 pub mod Replies

@@ -1,10 +1,13 @@
 -- Replies to requests.
-use Rattle.std.proofs.Common.{◌≡◌, ◌⊎◌, inl, inr, ℕ, ◌+◌, ◌<◌, ◌≤◌, ◌==◌, ◌&&◌, Bool, true, false, cond, Option, Some, None, Result, Ok, Err, List, [], ◌∷◌, ◌++◌, refl, sym, ◌∙◌, ap, subst, arith, append_assoc}
+use Rattle.std.proofs.Common.{◌≡◌, ◌⊎◌, inl, inr, ℕ, ◌+◌, ◌<◌, ◌≤◌, ◌==◌, ◌&&◌, ◌||◌, Bool, true, false, not, cond, length, drop, Option, Some, None, Result, Ok, Err, List, [], ◌∷◌, ◌++◌, refl, sym, ◌∙◌, ap, subst, arith, append_assoc, length-append}
 use Rattle.std.proofs.lemmas.Bool.Decides.{nat_tests}
 use Rattle.std.proofs.lemmas.List.{reverse-append}
 use Rattle.std.proofs.lemmas.List.Elements.{All-nil, All-cons, All-append, All-head, All-tail}
-use Rattle.std.specs.Prelude.{reverse, count_by, IfOk, IfSome, MatchOption}
-use Rattle.std.specs.List.{All}
+use Rattle.std.proofs.lemmas.Bool.{cases_lt}
+use Rattle.std.proofs.Math.Seq.{drop-append_seam}
+use Rattle.std.proofs.lemmas.List.Folds.{list_any-append}
+use Rattle.std.specs.Prelude.{reverse, count_by, IfOk, IfSome, IsSome, IsTrue, MatchOption, ⊤}
+use Rattle.std.specs.List.{All, list_any}
 use Rattle.md_base.specs.declared.answers.Who.{Who}
 use Rattle.md_base.specs.declared.answers.Fault.{Fault}
 use Rattle.md_base.specs.declared.answers.Fault.TheVariants.{Refused as IsRefusedWith, NoMemory as WantsMemory}
@@ -18,20 +21,21 @@ use Rattle.flat_history.specs.declared.events.Event.{Event}
 use Rattle.flat_history.specs.declared.events.Event.TheVariants.{Lost, SpareLost, Rebuilt, Step, Stepped, Refused}
 use Rattle.flat_history.specs.declared.events.LostCause.TheVariants.{Fault as ByFault}
 use Rattle.flat_history.specs.declared.events.Request.{Request}
-use Rattle.flat_history.specs.declared.events.Request.TheVariants.{Steps as AsksSteps}
+use Rattle.flat_history.specs.declared.events.Request.TheVariants.{Steps as AsksSteps, Show as AsksShow}
 use Rattle.flat_history.specs.Flat.{rest_of_call, next_number}
 use Rattle.flat_history.specs.Legal.{call_before}
-use Rattle.flat_history.specs.Fits.{IsTornOf, AreTornOf, is_step_event}
+use Rattle.flat_history.specs.Fits.{IsTornOf, AreTornOf, is_step_event, is_lost_event}
 use Rattle.flat_history.specs.Plain.{entries_of}
 use Rattle.flat_history.specs.OneShape.{GoesOnBehind, IsOfCall, EndsIdleSteps, DidOneShapeSteps}
 use Rattle.array.specs.Lacking.{IsUnwritten}
-use Rattle.array.specs.Calls.{IsEntered, IsReplied, IsAnswered}
+use Rattle.array.specs.Parts.{Parts}
+use Rattle.array.specs.Calls.{IsEntered, IsReplied, IsAnswered, TellNoRoleLoss}
 use Rattle.array.proofs.PlainLaws.{one}
 use Rattle.array.proofs.LosingLaws.{entries-both}
 use Rattle.array.proofs.CallLaws.{torn-reverse}
 use Rattle.array.proofs.ReplyLaws.{none_before}
 use Rattle.shared_array.specs.Steps.{AreStepsOf, IsAnsweredBy}
-use Rattle.shared_array.specs.Replies.{told_by}
+use Rattle.shared_array.specs.Replies.{told_by, IsPerformed}
 use Rattle.shared_array.proofs.EntryLaws.{count-both}
 
 -- ---- what stands in a call before its reply
@@ -59,11 +63,23 @@ call-is who end event old inner number own =
     ap (λ (l : List Entry). rest_of_call (one who end event) l) (reverse-append old inner)
     ∙ rest-own who (one who end event) (reverse inner) (reverse old) (refl, refl) (own-reverse who inner own) (none_before old who end event number)
 
-count-reverse : (xs : List Entry) → count_by (λ e. is_step_event e.event) (reverse xs) ≡ count_by (λ e. is_step_event e.event) xs
-count-reverse [] = refl
-count-reverse (x ∷ xs) =
-    ap (λ (l : List Entry). count_by (λ e. is_step_event e.event) l) (reverse-append (x ∷ []) xs)
-    ∙ omega (arith, count-both (reverse xs) (x ∷ []), count-both (x ∷ []) xs, count-reverse xs)
+count-reverse : (p : Event → Bool) (xs : List Entry) → count_by (λ e. p e.event) (reverse xs) ≡ count_by (λ e. p e.event) xs
+count-reverse p [] = refl
+count-reverse p (x ∷ xs) =
+    ap (λ (l : List Entry). count_by (λ e. p e.event) l) (reverse-append (x ∷ []) xs)
+    ∙ omega (arith, count-both p (reverse xs) (x ∷ []), count-both p (x ∷ []) xs, count-reverse p xs)
+
+any-reverse : (p : Event → Bool) (xs : List Entry) → list_any (λ e. p e.event) (reverse xs) ≡ list_any (λ e. p e.event) xs
+any-reverse p [] = refl
+any-reverse p (x ∷ xs) =
+    ap (λ (l : List Entry). list_any (λ e. p e.event) l) (reverse-append (x ∷ []) xs)
+    ∙ list_any-append (λ e. p e.event) (reverse xs) (x ∷ []) ∙ ap (λ (b : Bool). b || (p x.event || false)) (any-reverse p xs) ∙ turn (list_any (λ e. p e.event) xs) (p x.event)
+  where
+    turn : (a b : Bool) → (a || (b || false)) ≡ (b || a)
+    turn true true = refl
+    turn true false = refl
+    turn false true = refl
+    turn false false = refl
 
 -- ---- none of them is a torn write
 
@@ -107,29 +123,58 @@ all-ended : (members : Members) (ended : Option Refusal) → IfSome ended (IsUnw
 all-ended members None was = tt
 all-ended members (Some refusal) was = ends members refusal was
 
--- of so many steps that were left, as many were to be done as were asked for
-did : (call : List Entry) (most start left count done : ℕ) (ended : Option Refusal) → 1 ≤ most → 0 < count → count ≤ most → (count ≡ most) ⊎ (count ≡ start)
-    → MatchOption ended (done ≡ count) (λ refusal. done < count) → left + done ≡ start → done ≡ count_by (λ e. is_step_event e.event) call → DidOneShapeSteps call most done left ended
-did call most start left count done None asked some few all are sum counted = record {
-  at_most = omega (arith, are, few);
-  all_done = elim all [ inl most_are ↦ inl (are ∙ most_are) | inr rest ↦ inr (inl (omega (arith, are, sum, rest))) ];
-  some_done = inl (omega (arith, are, some));
-  counted = omega (arith, counted);
-  not_more = omega (arith, counted);
+-- How many steps a call did, of so many that were left: as many as were to be done, unless none is left or one is refused.
+pub record AreDone (most start left count done : ℕ) (ended : Option Refusal) : Type 0 where
+  pub asked : 1 ≤ most
+  pub some : 0 < count
+  pub few : count ≤ most
+  pub all : (count ≡ most) ⊎ (count ≡ start)
+  pub within : done ≤ count
+  pub until : MatchOption ended ((done ≡ count) ⊎ (left ≡ 0)) (λ refusal. done < count)
+  pub begun : done ≡ 0 → MatchOption ended ((count ≡ 0) ⊎ (start ≡ 0)) (λ refusal. ⊤)
+  pub started : count ≤ start
+
+-- where none was refused
+all-done : (most start left count done : ℕ) → AreDone most start left count done None → (lost : Bool) → (lost ≡ false → left + done ≤ start) → (done ≡ most) ⊎ (left ≡ 0) ⊎ IsSome {T = Refusal} None ⊎ IsTrue lost
+all-done most start left count done are true fewer = inr (inr (inr refl))
+all-done most start left count done are false fewer = elim are.until [
+  | inl done_all ↦ elim are.all [
+    | inl as_asked ↦ inl (done_all ∙ as_asked)
+    | inr as_left ↦ let falls = fewer refl in inr (inl (omega (arith, falls, done_all, as_left)))
+  ]
+  | inr none_left ↦ inr (inl none_left)
+]
+
+some-done : (most start left count done : ℕ) → AreDone most start left count done None → (1 ≤ done) ⊎ IsSome {T = Refusal} None
+some-done most start left count done are = elim (cases_lt 0 done) [
+  | inl some ↦ inl some
+  | inr none ↦ elim (are.begun (omega (arith, none))) [
+    | inl no_count ↦ absurd (omega (arith, no_count, are.some))
+    | inr no_start ↦ absurd (omega (arith, no_start, are.some, are.started))
+  ]
+]
+
+did : (call : List Entry) (most start left count done : ℕ) (ended : Option Refusal) → AreDone most start left count done ended → (list_any (λ e. is_lost_event e.event) call ≡ false → left + done ≤ start)
+    → count_by (λ e. is_step_event e.event) call ≤ done → done ≤ count_by (λ e. is_step_event e.event) call + count_by (λ e. is_lost_event e.event) call → DidOneShapeSteps call most done left ended
+did call most start left count done None are fewer counted not_more = record {
+  at_most = omega (arith, are.within, are.few);
+  all_done = all-done most start left count done are (list_any (λ e. is_lost_event e.event) call) fewer;
+  some_done = some-done most start left count done are;
+  counted = counted;
+  not_more = not_more;
 }
-did call most start left count done (Some refusal) asked some few all are sum counted = record {
-  at_most = omega (arith, are, few);
+did call most start left count done (Some refusal) are fewer counted not_more = record {
+  at_most = omega (arith, are.within, are.few);
   all_done = inr (inr (inl refl));
   some_done = inr refl;
-  counted = omega (arith, counted);
-  not_more = omega (arith, counted);
+  counted = counted;
+  not_more = not_more;
 }
 
 pub answered-stepped : {tells : Type 0} {tape : List Operation} {who : Who} {old begun mid new : List Entry} {done left : ℕ} {ended : Option Refusal} (size most start count : ℕ) (members : Members)
     → begun ≡ old → who.number ≡ next_number who.caller old → AreStepsOf who begun mid done ended → IsEntered tells tape who mid new (Stepped done left ended ∷ [])
-    → 1 ≤ most → 0 < count → count ≤ most → (count ≡ most) ⊎ (count ≡ start) → MatchOption ended (done ≡ count) (λ refusal. done < count) → left + done ≡ start
-    → IfSome ended (IsUnwritten false members) → IsAnsweredBy size (AsksSteps most) who old new (Stepped done left ended)
-answered-stepped {who = who} {old = old} {done = done} {left = left} {ended = ended} size most start count members same number so was asked some few all are sum caused = record {
+    → AreDone most start left count done ended → (TellNoRoleLoss begun mid → left + done ≤ start) → IfSome ended (IsUnwritten false members) → IsAnsweredBy size (AsksSteps most) who old new (Stepped done left ended)
+answered-stepped {who = who} {old = old} {begun = begun} {mid = mid} {done = done} {left = left} {ended = ended} size most start count members same number so was are fewer caused = record {
   inner = so.inner;
   end = was.end;
   own = own;
@@ -137,7 +182,9 @@ answered-stepped {who = who} {old = old} {done = done} {left = left} {ended = en
   fits = record {
     answers = (
       subst (λ (l : List Entry). DidOneShapeSteps l most done left ended) (sym call)
-          (did (reverse so.inner) most start left count done ended asked some few all are sum (so.counted ∙ sym (count-reverse so.inner))),
+          (did (reverse so.inner) most start left count done ended are (λ none. fewer (quiet (sym (any-reverse is_lost_event so.inner) ∙ none)))
+          (let steps = count-reverse is_step_event so.inner in omega (arith, so.counted, steps))
+          (let steps = count-reverse is_step_event so.inner in let lost = count-reverse is_lost_event so.inner in omega (arith, so.not_more, steps, lost))),
       all-ended members ended caused,
     );
     torn = subst (λ (l : List Entry). AreTornOf (AsksSteps most) l) (sym call) (torn-reverse (AsksSteps most) so.inner (all-untorn most who so.inner so.own));
@@ -149,6 +196,9 @@ answered-stepped {who = who} {old = old} {done = done} {left = left} {ended = en
 
     call : call_before (old ++ so.inner) (one who was.end (Stepped done left ended)) ≡ reverse so.inner
     call = call-is who was.end (Stepped done left ended) old so.inner number own
+
+    quiet : list_any (λ e. is_lost_event e.event) so.inner ≡ false → TellNoRoleLoss begun mid
+    quiet none = ap not (ap (list_any (λ e. is_lost_event e.event)) (ap (drop (length begun)) so.is ∙ drop-append_seam begun so.inner) ∙ none)
 
 -- ---- a call that enters all that it has to enter at once
 
@@ -175,3 +225,16 @@ told-answer {T = T} size request who old new event answer told is was =
     by (Ok x) was = answered-by was
     by (Err (IsRefusedWith refusal)) was = answered-by was
     by (Err WantsMemory) was = tt
+
+-- ---- the place of the reply
+
+behind-some : (old inner new : List Entry) (e : Entry) → new ≡ old ++ (inner ++ e ∷ []) → 1 ≤ length new
+behind-some old inner new e is =
+    let whole : length new ≡ length (old ++ (inner ++ e ∷ [])) = ap (λ (l : List Entry). length l) is in
+    let outer = length-append old (inner ++ e ∷ []) in
+    let last = length-append inner (e ∷ []) in omega (arith, whole, outer, last)
+
+-- an entry stands behind the old ones
+pub performed-some : {B : Type 0} (request : Request) (who : Who) (old : Parts B) (new : List Entry) (event : Event) → IsPerformed request who old new event → 1 ≤ length new
+performed-some AsksShow who old new event was = behind-some old.entries [] new (one who was.end event) was.is
+performed-some request who old new event was = behind-some old.entries was.inner new (one who was.end event) was.is

@@ -1,23 +1,25 @@
 -- The replies to a caller's requests.
-use Rattle.std.specs.Prelude.{◌≡◌, ℕ, ◌+◌, ◌<◌, ◌≤◌, ◌^◌, ◌++◌, List, [], ◌∷◌, length, Result, Ok, Err, ⊤}
+use Rattle.std.specs.Prelude.{◌≡◌, ◌⊎◌, ℕ, ◌+◌, ◌<◌, ◌≤◌, ◌^◌, ◌++◌, true, List, [], ◌∷◌, length, Result, Ok, Err, ⊤}
 use Rattle.md_base.specs.declared.answers.Who.{Who}
 use Rattle.md_base.specs.declared.answers.Fault.{Fault}
 use Rattle.md_base.specs.declared.answers.Fault.TheVariants.{Refused as IsRefusedWith, NoMemory as WantsMemory}
 use Rattle.md_base.specs.declared.answers.NoMemory.{NoMemory}
 use Rattle.md_base.specs.declared.status.Status.{Status}
+use Rattle.superblocks.specs.declared.members.Members.{Members}
+use Rattle.superblocks.specs.Reads.{has_spare}
 use Rattle.bank.specs.declared.bank.Operation.{Operation}
 use Rattle.bank.specs.Given.{Given, NeverFalls}
 use Rattle.flat_history.specs.declared.events.Entry.{Entry}
 use Rattle.flat_history.specs.declared.events.Event.{Event}
 use Rattle.flat_history.specs.declared.events.Event.TheVariants.{Shown, Refused}
 use Rattle.flat_history.specs.declared.events.Request.{Request}
-use Rattle.flat_history.specs.declared.events.Request.TheVariants.{Read as AsksRead, Write as AsksWrite, Flush as AsksFlush, Fail as AsksFail, Steps as AsksSteps, Show as AsksShow}
+use Rattle.flat_history.specs.declared.events.Request.TheVariants.{Read as AsksRead, Write as AsksWrite, Flush as AsksFlush, Fail as AsksFail, Add as AsksAdd, Steps as AsksSteps, Show as AsksShow}
 use Rattle.array.specs.Whole.{list_size}
-use Rattle.array.specs.Placed.{places_of, AreStillHeld}
+use Rattle.array.specs.Placed.{places_of}
 use Rattle.array.specs.Parts.{Parts}
 use Rattle.array.specs.Status.{IsStatusFor}
 use Rattle.array.specs.Moving.{Grows}
-use Rattle.array.specs.Calls.{AreLossesOf, IsSameArray, world_for}
+use Rattle.array.specs.Calls.{Held, MayHold, AreLossesBy, IsSameArray, world_for}
 use Rattle.shared_array.specs.declared.reply.Reply.{Reply}
 use Rattle.shared_array.specs.declared.reply.Reply.TheVariants.{Done, NoMemory as Short}
 use Rattle.shared_array.specs.Steps.{IsAnsweredBy}
@@ -28,6 +30,7 @@ IsAskable (AsksRead at count) = (1 ≤ count) × (count ≤ 128) × (at + count 
 IsAskable (AsksWrite at body) = (1 ≤ length body) × (length body ≤ 128) × (at + length body < 2 ^ 63)
 IsAskable AsksFlush = ⊤
 IsAskable (AsksFail role) = ⊤
+IsAskable (AsksAdd slot) = ⊤
 IsAskable AsksShow = ⊤
 IsAskable (AsksSteps most) = 1 ≤ most
 IsAskable request = ⊥
@@ -38,11 +41,16 @@ told_by (Ok x) event = Ok event
 told_by (Err (IsRefusedWith refusal)) event = Ok (Refused refusal)
 told_by (Err WantsMemory) event = Err (record {})
 
--- What a request leaves of an array over its bank: roles are only lost, and each loss is told.
-pub record IsLater {B : Type 0} (tells : Type 0) (given : B → Given) (tape : B → List Operation) (faults : B → ℕ → ℕ) (old new : Parts B) : Type 0 where
+-- Each role that has a slot had it before, or that slot was a spare; each spare was one before, or it is the one that the request adds.
+pub record AreHeldAfter (request : Request) (old new : Members) : Type 0 where
+  pub roles : (role slot : ℕ) → Held new role slot → MayHold old role slot
+  pub spares : (slot : ℕ) → has_spare new.spares slot ≡ true → (has_spare old.spares slot ≡ true) ⊎ (request ≡ AsksAdd slot)
+
+-- What a request leaves of an array over its bank: roles are lost, or given to spares, and each loss is told.
+pub record IsLater {B : Type 0} (request : Request) (tells : Type 0) (given : B → Given) (tape : B → List Operation) (faults : B → ℕ → ℕ) (old new : Parts B) : Type 0 where
   pub grows : Grows tells (tape old.bank) (tape new.bank)
-  pub held : AreStillHeld old.members new.members
-  pub losses : AreLossesOf old.members (faults old.bank) (faults new.bank) old.entries new.entries
+  pub held : AreHeldAfter request old.members new.members
+  pub losses : AreLossesBy (MayHold old.members) (faults old.bank) (faults new.bank) old.entries new.entries
   pub never_falls : NeverFalls (faults old.bank) (faults new.bank)
   pub given_is : given new.bank ≡ given old.bank
   pub same : IsSameArray tells old new (world_for (given old.bank) (tape old.bank) old) (world_for (given new.bank) (tape new.bank) new)

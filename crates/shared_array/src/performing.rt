@@ -3,13 +3,13 @@
 ghost use Rattle.std.specs.Prelude.{◌≡◌, ◌≢◌, ◌+◌, ◌*◌, ◌/◌, ◌<◌, ◌≤◌, ◌^◌, length, IfOk, IfErr};
 ghost use Rattle.bank.specs.Given.{NeverFalls};
 ghost use Rattle.flat_history.specs.Flat.{next_number};
-ghost use Rattle.flat_history.specs.declared.events.Request.TheVariants.{Read as AsksRead, Write as AsksWrite, Flush as AsksFlush, Fail as AsksFail};
+ghost use Rattle.flat_history.specs.declared.events.Request.TheVariants.{Read as AsksRead, Write as AsksWrite, Flush as AsksFlush, Fail as AsksFail, Add as AsksAdd, Show as AsksShow};
 ghost use Rattle.array.specs.Whole.{list_size};
-ghost use Rattle.array.specs.Placed.{places_of, AreStillHeld};
+ghost use Rattle.array.specs.Placed.{places_of};
 ghost use Rattle.array.specs.Moving.{Grows};
-ghost use Rattle.array.specs.Calls.{world_for, IsSameArray, AreLossesOf, IsEndOf};
+ghost use Rattle.array.specs.Calls.{world_for, MayHold, IsSameArray, AreLossesBy, IsEndOf};
 ghost use Rattle.shared_array.specs.Steps.{IsAnsweredBy};
-ghost use Rattle.shared_array.specs.Replies.{IsAskable, told_by, IsLater, IsShownBy, IsPerformed, IsRepliedBy, OnReply};
+ghost use Rattle.shared_array.specs.Replies.{IsAskable, told_by, AreHeldAfter, IsLater, IsShownBy, IsPerformed, IsRepliedBy, OnReply};
 
 use crate::reply::Reply;
 use crate::stepping::steps;
@@ -43,7 +43,7 @@ fn read<B: Bank>(
     ensures replied { IfOk result (λ event. IsAnsweredBy (list_size (places_of array.old.members)) (AsksRead at count) who array.old.entries array.new.entries event) }
     ensures unchanged { IfErr result (λ none. array.new ≡ array.old) }
     ensures ended { IfOk result (λ event. IsEndOf B.tells array.new.first array.new.entries (B.tape array.new.bank)) }
-    ensures later { IsLater B.tells B.given B.tape B.faults_of array.old array.new }
+    ensures later { IsLater (AsksRead at count) B.tells B.given B.tape B.faults_of array.old array.new }
 {
     let mut into = match vec![in alloc; 0u8; count as usize * 512] {
         Ok(into) => into,
@@ -61,7 +61,7 @@ fn write<B: Bank>(array: &mut Array<B>, who: Who, at: u64, body: Sectors) -> Res
     ensures replied { IfOk result (λ event. IsAnsweredBy (list_size (places_of array.old.members)) (AsksWrite at body) who array.old.entries array.new.entries event) }
     ensures unchanged { IfErr result (λ none. array.new ≡ array.old) }
     ensures ended { IfOk result (λ event. IsEndOf B.tells array.new.first array.new.entries (B.tape array.new.bank)) }
-    ensures later { IsLater B.tells B.given B.tape B.faults_of array.old array.new }
+    ensures later { IsLater (AsksWrite at body) B.tells B.given B.tape B.faults_of array.old array.new }
 {
     let answer = array.write(who, at, body.as_bytes());
     told(answer, Event::Wrote { at, body })
@@ -73,7 +73,7 @@ fn flush<B: Bank>(array: &mut Array<B>, who: Who) -> Result<Event, NoMemory>
     ensures replied { IfOk result (λ event. IsAnsweredBy (list_size (places_of array.old.members)) AsksFlush who array.old.entries array.new.entries event) }
     ensures unchanged { IfErr result (λ none. array.new ≡ array.old) }
     ensures ended { IfOk result (λ event. IsEndOf B.tells array.new.first array.new.entries (B.tape array.new.bank)) }
-    ensures later { IsLater B.tells B.given B.tape B.faults_of array.old array.new }
+    ensures later { IsLater AsksFlush B.tells B.given B.tape B.faults_of array.old array.new }
 {
     let answer = array.flush(who);
     told(answer, Event::Flushed)
@@ -85,10 +85,22 @@ fn fail<B: Bank>(array: &mut Array<B>, who: Who, role: u32) -> Result<Event, NoM
     ensures replied { IfOk result (λ event. IsAnsweredBy (list_size (places_of array.old.members)) (AsksFail role) who array.old.entries array.new.entries event) }
     ensures unchanged { IfErr result (λ none. array.new ≡ array.old) }
     ensures ended { IfOk result (λ event. IsEndOf B.tells array.new.first array.new.entries (B.tape array.new.bank)) }
-    ensures later { IsLater B.tells B.given B.tape B.faults_of array.old array.new }
+    ensures later { IsLater (AsksFail role) B.tells B.given B.tape B.faults_of array.old array.new }
 {
     let answer = array.fail(who, role);
     told(answer, Event::Failed { role })
+}
+
+fn add<B: Bank>(array: &mut Array<B>, who: Who, slot: u32) -> Result<Event, NoMemory>
+    requires next { who.number ≡ next_number who.caller array.old.entries }
+    requires caller { who.caller ≢ 254 }
+    ensures replied { IfOk result (λ event. IsAnsweredBy (list_size (places_of array.old.members)) (AsksAdd slot) who array.old.entries array.new.entries event) }
+    ensures unchanged { IfErr result (λ none. array.new ≡ array.old) }
+    ensures ended { IfOk result (λ event. IsEndOf B.tells array.new.first array.new.entries (B.tape array.new.bank)) }
+    ensures later { IsLater (AsksAdd slot) B.tells B.given B.tape B.faults_of array.old array.new }
+{
+    let answer = array.add(who, slot);
+    told(answer, Event::Added { slot })
 }
 
 fn show<B: Bank>(array: &mut Array<B>, who: Who) -> Result<Event, NoMemory>
@@ -97,7 +109,7 @@ fn show<B: Bank>(array: &mut Array<B>, who: Who) -> Result<Event, NoMemory>
     ensures shown { IfOk result (λ event. IsShownBy who array.old array.new.entries event) }
     ensures unchanged { IfErr result (λ none. array.new ≡ array.old) }
     ensures ended { IfOk result (λ event. IsEndOf B.tells array.new.first array.new.entries (B.tape array.new.bank)) }
-    ensures later { IsLater B.tells B.given B.tape B.faults_of array.old array.new }
+    ensures later { IsLater AsksShow B.tells B.given B.tape B.faults_of array.old array.new }
 {
     match array.status(who) {
         Ok(status) => Ok(Event::Shown { status }),
@@ -118,7 +130,7 @@ fn answer<B: Bank>(
     ensures replied { IfOk result (λ event. IsPerformed request who array.old array.new.entries event) }
     ensures unchanged { IfErr result (λ none. array.new ≡ array.old) }
     ensures ended { IfOk result (λ event. IsEndOf B.tells array.new.first array.new.entries (B.tape array.new.bank)) }
-    ensures later { IsLater B.tells B.given B.tape B.faults_of array.old array.new }
+    ensures later { IsLater request B.tells B.given B.tape B.faults_of array.old array.new }
 {
     match request {
         Request::Read { at, count } => read(alloc, array, who, at, count),
@@ -127,22 +139,22 @@ fn answer<B: Bank>(
         Request::Fail { role } => fail(array, who, role),
         Request::Show => show(array, who),
         Request::Steps { most } => steps(array, who, most),
-        Request::Add { slot: _ } => unreachable!(),
+        Request::Add { slot } => add(array, who, slot),
         Request::Visible { limit: _ } => unreachable!(),
         Request::Grow { wish: _ } => unreachable!(),
     }
 }
 
 /// Does a request, and answers with the place of its reply's entry and a copy of its event; `NoMemory` has done nothing. The
-/// requests `Add`, `Visible` and `Grow` aren't built yet.
+/// requests `Visible` and `Grow` aren't built yet.
 pub fn perform<B: Bank>(alloc: Global, array: &mut Array<B>, who: Who, request: Request) -> Reply
     requires next { who.number ≡ next_number who.caller array.old.entries }
     requires caller { who.caller ≢ 254 }
     requires askable { IsAskable request }
     ensures replied { IsRepliedBy request who array.old array.new result }
     ensures grows { Grows B.tells (B.tape array.old.bank) (B.tape array.new.bank) }
-    ensures held { AreStillHeld array.old.members array.new.members }
-    ensures losses { AreLossesOf array.old.members (B.faults_of array.old.bank) (B.faults_of array.new.bank) array.old.entries array.new.entries }
+    ensures held { AreHeldAfter request array.old.members array.new.members }
+    ensures losses { AreLossesBy (MayHold array.old.members) (B.faults_of array.old.bank) (B.faults_of array.new.bank) array.old.entries array.new.entries }
     ensures ended { OnReply result (IsEndOf B.tells array.new.first array.new.entries (B.tape array.new.bank)) }
     ensures never_falls { NeverFalls (B.faults_of array.old.bank) (B.faults_of array.new.bank) }
     ensures given { B.given array.new.bank ≡ B.given array.old.bank }

@@ -1,4 +1,4 @@
-//! The steps of an array that was found dirty.
+//! The steps of an array that was found dirty, and of one that rebuilds a role.
 
 ghost use Rattle.std.specs.Prelude.{◌≡◌};
 ghost use Rattle.flat_history.specs.Flat.{next_number};
@@ -116,6 +116,54 @@ fn refuses_steps_without_a_member(rt: HostRuntime) -> Result<(), Fail> {
     Ok(())
 }
 
+// An array with a spare in slot 3, two chunks of which are written; then role 1 is lost.
+fn degraded(rt: &impl Abort, alloc: Global) -> Result<Array<MemoryBank>, Fail> {
+    let lengths = vec![in alloc; 64u64; 5]?;
+    let bank = MemoryBank::new(alloc, lengths, 400, Vec::new(alloc))?;
+    assert!(rt; bank.slots() == 5);
+    let mut array = match create(alloc, bank, None, SPEC) {
+        Ok(array) => array,
+        Err(_) => return Err(Fail::from("not made")),
+    };
+    let who = next_call(&array);
+    assert!(rt; array.add(who, 3).is_ok());
+    let mut chunks = [5; 8192];
+    for at in 4096..8192usize {
+        chunks[at] = 6;
+    }
+    let who = next_call(&array);
+    assert!(rt; array.write(who, 0, &chunks).is_ok());
+    let who = next_call(&array);
+    assert!(rt; array.fail(who, 1).is_ok());
+    Ok(array)
+}
+
+/// A step gives role 1 to the spare, five rebuild its stripes and one ends: so role 2 may be lost then.
+#[test]
+fn rebuilds_a_role(rt: HostRuntime) -> Result<(), Fail> {
+    let mut array = degraded(&rt, rt.alloc())?;
+    assert!(rt; stepped(&mut array, 8) == Some((7, 0, None)));
+    let who = next_call(&array);
+    assert!(rt; array.fail(who, 2).is_ok());
+    let mut sector = [0; 512];
+    let who = next_call(&array);
+    assert!(rt; array.read(who, 7, &mut sector).is_ok());
+    assert!(rt; sector == [5; 512]);
+    let who = next_call(&array);
+    assert!(rt; array.read(who, 8, &mut sector).is_ok());
+    assert!(rt; sector == [6; 512]);
+    let who = next_call(&array);
+    assert!(rt;
+        matches!(
+            steps(&mut array, who, 1),
+            Ok(Event::Refused {
+                refusal: Refusal::Nothing
+            })
+        )
+    );
+    Ok(())
+}
+
 // The kind of an event that a reply may have.
 fn kind(event: &Event) -> &'static str {
     match event {
@@ -123,6 +171,7 @@ fn kind(event: &Event) -> &'static str {
         Event::Wrote { .. } => "wrote",
         Event::Flushed => "flushed",
         Event::Failed { .. } => "failed",
+        Event::Added { .. } => "added",
         Event::Stepped { .. } => "stepped",
         Event::Shown { .. } => "shown",
         Event::Refused { .. } => "refused",
@@ -141,7 +190,7 @@ fn performed(alloc: Global, array: &mut Array<MemoryBank>, request: Request) -> 
     }
 }
 
-/// A step and its reply have an entry each, and so have a loss and the fail.
+/// A step and its reply have an entry each, and so have a loss and the fail; slot 3 is the backup.
 #[test]
 fn performs_each_request(rt: HostRuntime) -> Result<(), Fail> {
     let alloc = rt.alloc();
@@ -159,6 +208,8 @@ fn performs_each_request(rt: HostRuntime) -> Result<(), Fail> {
     assert!(rt; performed(alloc, &mut array, fail) == (7, "failed"));
     let fail = Request::Fail { role: 1 };
     assert!(rt; performed(alloc, &mut array, fail) == (8, "refused"));
+    let add = Request::Add { slot: 3 };
+    assert!(rt; performed(alloc, &mut array, add) == (9, "refused"));
     Ok(())
 }
 

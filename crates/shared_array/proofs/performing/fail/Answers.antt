@@ -2,8 +2,14 @@ use Rattle.flat_history.specs.declared.events.Event.TheVariants.{Failed}
 use Rattle.flat_history.specs.declared.events.Request.TheVariants.{Fail as AsksFail}
 use Rattle.array.specs.Whole.{list_size}
 use Rattle.array.specs.Placed.{places_of}
+use Rattle.shared_array.proofs.GoneOn.{later-held}
 use Rattle.shared_array.proofs.Replies.{told-answer}
 use Rattle.shared_array.proofs.performing.fail.Goals as goal
 
 pub returns-clause-replied : goal.returns-clause-replied
 returns-clause-replied g c = told-answer (list_size (places_of c.args.array.now.members)) (AsksFail c.args.role) c.args.who c.args.array.now.entries c.fail-answer.new.self.entries (Failed c.args.role) c.fail-answer.result c.told.result c.told.ensures c.fail-answer.ensures.answered
+
+pub returns-clause-later : goal.returns-clause-later
+returns-clause-later g c =
+    let s = c.fail-answer.ensures in
+    later-held (AsksFail c.args.role) g.B.Bank.tells g.B.Bank.given g.B.Bank.tape g.B.Bank.faults_of c.args.array.now c.fail-answer.new.self s.grows s.held s.spares s.losses s.never_falls s.given s.same

@@ -6,6 +6,7 @@ use Rattle.flat_history.specs.declared.events.Request.TheVariants.{Read as AsksR
 use Rattle.array.specs.Whole.{list_size}
 use Rattle.array.specs.Placed.{places_of}
 use Rattle.array.specs.Calls.{IsAnswered}
+use Rattle.shared_array.proofs.GoneOn.{later-held}
 use Rattle.shared_array.proofs.Replies.{told-answer}
 use Rattle.shared_array.proofs.performing.read.Goals as goal
 
@@ -22,3 +23,8 @@ returns-clause-replied g c =
     told-answer size (AsksRead c.args.at c.args.count) c.args.who c.args.array.now.entries c.read-answer.new.self.entries (Read c.args.at c.from_bytes-body.result) c.read-answer.result c.told.result c.told.ensures
     (subst₂ (λ (n : ℕ) (b : List Sector). IsAnswered size (AsksRead c.args.at n) c.args.who c.args.array.now.entries c.read-answer.new.self.entries (Read c.args.at b) c.read-answer.result)
     count (sym body) c.read-answer.ensures.answered)
+
+pub returns-clause-later : goal.returns-clause-later
+returns-clause-later g c =
+    let s = c.read-answer.ensures in
+    later-held (AsksRead c.args.at c.args.count) g.B.Bank.tells g.B.Bank.given g.B.Bank.tape g.B.Bank.faults_of c.args.array.now c.read-answer.new.self s.grows s.held s.spares s.losses s.never_falls s.given s.same

@@ -6,6 +6,7 @@ use Rattle.flat_history.specs.declared.events.Request.TheVariants.{Write as Asks
 use Rattle.array.specs.Whole.{list_size}
 use Rattle.array.specs.Placed.{places_of}
 use Rattle.array.specs.Calls.{IsAnswered}
+use Rattle.shared_array.proofs.GoneOn.{later-held}
 use Rattle.shared_array.proofs.Replies.{told-answer}
 use Rattle.shared_array.proofs.performing.write.Goals as goal
 
@@ -23,3 +24,8 @@ returns-clause-replied g c =
     told-answer (list_size (places_of c.args.array.now.members)) (AsksWrite c.args.at c.args.body) c.args.who c.args.array.now.entries c.write-answer.new.self.entries (Wrote c.args.at c.args.body) c.write-answer.result c.told.result c.told.ensures
     (subst (λ (b : List Sector). IsAnswered (list_size (places_of c.args.array.now.members)) (AsksWrite c.args.at b) c.args.who c.args.array.now.entries c.write-answer.new.self.entries (Wrote c.args.at b) c.write-answer.result)
     c.as_bytes.ensures.sectors c.write-answer.ensures.answered)
+
+pub returns-clause-later : goal.returns-clause-later
+returns-clause-later g c =
+    let s = c.write-answer.ensures in
+    later-held (AsksWrite c.args.at c.args.body) g.B.Bank.tells g.B.Bank.given g.B.Bank.tape g.B.Bank.faults_of c.args.array.now c.write-answer.new.self s.grows s.held s.spares s.losses s.never_falls s.given s.same
