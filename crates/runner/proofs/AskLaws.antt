@@ -1,9 +1,11 @@
 -- A line that was answered by an array, and the place of its reply in the history.
-use Rattle.std.proofs.Common.{◌≡◌, ◌≢◌, ℕ, zero, suc, ◌+◌, ◌/◌, ◌≤◌, Some, List, [], ◌∷◌, ◌++◌, length, take, drop, Result, Ok, Err, refl, sym, ◌∙◌, ap, subst, arith, append_assoc, length-append}
+use Rattle.std.proofs.Common.{◌≡◌, ◌≢◌, ◌⊎◌, inl, inr, ℕ, zero, suc, ◌+◌, ◌/◌, ◌≤◌, ◌||◌, ◌==◌, Bool, true, false, Option, Some, List, [], ◌∷◌, ◌++◌, length, take, drop, Result, Ok, Err, refl, sym, ◌∙◌, ap, subst, arith, append_assoc, length-append}
 use Rattle.std.proofs.lemmas.List.{take_at}
 use Rattle.std.proofs.lemmas.List.Elements.{All-nil, All-cons}
-use Rattle.std.specs.Prelude.{slice_get}
-use Rattle.std.specs.List.{All}
+use Rattle.std.proofs.lemmas.Bool.Decides.{nat_tests}
+use Rattle.std.proofs.lemmas.List.Folds.{list_any-append}
+use Rattle.std.specs.Prelude.{slice_get, IsTrue}
+use Rattle.std.specs.List.{All, list_any}
 use Rattle.md_base.specs.declared.answers.Who.{Who}
 use Rattle.md_base.specs.declared.answers.Fault.{Fault}
 use Rattle.md_base.specs.declared.answers.Fault.TheVariants.{Refused as IsRefusedWith, NoMemory}
@@ -12,23 +14,28 @@ use Rattle.md_base.proofs.SectorLaws.{length-sectors_of}
 use Rattle.md_base.proofs.Tabulated.{length-tabulate}
 use Rattle.flat_history.specs.declared.events.Entry.{Entry}
 use Rattle.flat_history.specs.declared.events.Event.{Event}
-use Rattle.flat_history.specs.declared.events.Event.TheVariants.{Stopped, Halted, Refused}
+use Rattle.flat_history.specs.declared.events.Event.TheVariants.{Added, Stopped, Halted, Refused}
 use Rattle.flat_history.specs.Fits.{FitsStop}
 use Rattle.bank.specs.declared.bank.Operation.{Operation}
 use Rattle.md_base.specs.declared.answers.Refusal.{Refusal}
-use Rattle.md_base.specs.declared.answers.Refusal.TheVariants.{PastEnd}
+use Rattle.md_base.specs.declared.answers.Refusal.TheVariants.{PastEnd, SlotFault}
 use Rattle.superblocks.specs.declared.members.Members.{Members}
+use Rattle.superblocks.specs.Reads.{has_spare}
+use Rattle.bank.specs.Given.{Given}
+use Rattle.array.specs.Parts.{Parts}
 use Rattle.array.specs.Losing.{losses_of}
 use Rattle.flat_history.specs.declared.events.Request.{Request}
+use Rattle.flat_history.specs.declared.events.Request.TheVariants.{Add as AsksAdd}
 use Rattle.flat_history.specs.Flat.{rest_of_call, next_number}
 use Rattle.flat_history.specs.Plain.{entries_of}
 use Rattle.flat_history.specs.OneShape.{IsOfCall, OneShapeFits}
 use Rattle.array.specs.Lacking.{AreTooMany}
-use Rattle.array.specs.Calls.{OnNoMemory, IsReplied, IsAnswered, IsEntered, IsBehind, IsRefusedFor}
+use Rattle.array.specs.Calls.{OnNoMemory, IsReplied, IsAnswered, IsAddedFor, IsEntered, IsBehind, IsRefusedFor}
 use Rattle.script.specs.declared.lines.Line.TheVariants.{Wait, Stop, Halt}
 use Rattle.script.specs.declared.lines.Line.{Line}
 use Rattle.script.specs.Seeds.{seeded, seed_sector}
 use Rattle.runner.specs.Asked.{script_who, IsAskedAt}
+use Rattle.runner.specs.Making.{is_added}
 use Rattle.runner.specs.Replies.{FitsLine, IsReplyAt, IsRepliedAt}
 
 -- the entry of an event of a call
@@ -128,6 +135,47 @@ answered_reply size request who old new event (Err NoMemory) was some = absurd (
 pub answered_none : (size : ℕ) (request : Request) (who : Who) (old new : List Entry) (event : Event) (r : Result (Unit {0}) Fault) → IsAnswered size request who old new event r → r ≡ Err NoMemory
     → new ≡ old
 answered_none size request who old new event r was is = subst (λ (x : Result (Unit {0}) Fault). IsAnswered size request who old new event x) is was
+
+-- ---- a slot was made a spare
+
+-- a reply's event stands in the history
+told_last : {size : ℕ} {request : Request} {who : Who} {old new : List Entry} {event : Event} → IsReplied size request who old new event → (passes : Event → Bool) → passes event ≡ true → IsTrue (list_any (λ e. passes e.event) new)
+told_last {who = who} {old = old} {event = event} was passes here =
+    let q : Entry → Bool = λ e. passes e.event in
+    let xs = entries_of who was.end was.inner in
+    ap (λ (l : List Entry). list_any q l) (last_alone old who was.end was.inner event was.is)
+    ∙ list_any-append q old (xs ++ one who was.end event ∷ [])
+    ∙ ap (λ (b : Bool). list_any q old || b) (list_any-append q xs (one who was.end event ∷ []) ∙ ap (λ (b : Bool). list_any q xs || (b || false)) here ∙ or_true (list_any q xs))
+    ∙ or_true (list_any q old)
+  where
+    or_true : (b : Bool) → (b || true) ≡ true
+    or_true true = refl
+    or_true false = refl
+
+-- each spare behind an add was one, or is told added
+pub spares_told : (size slot : ℕ) (who : Who) (given : Given) (backup : Option ℕ) (old new : List Entry) (before after : Members) (faults later : ℕ → ℕ) (r : Result (Unit {0}) Fault)
+    → IsAnswered size (AsksAdd slot) who old new (Added slot) r → IsAddedFor given backup slot before after faults later r → r ≢ Err NoMemory
+    → ((s : ℕ) → has_spare after.spares s ≡ true → (has_spare before.spares s ≡ true) ⊎ (s ≡ slot))
+    → (s : ℕ) → has_spare after.spares s ≡ true → (has_spare before.spares s ≡ true) ⊎ IsTrue (list_any (λ e. is_added s e.event) new)
+spares_told size slot who given backup old new before after faults later (Ok x) told added some spares s is = by_spare (spares s is)
+  where
+    same : (n : ℕ) → (n == n) ≡ true
+    same n = grind (arith, nat_tests)
+
+    by_spare : (has_spare before.spares s ≡ true) ⊎ (s ≡ slot) → (has_spare before.spares s ≡ true) ⊎ IsTrue (list_any (λ e. is_added s e.event) new)
+    by_spare (inl was) = inl was
+    by_spare (inr at) = inr (subst (λ (n : ℕ). IsTrue (list_any (λ e. is_added n e.event) new)) (sym at) (told_last told (λ event. is_added slot event) (same slot)))
+spares_told size slot who given backup old new before after faults later (Err (IsRefusedWith (SlotFault failed))) told added some spares s is = by_spare (spares s is)
+  where
+    by_spare : (has_spare before.spares s ≡ true) ⊎ (s ≡ slot) → (has_spare before.spares s ≡ true) ⊎ IsTrue (list_any (λ e. is_added s e.event) new)
+    by_spare (inl was) = inl was
+    by_spare (inr at) = absurd (let none : has_spare after.spares slot ≡ false = added.3 in let there : has_spare after.spares slot ≡ true = subst (λ (n : ℕ). has_spare after.spares n ≡ true) at is in cc)
+spares_told size slot who given backup old new before after faults later (Err (IsRefusedWith refusal)) told added some spares s is = inl (subst (λ (m : Members). has_spare m.spares s ≡ true) added.1 is)
+spares_told size slot who given backup old new before after faults later (Err NoMemory) told added some spares s is = absurd (some refl)
+
+-- memory was short for it
+pub spares_short : {B : Type 0} (old new : Parts B) → new ≡ old → (s : ℕ) → has_spare new.members.spares s ≡ true → (has_spare old.members.spares s ≡ true) ⊎ IsTrue (list_any (λ e. is_added s e.event) new.entries)
+spares_short {B = B} old new same s is = inl (subst (λ (a : Parts B). has_spare a.members.spares s ≡ true) same is)
 
 -- the sectors that a seed gives
 pub seeded_count : (bytes : List ℕ) (seed at count : ℕ) → sectors_of bytes ≡ seeded seed at count → length bytes / 512 ≡ count

@@ -22,9 +22,8 @@ use Rattle.assemble.specs.Filling.{AreBelow, OnlyBelow}
 use Rattle.superblocks.specs.Reading.{Scope, of_array, is_seen}
 use Rattle.flat_history.specs.Stands.{verdict}
 use Rattle.array.specs.declared.spec.CreateSpec.{CreateSpec}
-use Rattle.assemble.specs.Opening.{scope_of, array_of, AreGiven, IsReshapeRefused}
+use Rattle.assemble.specs.Opening.{scope_of, array_of, AreGiven, IsReshapeRefused, HasCause}
 use Rattle.assemble.specs.Made.{is_used, used_slot, IsUse, IsLateRefusal, HasCreateCause}
-use Rattle.assemble.specs.Running.{IsRebuildingSome, HasAssembleCause}
 
 -- has failed since every earlier moment, and at every later one
 pub faulted-wider : {first before now last : ℕ → ℕ} (slot : ℕ) → NeverFalls first before → NeverFalls before now → NeverFalls now last → IsFaulted slot before now → IsFaulted slot first last
@@ -80,18 +79,13 @@ module _ {told later : Type 0} {first before now last : ℕ → ℕ} (fewer : la
 
   -- of an assemble, where the slots hold the same
   module _ (asked : Option (List ℕ)) (same : later → d ≡ c) where
-    pub assemble-later : (fault : Fault) → HasAssembleCause told bank c backup asked before now fault → HasAssembleCause later bank d backup asked first last fault
-    assemble-later (IsRefusedWith refusal) (inl was) = inl (record {
+    pub assemble-later : (fault : Fault) → HasCause told bank c backup asked before now fault → HasCause later bank d backup asked first last fault
+    assemble-later (IsRefusedWith refusal) was = record {
       given = was.given;
       slots = given-wider early between late was.slots;
       why = λ t. subst (λ (x : Contents). (verdict (scope_of bank backup was.given (array_of bank backup was.given asked x)) x ≡ Some refusal) ⊎ IsReshapeRefused (scope_of bank backup was.given (array_of bank backup was.given asked x)) x refusal)
           (sym (same t)) (was.why (fewer t));
-    })
-    assemble-later (IsRefusedWith refusal) (inr was) = inr (record {
-      given = was.given;
-      slots = given-wider early between late was.slots;
-      why = λ t. subst (λ (x : Contents). IsRebuildingSome (scope_of bank backup was.given (array_of bank backup was.given asked x)) x refusal) (sym (same t)) (was.why (fewer t));
-    })
+    }
     assemble-later NoMemory was = tt
 
 -- ---- what the slots hold once operations were added
@@ -139,7 +133,7 @@ create-refused given backup spec old new fault falls tape was =
 
 -- a refused assemble
 pub assemble-refused : {tells : Type 0} {before now : ℕ → ℕ} (given : Given) (backup : Option ℕ) (asked : Option (List ℕ)) (old new : List Operation) (fault : Fault) → NeverFalls before now → (tells → OnlyFlushesAdded old new)
-    → HasAssembleCause tells given (contents given.start old (length old)) backup asked before now fault → HasAssembleCause tells given (contents given.start new (length new)) backup asked before now fault
+    → HasCause tells given (contents given.start old (length old)) backup asked before now fault → HasCause tells given (contents given.start new (length new)) backup asked before now fault
 assemble-refused given backup asked old new fault falls tape was =
     assemble-later (λ t. t) (λ s. omega arith) falls (λ s. omega arith) given backup (contents given.start old (length old)) (contents given.start new (length new)) asked
     (λ t. contents-added given.start old new (tape t)) fault was

@@ -1,11 +1,12 @@
 -- What stands in the superblocks of an array that was made or found.
-use Rattle.std.proofs.Common.{◌≡◌, ℕ, zero, suc, ◌+◌, ◌/◌, ◌*◌, ◌<◌, min, max, not, Bool, true, false, Option, Some, None, List, [], ◌++◌, length, map, refl, sym, ◌∙◌, ap, subst, arith}
+use Rattle.std.proofs.Common.{◌≡◌, inl, ℕ, zero, suc, ◌+◌, ◌-◌, ◌/◌, ◌*◌, ◌<◌, min, max, not, nat_lt, Bool, true, false, Option, Some, None, List, [], ◌∷◌, ◌++◌, length, take, drop, replicate, slice_index_or, map, refl, sym, ◌∙◌, ap, ap₂, subst, arith}
 use Rattle.std.specs.Prelude.{if◌then◌else◌, MatchOption, IsFalse, IsTrue}
 use Rattle.std.specs.Option.{option_map_or}
 use Rattle.md_base.specs.Shapes.{data_disks}
 use Rattle.md_base.specs.Search.{tabulate}
 use Rattle.md_base.specs.declared.places.Shape.{Shape}
 use Rattle.md_base.specs.declared.status.Role.{Role}
+use Rattle.md_base.specs.declared.status.Role.TheVariants.{Whole, Recovering as HeldInPart, Missing}
 use Rattle.md_base.specs.declared.status.Status.{Status}
 use Rattle.md_base.proofs.Tabulated.{length-tabulate}
 use Rattle.sb1.specs.declared.sb.Sb.{Sb}
@@ -13,7 +14,7 @@ use Rattle.bank.specs.declared.bank.Operation.{Operation}
 use Rattle.bank.specs.Given.{Given, sizes}
 use Rattle.bank.specs.Tape.{contents}
 use Rattle.superblocks.specs.declared.members.Members.{Members}
-use Rattle.superblocks.specs.Reading.{Reading, shape_of, final_shape, target_of, role_count, list_length, is_clean, is_reshaping, is_whole, role_state}
+use Rattle.superblocks.specs.Reading.{Reading, shape_of, final_shape, target_of, role_count, list_length, is_reshaping, is_whole, role_state, rows_held}
 use Rattle.superblocks.specs.Election.{reading_in}
 use Rattle.row_io.specs.Rows.{reading_of, is_missing}
 use Rattle.flat_history.specs.declared.events.Event.{Event}
@@ -21,16 +22,17 @@ use Rattle.flat_history.specs.World.{World, reading_at, opening_list}
 use Rattle.flat_history.specs.Stands.{stands, standing_sector}
 use Rattle.flat_history.specs.Fits.{whole_slot}
 use Rattle.flat_history.specs.Reopened.{OpensAccepted}
-use Rattle.array.specs.Adopting.{absent_loss, absent_losses, found_losses}
+use Rattle.array.specs.Adopting.{absent_loss, absent_losses, found_losses, stripes_held, found_stripes, found_work}
+use Rattle.array.specs.declared.work.Work.{Work}
 use Rattle.array.specs.Parts.{Parts}
 use Rattle.array.specs.Whole.{list_size}
 use Rattle.array.specs.Placed.{places_of}
 use Rattle.array.specs.declared.spec.CreateSpec.{CreateSpec}
 use Rattle.assemble.specs.Opening.{scope_of, IsOpened}
 use Rattle.assemble.specs.Running.{opened_of, IsBegun, IsCreated, IsAssembled}
-use Rattle.array.specs.Status.{left_of, IsStatusFor}
+use Rattle.array.specs.Status.{stripes_of, rebuilt_of, vacant_count, spare_count, resync_left, role_left, recovery_left, left_of, IsStatusFor}
 use Rattle.runner.specs.Histories.{History}
-use Rattle.runner.specs.Making.{Setting, world_at, history_world, HeldAtFirst, MissingAtFirst, AreHeldAtFirst, IsStored, IsStoredNew, IsStoredAs}
+use Rattle.runner.specs.Making.{Setting, world_at, history_world, MissingAtFirst, AreHeldSince, found_left, IsStored, IsStoredNew, IsStoredAs}
 use Rattle.runner.specs.States.{running_history}
 
 -- the world of an array that begins where the tape ends
@@ -96,17 +98,68 @@ module _ {B tells : Type 0} (given : Given) (tape : List Operation) (backup : Op
   pub opened_accepted : array.uuid ≡ array.members.newest.set_uuid → OpensAccepted (world_at given tape backup (running_history array))
   opened_accepted uuid = subst (λ (w : World). OpensAccepted w) (opened_world uuid) (opened.accepted t)
 
-  -- each slot that holds a role now held it then
-  pub opened_held : array.uuid ≡ array.members.newest.set_uuid → AreHeldAtFirst (world_at given tape backup (running_history array)) array.members
-  opened_held uuid role slot is =
-      subst (λ (w : World). HeldAtFirst w role slot) (opened_world uuid)
-      (record { begun = omega arith; found = r; says = says; held = is })
+  -- each slot that holds a role now held it then, and each spare was one
+  pub opened_held : array.uuid ≡ array.members.newest.set_uuid → AreHeldSince (world_at given tape backup (running_history array)) array.entries array.members
+  opened_held uuid = subst (λ (w : World). AreHeldSince w array.entries array.members) (opened_world uuid) (record {
+    roles = λ role slot is. inl (record { begun = omega arith; found = r; says = says; held = is });
+    spares = λ slot is. inl (record { begun = omega arith; found = r; says = says; spare = is });
+  })
 
 -- what the members and the superblocks say is missing is the same
 losses-same_reading : (slots : ℕ) (members : Members) (n : ℕ) → absent_losses (reading_of members) n ≡ absent_losses (reading_in slots members) n
 unfolding absent_losses
 losses-same_reading slots members zero = refl
 losses-same_reading slots members (suc n) = ap (λ (l : List Event). l ++ absent_loss (reading_in slots members) n) (losses-same_reading slots members n)
+
+-- ---- the steps that are left
+
+-- no superblock stands behind the bank's slots
+own-behind : (count slot : ℕ) → ◌≡◌ {A = Option Sb} None (slice_index_or (replicate count None) slot None)
+own-behind zero slot = refl
+own-behind (suc count) zero = refl
+own-behind (suc count) (suc slot) = own-behind count slot
+
+own-taken : (slots : ℕ) (own : List (Option Sb)) (count : ℕ) → drop (length (take slots own)) own ≡ replicate count None → (slot : ℕ) → slice_index_or (take slots own) slot None ≡ slice_index_or own slot None
+own-taken zero own count others slot = own-behind count slot ∙ ap (λ (l : List (Option Sb)). slice_index_or l slot None) (sym others)
+own-taken (suc slots) [] count others slot = refl
+own-taken (suc slots) (x ∷ own) count others zero = refl
+own-taken (suc slots) (x ∷ own) count others (suc slot) = own-taken slots own count others slot
+
+module _ (slots : ℕ) (members : Members) (count : ℕ) (others : drop (length (take slots members.own)) members.own ≡ replicate count None) where
+  -- the members that the superblocks give
+  abbrev given_members : Members
+  given_members = record { newest = members.newest; own = take slots members.own; roles = members.roles; spares = members.spares; lost = 0 }
+
+  rows-same : (state : Role) → rows_held (reading_of given_members) state ≡ rows_held (reading_of members) state
+  rows-same (Whole slot) = refl
+  rows-same (HeldInPart slot) = ap (λ (o : Option Sb). if is_reshaping members.newest then 0 else option_map_or (λ sb. sb.recovery_offset) o 0) (own-taken slots members.own count others slot)
+  rows-same Missing = refl
+
+  stripes-same : (chunk : ℕ) (state : Role) → stripes_held (reading_of given_members) chunk state ≡ stripes_held (reading_of members) chunk state
+  stripes-same chunk (Whole slot) = refl
+  stripes-same chunk (HeldInPart slot) = ap (λ (rows : ℕ). rows / chunk) (rows-same (HeldInPart slot))
+  stripes-same chunk Missing = refl
+
+  found-stripes-same : (chunk disks : ℕ) → found_stripes (reading_of given_members) chunk disks ≡ found_stripes (reading_of members) chunk disks
+  found-stripes-same chunk disks = λ i role. if nat_lt role disks then stripes-same chunk (role_state (reading_of members) role) i else 0
+
+  recovery-same : (one other : Work) → ((role : ℕ) → rebuilt_of other role ≡ rebuilt_of one role) → (n : ℕ) → recovery_left other given_members n ≡ recovery_left one members n
+  unfolding recovery_left
+  recovery-same one other rebuilt zero = refl
+  recovery-same one other rebuilt (suc n) =
+      ap₂ (λ (a b : ℕ). a + b) (recovery-same one other rebuilt n) (ap (λ (k : ℕ). role_left (stripes_of members) k (role_state (reading_of members) n)) (rebuilt n))
+
+  resync-same : (resync : Option ℕ) → resync_left resync given_members ≡ resync_left resync members
+  resync-same None = refl
+  resync-same (Some mended) = refl
+
+  -- as many are left in them
+  pub left-same : found_left (reading_in slots members) ≡ left_of (found_work members) members
+  left-same =
+      let given = min (vacant_count members) (spare_count members) * (stripes_of members + 2) in
+      ap₂ (λ (a b : ℕ). a + b + given) (resync-same (found_work members).resync)
+      (recovery-same (found_work members) (found_work given_members)
+      (λ role. ap (λ (f : ℕ → ℕ). slice_index_or (tabulate 16 f) role 0) (found-stripes-same (shape_of members.newest).chunk (shape_of members.newest).disks)) (shape_of members.newest).disks)
 
 -- what stands in the superblocks of an array that was made
 pub stored_made : {B tells : Type 0} (given : Given) (tape : List Operation) (backup : Option ℕ) (spec : CreateSpec) (made : Parts B) → IsCreated tells given tape backup spec made → tells → IsStoredNew (found_world given tape backup made) spec
@@ -132,12 +185,9 @@ module _ {B tells : Type 0} {before after : ℕ → ℕ} (given : Given) (tape :
   no_target : target_of found.members.newest ≡ None
   no_target = let still = is.opened.still in cc
 
-  left : status.left ≡ (if is_clean found.members.newest then 0 else found.members.newest.size / (shape_of found.members.newest).chunk + 1)
-  left = told.left ∙ ap (λ (o : Option ℕ). left_of o found.members) is.begun.resync ∙ turned (is_clean found.members.newest)
-    where
-      turned : (b : Bool) → left_of (if b then None else Some 0) found.members ≡ (if b then 0 else found.members.newest.size / (shape_of found.members.newest).chunk + 1)
-      turned true = refl
-      turned false = omega arith
+  left : status.left ≡ found_left (reading_in given.slots found.members)
+  left = told.left ∙ ap (λ (work : Work). left_of work found.members) is.begun.work
+      ∙ sym (left-same given.slots found.members (32 - length (take given.slots found.members.own)) is.opened.elected.others)
 
   pub stored_found : IsStoredAs (found_world given tape backup found) status (found_losses (reading_of found.members))
   stored_found =

@@ -20,13 +20,13 @@ use Rattle.flat_history.specs.Opened.{OpensSound}
 use Rattle.flat_history.specs.Growing.{grown}
 use Rattle.array.specs.Moving.{Grows}
 use Rattle.assemble.specs.Creating.{create_refusal}
-use Rattle.assemble.specs.Opening.{AreGiven, array_of, scope_of}
+use Rattle.assemble.specs.Opening.{AreGiven, HasCause, array_of, scope_of}
 use Rattle.assemble.specs.Made.{HasCreateCause, used_slot}
-use Rattle.assemble.specs.Running.{OpensWithZeros, HasAssembleCause}
+use Rattle.assemble.specs.Running.{OpensWithZeros}
 use Rattle.std.specs.List.{All}
 use Rattle.std.proofs.lemmas.List.Elements.{All-head, All-tail}
 use Rattle.array.specs.declared.spec.CreateSpec.{CreateSpec}
-use Rattle.script.specs.declared.lines.Line.TheVariants.{Create, Read, Write, Flush, Fail, Step, Wait, Stop, Halt, Assemble}
+use Rattle.script.specs.declared.lines.Line.TheVariants.{Create, Read, Write, Flush, Fail, Add, Step, Wait, Stop, Halt, Assemble}
 use Rattle.flat_history.specs.declared.events.Entry.{Entry}
 use Rattle.flat_history.specs.declared.events.Event.TheVariants.{Shown}
 use Rattle.flat_history.specs.Plain.{entries_of}
@@ -181,8 +181,8 @@ module _ (was now : Setting) (wider : IsWider was now) (end later : ℕ) (moved 
 
   unassembled_stays : (asked : Option (List ℕ)) (refusal : Refusal) → IsUnassembled was asked end refusal → IsUnassembled now asked later refusal
   unassembled_stays asked refusal is =
-      subst (λ (b : Option ℕ). HasAssembleCause now.tells now.given (held_at now later) b asked now.before now.now (IsRefusedWith refusal)) (sym wider.backup)
-      (subst (λ (g : Given). HasAssembleCause now.tells g (held_at now later) was.backup asked now.before now.now (IsRefusedWith refusal)) (sym wider.given)
+      subst (λ (b : Option ℕ). HasCause now.tells now.given (held_at now later) b asked now.before now.now (IsRefusedWith refusal)) (sym wider.backup)
+      (subst (λ (g : Given). HasCause now.tells g (held_at now later) was.backup asked now.before now.now (IsRefusedWith refusal)) (sym wider.given)
       (assemble-later wider.told wider.early wider.between wider.late was.given was.backup (held_at was end) (held_at now later) asked held (IsRefusedWith refusal) is))
 
   refused_stays : (running : Bool) (line : Line) (refusal : Refusal) → IsRefusedOutside was running end line refusal → IsRefusedOutside now running later line refusal
@@ -191,6 +191,7 @@ module _ (was now : Setting) (wider : IsWider was now) (end later : ℕ) (moved 
   refused_stays true (Write at count seed) refusal is = is
   refused_stays true Flush refusal is = is
   refused_stays true (Fail role) refusal is = is
+  refused_stays true (Add slot) refusal is = is
   refused_stays true (Step most) refusal is = is
   refused_stays true Wait refusal is = is
   refused_stays true Stop refusal is = is
@@ -201,6 +202,7 @@ module _ (was now : Setting) (wider : IsWider was now) (end later : ℕ) (moved 
   refused_stays false (Write at count seed) refusal is = is
   refused_stays false Flush refusal is = is
   refused_stays false (Fail role) refusal is = is
+  refused_stays false (Add slot) refusal is = is
   refused_stays false (Step most) refusal is = is
   refused_stays false Wait refusal is = is
   refused_stays false Stop refusal is = is
@@ -233,6 +235,7 @@ module _ (was now : Setting) (wider : IsWider was now) (end later : ℕ) (moved 
   made_wider histories epoch (Write at count seed) is = is
   made_wider histories epoch Flush is = is
   made_wider histories epoch (Fail role) is = is
+  made_wider histories epoch (Add slot) is = is
   made_wider histories epoch (Step most) is = is
   made_wider histories epoch Wait is = is
   made_wider histories epoch Stop is = is
@@ -245,6 +248,7 @@ module _ (was now : Setting) (wider : IsWider was now) (end later : ℕ) (moved 
   found_wider histories epoch (Write at count seed) status is = is
   found_wider histories epoch Flush status is = is
   found_wider histories epoch (Fail role) status is = is
+  found_wider histories epoch (Add slot) status is = is
   found_wider histories epoch (Step most) status is = is
   found_wider histories epoch Wait status is = is
   found_wider histories epoch Stop status is = is
@@ -299,6 +303,7 @@ made_stays setting olds news grown epoch end (Read at count) is = is
 made_stays setting olds news grown epoch end (Write at count seed) is = is
 made_stays setting olds news grown epoch end Flush is = is
 made_stays setting olds news grown epoch end (Fail role) is = is
+made_stays setting olds news grown epoch end (Add slot) is = is
 made_stays setting olds news grown epoch end (Step most) is = is
 made_stays setting olds news grown epoch end Wait is = is
 made_stays setting olds news grown epoch end Stop is = is
@@ -323,6 +328,7 @@ found_stays setting olds news grown epoch end (Read at count) status is = is
 found_stays setting olds news grown epoch end (Write at count seed) status is = is
 found_stays setting olds news grown epoch end Flush status is = is
 found_stays setting olds news grown epoch end (Fail role) status is = is
+found_stays setting olds news grown epoch end (Add slot) status is = is
 found_stays setting olds news grown epoch end (Step most) status is = is
 found_stays setting olds news grown epoch end Wait status is = is
 found_stays setting olds news grown epoch end Stop status is = is

@@ -22,11 +22,10 @@ use Rattle.flat_history.specs.Epochs.{IsEpochRight}
 use Rattle.flat_history.specs.Growing.{EndBy}
 use Rattle.flat_history.specs.Reopened.{OpensAccepted}
 use Rattle.flat_history.specs.Sound.{FillsRight, StaysSound}
-use Rattle.array.specs.Placed.{AreStillHeld}
 use Rattle.runner.specs.Histories.{History, history_of, histories_of}
-use Rattle.runner.specs.Making.{world_at, AreHeldAtFirst}
+use Rattle.runner.specs.Making.{world_at, AreHeldSince}
 use Rattle.runner.specs.States.{running_history}
-use Rattle.runner.proofs.Losses.{IsSameOpening, world_same, held-later}
+use Rattle.runner.proofs.Losses.{IsSameOpening, IsHistoryLater, AreHeldOn, world_same, held-later, held-on}
 use Rattle.std.specs.Option.{option_map_or}
 use Rattle.runner.specs.Runs.{mark_behind, AreEndedAt}
 use Rattle.runner.proofs.Worlds.{room-before, alike-before, fills-before, accepted-later, safe-longer, sound-longer}
@@ -119,26 +118,26 @@ accepted-grown {before = before} {after = after} given backup old new grows same
     (subst (λ (l : List Operation). OpensAccepted (world_at given l backup old)) (sym (more.1)) (accepted-later (world_at given before backup old) (more.0) (begun t) (was t)))
 
 -- the array that runs went on
-pub going_grown : {B tells : Type 0} {before after : List Operation} (given : Given) (backup : Option ℕ) (old new : Parts B) (epochs : List Epoch) → Grows tells before after → new.first ≡ old.first → new.backup ≡ old.backup
-    → new.uuid ≡ old.uuid → new.given ≡ old.given → AreStillHeld old.members new.members → IsEndOf tells new.first new.entries after → IsGoing tells given before backup old epochs → IsGoing tells given after backup new epochs
-going_grown given backup old new epochs grows first same uuid slots still ended was = record {
+pub going_grown : {B tells : Type 0} {before after : List Operation} (given : Given) (backup : Option ℕ) (old new : Parts B) (epochs : List Epoch) → Grows tells before after → IsHistoryLater (running_history old) (running_history new) → new.backup ≡ old.backup
+    → AreHeldOn old.members new.members new.entries → IsEndOf tells new.first new.entries after → IsGoing tells given before backup old epochs → IsGoing tells given after backup new epochs
+going_grown {after = after} given backup old new epochs grows later same on ended was = record {
   backup_is = same ∙ was.backup_is;
-  former = λ t. former_grown given backup old.first new.first epochs grows t (omega (arith, first)) (was.former t);
-  begun = λ t. omega (arith, first, was.begun t, grows_longer grows t);
-  accepted = accepted-grown given backup (running_history old) (running_history new) grows (record { uuid = uuid; given = slots; first = first }) was.begun was.accepted;
-  held = λ t role slot is. held-later given backup (running_history old) (running_history new) old.members grows (record { uuid = uuid; given = slots; first = first }) was.held t role slot (still role slot is);
+  former = λ t. former_grown given backup old.first new.first epochs grows t (omega (arith, later.same.first)) (was.former t);
+  begun = λ t. omega (arith, later.same.first, was.begun t, grows_longer grows t);
+  accepted = accepted-grown given backup (running_history old) (running_history new) grows later.same was.begun was.accepted;
+  held = λ t. held-on (world_at given after backup (running_history new)) new.entries old.members (held-later given backup (running_history old) (running_history new) old.members grows later was.held t) new.members on;
   ended = ended;
 }
 
 -- a request was made of it, or memory was short
-pub going_asked : {B tells : Type 0} (given : Given) (tape : B → List Operation) (backup : Option ℕ) (old new : Parts B) (epochs : List Epoch) (r : Result ℕ NoMemory) → Grows tells (tape old.bank) (tape new.bank) → new.first ≡ old.first → new.backup ≡ old.backup → new.uuid ≡ old.uuid → new.given ≡ old.given → AreStillHeld old.members new.members
+pub going_asked : {B tells : Type 0} (given : Given) (tape : B → List Operation) (backup : Option ℕ) (old new : Parts B) (epochs : List Epoch) (r : Result ℕ NoMemory) → Grows tells (tape old.bank) (tape new.bank) → IsHistoryLater (running_history old) (running_history new) → new.backup ≡ old.backup → AreHeldOn old.members new.members new.entries
     → IfOk r (λ place. IsEndOf tells new.first new.entries (tape new.bank)) → IfErr r (λ none. new ≡ old) → IsGoing tells given (tape old.bank) backup old epochs → IsGoing tells given (tape new.bank) backup new epochs
-going_asked given tape backup old new epochs (Ok place) grows first same uuid slots still ended unchanged was = going_grown given backup old new epochs grows first same uuid slots still ended was
-going_asked {B = B} {tells = tells} given tape backup old new epochs (Err fault) grows first same uuid slots still ended unchanged was = subst (λ (a : Parts B). IsGoing tells given (tape a.bank) backup a epochs) (sym unchanged) was
+going_asked given tape backup old new epochs (Ok place) grows later same on ended unchanged was = going_grown given backup old new epochs grows later same on ended was
+going_asked {B = B} {tells = tells} given tape backup old new epochs (Err fault) grows later same on ended unchanged was = subst (λ (a : Parts B). IsGoing tells given (tape a.bank) backup a epochs) (sym unchanged) was
 
 -- an array was opened where the tape ends
 pub going_begun : {B tells : Type 0} {before after : List Operation} (given : Given) (backup : Option ℕ) (olds news : List Epoch) (array : Parts B) → news ≡ olds → Grows tells before after
-    → array.backup ≡ backup → (tells → array.first ≡ length after) → (tells → OpensAccepted (world_at given after backup (running_history array))) → (tells → AreHeldAtFirst (world_at given after backup (running_history array)) array.members) → IsEndOf tells array.first array.entries after
+    → array.backup ≡ backup → (tells → array.first ≡ length after) → (tells → OpensAccepted (world_at given after backup (running_history array))) → (tells → AreHeldSince (world_at given after backup (running_history array)) array.entries array.members) → IsEndOf tells array.first array.entries after
     → (tells → AreFormer given before backup (length before) olds) → IsGoing tells given after backup array news
 going_begun {before = before} {after = after} given backup olds news array same grows backup_is first accepted held ended was = record {
   backup_is = backup_is;

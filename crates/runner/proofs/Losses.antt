@@ -1,7 +1,9 @@
 -- What the histories of a run tell of losses.
-use Rattle.std.proofs.Common.{◌≡◌, ℕ, zero, suc, ◌<◌, not, true, Option, List, [], ◌∷◌, ◌++◌, refl, sym, ◌∙◌, ap, subst, arith, append_assoc, append-nil}
+use Rattle.std.proofs.Common.{◌≡◌, ◌⊎◌, inl, inr, ℕ, zero, suc, ◌<◌, ◌||◌, not, Bool, true, Option, List, [], ◌∷◌, ◌++◌, refl, sym, ◌∙◌, ap, subst, arith, append_assoc, append-nil}
+use Rattle.std.proofs.lemmas.List.Folds.{list_any-append}
 use Rattle.std.proofs.lemmas.List.Elements.{All-nil, All-cons, All-append, All-weaker}
-use Rattle.std.specs.List.{All}
+use Rattle.std.specs.Prelude.{IsTrue}
+use Rattle.std.specs.List.{All, list_any}
 use Rattle.bank.specs.Given.{Given}
 use Rattle.bank.specs.declared.bank.Operation.{Operation}
 use Rattle.md_base.specs.declared.answers.Who.{Who}
@@ -17,19 +19,22 @@ use Rattle.flat_history.specs.World.{World}
 use Rattle.md_base.specs.declared.status.Role.{Role}
 use Rattle.md_base.specs.declared.status.Role.TheVariants.{Whole, Recovering as HeldInPart, Missing}
 use Rattle.superblocks.specs.Reading.{Reading, shape_of, is_whole, role_state}
+use Rattle.superblocks.specs.Reads.{has_spare}
 use Rattle.row_io.specs.Rows.{is_missing}
 use Rattle.array.specs.Adopting.{opener, found_loss, absent_loss, absent_losses, found_losses}
-use Rattle.array.specs.Calls.{IsRoleLossOf, IsLossOf, AreLossesOf, IsEntered}
+use Rattle.array.specs.Calls.{Held, MayHold, IsRoleLossBy, IsLossBy, AreLossesBy, AreLossesOf, AreSparesFewer, AreHeldOrSpare, IsSameArray, IsEntered}
+use Rattle.array.specs.Placed.{AreStillHeld}
 use Rattle.array.specs.Moving.{Grows}
 use Rattle.runner.specs.Histories.{History}
-use Rattle.runner.specs.Making.{Setting, world_at, history_world, HeldAtFirst, MissingAtFirst, AreHeldAtFirst}
-use Rattle.runner.specs.States.{IsRoleLossSince, IsLossSince, AreLossesSince, AreLossesFrom, AreGrown}
+use Rattle.runner.specs.Making.{Setting, world_at, history_world, HeldAtFirst, MissingAtFirst, SpareAtFirst, is_added, IsSpareSince, MayHaveHeld, AreHeldSince}
+use Rattle.runner.specs.States.{running_history, IsRoleLossSince, IsLossSince, AreLossesSince, AreLossesFrom, AreGrown}
+use Rattle.array.specs.Parts.{Parts}
 use Rattle.runner.proofs.AskLaws.{one, entries_of-append}
 use Rattle.runner.proofs.Causes.{faulted-wider}
 use Rattle.runner.proofs.Growth.{IsWider, world_stays}
-use Rattle.runner.proofs.Worlds.{held-longer, missing-longer}
+use Rattle.runner.proofs.Worlds.{held-longer, missing-longer, spare-longer}
 
--- ---- what held a role at the opening
+-- ---- what may have held a role since the opening
 
 -- an epoch's history may grow
 pub record IsSameOpening (old new : History) : Type 0 where
@@ -37,68 +42,154 @@ pub record IsSameOpening (old new : History) : Type 0 where
   pub given : new.given ≡ old.given
   pub first : new.first ≡ old.first
 
+-- and does so by what is entered behind its entries
+pub record IsHistoryLater (old new : History) : Type 0 where
+  pub same : IsSameOpening old new
+  pub more : List Entry
+  pub grown : new.entries ≡ old.entries ++ more
+
+pub later-same : (history : History) → IsHistoryLater history history
+later-same history = record { same = record { uuid = refl; given = refl; first = refl }; more = []; grown = sym (append-nil history.entries) }
+
+-- so it is behind a call of an array
+pub later-of : {B tells : Type 0} {before after : World} {Had : ℕ → ℕ → Type 0} {f g : ℕ → ℕ} {old new : Parts B} → IsSameArray tells old new before after → AreLossesBy Had f g old.entries new.entries
+    → IsHistoryLater (running_history old) (running_history new)
+later-of same lost = record { same = record { uuid = same.uuid; given = same.given; first = same.first }; more = lost.more; grown = lost.grown }
+
+-- a spare that was told added stays told
+added-more : (slot : ℕ) (entries more : List Entry) → IsTrue (list_any (λ e. is_added slot e.event) entries) → IsTrue (list_any (λ e. is_added slot e.event) (entries ++ more))
+added-more slot entries more told =
+    list_any-append (λ e. is_added slot e.event) entries more ∙ ap (λ (b : Bool). b || list_any (λ e. is_added slot e.event) more) told
+
+-- histories that began alike have the same world
 pub world_same : (given : Given) (tape : List Operation) (backup : Option ℕ) (old new : History) → IsSameOpening old new → world_at given tape backup new ≡ world_at given tape backup old
 world_same given tape backup old new same =
     ap (λ (u : List ℕ). world_at given tape backup (record { uuid = u; given = new.given; first = new.first; entries = [] })) same.uuid
     ∙ ap (λ (n : ℕ). world_at given tape backup (record { uuid = old.uuid; given = n; first = new.first; entries = [] })) same.given
     ∙ ap (λ (n : ℕ). world_at given tape backup (record { uuid = old.uuid; given = old.given; first = n; entries = [] })) same.first
 
--- it stays so as the tape grows
-pub held-later : {tells : Type 0} {before after : List Operation} (given : Given) (backup : Option ℕ) (old new : History) (members : Members) → Grows tells before after → IsSameOpening old new
-    → (tells → AreHeldAtFirst (world_at given before backup old) members) → tells → AreHeldAtFirst (world_at given after backup new) members
-held-later {before = before} {after = after} given backup old new members grows same was t role slot is =
+module _ (given : Given) (backup : Option ℕ) (before : List Operation) (more : List Operation) (old new : History) (later : IsHistoryLater old new) where
+  abbrev world_before : World
+  world_before = world_at given before backup old
+
+  abbrev world_after : World
+  world_after = world_at given (before ++ more) backup new
+
+  world_is : world_after ≡ grown world_before more
+  world_is = world_same given (before ++ more) backup old new later.same
+
+  first-held : (role slot : ℕ) → HeldAtFirst world_before role slot → HeldAtFirst world_after role slot
+  first-held role slot held = subst (λ (w : World). HeldAtFirst w role slot) (sym world_is) (held-longer world_before more held)
+
+  since-spare : (slot : ℕ) → IsSpareSince world_before old.entries slot → IsSpareSince world_after new.entries slot
+  since-spare slot (inl first) = inl (subst (λ (w : World). SpareAtFirst w slot) (sym world_is) (spare-longer world_before more first))
+  since-spare slot (inr told) = inr (subst (λ (l : List Entry). IsTrue (list_any (λ e. is_added slot e.event) l)) (sym later.grown) (added-more slot old.entries later.more told))
+
+  since-held : (role slot : ℕ) → MayHaveHeld world_before old.entries role slot → MayHaveHeld world_after new.entries role slot
+  since-held role slot (inl held) = inl (first-held role slot held)
+  since-held role slot (inr spare) = inr (since-spare slot spare)
+
+-- it stays so as the tape and the history grow
+pub held-later : {tells : Type 0} {before after : List Operation} (given : Given) (backup : Option ℕ) (old new : History) (members : Members) → Grows tells before after → IsHistoryLater old new
+    → (tells → AreHeldSince (world_at given before backup old) old.entries members) → tells → AreHeldSince (world_at given after backup new) new.entries members
+held-later {before = before} given backup old new members grows later was t =
     let more = grows.more t in
-    subst (λ (w : World). HeldAtFirst w role slot) (sym (world_same given after backup old new same))
-    (subst (λ (l : List Operation). HeldAtFirst (world_at given l backup old) role slot) (sym (more.1)) (held-longer (world_at given before backup old) (more.0) (was t role slot is)))
+    subst (λ (l : List Operation). AreHeldSince (world_at given l backup new) new.entries members) (sym (more.1)) (record {
+      roles = λ role slot is. since-held given backup before (more.0) old new later role slot ((was t).roles role slot is);
+      spares = λ slot is. since-spare given backup before (more.0) old new later slot ((was t).spares slot is);
+    })
 
-module _ (was now : Setting) (wider : IsWider was now) (old new : History) (same : IsSameOpening old new) (t : now.tells) where
+-- Each role that has a slot had it before, or that slot was a spare; each spare was one before, or these entries tell that it was added.
+pub record AreHeldOn (old new : Members) (entries : List Entry) : Type 0 where
+  pub roles : (role slot : ℕ) → Held new role slot → MayHold old role slot
+  pub spares : (slot : ℕ) → has_spare new.spares slot ≡ true → (has_spare old.spares slot ≡ true) ⊎ IsTrue (list_any (λ e. is_added slot e.event) entries)
+
+-- where roles are only lost
+pub on-lost : {old new : Members} (entries : List Entry) → AreStillHeld old new → AreSparesFewer old new → AreHeldOn old new entries
+on-lost entries held spares = record { roles = λ role slot is. inl (held role slot is); spares = λ slot is. inl (spares slot is) }
+
+-- where a slot was added besides
+pub on-added : {old new : Members} (entries : List Entry) → AreStillHeld old new
+    → ((slot : ℕ) → has_spare new.spares slot ≡ true → (has_spare old.spares slot ≡ true) ⊎ IsTrue (list_any (λ e. is_added slot e.event) entries)) → AreHeldOn old new entries
+on-added entries held spares = record { roles = λ role slot is. inl (held role slot is); spares = spares }
+
+-- where they may be given to spares
+pub on-given : {old new : Members} (entries : List Entry) → AreHeldOrSpare old new → AreHeldOn old new entries
+on-given entries held = record { roles = held.roles; spares = λ slot is. inl (held.spares slot is) }
+
+module _ (world : World) (entries : List Entry) (members : Members) (since : AreHeldSince world entries members) where
+  -- so it is of what may hold a role
+  pub may-held : (role slot : ℕ) → MayHold members role slot → MayHaveHeld world entries role slot
+  may-held role slot (inl held) = since.roles role slot held
+  may-held role slot (inr spare) = inr (since.spares slot spare)
+
+  -- and of the members that are left
+  pub held-on : (new : Members) → AreHeldOn members new entries → AreHeldSince world entries new
+  held-on new on = record { roles = λ role slot is. may-held role slot (on.roles role slot is); spares = λ slot is. by_spare slot (on.spares slot is) }
+    where
+      by_spare : (slot : ℕ) → (has_spare members.spares slot ≡ true) ⊎ IsTrue (list_any (λ e. is_added slot e.event) entries) → IsSpareSince world entries slot
+      by_spare slot (inl spare) = since.spares slot spare
+      by_spare slot (inr told) = inr told
+
+module _ (was now : Setting) (wider : IsWider was now) (old new : History) (later : IsHistoryLater old new) (t : now.tells) where
   world_later : history_world now new ≡ grown (history_world was old) (wider.grows.more t).0
-  world_later = world_same now.given now.tape now.backup old new same ∙ world_stays was now wider old t
+  world_later = world_same now.given now.tape now.backup old new later.same ∙ world_stays was now wider old t
 
-  held-wider : (role slot : ℕ) → HeldAtFirst (history_world was old) role slot → HeldAtFirst (history_world now new) role slot
-  held-wider role slot held = subst (λ (w : World). HeldAtFirst w role slot) (sym world_later) (held-longer (history_world was old) (wider.grows.more t).0 held)
+  held-wider : (role slot : ℕ) → MayHaveHeld (history_world was old) old.entries role slot → MayHaveHeld (history_world now new) new.entries role slot
+  held-wider role slot (inl held) = inl (subst (λ (w : World). HeldAtFirst w role slot) (sym world_later) (held-longer (history_world was old) (wider.grows.more t).0 held))
+  held-wider role slot (inr (inl first)) = inr (inl (subst (λ (w : World). SpareAtFirst w slot) (sym world_later) (spare-longer (history_world was old) (wider.grows.more t).0 first)))
+  held-wider role slot (inr (inr told)) = inr (inr (subst (λ (l : List Entry). IsTrue (list_any (λ e. is_added slot e.event) l)) (sym later.grown) (added-more slot old.entries later.more told)))
 
   missing-wider : (role : ℕ) → MissingAtFirst (history_world was old) role → MissingAtFirst (history_world now new) role
   missing-wider role missing = subst (λ (w : World). MissingAtFirst w role) (sym world_later) (missing-longer (history_world was old) (wider.grows.more t).0 missing)
 
 -- ---- a loss has its cause, over a longer time
 
-role-wider : (was now : Setting) → IsWider was now → (old new : History) → IsSameOpening old new → (role : ℕ) (cause : LostCause) → IsRoleLossSince was old role cause → IsRoleLossSince now new role cause
-role-wider was now wider old new same role Fault (slot, failed, held) = (slot, faulted-wider slot wider.early wider.between wider.late failed, λ t. held-wider was now wider old new same t role slot (held (wider.told t)))
-role-wider was now wider old new same role Command held = λ t. let is = held (wider.told t) in (is.0, held-wider was now wider old new same t role is.0 is.1)
-role-wider was now wider old new same role Absent missing = λ t. missing-wider was now wider old new same t role (missing (wider.told t))
-role-wider was now wider old new same role Recovering missing = λ t. missing-wider was now wider old new same t role (missing (wider.told t))
+role-wider : (was now : Setting) → IsWider was now → (old new : History) → IsHistoryLater old new → (role : ℕ) (cause : LostCause) → IsRoleLossSince was old role cause → IsRoleLossSince now new role cause
+role-wider was now wider old new later role Fault (slot, failed, held) = (slot, faulted-wider slot wider.early wider.between wider.late failed, λ t. held-wider was now wider old new later t role slot (held (wider.told t)))
+role-wider was now wider old new later role Command held = λ t. let is = held (wider.told t) in (is.0, held-wider was now wider old new later t role is.0 is.1)
+role-wider was now wider old new later role Absent missing = λ t. missing-wider was now wider old new later t role (missing (wider.told t))
+role-wider was now wider old new later role Recovering missing = λ t. missing-wider was now wider old new later t role (missing (wider.told t))
 
-loss-wider : (was now : Setting) → IsWider was now → (old new : History) → IsSameOpening old new → (event : Event) → IsLossSince was old event → IsLossSince now new event
-loss-wider was now wider old new same (Lost role cause) loss = role-wider was now wider old new same role cause loss
-loss-wider was now wider old new same (SpareLost slot) loss = faulted-wider slot wider.early wider.between wider.late loss
-loss-wider was now wider old new same event loss = tt
+loss-wider : (was now : Setting) → IsWider was now → (old new : History) → IsHistoryLater old new → (event : Event) → IsLossSince was old event → IsLossSince now new event
+loss-wider was now wider old new later (Lost role cause) loss = role-wider was now wider old new later role cause loss
+loss-wider was now wider old new later (SpareLost slot) loss = faulted-wider slot wider.early wider.between wider.late loss
+loss-wider was now wider old new later event loss = tt
 
-failed-wider : (was now : Setting) → IsWider was now → (old new : History) → IsSameOpening old new → (entries : List Entry) → All (λ e. IsLossSince was old e.event) entries → All (λ e. IsLossSince now new e.event) entries
-failed-wider was now wider old new same entries failed =
-    All-weaker (λ e. IsLossSince was old e.event) (λ e. IsLossSince now new e.event) (λ e loss. loss-wider was now wider old new same e.event loss) entries failed
+failed-wider : (was now : Setting) → IsWider was now → (old new : History) → IsHistoryLater old new → (entries : List Entry) → All (λ e. IsLossSince was old e.event) entries → All (λ e. IsLossSince now new e.event) entries
+failed-wider was now wider old new later entries failed =
+    All-weaker (λ e. IsLossSince was old e.event) (λ e. IsLossSince now new e.event) (λ e loss. loss-wider was now wider old new later e.event loss) entries failed
 
 -- ---- one history
 
-role-since : (setting : Setting) (history : History) (members : Members) → (setting.tells → AreHeldAtFirst (history_world setting history) members) → (role : ℕ) (cause : LostCause) → IsRoleLossOf members setting.before setting.now role cause → IsRoleLossSince setting history role cause
-role-since setting history members first role Fault (slot, held, failed) = (slot, failed, λ t. first t role slot held)
-role-since setting history members first role Command (slot, held) = λ t. (slot, first t role slot held)
-role-since setting history members first role Absent loss = absurd loss
-role-since setting history members first role Recovering loss = absurd loss
+module _ (setting : Setting) (history : History) (Had : ℕ → ℕ → Type 0) (since : setting.tells → (role slot : ℕ) → Had role slot → MayHaveHeld (history_world setting history) history.entries role slot) where
+  role-since : (role : ℕ) (cause : LostCause) → IsRoleLossBy Had setting.before setting.now role cause → IsRoleLossSince setting history role cause
+  role-since role Fault (slot, had, failed) = (slot, failed, λ t. since t role slot had)
+  role-since role Command (slot, had) = λ t. (slot, since t role slot had)
+  role-since role Absent loss = absurd loss
+  role-since role Recovering loss = absurd loss
 
-loss-since : (setting : Setting) (history : History) (members : Members) → (setting.tells → AreHeldAtFirst (history_world setting history) members) → (event : Event) → IsLossOf members setting.before setting.now event → IsLossSince setting history event
-loss-since setting history members first (Lost role cause) loss = role-since setting history members first role cause loss
-loss-since setting history members first (SpareLost slot) failed = failed
-loss-since setting history members first event loss = tt
+  loss-since : (event : Event) → IsLossBy Had setting.before setting.now event → IsLossSince setting history event
+  loss-since (Lost role cause) loss = role-since role cause loss
+  loss-since (SpareLost slot) failed = failed
+  loss-since event loss = tt
 
--- the losses of a call of an array
-pub losses-of : {members : Members} {old : List Entry} (setting : Setting) (new : History) → (setting.tells → AreHeldAtFirst (history_world setting new) members) → AreLossesOf members setting.before setting.now old new.entries
+  losses-since : {old : List Entry} → AreLossesBy Had setting.before setting.now old history.entries → AreLossesSince setting old history
+  losses-since was = record {
+    more = was.more;
+    grown = was.grown;
+    failed = All-weaker (λ e. IsLossBy Had setting.before setting.now e.event) (λ e. IsLossSince setting history e.event) (λ e loss. loss-since e.event loss) was.more was.failed;
+  }
+
+-- the losses of a call of an array, by which roles are only lost
+pub losses-of : {members : Members} {old : List Entry} (setting : Setting) (new : History) → (setting.tells → AreHeldSince (history_world setting new) new.entries members) → AreLossesOf members setting.before setting.now old new.entries
     → AreLossesSince setting old new
-losses-of {members = members} setting new first was = record {
-  more = was.more;
-  grown = was.grown;
-  failed = All-weaker (λ e. IsLossOf members setting.before setting.now e.event) (λ e. IsLossSince setting new e.event) (λ e loss. loss-since setting new members first e.event loss) was.more was.failed;
-}
+losses-of {members = members} setting new since was = losses-since setting new (Held members) (λ t role slot had. (since t).roles role slot had) was
+
+-- and by which they may be given to spares
+pub losses-given : {members : Members} {old : List Entry} (setting : Setting) (new : History) → (setting.tells → AreHeldSince (history_world setting new) new.entries members) → AreLossesBy (MayHold members) setting.before setting.now old new.entries
+    → AreLossesSince setting old new
+losses-given {members = members} setting new since was = losses-since setting new (MayHold members) (λ t role slot had. may-held (history_world setting new) new.entries members (since t) role slot had) was
 
 pub losses-none : (setting : Setting) (history : History) → AreLossesSince setting history.entries history
 losses-none setting history = record { more = []; grown = sym (append-nil history.entries); failed = All-nil (λ e. IsLossSince setting history e.event) }
@@ -141,15 +232,15 @@ losses-found setting new r end more missing others is = record {
 }
 
 pub losses-wider : (was now : Setting) → IsWider was now → (old : List Entry) (new : History) → AreLossesSince was old new → AreLossesSince now old new
-losses-wider was now wider old new lost = record { more = lost.more; grown = lost.grown; failed = failed-wider was now wider new new (record { uuid = refl; given = refl; first = refl }) lost.more lost.failed }
+losses-wider was now wider old new lost = record { more = lost.more; grown = lost.grown; failed = failed-wider was now wider new new (later-same new) lost.more lost.failed }
 
 -- one after the other
-pub losses-then : (was next now : Setting) → IsWider was now → IsWider next now → (old : List Entry) (mid new : History) → IsSameOpening mid new → AreLossesSince was old mid → AreLossesSince next mid.entries new → AreLossesSince now old new
-losses-then was next now wider_was wider_next old mid new same lost more = record {
+pub losses-then : (was next now : Setting) → IsWider was now → IsWider next now → (old : List Entry) (mid new : History) → IsHistoryLater mid new → AreLossesSince was old mid → AreLossesSince next mid.entries new → AreLossesSince now old new
+losses-then was next now wider_was wider_next old mid new later lost more = record {
   more = lost.more ++ more.more;
   grown = more.grown ∙ ap (λ (l : List Entry). l ++ more.more) lost.grown ∙ append_assoc old lost.more more.more;
   failed = All-append (λ e. IsLossSince now new e.event) lost.more more.more
-      (failed-wider was now wider_was mid new same lost.more lost.failed) (failed-wider next now wider_next new new (record { uuid = refl; given = refl; first = refl }) more.more more.failed);
+      (failed-wider was now wider_was mid new later lost.more lost.failed) (failed-wider next now wider_next new new (later-same new) more.more more.failed);
 }
 
 -- the whole history of an array that began with none
@@ -177,6 +268,6 @@ losses_add was next now wider_was wider_next [] [] grown lost more = tt
 losses_add was next now wider_was wider_next [] (new ∷ news) grown lost (one, more) = (losses-wider next now wider_next [] new one, losses_add was next now wider_was wider_next [] news tt tt more)
 losses_add was next now wider_was wider_next (old ∷ olds) [] grown lost more = absurd more
 losses_add was next now wider_was wider_next (old ∷ olds) (new ∷ news) (grew, grown) (one, lost) (two, more) = (
-  losses-then was next now wider_was wider_next [] old new (record { uuid = grew.uuid; given = grew.given; first = grew.first }) one two,
+  losses-then was next now wider_was wider_next [] old new (record { same = record { uuid = grew.uuid; given = grew.given; first = grew.first }; more = grew.more; grown = grew.grown }) one two,
   losses_add was next now wider_was wider_next olds news grown lost more,
 )

@@ -21,7 +21,7 @@ use Rattle.flat_history.specs.declared.events.Entry.{Entry}
 use Rattle.flat_history.specs.declared.events.Epoch.{Epoch}
 use Rattle.flat_history.specs.declared.events.Event.{Event}
 use Rattle.flat_history.specs.declared.events.Event.TheVariants.{Shown, Stopped, Halted}
-use Rattle.flat_history.specs.declared.events.Request.TheVariants.{Read as AsksRead, Write as AsksWrite, Flush as AsksFlush, Fail as AsksFail, Steps as AsksSteps}
+use Rattle.flat_history.specs.declared.events.Request.TheVariants.{Read as AsksRead, Write as AsksWrite, Flush as AsksFlush, Fail as AsksFail, Add as AsksAdd, Steps as AsksSteps}
 use Rattle.flat_history.specs.Flat.{rest_of_call, next_number, number_after}
 use Rattle.flat_history.specs.Legal.{call_before}
 use Rattle.flat_history.specs.Plain.{entries_of}
@@ -43,7 +43,7 @@ use Rattle.assemble.specs.Made.{used_slot}
 use Rattle.assemble.specs.Running.{IsCreated, IsAssembled, OpensWithZeros}
 use Rattle.script.specs.declared.lines.CreateLine.{CreateLine}
 use Rattle.script.specs.declared.lines.Line.{Line}
-use Rattle.script.specs.declared.lines.Line.TheVariants.{Create, Read, Write, Flush, Fail, Step, Wait, Assemble}
+use Rattle.script.specs.declared.lines.Line.TheVariants.{Create, Read, Write, Flush, Fail, Add, Step, Wait, Assemble}
 use Rattle.runner.specs.declared.report.Outside.TheVariants.{Created, Assembled, Refused}
 use Rattle.runner.specs.declared.report.Answered.{Answered}
 use Rattle.runner.specs.declared.report.Answered.TheVariants.{Inside, Outside as IsOutside}
@@ -123,7 +123,7 @@ module _ {size : ℕ} {last : Line} {place : ℕ} {mid : List Entry} (hs : List 
   pub between_last : (low high : ℕ) → low ≤ asked.end → asked.end ≤ high → EndsBetween low high (hs ++ new ∷ []) (Inside (length hs) place)
   between_last low high above below = subst (λ (o : Option Entry). MatchOption o ⊥ (λ e. (low ≤ e.end) × (e.end ≤ high))) (sym entry_last) (above, below)
 
--- a read, a write, a flush, a fail and steps end no epoch
+-- a read, a write, a flush, a fail, an add and steps end no epoch
 goes_read : (size : ℕ) (before call : List Entry) (at count : ℕ) (event : Event) → OneShapeAnswers size before call (AsksRead at count) event → is_end event ≡ false
 goes_read size before call at count Stopped is = absurd is
 goes_read size before call at count Halted is = absurd is
@@ -143,6 +143,11 @@ goes_fail : (size : ℕ) (before call : List Entry) (role : ℕ) (event : Event)
 goes_fail size before call role Stopped is = absurd is
 goes_fail size before call role Halted is = absurd is
 goes_fail size before call role event is = refl
+
+goes_add : (size : ℕ) (before call : List Entry) (slot : ℕ) (event : Event) → OneShapeAnswers size before call (AsksAdd slot) event → is_end event ≡ false
+goes_add size before call slot Stopped is = absurd is
+goes_add size before call slot Halted is = absurd is
+goes_add size before call slot event is = refl
 
 goes_steps : (size : ℕ) (before call : List Entry) (most : ℕ) (event : Event) → OneShapeAnswers size before call (AsksSteps most) event → is_end event ≡ false
 goes_steps size before call most Stopped is = absurd is
@@ -164,6 +169,9 @@ going_flush {size = size} {old = old} asked = goes_flush size (old ++ asked.inne
 
 pub going_fail : {size place : ℕ} {old new : List Entry} (role : ℕ) (asked : IsAskedAt size (Fail role) old new place) → is_end asked.event ≡ false
 going_fail {size = size} {old = old} role asked = goes_fail size (old ++ asked.inner) (call_of asked) role asked.event asked.fits.answers
+
+pub going_add : {size place : ℕ} {old new : List Entry} (slot : ℕ) (asked : IsAskedAt size (Add slot) old new place) → is_end asked.event ≡ false
+going_add {size = size} {old = old} slot asked = goes_add size (old ++ asked.inner) (call_of asked) slot asked.event asked.fits.answers
 
 pub going_steps : {size place : ℕ} {old new : List Entry} (most : ℕ) (asked : IsAskedAt size (Step most) old new place) → is_end asked.event ≡ false
 going_steps {size = size} {old = old} most asked = goes_steps size (old ++ asked.inner) (call_of asked) most asked.event asked.fits.answers

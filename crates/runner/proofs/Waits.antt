@@ -1,22 +1,17 @@
 -- The calls of a wait, one after another.
-use Rattle.std.proofs.Common.{◌≡◌, ◌⊎◌, inl, inr, ℕ, ◌*◌, ◌<◌, ◌≤◌, Bool, true, false, Option, None, List, [], ◌∷◌, ◌++◌, refl, sym, ◌∙◌, ap, subst, arith}
-use Rattle.std.specs.Prelude.{MatchOption, IsTrue, IsFalse}
+use Rattle.std.proofs.Common.{◌≡◌, ◌⊎◌, inl, inr, ℕ, ◌*◌, ◌≤◌, Bool, true, false, Option, List, [], ◌∷◌, ◌++◌, refl, sym, ◌∙◌, ap, subst, arith}
+use Rattle.std.specs.Prelude.{IsTrue, IsFalse}
 use Rattle.std.specs.Option.{option_map_or}
 use Rattle.md_base.specs.declared.places.Shape.{Shape}
 use Rattle.md_base.specs.Shapes.{data_disks}
 use Rattle.superblocks.specs.declared.members.Members.{Members}
 use Rattle.superblocks.specs.Reading.{shape_of}
 use Rattle.flat_history.specs.declared.events.Entry.{Entry}
-use Rattle.flat_history.specs.declared.events.Event.{Event}
-use Rattle.flat_history.specs.declared.events.Event.TheVariants.{Stepped}
-use Rattle.flat_history.specs.declared.events.Request.TheVariants.{Steps as AsksSteps}
 use Rattle.flat_history.specs.Flat.{next_number}
-use Rattle.flat_history.specs.OneShape.{OneShapeAnswers}
 use Rattle.array.specs.Whole.{list_size}
 use Rattle.array.specs.Placed.{places_of}
-use Rattle.shared_array.specs.Steps.{IsStepCount}
 use Rattle.script.specs.declared.lines.Line.TheVariants.{Step, Wait}
-use Rattle.runner.specs.Asked.{IsAskedAt, IsCountedAt, IsStillWaiting, IsWaitedFor}
+use Rattle.runner.specs.Asked.{IsAskedAt, IsStillWaiting, IsWaitedFor}
 use Rattle.runner.specs.Replies.{steps_at_once, leaves_more, leaves_more_at, IsReplyAt, IsWaitedAt, IsRepliedAt}
 use Rattle.runner.specs.States.{AreByScript}
 use Rattle.runner.proofs.AskLaws.{entry_there, reply_at}
@@ -86,15 +81,3 @@ module _ {size now place : ℕ} {old mid new : List Entry} (same : now ≡ size)
 
   pub waiting_on : leaves_more_at new place ≡ true → (earlier : List ℕ) × IsStillWaiting size old earlier new
   waiting_on more = (so_far.0 ++ place ∷ [], waiting_more old so_far.0 (so_far.1) asked (sym (leaves_at asked) ∙ more))
-
--- a call that leaves more to do has done some
-pub less_left : {size before after place : ℕ} {old new : List Entry} → IsAskedAt size (Step steps_at_once) old new place → IsCountedAt before after new place → leaves_more_at new place ≡ true → after < before
-less_left {size = size} {before = before} {after = after} {old = old} asked counted more =
-    less (old ++ asked.inner) _ asked.event (subst (λ (o : Option Entry). MatchOption o ⊥ (λ e. IsStepCount before after e.event)) (entry_there asked) counted) (sym (leaves_at asked) ∙ more) asked.fits.answers
-  where
-    less : (entries call : List Entry) (event : Event) → IsStepCount before after event → leaves_more event ≡ true → OneShapeAnswers size entries call (AsksSteps steps_at_once) event → after < before
-    less entries call (Stepped done left None) (told, sum, some) more (did, ends) = elim did.some_done [
-      | inl one ↦ omega (arith, sum, one)
-      | inr none ↦ absurd (cc)
-    ]
-    less entries call event count more answers = absurd (cc)

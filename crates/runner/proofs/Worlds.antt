@@ -33,7 +33,7 @@ use Rattle.flat_history.proofs.GrowingLaws.{marks-stay-safe}
 use Rattle.flat_history.proofs.SoundLaws.{fit-before, leaves-later, leaves-flushed}
 use Rattle.flat_history.proofs.StretchLaws.{bounds-serve}
 use Rattle.array.specs.declared.spec.CreateSpec.{CreateSpec}
-use Rattle.runner.specs.Making.{IsStored, IsStoredNew, IsStoredAs, HeldAtFirst, MissingAtFirst}
+use Rattle.runner.specs.Making.{IsStored, IsStoredNew, IsStoredAs, HeldAtFirst, MissingAtFirst, SpareAtFirst}
 
 -- ---- the opening
 
@@ -110,6 +110,15 @@ held-longer world more was = record {
   found = was.found;
   says = reading-same world more was.begun ∙ was.says;
   held = was.held;
+}
+
+-- what was a spare there was one
+pub spare-longer : (world : World) (more : List Operation) {slot : ℕ} → SpareAtFirst world slot → SpareAtFirst (grown world more) slot
+spare-longer world more was = record {
+  begun = let long = length-append world.tape more in omega (arith, was.begun, long);
+  found = was.found;
+  says = reading-same world more was.begun ∙ was.says;
+  spare = was.spare;
 }
 
 -- and so it is of what was missing there

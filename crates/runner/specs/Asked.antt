@@ -1,5 +1,5 @@
 -- One line of the script to a running array.
-use Rattle.std.specs.Prelude.{◌≡◌, ℕ, ◌+◌, ◌++◌, List, [], ◌∷◌, length, slice_get, MatchOption, Result, Ok, Err, IsTrue, IsFalse}
+use Rattle.std.specs.Prelude.{◌≡◌, ℕ, ◌+◌, ◌++◌, List, [], ◌∷◌, length, Result, Ok, Err, IsTrue, IsFalse}
 use Rattle.std.specs.List.{All}
 use Rattle.md_base.specs.declared.answers.NoMemory.{NoMemory}
 use Rattle.md_base.specs.declared.answers.Who.{Who}
@@ -7,7 +7,6 @@ use Rattle.flat_history.specs.declared.events.Entry.{Entry}
 use Rattle.flat_history.specs.declared.events.Event.{Event}
 use Rattle.flat_history.specs.Flat.{next_number}
 use Rattle.flat_history.specs.OneShape.{IsOfCall}
-use Rattle.shared_array.specs.Steps.{IsStepCount}
 use Rattle.script.specs.declared.lines.Line.{Line}
 use Rattle.script.specs.declared.lines.Line.TheVariants.{Step}
 use Rattle.runner.specs.Replies.{FitsLine, leaves_more, steps_at_once}
@@ -30,10 +29,6 @@ pub record IsAskedAt (size : ℕ) (line : Line) (old new : List Entry) (place : 
 abbrev pub IsAsked : ℕ → Line → List Entry → List Entry → Result ℕ NoMemory → Type 0
 IsAsked size line old new (Ok place) = IsAskedAt size line old new place
 IsAsked size line old new (Err fault) = new ≡ old
-
--- the reply at a place tells how many of the steps that were left were done, and how many are left now
-abbrev pub IsCountedAt : ℕ → ℕ → List Entry → ℕ → Type 0
-IsCountedAt before after entries place = MatchOption (slice_get entries place) ⊥ (λ e. IsStepCount before after e.event)
 
 -- The calls of a wait so far, whose replies stand at these places: each leaves more to do.
 abbrev pub IsStillWaiting : ℕ → List Entry → List ℕ → List Entry → Type 0

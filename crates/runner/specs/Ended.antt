@@ -15,7 +15,7 @@ use Rattle.array.specs.Parts.{Parts}
 use Rattle.runner.specs.declared.states.State.{State}
 use Rattle.runner.specs.declared.states.State.TheVariants.{Idle, Running}
 use Rattle.runner.specs.Histories.{History, histories_of}
-use Rattle.runner.specs.Making.{world_at, AreHeldAtFirst}
+use Rattle.runner.specs.Making.{world_at, AreHeldSince}
 use Rattle.runner.specs.States.{running_history}
 
 -- The epoch begins, and each of its entries ends, within the tape, and what its opening found was refused for nothing. Its history is
@@ -70,13 +70,13 @@ pub record AreFormer (given : Given) (tape : List Operation) (backup : Option �
   pub rising : AreRising mark (histories_of epochs)
 
 -- and of the one that runs: it has the backup of the run, began behind those, what its opening found was refused for nothing, its roles
--- are where they were then, unless they were lost, and the tape stands where its last entry ended
+-- are where they were then, or on slots that were spares, and the tape stands where its last entry ended
 pub record IsGoing {B : Type 0} (tells : Type 0) (given : Given) (tape : List Operation) (backup : Option ℕ) (array : Parts B) (epochs : List Epoch) : Type 0 where
   pub backup_is : array.backup ≡ backup
   pub former : tells → AreFormer given tape backup array.first epochs
   pub begun : tells → array.first ≤ length tape
   pub accepted : tells → OpensAccepted (world_at given tape backup (running_history array))
-  pub held : tells → AreHeldAtFirst (world_at given tape backup (running_history array)) array.members
+  pub held : tells → AreHeldSince (world_at given tape backup (running_history array)) array.entries array.members
   pub ended : IsEndOf tells array.first array.entries tape
 
 abbrev pub IsRunKept : {B : Type 0} → Type 0 → Given → List Operation → Option ℕ → State B → Type 0

@@ -19,7 +19,7 @@ use Rattle.runner.specs.declared.report.Answered.TheVariants.{Inside, Outside}
 use Rattle.runner.specs.declared.states.State.{State}
 use Rattle.runner.specs.declared.states.State.TheVariants.{Idle, Running}
 use Rattle.runner.specs.Histories.{History, histories_of, entry_at}
-use Rattle.runner.specs.Making.{Setting, history_world, HeldAtFirst, MissingAtFirst}
+use Rattle.runner.specs.Making.{Setting, history_world, MayHaveHeld, MissingAtFirst}
 use Rattle.runner.specs.Replies.{Course, at_rest, begun, course_after, IsAnswer}
 
 -- the history of an array that runs
@@ -95,12 +95,12 @@ AreGrown [] news = ⊤
 AreGrown (old ∷ olds) [] = ⊥
 AreGrown (old ∷ olds) (new ∷ news) = IsGrown old new × AreGrown olds news
 
--- A role is told lost by a fault only where the slot that held it at the opening has failed since, by command only where a slot held it
--- there, and as absent or recovering only where it wasn't whole there.
+-- A role is told lost by a fault only where a slot has failed that held it at the opening or was a spare, by command only where there was such a
+-- slot, and as absent or recovering only where it wasn't whole at the opening.
 abbrev pub IsRoleLossSince : Setting → History → ℕ → LostCause → Type 0
 IsRoleLossSince setting history role Fault =
-    (slot : ℕ) × IsFaulted slot setting.before setting.now × (setting.tells → HeldAtFirst (history_world setting history) role slot)
-IsRoleLossSince setting history role Command = setting.tells → (slot : ℕ) × HeldAtFirst (history_world setting history) role slot
+    (slot : ℕ) × IsFaulted slot setting.before setting.now × (setting.tells → MayHaveHeld (history_world setting history) history.entries role slot)
+IsRoleLossSince setting history role Command = setting.tells → (slot : ℕ) × MayHaveHeld (history_world setting history) history.entries role slot
 IsRoleLossSince setting history role Absent = setting.tells → MissingAtFirst (history_world setting history) role
 IsRoleLossSince setting history role Recovering = setting.tells → MissingAtFirst (history_world setting history) role
 

@@ -1,18 +1,20 @@
 //! One request of the script to a running array.
 
-ghost use Rattle.std.specs.Prelude.{◌≡◌, ◌≢◌, ◌+◌, ◌*◌, ◌/◌, ◌<◌, ◌≤◌, ◌^◌, ℕ, length, slice_get, Err, IfOk, IfErr, IsTrue, IsFalse, IsSome};
+ghost use Rattle.std.specs.Prelude.{◌≡◌, ◌≢◌, ◌⊎◌, ◌+◌, ◌*◌, ◌/◌, ◌<◌, ◌≤◌, ◌^◌, ℕ, true, length, slice_get, Err, IfOk, IfErr, IsTrue, IsFalse, IsSome};
 ghost use Rattle.md_base.specs.declared.answers.Fault.TheVariants.{NoMemory as WantsMemory};
 ghost use Rattle.bank.specs.Given.{NeverFalls};
 ghost use Rattle.md_base.specs.Sectors.{IsWhole};
+ghost use Rattle.std.specs.List.{list_any};
+ghost use Rattle.superblocks.specs.Reads.{has_spare};
 ghost use Rattle.array.specs.Whole.{list_size};
 ghost use Rattle.array.specs.Placed.{places_of, AreStillHeld};
-ghost use Rattle.array.specs.Status.{left_of};
-ghost use Rattle.array.specs.Calls.{IsSameArray, AreLossesOf, IsEndOf, world_for};
+ghost use Rattle.array.specs.Calls.{IsSameArray, AreSparesFewer, AreLossesOf, IsEndOf, world_for};
 ghost use Rattle.array.specs.Moving.{Grows};
 ghost use Rattle.shared_array.specs.Steps.{HasGoneOn};
-ghost use Rattle.runner.specs.Asked.{IsAsked, IsCountedAt, IsWaited, script_who};
+ghost use Rattle.runner.specs.Making.{is_added};
+ghost use Rattle.runner.specs.Asked.{IsAsked, IsWaited, script_who};
 ghost use Rattle.runner.specs.Replies.{leaves_more_at};
-ghost use Rattle.script.specs.declared.lines.Line.TheVariants.{Read as ReadLine, Write as WriteLine, Flush as FlushLine, Fail as FailLine, Step as StepLine};
+ghost use Rattle.script.specs.declared.lines.Line.TheVariants.{Read as ReadLine, Write as WriteLine, Flush as FlushLine, Fail as FailLine, Add as AddLine, Step as StepLine};
 
 use array::Array;
 use bank::Bank;
@@ -67,6 +69,7 @@ pub fn ask_read<B: Bank>(
     ensures unchanged { IfErr result (λ none. array.new ≡ array.old) }
     ensures grows { Grows B.tells (B.tape array.old.bank) (B.tape array.new.bank) }
     ensures held { AreStillHeld array.old.members array.new.members }
+    ensures spares { AreSparesFewer array.old.members array.new.members }
     ensures losses { AreLossesOf array.old.members (B.faults_of array.old.bank) (B.faults_of array.new.bank) array.old.entries array.new.entries }
     ensures never_falls { NeverFalls (B.faults_of array.old.bank) (B.faults_of array.new.bank) }
     ensures given { B.given array.new.bank ≡ B.given array.old.bank }
@@ -99,6 +102,7 @@ pub fn ask_write<B: Bank>(
     ensures unchanged { IfErr result (λ none. array.new ≡ array.old) }
     ensures grows { Grows B.tells (B.tape array.old.bank) (B.tape array.new.bank) }
     ensures held { AreStillHeld array.old.members array.new.members }
+    ensures spares { AreSparesFewer array.old.members array.new.members }
     ensures losses { AreLossesOf array.old.members (B.faults_of array.old.bank) (B.faults_of array.new.bank) array.old.entries array.new.entries }
     ensures never_falls { NeverFalls (B.faults_of array.old.bank) (B.faults_of array.new.bank) }
     ensures given { B.given array.new.bank ≡ B.given array.old.bank }
@@ -123,6 +127,7 @@ pub fn ask_flush<B: Bank>(array: &mut Array<B>) -> Result<u64, NoMemory>
     ensures unchanged { IfErr result (λ none. array.new ≡ array.old) }
     ensures grows { Grows B.tells (B.tape array.old.bank) (B.tape array.new.bank) }
     ensures held { AreStillHeld array.old.members array.new.members }
+    ensures spares { AreSparesFewer array.old.members array.new.members }
     ensures losses { AreLossesOf array.old.members (B.faults_of array.old.bank) (B.faults_of array.new.bank) array.old.entries array.new.entries }
     ensures never_falls { NeverFalls (B.faults_of array.old.bank) (B.faults_of array.new.bank) }
     ensures given { B.given array.new.bank ≡ B.given array.old.bank }
@@ -143,6 +148,7 @@ pub fn ask_fail<B: Bank>(array: &mut Array<B>, role: u32) -> Result<u64, NoMemor
     ensures unchanged { IfErr result (λ none. array.new ≡ array.old) }
     ensures grows { Grows B.tells (B.tape array.old.bank) (B.tape array.new.bank) }
     ensures held { AreStillHeld array.old.members array.new.members }
+    ensures spares { AreSparesFewer array.old.members array.new.members }
     ensures losses { AreLossesOf array.old.members (B.faults_of array.old.bank) (B.faults_of array.new.bank) array.old.entries array.new.entries }
     ensures never_falls { NeverFalls (B.faults_of array.old.bank) (B.faults_of array.new.bank) }
     ensures given { B.given array.new.bank ≡ B.given array.old.bank }
@@ -156,11 +162,32 @@ pub fn ask_fail<B: Bank>(array: &mut Array<B>, role: u32) -> Result<u64, NoMemor
     Ok(last_place(array))
 }
 
+/// Makes a slot a spare. Ok is the place of the reply entry.
+pub fn ask_add<B: Bank>(array: &mut Array<B>, slot: u32) -> Result<u64, NoMemory>
+    ensures asked { IsAsked (list_size (places_of array.old.members)) (AddLine slot) array.old.entries array.new.entries result }
+    ensures ended { IfOk result (λ place. IsEndOf B.tells array.new.first array.new.entries (B.tape array.new.bank)) }
+    ensures unchanged { IfErr result (λ none. array.new ≡ array.old) }
+    ensures grows { Grows B.tells (B.tape array.old.bank) (B.tape array.new.bank) }
+    ensures held { AreStillHeld array.old.members array.new.members }
+    ensures spares { (s : ℕ) → has_spare array.new.members.spares s ≡ true → (has_spare array.old.members.spares s ≡ true) ⊎ IsTrue (list_any (λ e. is_added s e.event) array.new.entries) }
+    ensures losses { AreLossesOf array.old.members (B.faults_of array.old.bank) (B.faults_of array.new.bank) array.old.entries array.new.entries }
+    ensures never_falls { NeverFalls (B.faults_of array.old.bank) (B.faults_of array.new.bank) }
+    ensures given { B.given array.new.bank ≡ B.given array.old.bank }
+    ensures same { IsSameArray B.tells array.old array.new (world_for (B.given array.old.bank) (B.tape array.old.bank) array.old) (world_for (B.given array.new.bank) (B.tape array.new.bank) array.new) }
+{
+    let who = script_call(array);
+    let answer = array.add(who, slot);
+    if wants_memory(&answer) {
+        return Err(NoMemory {});
+    }
+    Ok(last_place(array))
+}
+
 /// Asks for at most so many steps. Ok is the place of the reply entry.
 pub fn ask_steps<B: Bank>(array: &mut Array<B>, most: u32) -> Result<u64, NoMemory>
     requires some { 1 ≤ most }
     ensures asked { IsAsked (list_size (places_of array.old.members)) (StepLine most) array.old.entries array.new.entries result }
-    ensures counted { IfOk result (λ place. IsCountedAt (left_of array.old.resync array.old.members) (left_of array.new.resync array.new.members) array.new.entries place) }
+    ensures more { IfOk result (λ place. length array.old.entries < length array.new.entries) }
     ensures ended { IfOk result (λ place. IsEndOf B.tells array.new.first array.new.entries (B.tape array.new.bank)) }
     ensures unchanged { IfErr result (λ none. array.new ≡ array.old) }
     ensures went { HasGoneOn B.tells B.given B.tape B.faults_of array.old array.new }

@@ -16,7 +16,7 @@ ghost use Rattle.runner.specs.declared.report.Outside.TheVariants.{Refused as Is
 ghost use Rattle.runner.specs.declared.states.State.TheVariants.{Idle as IsIdle, Running as IsRunning};
 
 use crate::asks::{
-    ask_fail, ask_flush, ask_read, ask_steps, ask_wait, ask_write, last_place, script_call,
+    ask_add, ask_fail, ask_flush, ask_read, ask_steps, ask_wait, ask_write, last_place, script_call,
 };
 use crate::report::{Answered, Outside};
 use array::{Array, CreateSpec};
@@ -167,6 +167,10 @@ fn answer_running<B: Bank>(
             let place = ask_fail(&mut array, role);
             goes_on(array, epochs, place)
         }
+        Line::Add { slot } => {
+            let place = ask_add(&mut array, slot);
+            goes_on(array, epochs, place)
+        }
         Line::Step { most } => {
             let place = ask_steps(&mut array, most);
             goes_on(array, epochs, place)
@@ -303,6 +307,7 @@ fn answer_idle<B: Bank>(
         Line::Write { .. } => (State::Idle(bank, epochs), Ok(refused(Refusal::NotRunning))),
         Line::Flush => (State::Idle(bank, epochs), Ok(refused(Refusal::NotRunning))),
         Line::Fail { .. } => (State::Idle(bank, epochs), Ok(refused(Refusal::NotRunning))),
+        Line::Add { .. } => (State::Idle(bank, epochs), Ok(refused(Refusal::NotRunning))),
         Line::Step { .. } => (State::Idle(bank, epochs), Ok(refused(Refusal::NotRunning))),
         Line::Wait => (State::Idle(bank, epochs), Ok(refused(Refusal::NotRunning))),
         Line::Stop => (State::Idle(bank, epochs), Ok(refused(Refusal::NotRunning))),

@@ -42,10 +42,11 @@ fn source_of(alloc: Global, given: &Given<'_>) -> Result<MemorySource, Fail> {
     Ok(MemorySource::new(text, pulls))
 }
 
+// Eight slots, of which the seventh is too short for the arrays of these tests.
 fn bank_of(alloc: Global, given: &Given<'_>) -> Result<MemoryBank, Fail>
     ensures { IfOk result (λ bank. length bank.start ≡ 8) }
 {
-    let lengths = vec![in alloc; 64u64; 8]?;
+    let lengths = Vec::from_slice(alloc, &[64u64, 64, 64, 64, 64, 64, 48, 64])?;
     let calls = Vec::from_slice(alloc, given.calls)?;
     Ok(MemoryBank::new(alloc, lengths, 800, calls)?)
 }
@@ -80,7 +81,7 @@ fn ran<R: Threads + Wait + Sync>(
 // and a flush) for the zeros; 3 * (a read, a write and a flush) for the superblocks.
 #[test]
 fn lines_are_answered_in_their_order(rt: HostRuntime) -> Result<(), Fail> {
-    let rows: [(&str, &[u64], u8, &[u8]); 8] = [
+    let rows: [(&str, &[u64], u8, &[u8]); 9] = [
         (
             "write 0 1 7\nread 0 2\n",
             &[],
@@ -112,6 +113,13 @@ fn lines_are_answered_in_their_order(rt: HostRuntime) -> Result<(), Fail> {
             1,
             b"created\nstopped\nrefused 24 MembersMissing 2 1\nrefused 24 MembersMissing 2 1\n",
         ),
+        // that of the first member can't, so that its role is missing from the opening on, until it is rebuilt on a spare
+        (
+            "stop\nassemble\nadd 3\nwait\nfail 1\nread 0 1\n",
+            &[150],
+            0,
+            b"created\nstopped\nassembled level 5 disks 3 chunk 8 size 40 layout left-symmetric visible 80 left 0\nadded 3\nwaited left 0\nfailed 1\nread 0 1: zero x1\n",
+        ),
         ("# nothing\n\n", &[], 0, b"created\n"),
     ];
     for (lines, calls, status, output) in rows {
@@ -133,7 +141,7 @@ fn lines_are_answered_in_their_order(rt: HostRuntime) -> Result<(), Fail> {
 // The lines of a script without that `create`, the status and the replies.
 #[test]
 fn arrays_come_and_go(rt: HostRuntime) -> Result<(), Fail> {
-    let rows: [(&str, u8, &[u8]); 16] = [
+    let rows: [(&str, u8, &[u8]); 20] = [
         // a dirty array is found with its resync to do, one step for each of five stripes and one for its end
         (
             "create 6ba7b810-9dad-11d1-80b4-00c04fd430c8 level=5 disks=3 chunk=8 size=40 offset=16\nwrite 0 1 7\nflush\nwrite 0 1 7\nhalt\nassemble\nread 0 1\n",
@@ -217,6 +225,31 @@ fn arrays_come_and_go(rt: HostRuntime) -> Result<(), Fail> {
             "create 6ba7b810-9dad-11d1-80b4-00c04fd430c8 level=5 disks=3 chunk=8 size=40 offset=16\nwrite 0 1 7\nhalt\nassemble\nstep 2\nfail 1\nwait\nstop\nwait\nstep 1\n",
             1,
             b"created\nwrote 0 1\nhalted\nassembled level 5 disks 3 chunk 8 size 40 layout left-symmetric visible 80 left 6\nstepped 2 left 4\nfailed 1\nwaited left 4 refused 3 NotResynced 1\nstopped\nrefused 28 NotRunning\nrefused 28 NotRunning\n",
+        ),
+        // a role is rebuilt on a spare, in one step that gives it, one for each of five stripes and one for its end, and the list stands
+        // without another one
+        (
+            "create 6ba7b810-9dad-11d1-80b4-00c04fd430c8 level=5 disks=3 chunk=8 size=40 offset=16\nadd 3\nwrite 0 16 4\nfail 1\nstep 7\nfail 2\nread 0 16\nstep 1\n",
+            1,
+            b"created\nadded 3\nwrote 0 16\nfailed 1\nstepped 7 left 0\nfailed 2\nread 0 16: seed 4 x16\nrefused 19 Nothing\n",
+        ),
+        // so it does on the slot that had it, and behind an opening
+        (
+            "create 6ba7b810-9dad-11d1-80b4-00c04fd430c8 level=5 disks=3 chunk=8 size=40 offset=16\nwrite 0 16 4\nfail 1\nadd 1\nwait\nstop\nassemble\nfail 0\nread 0 16\n",
+            0,
+            b"created\nwrote 0 16\nfailed 1\nadded 1\nwaited left 0\nstopped\nassembled level 5 disks 3 chunk 8 size 40 layout left-symmetric visible 80 left 0\nfailed 0\nread 0 16: seed 4 x16\n",
+        ),
+        // a slot that is a spare, holds a role or is the backup isn't added, nor one that is too short or that isn't there
+        (
+            "create 6ba7b810-9dad-11d1-80b4-00c04fd430c8 level=5 disks=3 chunk=8 size=40 offset=16\nadd 3\nadd 3\nadd 0\nadd 7\nadd 6\nadd 8\nread 0 1\n",
+            1,
+            b"created\nadded 3\nrefused 6 SlotTaken 3\nrefused 6 SlotTaken 0\nrefused 6 SlotTaken 7\nrefused 7 SlotTooSmall 48 56\nrefused 30 NoSuchSlot 8\nread 0 1: zero x1\n",
+        ),
+        // none is added where too many roles are missing, or where no array runs
+        (
+            "create 6ba7b810-9dad-11d1-80b4-00c04fd430c8 level=5 disks=3 chunk=8 size=40 offset=16\nfail 0\nfail 1\nadd 3\nhalt\nadd 3\n",
+            1,
+            b"created\nfailed 0\nfailed 1\nrefused 2 TooManyMissing 2 1\nhalted\nrefused 28 NotRunning\n",
         ),
         (
             "assemble\nread 0 1\nstop\n",

@@ -9,10 +9,10 @@ use lib.Chars.{codes}
 use Rattle.md_base.specs.declared.places.Shape.{Shape}
 use Rattle.script.specs.Keys.{has_key}
 use Rattle.script.specs.Numbers.{words_of, number_below}
-use Rattle.script.specs.Grammar.{is_span, span_of, array_from, array_of, shape_of, create_keys, create_of, assemble_of, alone, read_of, write_of, fail_of, step_of, line_of, is_printable, is_passed_over, asks_or_bad, meaning_of}
+use Rattle.script.specs.Grammar.{is_span, span_of, array_from, array_of, shape_of, create_keys, create_of, assemble_of, alone, read_of, write_of, fail_of, add_of, step_of, line_of, is_printable, is_passed_over, asks_or_bad, meaning_of}
 use Rattle.script.specs.Script.{numbered, asked, is_within_limits}
 use Rattle.script.specs.declared.lines.Line.{Line}
-use Rattle.script.specs.declared.lines.Line.TheVariants.{Create, Read, Write, Flush, Fail, Step, Wait, Stop, Halt, Assemble}
+use Rattle.script.specs.declared.lines.Line.TheVariants.{Create, Read, Write, Flush, Fail, Add, Step, Wait, Stop, Halt, Assemble}
 use Rattle.script.specs.declared.lines.Numbered.{Numbered}
 use Rattle.script.specs.declared.grammar.Meaning.{Meaning}
 use Rattle.script.specs.declared.grammar.Meaning.TheVariants.{PassedOver, Asks, Bad}
@@ -69,6 +69,12 @@ fail_ok (role ∷ []) line e =
     let made = map_some (λ (n : ℕ). Fail n) (number_below (2 ^ 32) role) line e in ap is_within_limits (sym (made.2))
 fail_ok (role ∷ more ∷ rest) line e = absurd (cc)
 
+add_ok : (values : List (List ℕ)) (line : Line) → add_of values ≡ Some line → is_within_limits line ≡ true
+add_ok [] line e = absurd (cc)
+add_ok (slot ∷ []) line e =
+    let made = map_some (λ (n : ℕ). Add n) (number_below (2 ^ 32) slot) line e in ap is_within_limits (sym (made.2))
+add_ok (slot ∷ more ∷ rest) line e = absurd (cc)
+
 step_ok : (values : List (List ℕ)) (line : Line) → step_of values ≡ Some line → is_within_limits line ≡ true
 step_ok [] line e = absurd (cc)
 step_ok (most ∷ []) line e =
@@ -119,10 +125,11 @@ line_ok (verb ∷ values) line e =
     (verb_ok (bytes_eq verb (codes "write")) (write_of values) _ line (write_ok values line)
     (verb_ok (bytes_eq verb (codes "flush")) (alone Flush values) _ line (alone_ok Flush line values refl)
     (verb_ok (bytes_eq verb (codes "fail")) (fail_of values) _ line (fail_ok values line)
+    (verb_ok (bytes_eq verb (codes "add")) (add_of values) _ line (add_ok values line)
     (verb_ok (bytes_eq verb (codes "step")) (step_of values) _ line (step_ok values line)
     (verb_ok (bytes_eq verb (codes "wait")) (alone Wait values) _ line (alone_ok Wait line values refl)
     (verb_ok (bytes_eq verb (codes "stop")) (alone Stop values) _ line (alone_ok Stop line values refl)
-    (verb_ok (bytes_eq verb (codes "halt")) (alone Halt values) None line (alone_ok Halt line values refl) (λ h. absurd (cc)))))))))))
+    (verb_ok (bytes_eq verb (codes "halt")) (alone Halt values) None line (alone_ok Halt line values refl) (λ h. absurd (cc))))))))))))
     e
 
 meaning_ok : (text : List ℕ) (line : Line) → meaning_of text ≡ Asks line → is_within_limits line ≡ true

@@ -8,7 +8,7 @@ use Rattle.script.specs.Keys.{has_key, given}
 use Rattle.script.specs.Layouts.{layout_named}
 use Rattle.script.specs.Numbers.{is_space, words_of, number_below}
 use Rattle.script.specs.declared.lines.Line.{Line}
-use Rattle.script.specs.declared.lines.Line.TheVariants.{Create, Read, Write, Flush, Fail, Step, Wait, Stop, Halt, Assemble}
+use Rattle.script.specs.declared.lines.Line.TheVariants.{Create, Read, Write, Flush, Fail, Add, Step, Wait, Stop, Halt, Assemble}
 use Rattle.script.specs.declared.grammar.Meaning.{Meaning}
 use Rattle.script.specs.declared.grammar.Meaning.TheVariants.{PassedOver, Asks, Bad}
 
@@ -82,6 +82,11 @@ abbrev pub fail_of : List (List ℕ) → Option Line
 fail_of (role ∷ []) = option_map (λ n. Fail n) (number_below (2 ^ 32) role)
 fail_of _ = None
 
+-- `add SLOT`
+abbrev pub add_of : List (List ℕ) → Option Line
+add_of (slot ∷ []) = option_map (λ n. Add n) (number_below (2 ^ 32) slot)
+add_of _ = None
+
 -- `step N`: N is 1 or more
 abbrev pub step_of : List (List ℕ) → Option Line
 step_of (most ∷ []) = option_and_then (λ n. if nat_le 1 n then Some (Step n) else None) (number_below (2 ^ 32) most)
@@ -102,6 +107,7 @@ line_of (verb ∷ values) =
     else if bytes_eq verb (codes "write") then write_of values
     else if bytes_eq verb (codes "flush") then alone Flush values
     else if bytes_eq verb (codes "fail") then fail_of values
+    else if bytes_eq verb (codes "add") then add_of values
     else if bytes_eq verb (codes "step") then step_of values
     else if bytes_eq verb (codes "wait") then alone Wait values
     else if bytes_eq verb (codes "stop") then alone Stop values

@@ -3,7 +3,7 @@
 ghost use Rattle.std.specs.Prelude.{◌≡◌, ◌==◌, slice_index};
 ghost use Rattle.std.specs.List.{list_all};
 ghost use Rattle.uuid.specs.Text.{parsed};
-ghost use Rattle.script.specs.Grammar.{meaning_of, is_printable, line_of, alone, create_keys, create_of, shape_of, assemble_of, read_of, write_of, fail_of, step_of, span_of};
+ghost use Rattle.script.specs.Grammar.{meaning_of, is_printable, line_of, alone, create_keys, create_of, shape_of, assemble_of, read_of, write_of, fail_of, add_of, step_of, span_of};
 ghost use Rattle.script.specs.Keys.{has_key};
 ghost use Rattle.script.specs.Numbers.{is_space, words_of};
 
@@ -73,6 +73,8 @@ fn parse_line(mut words: Words<'_>) -> Option<Line>
         parse_alone(words, Line::Flush)
     } else if verb == b"fail".as_slice() {
         parse_fail(words)
+    } else if verb == b"add".as_slice() {
+        parse_add(words)
     } else if verb == b"step".as_slice() {
         parse_step(words)
     } else if verb == b"wait".as_slice() {
@@ -188,6 +190,13 @@ fn parse_fail(mut words: Words<'_>) -> Option<Line>
 {
     let role = small_number(words.next()?)?;
     parse_alone(words, Line::Fail { role })
+}
+
+fn parse_add(mut words: Words<'_>) -> Option<Line>
+    ensures { result ≡ add_of (words_of words.entry.line.now) }
+{
+    let slot = small_number(words.next()?)?;
+    parse_alone(words, Line::Add { slot })
 }
 
 fn parse_step(mut words: Words<'_>) -> Option<Line>

@@ -17,6 +17,7 @@ pub enum Line {
     Write { at: u64, count: u32, seed: u32 },
     Flush,
     Fail { role: u32 },
+    Add { slot: u32 },
     Step { most: u32 },
     Wait,
     Stop,

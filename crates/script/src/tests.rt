@@ -63,7 +63,7 @@ fn whole_texts(rt: HostRuntime) -> Result<(), Fail> {
 // Lines that begin with a verb and a uuid, or not, and whether they are in the grammar.
 #[test]
 fn lines_of_the_array(rt: HostRuntime) -> Result<(), Fail> {
-    let lines: [(&str, bool); 37] = [
+    let lines: [(&str, bool); 43] = [
         ("flush", true),
         ("  stop  ", true),
         ("halt", true),
@@ -77,6 +77,12 @@ fn lines_of_the_array(rt: HostRuntime) -> Result<(), Fail> {
         ("fail 4294967296", false),
         ("fail 1 2", false),
         ("fail 01", false),
+        ("add 1", true),
+        ("add 4294967295", true),
+        ("add", false),
+        ("add 4294967296", false),
+        ("add 1 2", false),
+        ("add 01", false),
         ("step 1", true),
         ("step 4294967295", true),
         ("step", false),
@@ -249,7 +255,7 @@ fn layouts_by_name(rt: HostRuntime) -> Result<(), Fail> {
 #[test]
 fn asked_lines(rt: HostRuntime) -> Result<(), Fail> {
     let text = format!(in rt.alloc();
-        "assemble\n# one\ncreate {UUID} level=5 disks=3 chunk=8 size=40 offset=16\n\nwrite 5 1 7\nread 0 2\nflush\nhalt\nassemble {UUID}\nfail 3\nstep 1\nstep 4294967295\nwait\nstop"
+        "assemble\n# one\ncreate {UUID} level=5 disks=3 chunk=8 size=40 offset=16\n\nwrite 5 1 7\nread 0 2\nflush\nhalt\nassemble {UUID}\nfail 3\nadd 4\nstep 1\nstep 4294967295\nwait\nstop"
     )?;
     let lines = read_script(rt.alloc(), text.as_bytes())?;
     let wanted = [
@@ -273,10 +279,11 @@ fn asked_lines(rt: HostRuntime) -> Result<(), Fail> {
             },
         ),
         (10, Line::Fail { role: 3 }),
-        (11, Line::Step { most: 1 }),
-        (12, Line::Step { most: u32::MAX }),
-        (13, Line::Wait),
-        (14, Line::Stop),
+        (11, Line::Add { slot: 4 }),
+        (12, Line::Step { most: 1 }),
+        (13, Line::Step { most: u32::MAX }),
+        (14, Line::Wait),
+        (15, Line::Stop),
     ];
     assert_eq!(rt; lines.len(), wanted.len());
     for (k, (number, line)) in wanted.iter().enumerate() {

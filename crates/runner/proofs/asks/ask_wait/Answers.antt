@@ -1,6 +1,6 @@
-use Rattle.std.proofs.Common.{sym, ◌∙◌}
+use Rattle.std.proofs.Common.{sym, ◌∙◌, arith}
 use Rattle.shared_array.proofs.GoneOn.{gone-then}
-use Rattle.runner.proofs.Waits.{size_same, waited_done, waiting_on, less_left}
+use Rattle.runner.proofs.Waits.{size_same, waited_done, waiting_on}
 use Rattle.runner.proofs.asks.ask_wait.Goals as goal
 
 pub returns-then-not-leaves_more-clause-asked : goal.returns-then-not-leaves_more-clause-asked
@@ -13,7 +13,7 @@ returns-then-not-leaves_more-clause-went g c =
     gone-then g.B.Bank.tells g.B.Bank.given g.B.Bank.tape g.B.Bank.faults_of c.args.array.now c.loop-at.array c.ask_steps.new.array c.loop-at.invariant.went c.in-Ok.ensures.went
 
 pub loop-at-smaller : goal.loop-at-smaller
-loop-at-smaller g c = less_left c.in-Ok.ensures.asked c.in-Ok.ensures.counted (sym c.leaves_more.ensures ∙ c.if-not-leaves_more.false)
+loop-at-smaller g c = omega (arith, c.in-Ok.ensures.more, c.in-Ok.ensures.asked.at_end)
 
 pub loop-at-preserved : goal.loop-at-preserved
 loop-at-preserved g c =

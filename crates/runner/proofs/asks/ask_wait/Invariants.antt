@@ -1,8 +1,7 @@
 -- Each call so far left more to do.
-use Rattle.std.proofs.Common.{ℕ, List}
+use Rattle.std.proofs.Common.{ℕ, ◌-◌, ◌^◌, List, length}
 use Rattle.array.specs.Whole.{list_size}
 use Rattle.array.specs.Placed.{places_of}
-use Rattle.array.specs.Status.{left_of}
 use Rattle.array.specs.Calls.{IsEndOf}
 use Rattle.shared_array.specs.Steps.{HasGoneOn}
 use Rattle.runner.specs.Asked.{IsStillWaiting}
@@ -15,5 +14,6 @@ invariant-loop-at g l = record {
   went : HasGoneOn g.B.Bank.tells g.B.Bank.given g.B.Bank.tape g.B.Bank.faults_of l.fn.array l.array;
 }
 
+-- the places that are left for entries
 abbrev pub decreases-loop-at : goal.decreases-loop-at
-decreases-loop-at g l = left_of l.array.resync l.array.members
+decreases-loop-at g l = 2 ^ 64 - length l.array.entries

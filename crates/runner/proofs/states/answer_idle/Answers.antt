@@ -38,6 +38,13 @@ returns-in-Fail-clause-answered g c =
     (turn_idle setting c.args.bank c.args.epochs c.args.epochs refl c.requires.own c.args.bank c.args.line NotRunning (λ t. omega arith)
     (subst (λ (l : Line). IsRefusedOutside setting false (length (g.B.Bank.tape c.args.bank)) l NotRunning) (sym c.in-Fail.is) refl))
 
+pub returns-in-Add-clause-answered : goal.returns-in-Add-clause-answered
+returns-in-Add-clause-answered g c =
+    let setting = setting_of g.B.Bank.tells (g.B.Bank.given c.args.bank) (g.B.Bank.tape c.args.bank) (g.B.Bank.tape c.args.bank) c.args.backup (g.B.Bank.faults_of c.args.bank) (g.B.Bank.faults_of c.args.bank) in
+    subst (λ (what : Answered). IsTurn setting (IsIdle c.args.bank c.args.epochs) (IsIdle c.args.bank c.args.epochs) c.args.line what) (sym c.refused-in-Add.ensures)
+    (turn_idle setting c.args.bank c.args.epochs c.args.epochs refl c.requires.own c.args.bank c.args.line NotRunning (λ t. omega arith)
+    (subst (λ (l : Line). IsRefusedOutside setting false (length (g.B.Bank.tape c.args.bank)) l NotRunning) (sym c.in-Add.is) refl))
+
 pub returns-in-Step-clause-answered : goal.returns-in-Step-clause-answered
 returns-in-Step-clause-answered g c =
     let setting = setting_of g.B.Bank.tells (g.B.Bank.given c.args.bank) (g.B.Bank.tape c.args.bank) (g.B.Bank.tape c.args.bank) c.args.backup (g.B.Bank.faults_of c.args.bank) (g.B.Bank.faults_of c.args.bank) in

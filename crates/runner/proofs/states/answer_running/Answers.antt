@@ -2,7 +2,7 @@ use Rattle.std.proofs.Common.{true, length, Result, refl, sym, subst}
 use Rattle.bank.specs.Given.{NeverFalls}
 use Rattle.md_base.specs.declared.answers.NoMemory.{NoMemory}
 use Rattle.script.specs.declared.lines.Line.{Line}
-use Rattle.script.specs.declared.lines.Line.TheVariants.{Read, Write, Flush, Fail, Step, Wait}
+use Rattle.script.specs.declared.lines.Line.TheVariants.{Read, Write, Flush, Fail, Add, Step, Wait}
 use Rattle.md_base.specs.declared.answers.Refusal.TheVariants.{Running as RefusedRunning}
 use Rattle.runner.specs.Making.{setting_of}
 use Rattle.runner.specs.Replies.{IsRefusedOutside}
@@ -13,8 +13,8 @@ use Rattle.runner.specs.declared.states.State.TheVariants.{Running as IsRunning}
 use Rattle.runner.specs.Ended.{IsRunKept}
 use Rattle.std.proofs.Common.{arith}
 use Rattle.runner.proofs.Legal.{grows_longer, going_grown, going_asked}
-use Rattle.runner.proofs.Losses.{losses-of, held-later}
-use Rattle.runner.proofs.Turns.{turn_of_ask, turn_of_wait, turn_refused, going_read, going_write, going_flush, going_fail, going_steps}
+use Rattle.runner.proofs.Losses.{later-of, losses-of, losses-given, held-later, on-lost, on-added, on-given}
+use Rattle.runner.proofs.Turns.{turn_of_ask, turn_of_wait, turn_refused, going_read, going_write, going_flush, going_fail, going_add, going_steps}
 use Rattle.runner.proofs.states.answer_running.Goals as goal
 
 pub returns-in-Read-clause-answered : goal.returns-in-Read-clause-answered
@@ -27,7 +27,7 @@ returns-in-Read-clause-answered g c =
     subst (λ (l : Line). IsTurnOrNone (setting_of g.B.Bank.tells (g.B.Bank.given array.bank) (g.B.Bank.tape array.bank) (g.B.Bank.tape (bank_in on.result.0)) c.args.backup (g.B.Bank.faults_of array.bank) (g.B.Bank.faults_of (bank_in on.result.0))) (IsRunning array c.args.epochs) on.result.0 l on.result.1) (sym c.in-Read.is)
     (subst (λ (s : State g.row.B.Denot). IsTurnOrNone (setting_of g.B.Bank.tells (g.B.Bank.given array.bank) (g.B.Bank.tape array.bank) (g.B.Bank.tape (bank_in s)) c.args.backup (g.B.Bank.faults_of array.bank) (g.B.Bank.faults_of (bank_in s))) (IsRunning array c.args.epochs) s (Read c.in-Read.at c.in-Read.count) on.result.1) (sym on.ensures.state)
     (subst (λ (r : Result Answered NoMemory). IsTurnOrNone (setting_of g.B.Bank.tells (g.B.Bank.given array.bank) (g.B.Bank.tape array.bank) (g.B.Bank.tape new.bank) c.args.backup (g.B.Bank.faults_of array.bank) (g.B.Bank.faults_of new.bank)) (IsRunning array c.args.epochs) (IsRunning new c.args.epochs) (Read c.in-Read.at c.in-Read.count) r) (sym on.ensures.answer)
-    (turn_of_ask (setting_of g.B.Bank.tells (g.B.Bank.given array.bank) (g.B.Bank.tape array.bank) (g.B.Bank.tape new.bank) c.args.backup (g.B.Bank.faults_of array.bank) (g.B.Bank.faults_of new.bank)) array new c.args.epochs c.requires.own (losses-of (setting_of g.B.Bank.tells (g.B.Bank.given array.bank) (g.B.Bank.tape array.bank) (g.B.Bank.tape new.bank) c.args.backup (g.B.Bank.faults_of array.bank) (g.B.Bank.faults_of new.bank)) (running_history new) (held-later (g.B.Bank.given array.bank) c.args.backup (running_history array) (running_history new) array.members did.grows (record { uuid = same.uuid; given = same.given; first = same.first }) c.requires.former.held) did.losses) same.uuid same.given same.first same.shape same.size
+    (turn_of_ask (setting_of g.B.Bank.tells (g.B.Bank.given array.bank) (g.B.Bank.tape array.bank) (g.B.Bank.tape new.bank) c.args.backup (g.B.Bank.faults_of array.bank) (g.B.Bank.faults_of new.bank)) array new c.args.epochs c.requires.own (losses-of (setting_of g.B.Bank.tells (g.B.Bank.given array.bank) (g.B.Bank.tape array.bank) (g.B.Bank.tape new.bank) c.args.backup (g.B.Bank.faults_of array.bank) (g.B.Bank.faults_of new.bank)) (running_history new) (held-later (g.B.Bank.given array.bank) c.args.backup (running_history array) (running_history new) array.members did.grows (later-of same did.losses) c.requires.former.held) did.losses) same.uuid same.given same.first same.shape same.size
     (Read c.in-Read.at c.in-Read.count) c.ask_read-place.result (λ p asked. going_read c.in-Read.at c.in-Read.count asked) (grows_longer did.grows) did.ended did.asked)))
 
 pub returns-in-Write-clause-answered : goal.returns-in-Write-clause-answered
@@ -40,7 +40,7 @@ returns-in-Write-clause-answered g c =
     subst (λ (l : Line). IsTurnOrNone (setting_of g.B.Bank.tells (g.B.Bank.given array.bank) (g.B.Bank.tape array.bank) (g.B.Bank.tape (bank_in on.result.0)) c.args.backup (g.B.Bank.faults_of array.bank) (g.B.Bank.faults_of (bank_in on.result.0))) (IsRunning array c.args.epochs) on.result.0 l on.result.1) (sym c.in-Write.is)
     (subst (λ (s : State g.row.B.Denot). IsTurnOrNone (setting_of g.B.Bank.tells (g.B.Bank.given array.bank) (g.B.Bank.tape array.bank) (g.B.Bank.tape (bank_in s)) c.args.backup (g.B.Bank.faults_of array.bank) (g.B.Bank.faults_of (bank_in s))) (IsRunning array c.args.epochs) s (Write c.in-Write.at c.in-Write.count c.in-Write.seed) on.result.1) (sym on.ensures.state)
     (subst (λ (r : Result Answered NoMemory). IsTurnOrNone (setting_of g.B.Bank.tells (g.B.Bank.given array.bank) (g.B.Bank.tape array.bank) (g.B.Bank.tape new.bank) c.args.backup (g.B.Bank.faults_of array.bank) (g.B.Bank.faults_of new.bank)) (IsRunning array c.args.epochs) (IsRunning new c.args.epochs) (Write c.in-Write.at c.in-Write.count c.in-Write.seed) r) (sym on.ensures.answer)
-    (turn_of_ask (setting_of g.B.Bank.tells (g.B.Bank.given array.bank) (g.B.Bank.tape array.bank) (g.B.Bank.tape new.bank) c.args.backup (g.B.Bank.faults_of array.bank) (g.B.Bank.faults_of new.bank)) array new c.args.epochs c.requires.own (losses-of (setting_of g.B.Bank.tells (g.B.Bank.given array.bank) (g.B.Bank.tape array.bank) (g.B.Bank.tape new.bank) c.args.backup (g.B.Bank.faults_of array.bank) (g.B.Bank.faults_of new.bank)) (running_history new) (held-later (g.B.Bank.given array.bank) c.args.backup (running_history array) (running_history new) array.members did.grows (record { uuid = same.uuid; given = same.given; first = same.first }) c.requires.former.held) did.losses) same.uuid same.given same.first same.shape same.size
+    (turn_of_ask (setting_of g.B.Bank.tells (g.B.Bank.given array.bank) (g.B.Bank.tape array.bank) (g.B.Bank.tape new.bank) c.args.backup (g.B.Bank.faults_of array.bank) (g.B.Bank.faults_of new.bank)) array new c.args.epochs c.requires.own (losses-of (setting_of g.B.Bank.tells (g.B.Bank.given array.bank) (g.B.Bank.tape array.bank) (g.B.Bank.tape new.bank) c.args.backup (g.B.Bank.faults_of array.bank) (g.B.Bank.faults_of new.bank)) (running_history new) (held-later (g.B.Bank.given array.bank) c.args.backup (running_history array) (running_history new) array.members did.grows (later-of same did.losses) c.requires.former.held) did.losses) same.uuid same.given same.first same.shape same.size
     (Write c.in-Write.at c.in-Write.count c.in-Write.seed) c.ask_write-place.result (λ p asked. going_write c.in-Write.at c.in-Write.count c.in-Write.seed asked) (grows_longer did.grows) did.ended did.asked)))
 
 pub returns-in-Flush-clause-answered : goal.returns-in-Flush-clause-answered
@@ -53,7 +53,7 @@ returns-in-Flush-clause-answered g c =
     subst (λ (l : Line). IsTurnOrNone (setting_of g.B.Bank.tells (g.B.Bank.given array.bank) (g.B.Bank.tape array.bank) (g.B.Bank.tape (bank_in on.result.0)) c.args.backup (g.B.Bank.faults_of array.bank) (g.B.Bank.faults_of (bank_in on.result.0))) (IsRunning array c.args.epochs) on.result.0 l on.result.1) (sym c.in-Flush.is)
     (subst (λ (s : State g.row.B.Denot). IsTurnOrNone (setting_of g.B.Bank.tells (g.B.Bank.given array.bank) (g.B.Bank.tape array.bank) (g.B.Bank.tape (bank_in s)) c.args.backup (g.B.Bank.faults_of array.bank) (g.B.Bank.faults_of (bank_in s))) (IsRunning array c.args.epochs) s Flush on.result.1) (sym on.ensures.state)
     (subst (λ (r : Result Answered NoMemory). IsTurnOrNone (setting_of g.B.Bank.tells (g.B.Bank.given array.bank) (g.B.Bank.tape array.bank) (g.B.Bank.tape new.bank) c.args.backup (g.B.Bank.faults_of array.bank) (g.B.Bank.faults_of new.bank)) (IsRunning array c.args.epochs) (IsRunning new c.args.epochs) Flush r) (sym on.ensures.answer)
-    (turn_of_ask (setting_of g.B.Bank.tells (g.B.Bank.given array.bank) (g.B.Bank.tape array.bank) (g.B.Bank.tape new.bank) c.args.backup (g.B.Bank.faults_of array.bank) (g.B.Bank.faults_of new.bank)) array new c.args.epochs c.requires.own (losses-of (setting_of g.B.Bank.tells (g.B.Bank.given array.bank) (g.B.Bank.tape array.bank) (g.B.Bank.tape new.bank) c.args.backup (g.B.Bank.faults_of array.bank) (g.B.Bank.faults_of new.bank)) (running_history new) (held-later (g.B.Bank.given array.bank) c.args.backup (running_history array) (running_history new) array.members did.grows (record { uuid = same.uuid; given = same.given; first = same.first }) c.requires.former.held) did.losses) same.uuid same.given same.first same.shape same.size
+    (turn_of_ask (setting_of g.B.Bank.tells (g.B.Bank.given array.bank) (g.B.Bank.tape array.bank) (g.B.Bank.tape new.bank) c.args.backup (g.B.Bank.faults_of array.bank) (g.B.Bank.faults_of new.bank)) array new c.args.epochs c.requires.own (losses-of (setting_of g.B.Bank.tells (g.B.Bank.given array.bank) (g.B.Bank.tape array.bank) (g.B.Bank.tape new.bank) c.args.backup (g.B.Bank.faults_of array.bank) (g.B.Bank.faults_of new.bank)) (running_history new) (held-later (g.B.Bank.given array.bank) c.args.backup (running_history array) (running_history new) array.members did.grows (later-of same did.losses) c.requires.former.held) did.losses) same.uuid same.given same.first same.shape same.size
     Flush c.ask_flush-place.result (λ p asked. going_flush asked) (grows_longer did.grows) did.ended did.asked)))
 
 pub returns-in-Fail-clause-answered : goal.returns-in-Fail-clause-answered
@@ -66,8 +66,21 @@ returns-in-Fail-clause-answered g c =
     subst (λ (l : Line). IsTurnOrNone (setting_of g.B.Bank.tells (g.B.Bank.given array.bank) (g.B.Bank.tape array.bank) (g.B.Bank.tape (bank_in on.result.0)) c.args.backup (g.B.Bank.faults_of array.bank) (g.B.Bank.faults_of (bank_in on.result.0))) (IsRunning array c.args.epochs) on.result.0 l on.result.1) (sym c.in-Fail.is)
     (subst (λ (s : State g.row.B.Denot). IsTurnOrNone (setting_of g.B.Bank.tells (g.B.Bank.given array.bank) (g.B.Bank.tape array.bank) (g.B.Bank.tape (bank_in s)) c.args.backup (g.B.Bank.faults_of array.bank) (g.B.Bank.faults_of (bank_in s))) (IsRunning array c.args.epochs) s (Fail c.in-Fail.role) on.result.1) (sym on.ensures.state)
     (subst (λ (r : Result Answered NoMemory). IsTurnOrNone (setting_of g.B.Bank.tells (g.B.Bank.given array.bank) (g.B.Bank.tape array.bank) (g.B.Bank.tape new.bank) c.args.backup (g.B.Bank.faults_of array.bank) (g.B.Bank.faults_of new.bank)) (IsRunning array c.args.epochs) (IsRunning new c.args.epochs) (Fail c.in-Fail.role) r) (sym on.ensures.answer)
-    (turn_of_ask (setting_of g.B.Bank.tells (g.B.Bank.given array.bank) (g.B.Bank.tape array.bank) (g.B.Bank.tape new.bank) c.args.backup (g.B.Bank.faults_of array.bank) (g.B.Bank.faults_of new.bank)) array new c.args.epochs c.requires.own (losses-of (setting_of g.B.Bank.tells (g.B.Bank.given array.bank) (g.B.Bank.tape array.bank) (g.B.Bank.tape new.bank) c.args.backup (g.B.Bank.faults_of array.bank) (g.B.Bank.faults_of new.bank)) (running_history new) (held-later (g.B.Bank.given array.bank) c.args.backup (running_history array) (running_history new) array.members did.grows (record { uuid = same.uuid; given = same.given; first = same.first }) c.requires.former.held) did.losses) same.uuid same.given same.first same.shape same.size
+    (turn_of_ask (setting_of g.B.Bank.tells (g.B.Bank.given array.bank) (g.B.Bank.tape array.bank) (g.B.Bank.tape new.bank) c.args.backup (g.B.Bank.faults_of array.bank) (g.B.Bank.faults_of new.bank)) array new c.args.epochs c.requires.own (losses-of (setting_of g.B.Bank.tells (g.B.Bank.given array.bank) (g.B.Bank.tape array.bank) (g.B.Bank.tape new.bank) c.args.backup (g.B.Bank.faults_of array.bank) (g.B.Bank.faults_of new.bank)) (running_history new) (held-later (g.B.Bank.given array.bank) c.args.backup (running_history array) (running_history new) array.members did.grows (later-of same did.losses) c.requires.former.held) did.losses) same.uuid same.given same.first same.shape same.size
     (Fail c.in-Fail.role) c.ask_fail-place.result (λ p asked. going_fail c.in-Fail.role asked) (grows_longer did.grows) did.ended did.asked)))
+
+pub returns-in-Add-clause-answered : goal.returns-in-Add-clause-answered
+returns-in-Add-clause-answered g c =
+    let array = c.args.array in
+    let new = c.ask_add-place.new.array in
+    let did = c.ask_add-place.ensures in
+    let same = did.same in
+    let on = c.goes_on-in-Add in
+    subst (λ (l : Line). IsTurnOrNone (setting_of g.B.Bank.tells (g.B.Bank.given array.bank) (g.B.Bank.tape array.bank) (g.B.Bank.tape (bank_in on.result.0)) c.args.backup (g.B.Bank.faults_of array.bank) (g.B.Bank.faults_of (bank_in on.result.0))) (IsRunning array c.args.epochs) on.result.0 l on.result.1) (sym c.in-Add.is)
+    (subst (λ (s : State g.row.B.Denot). IsTurnOrNone (setting_of g.B.Bank.tells (g.B.Bank.given array.bank) (g.B.Bank.tape array.bank) (g.B.Bank.tape (bank_in s)) c.args.backup (g.B.Bank.faults_of array.bank) (g.B.Bank.faults_of (bank_in s))) (IsRunning array c.args.epochs) s (Add c.in-Add.slot) on.result.1) (sym on.ensures.state)
+    (subst (λ (r : Result Answered NoMemory). IsTurnOrNone (setting_of g.B.Bank.tells (g.B.Bank.given array.bank) (g.B.Bank.tape array.bank) (g.B.Bank.tape new.bank) c.args.backup (g.B.Bank.faults_of array.bank) (g.B.Bank.faults_of new.bank)) (IsRunning array c.args.epochs) (IsRunning new c.args.epochs) (Add c.in-Add.slot) r) (sym on.ensures.answer)
+    (turn_of_ask (setting_of g.B.Bank.tells (g.B.Bank.given array.bank) (g.B.Bank.tape array.bank) (g.B.Bank.tape new.bank) c.args.backup (g.B.Bank.faults_of array.bank) (g.B.Bank.faults_of new.bank)) array new c.args.epochs c.requires.own (losses-of (setting_of g.B.Bank.tells (g.B.Bank.given array.bank) (g.B.Bank.tape array.bank) (g.B.Bank.tape new.bank) c.args.backup (g.B.Bank.faults_of array.bank) (g.B.Bank.faults_of new.bank)) (running_history new) (held-later (g.B.Bank.given array.bank) c.args.backup (running_history array) (running_history new) array.members did.grows (later-of same did.losses) c.requires.former.held) did.losses) same.uuid same.given same.first same.shape same.size
+    (Add c.in-Add.slot) c.ask_add-place.result (λ p asked. going_add c.in-Add.slot asked) (grows_longer did.grows) did.ended did.asked)))
 
 pub returns-in-Step-clause-answered : goal.returns-in-Step-clause-answered
 returns-in-Step-clause-answered g c =
@@ -80,7 +93,7 @@ returns-in-Step-clause-answered g c =
     subst (λ (l : Line). IsTurnOrNone (setting_of g.B.Bank.tells (g.B.Bank.given array.bank) (g.B.Bank.tape array.bank) (g.B.Bank.tape (bank_in on.result.0)) c.args.backup (g.B.Bank.faults_of array.bank) (g.B.Bank.faults_of (bank_in on.result.0))) (IsRunning array c.args.epochs) on.result.0 l on.result.1) (sym c.in-Step.is)
     (subst (λ (s : State g.row.B.Denot). IsTurnOrNone (setting_of g.B.Bank.tells (g.B.Bank.given array.bank) (g.B.Bank.tape array.bank) (g.B.Bank.tape (bank_in s)) c.args.backup (g.B.Bank.faults_of array.bank) (g.B.Bank.faults_of (bank_in s))) (IsRunning array c.args.epochs) s (Step c.in-Step.most) on.result.1) (sym on.ensures.state)
     (subst (λ (r : Result Answered NoMemory). IsTurnOrNone (setting_of g.B.Bank.tells (g.B.Bank.given array.bank) (g.B.Bank.tape array.bank) (g.B.Bank.tape new.bank) c.args.backup (g.B.Bank.faults_of array.bank) (g.B.Bank.faults_of new.bank)) (IsRunning array c.args.epochs) (IsRunning new c.args.epochs) (Step c.in-Step.most) r) (sym on.ensures.answer)
-    (turn_of_ask (setting_of g.B.Bank.tells (g.B.Bank.given array.bank) (g.B.Bank.tape array.bank) (g.B.Bank.tape new.bank) c.args.backup (g.B.Bank.faults_of array.bank) (g.B.Bank.faults_of new.bank)) array new c.args.epochs c.requires.own (losses-of (setting_of g.B.Bank.tells (g.B.Bank.given array.bank) (g.B.Bank.tape array.bank) (g.B.Bank.tape new.bank) c.args.backup (g.B.Bank.faults_of array.bank) (g.B.Bank.faults_of new.bank)) (running_history new) (held-later (g.B.Bank.given array.bank) c.args.backup (running_history array) (running_history new) array.members went.grows (record { uuid = same.uuid; given = same.given; first = same.first }) c.requires.former.held) went.losses) same.uuid same.given same.first same.shape same.size
+    (turn_of_ask (setting_of g.B.Bank.tells (g.B.Bank.given array.bank) (g.B.Bank.tape array.bank) (g.B.Bank.tape new.bank) c.args.backup (g.B.Bank.faults_of array.bank) (g.B.Bank.faults_of new.bank)) array new c.args.epochs c.requires.own (losses-given (setting_of g.B.Bank.tells (g.B.Bank.given array.bank) (g.B.Bank.tape array.bank) (g.B.Bank.tape new.bank) c.args.backup (g.B.Bank.faults_of array.bank) (g.B.Bank.faults_of new.bank)) (running_history new) (held-later (g.B.Bank.given array.bank) c.args.backup (running_history array) (running_history new) array.members went.grows (later-of same went.losses) c.requires.former.held) went.losses) same.uuid same.given same.first same.shape same.size
     (Step c.in-Step.most) c.ask_steps-place.result (λ p asked. going_steps c.in-Step.most asked) (grows_longer went.grows) did.ended did.asked)))
 
 pub returns-in-Wait-clause-answered : goal.returns-in-Wait-clause-answered
@@ -94,7 +107,7 @@ returns-in-Wait-clause-answered g c =
     subst (λ (l : Line). IsTurnOrNone (setting_of g.B.Bank.tells (g.B.Bank.given array.bank) (g.B.Bank.tape array.bank) (g.B.Bank.tape (bank_in on.result.0)) c.args.backup (g.B.Bank.faults_of array.bank) (g.B.Bank.faults_of (bank_in on.result.0))) (IsRunning array c.args.epochs) on.result.0 l on.result.1) (sym c.in-Wait.is)
     (subst (λ (s : State g.row.B.Denot). IsTurnOrNone (setting_of g.B.Bank.tells (g.B.Bank.given array.bank) (g.B.Bank.tape array.bank) (g.B.Bank.tape (bank_in s)) c.args.backup (g.B.Bank.faults_of array.bank) (g.B.Bank.faults_of (bank_in s))) (IsRunning array c.args.epochs) s Wait on.result.1) (sym on.ensures.state)
     (subst (λ (r : Result Answered NoMemory). IsTurnOrNone (setting_of g.B.Bank.tells (g.B.Bank.given array.bank) (g.B.Bank.tape array.bank) (g.B.Bank.tape new.bank) c.args.backup (g.B.Bank.faults_of array.bank) (g.B.Bank.faults_of new.bank)) (IsRunning array c.args.epochs) (IsRunning new c.args.epochs) Wait r) (sym on.ensures.answer)
-    (turn_of_wait (setting_of g.B.Bank.tells (g.B.Bank.given array.bank) (g.B.Bank.tape array.bank) (g.B.Bank.tape new.bank) c.args.backup (g.B.Bank.faults_of array.bank) (g.B.Bank.faults_of new.bank)) array new c.args.epochs c.requires.own (losses-of (setting_of g.B.Bank.tells (g.B.Bank.given array.bank) (g.B.Bank.tape array.bank) (g.B.Bank.tape new.bank) c.args.backup (g.B.Bank.faults_of array.bank) (g.B.Bank.faults_of new.bank)) (running_history new) (held-later (g.B.Bank.given array.bank) c.args.backup (running_history array) (running_history new) array.members went.grows (record { uuid = same.uuid; given = same.given; first = same.first }) c.requires.former.held) went.losses) same.uuid same.given same.first same.shape same.size
+    (turn_of_wait (setting_of g.B.Bank.tells (g.B.Bank.given array.bank) (g.B.Bank.tape array.bank) (g.B.Bank.tape new.bank) c.args.backup (g.B.Bank.faults_of array.bank) (g.B.Bank.faults_of new.bank)) array new c.args.epochs c.requires.own (losses-given (setting_of g.B.Bank.tells (g.B.Bank.given array.bank) (g.B.Bank.tape array.bank) (g.B.Bank.tape new.bank) c.args.backup (g.B.Bank.faults_of array.bank) (g.B.Bank.faults_of new.bank)) (running_history new) (held-later (g.B.Bank.given array.bank) c.args.backup (running_history array) (running_history new) array.members went.grows (later-of same went.losses) c.requires.former.held) went.losses) same.uuid same.given same.first same.shape same.size
     c.ask_wait-place.result (grows_longer went.grows) did.ended did.asked)))
 
 pub returns-in-Create-clause-answered : goal.returns-in-Create-clause-answered
@@ -117,7 +130,7 @@ returns-in-Read-clause-former g c =
     let new = c.ask_read-place.new.array in
     let did = c.ask_read-place.ensures in
     subst (λ (s : State g.row.B.Denot). IsRunKept g.B.Bank.tells (g.B.Bank.given array.bank) (g.B.Bank.tape (bank_in s)) c.args.backup s) (sym c.goes_on.ensures.state)
-    (going_asked (g.B.Bank.given array.bank) (λ (b : g.row.B.Denot). g.B.Bank.tape b) c.args.backup array new c.args.epochs.items c.ask_read-place.result did.grows did.same.first did.same.backup did.same.uuid did.same.given did.held did.ended did.unchanged c.requires.former)
+    (going_asked (g.B.Bank.given array.bank) (λ (b : g.row.B.Denot). g.B.Bank.tape b) c.args.backup array new c.args.epochs.items c.ask_read-place.result did.grows (later-of did.same did.losses) did.same.backup (on-lost new.entries did.held did.spares) did.ended did.unchanged c.requires.former)
 
 pub returns-in-Write-clause-former : goal.returns-in-Write-clause-former
 returns-in-Write-clause-former g c =
@@ -125,7 +138,7 @@ returns-in-Write-clause-former g c =
     let new = c.ask_write-place.new.array in
     let did = c.ask_write-place.ensures in
     subst (λ (s : State g.row.B.Denot). IsRunKept g.B.Bank.tells (g.B.Bank.given array.bank) (g.B.Bank.tape (bank_in s)) c.args.backup s) (sym c.goes_on-in-Write.ensures.state)
-    (going_asked (g.B.Bank.given array.bank) (λ (b : g.row.B.Denot). g.B.Bank.tape b) c.args.backup array new c.args.epochs.items c.ask_write-place.result did.grows did.same.first did.same.backup did.same.uuid did.same.given did.held did.ended did.unchanged c.requires.former)
+    (going_asked (g.B.Bank.given array.bank) (λ (b : g.row.B.Denot). g.B.Bank.tape b) c.args.backup array new c.args.epochs.items c.ask_write-place.result did.grows (later-of did.same did.losses) did.same.backup (on-lost new.entries did.held did.spares) did.ended did.unchanged c.requires.former)
 
 pub returns-in-Flush-clause-former : goal.returns-in-Flush-clause-former
 returns-in-Flush-clause-former g c =
@@ -133,7 +146,7 @@ returns-in-Flush-clause-former g c =
     let new = c.ask_flush-place.new.array in
     let did = c.ask_flush-place.ensures in
     subst (λ (s : State g.row.B.Denot). IsRunKept g.B.Bank.tells (g.B.Bank.given array.bank) (g.B.Bank.tape (bank_in s)) c.args.backup s) (sym c.goes_on-in-Flush.ensures.state)
-    (going_asked (g.B.Bank.given array.bank) (λ (b : g.row.B.Denot). g.B.Bank.tape b) c.args.backup array new c.args.epochs.items c.ask_flush-place.result did.grows did.same.first did.same.backup did.same.uuid did.same.given did.held did.ended did.unchanged c.requires.former)
+    (going_asked (g.B.Bank.given array.bank) (λ (b : g.row.B.Denot). g.B.Bank.tape b) c.args.backup array new c.args.epochs.items c.ask_flush-place.result did.grows (later-of did.same did.losses) did.same.backup (on-lost new.entries did.held did.spares) did.ended did.unchanged c.requires.former)
 
 pub returns-in-Fail-clause-former : goal.returns-in-Fail-clause-former
 returns-in-Fail-clause-former g c =
@@ -141,7 +154,15 @@ returns-in-Fail-clause-former g c =
     let new = c.ask_fail-place.new.array in
     let did = c.ask_fail-place.ensures in
     subst (λ (s : State g.row.B.Denot). IsRunKept g.B.Bank.tells (g.B.Bank.given array.bank) (g.B.Bank.tape (bank_in s)) c.args.backup s) (sym c.goes_on-in-Fail.ensures.state)
-    (going_asked (g.B.Bank.given array.bank) (λ (b : g.row.B.Denot). g.B.Bank.tape b) c.args.backup array new c.args.epochs.items c.ask_fail-place.result did.grows did.same.first did.same.backup did.same.uuid did.same.given did.held did.ended did.unchanged c.requires.former)
+    (going_asked (g.B.Bank.given array.bank) (λ (b : g.row.B.Denot). g.B.Bank.tape b) c.args.backup array new c.args.epochs.items c.ask_fail-place.result did.grows (later-of did.same did.losses) did.same.backup (on-lost new.entries did.held did.spares) did.ended did.unchanged c.requires.former)
+
+pub returns-in-Add-clause-former : goal.returns-in-Add-clause-former
+returns-in-Add-clause-former g c =
+    let array = c.args.array in
+    let new = c.ask_add-place.new.array in
+    let did = c.ask_add-place.ensures in
+    subst (λ (s : State g.row.B.Denot). IsRunKept g.B.Bank.tells (g.B.Bank.given array.bank) (g.B.Bank.tape (bank_in s)) c.args.backup s) (sym c.goes_on-in-Add.ensures.state)
+    (going_asked (g.B.Bank.given array.bank) (λ (b : g.row.B.Denot). g.B.Bank.tape b) c.args.backup array new c.args.epochs.items c.ask_add-place.result did.grows (later-of did.same did.losses) did.same.backup (on-added new.entries did.held did.spares) did.ended did.unchanged c.requires.former)
 
 pub returns-in-Step-clause-former : goal.returns-in-Step-clause-former
 returns-in-Step-clause-former g c =
@@ -150,7 +171,7 @@ returns-in-Step-clause-former g c =
     let did = c.ask_steps-place.ensures in
     let went = did.went in
     subst (λ (s : State g.row.B.Denot). IsRunKept g.B.Bank.tells (g.B.Bank.given array.bank) (g.B.Bank.tape (bank_in s)) c.args.backup s) (sym c.goes_on-in-Step.ensures.state)
-    (going_asked (g.B.Bank.given array.bank) (λ (b : g.row.B.Denot). g.B.Bank.tape b) c.args.backup array new c.args.epochs.items c.ask_steps-place.result went.grows went.same.first went.same.backup went.same.uuid went.same.given went.held did.ended did.unchanged c.requires.former)
+    (going_asked (g.B.Bank.given array.bank) (λ (b : g.row.B.Denot). g.B.Bank.tape b) c.args.backup array new c.args.epochs.items c.ask_steps-place.result went.grows (later-of went.same went.losses) went.same.backup (on-given new.entries went.held) did.ended did.unchanged c.requires.former)
 
 pub returns-in-Wait-clause-former : goal.returns-in-Wait-clause-former
 returns-in-Wait-clause-former g c =
@@ -159,7 +180,7 @@ returns-in-Wait-clause-former g c =
     let did = c.ask_wait-place.ensures in
     let went = did.went in
     subst (λ (s : State g.row.B.Denot). IsRunKept g.B.Bank.tells (g.B.Bank.given array.bank) (g.B.Bank.tape (bank_in s)) c.args.backup s) (sym c.goes_on-in-Wait.ensures.state)
-    (going_grown (g.B.Bank.given array.bank) c.args.backup array new c.args.epochs.items went.grows went.same.first went.same.backup went.same.uuid went.same.given went.held did.ended c.requires.former)
+    (going_grown (g.B.Bank.given array.bank) c.args.backup array new c.args.epochs.items went.grows (later-of went.same went.losses) went.same.backup (on-given new.entries went.held) did.ended c.requires.former)
 
 pub returns-in-Step-clause-never_falls : goal.returns-in-Step-clause-never_falls
 returns-in-Step-clause-never_falls g c =
@@ -168,3 +189,23 @@ returns-in-Step-clause-never_falls g c =
 pub returns-in-Wait-clause-never_falls : goal.returns-in-Wait-clause-never_falls
 returns-in-Wait-clause-never_falls g c =
     subst (λ (s : State g.row.B.Denot). NeverFalls (g.B.Bank.faults_of c.args.array.bank) (g.B.Bank.faults_of (bank_in s))) (sym c.goes_on-in-Wait.ensures.state) c.ask_wait-place.ensures.went.never_falls
+
+pub returns-in-Read-clause-never_falls : goal.returns-in-Read-clause-never_falls
+returns-in-Read-clause-never_falls g c =
+    subst (λ (s : State g.row.B.Denot). NeverFalls (g.B.Bank.faults_of c.args.array.bank) (g.B.Bank.faults_of (bank_in s))) (sym c.goes_on.ensures.state) c.ask_read-place.ensures.never_falls
+
+pub returns-in-Write-clause-never_falls : goal.returns-in-Write-clause-never_falls
+returns-in-Write-clause-never_falls g c =
+    subst (λ (s : State g.row.B.Denot). NeverFalls (g.B.Bank.faults_of c.args.array.bank) (g.B.Bank.faults_of (bank_in s))) (sym c.goes_on-in-Write.ensures.state) c.ask_write-place.ensures.never_falls
+
+pub returns-in-Flush-clause-never_falls : goal.returns-in-Flush-clause-never_falls
+returns-in-Flush-clause-never_falls g c =
+    subst (λ (s : State g.row.B.Denot). NeverFalls (g.B.Bank.faults_of c.args.array.bank) (g.B.Bank.faults_of (bank_in s))) (sym c.goes_on-in-Flush.ensures.state) c.ask_flush-place.ensures.never_falls
+
+pub returns-in-Fail-clause-never_falls : goal.returns-in-Fail-clause-never_falls
+returns-in-Fail-clause-never_falls g c =
+    subst (λ (s : State g.row.B.Denot). NeverFalls (g.B.Bank.faults_of c.args.array.bank) (g.B.Bank.faults_of (bank_in s))) (sym c.goes_on-in-Fail.ensures.state) c.ask_fail-place.ensures.never_falls
+
+pub returns-in-Add-clause-never_falls : goal.returns-in-Add-clause-never_falls
+returns-in-Add-clause-never_falls g c =
+    subst (λ (s : State g.row.B.Denot). NeverFalls (g.B.Bank.faults_of c.args.array.bank) (g.B.Bank.faults_of (bank_in s))) (sym c.goes_on-in-Add.ensures.state) c.ask_add-place.ensures.never_falls

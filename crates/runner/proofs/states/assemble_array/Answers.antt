@@ -7,12 +7,13 @@ use Rattle.md_base.specs.declared.answers.Fault.{Fault}
 use Rattle.md_base.specs.declared.answers.Who.{Who}
 use Rattle.flat_history.specs.declared.events.Entry.{Entry}
 use Rattle.flat_history.specs.declared.events.Event.TheVariants.{Shown}
+use Rattle.flat_history.specs.Plain.{entries_of}
 use Rattle.flat_history.specs.Transfers.{last_end_from}
 use Rattle.row_io.specs.Rows.{reading_of}
 use Rattle.array.specs.Adopting.{found_losses}
 use Rattle.array.specs.Calls.{IsEntered, IsEndOf}
 use Rattle.array.specs.Parts.{Parts}
-use Rattle.assemble.specs.Running.{HasAssembleCause}
+use Rattle.assemble.specs.Opening.{HasCause}
 use Rattle.script.specs.declared.lines.Line.TheVariants.{Assemble as AsksAssemble}
 use Rattle.runner.specs.Ended.{IsGoing}
 use Rattle.runner.specs.Making.{setting_of}
@@ -24,7 +25,7 @@ use Rattle.runner.specs.declared.states.State.TheVariants.{Idle as IsIdle, Runni
 use Rattle.runner.proofs.Causes.{flushes-grow, grows-none, assemble-refused, backup-known}
 use Rattle.runner.proofs.Legal.{grows_longer, idle_grown, accepted-grown, going_begun}
 use Rattle.superblocks.specs.declared.members.Members.{Members}
-use Rattle.runner.specs.Making.{world_at, AreHeldAtFirst}
+use Rattle.runner.specs.Making.{world_at, AreHeldSince}
 use Rattle.runner.proofs.Found.{opened_accepted, opened_held}
 use Rattle.runner.proofs.Losses.{held-later}
 use Rattle.runner.proofs.Turns.{opening_end, turn_found, turn_idle, no_turn_idle, no_turn_found}
@@ -69,7 +70,7 @@ returns-in-Refused-clause-answered g c =
     let setting = setting_of g.B.Bank.tells (g.B.Bank.given c.args.bank) (g.B.Bank.tape c.args.bank) (g.B.Bank.tape left) c.args.backup (g.B.Bank.faults_of c.args.bank) (g.B.Bank.faults_of left) in
     subst (λ (what : Answered). IsTurn setting (IsIdle c.args.bank c.args.epochs) (IsIdle left c.has_room.new.epochs) (AsksAssemble c.args.uuid) what) (sym c.refused.ensures)
     (turn_idle setting c.args.bank c.args.epochs c.has_room.new.epochs c.has_room.ensures.same c.requires.own left (AsksAssemble c.args.uuid) c.in-Refused.refusal (grows_longer (flushes-grow did.left_tape))
-    (subst (λ (f : Fault). HasAssembleCause g.B.Bank.tells given (contents given.start tape (length tape)) c.args.backup c.args.uuid (g.B.Bank.faults_of c.args.bank) (g.B.Bank.faults_of left) f) c.in-Refused.is
+    (subst (λ (f : Fault). HasCause g.B.Bank.tells given (contents given.start tape (length tape)) c.args.backup c.args.uuid (g.B.Bank.faults_of c.args.bank) (g.B.Bank.faults_of left) f) c.in-Refused.is
     (assemble-refused given c.args.backup c.args.uuid (g.B.Bank.tape c.args.bank) tape c.in-Err.left.1 did.left_counts.never_falls did.left_tape did.refused)))
 
 pub returns-in-NoMemory-clause-answered : goal.returns-in-NoMemory-clause-answered
@@ -89,8 +90,9 @@ returns-in-Ok-status-clause-former g c =
     (going_begun (g.B.Bank.given c.args.bank) c.args.backup c.args.epochs.items c.has_room.new.epochs.items array c.has_room.ensures.same (flushes-grow did.tape) (told.same.backup ∙ begun.backup_is) (λ t. told.same.first ∙ begun.first t)
     (accepted-grown (g.B.Bank.given c.args.bank) c.args.backup (running_history c.in-Ok.array) (running_history array) (grows-none (g.B.Bank.tape c.in-Ok.array.bank)) (record { uuid = told.same.uuid; given = told.same.given; first = told.same.first })
     (λ t. omega (arith, begun.first t)) (λ t. opened_accepted (g.B.Bank.given c.args.bank) (g.B.Bank.tape c.in-Ok.array.bank) c.args.backup c.args.uuid c.in-Ok.array begun did.assembled.opened t begun.uuid))
-    (subst (λ (m : Members). g.B.Bank.tells → AreHeldAtFirst (world_at (g.B.Bank.given c.args.bank) (g.B.Bank.tape c.in-Ok.array.bank) c.args.backup (running_history array)) m) (sym told.members)
-    (held-later (g.B.Bank.given c.args.bank) c.args.backup (running_history c.in-Ok.array) (running_history array) c.in-Ok.array.members (grows-none (g.B.Bank.tape c.in-Ok.array.bank)) (record { uuid = told.same.uuid; given = told.same.given; first = told.same.first })
+    (subst (λ (m : Members). g.B.Bank.tells → AreHeldSince (world_at (g.B.Bank.given c.args.bank) (g.B.Bank.tape c.in-Ok.array.bank) c.args.backup (running_history array)) array.entries m) (sym told.members)
+    (held-later (g.B.Bank.given c.args.bank) c.args.backup (running_history c.in-Ok.array) (running_history array) c.in-Ok.array.members (grows-none (g.B.Bank.tape c.in-Ok.array.bank))
+    (record { same = record { uuid = told.same.uuid; given = told.same.given; first = told.same.first }; more = entries_of c.script_call-who.result told.entered.end (Shown c.in-Ok-status.status ∷ []); grown = told.entered.is })
     (λ t. opened_held (g.B.Bank.given c.args.bank) (g.B.Bank.tape c.in-Ok.array.bank) c.args.backup c.args.uuid c.in-Ok.array begun did.assembled.opened t begun.uuid)))
     (subst (λ (b : g.row.B.Denot). IsEndOf g.B.Bank.tells array.first array.entries (g.B.Bank.tape b)) told.bank told.ended) c.requires.former)
 
