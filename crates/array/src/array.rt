@@ -4,10 +4,10 @@ ghost use Rattle.std.specs.Prelude.{◌≡◌, ◌^◌, ◌<◌, ◌≤◌, ℕ,
 ghost use Rattle.md_base.specs.Shapes.{is_valid_shape};
 ghost use Rattle.superblocks.specs.Reading.{shape_of};
 ghost use Rattle.flat_history.specs.Flat.{next_number};
-ghost use Rattle.array.specs.Whole.{list_size};
-ghost use Rattle.array.specs.Placed.{places_of};
-ghost use Rattle.array.specs.Lacking.{AreTooMany};
-ghost use Rattle.array.specs.Calls.{IsRefusalOf};
+ghost use Rattle.views.specs.Whole.{list_size};
+ghost use Rattle.views.specs.Placed.{places_of};
+ghost use Rattle.views.specs.Lacking.{AreTooMany};
+ghost use Rattle.array_kept.specs.Calls.{IsRefusalOf};
 
 mod adding;
 mod adopting;
@@ -20,16 +20,16 @@ mod settling;
 mod stepping;
 mod writing;
 
-use crate::refusing::too_many;
-use crate::roles::{list_length, shape_in};
-use crate::work::Work;
 pub use adopting::Opened;
 use bank::Bank;
 use flat_history::Epoch;
 use md_base::Refusal;
+use safe_updates::refusing::too_many;
+use safe_updates::roles::{list_length, shape_in};
 use std::alloc::Global;
 use std::marker::Model;
 use superblocks::Members;
+use views::Work;
 
 /// An array over slots of a bank, of one shape. With more roles missing than its level can do without its reads, writes and
 /// flushes are refused.
@@ -48,8 +48,8 @@ pub struct Array<B: Bank> {
 
 impl<B: Bank> Model for Array<B> {
     ghost use Rattle.std.specs.Prelude.{vec_capacity, length};
-    ghost use Rattle.array.specs.Parts.{Parts};
-    ghost use Rattle.array.specs.Kept.{IsReady, scope_in};
+    ghost use Rattle.views.specs.Parts.{Parts};
+    ghost use Rattle.array_kept.specs.Kept.{IsReady, scope_in};
 
     ghost Value = { Parts B };
 

@@ -8,21 +8,13 @@ ghost use Rattle.md_base.specs.declared.status.Role.TheVariants.{Recovering as I
 ghost use Rattle.superblocks.specs.Reading.{is_reshaping, shape_of, role_state, rows_held, holder};
 ghost use Rattle.superblocks.specs.Update.{own_in};
 ghost use Rattle.row_io.specs.Rows.{reading_of};
-ghost use Rattle.array.specs.Adopting.{found_stripes, is_number_of, found_work};
+ghost use Rattle.array_kept.specs.Adopting.{found_stripes, is_number_of, found_work};
 
-use crate::roles::shape_in;
 use md_base::Role;
+use safe_updates::roles::shape_in;
 use superblocks::Members;
 use superblocks::says::is_clean;
-
-/// The stripes that a pending resync has mended, None where none is pending; how many stripes of each role are rebuilt on
-/// the slot that recovers it; and which of the first 128 device numbers superblocks of the array bear.
-#[derive(Clone, Copy)]
-pub struct Work {
-    pub resync: Option<u64>,
-    pub rebuilt: [u64; 16],
-    pub carried: [bool; 128],
-}
+use views::Work;
 
 // The rows that a recovering slot holds, by its superblock.
 fn rows_held(members: &Members, slot: u32) -> u64

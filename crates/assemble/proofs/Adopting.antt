@@ -18,13 +18,13 @@ use Rattle.flat_history.specs.Opened.{IsSound, OpensSound, OpensWhole, OpensGood
 use Rattle.flat_history.specs.OneShape.{opening_in, is_absent_at_first}
 use Rattle.flat_history.specs.Epochs.{OpensAlike}
 use Rattle.flat_history.proofs.GivenLaws.{holder-given}
-use Rattle.array.specs.Whole.{Places, list_size}
-use Rattle.array.specs.Placed.{places_of, IsPlaced, AreUnlost}
-use Rattle.array.specs.Held.{IsHeldBy}
-use Rattle.array.specs.Lacking.{DoesWithout, ListStands, RowsStand, AreHoldersFlushed}
-use Rattle.array.specs.Kept.{world_in, AreSectorsWhole}
-use Rattle.array.specs.Rebuilding.{AreSparesFree}
-use Rattle.array.specs.Adopting.{IsAdoptable}
+use Rattle.views.specs.Whole.{Places, list_size}
+use Rattle.views.specs.Placed.{places_of, IsPlaced, AreUnlost}
+use Rattle.views.specs.Held.{IsHeldBy}
+use Rattle.views.specs.Lacking.{DoesWithout, ListStands, RowsStand, AreHoldersFlushed}
+use Rattle.array_kept.specs.Kept.{world_in, AreSectorsWhole}
+use Rattle.views.specs.Rebuilding.{AreSparesFree}
+use Rattle.array_kept.specs.Adopting.{IsAdoptable}
 use Rattle.assemble.specs.declared.opening.Opened.{Opened}
 use Rattle.assemble.specs.Opening.{scope_of, IsOpened, AreFlushed}
 use Rattle.assemble.proofs.FoundRows.{list-length, list-stands, list-whole, rows-stand}

@@ -28,15 +28,15 @@ use Rattle.superblocks.specs.Found.{AreInSectors}
 use Rattle.row_io.specs.Rows.{reading_of as members_reading}
 use Rattle.flat_history.specs.Stands.{verdict}
 use Rattle.array.specs.declared.spec.CreateSpec.{CreateSpec}
-use Rattle.array.specs.Placed.{IsPlaced}
+use Rattle.views.specs.Placed.{IsPlaced}
 use Rattle.assemble.specs.Opening.{scope_of, IsOpened, AreGiven}
 use Rattle.assemble.specs.Creating.{HasRoom, IsLastSlot, rows_end}
 use Rattle.assemble.specs.Filling.{IsMade, AreFilled, AreStored, AreBelow, OnlyBelow, AreSlotsDone, OnlyFirstFail}
 use Rattle.assemble.specs.Made.{is_used, used_slot, IsNew}
 use Rattle.bank.specs.declared.bank.Operation.{Operation}
 use Rattle.bank.specs.declared.bank.Operation.TheVariants.{Write, Flush}
-use Rattle.array.specs.Flushing.{OnlyFlushesAdded, OnlyItsSlotsFail}
-use Rattle.array.proofs.Flushed.{contents-added}
+use Rattle.views.specs.Flushing.{OnlyFlushesAdded, OnlyItsSlotsFail}
+use Rattle.views.proofs.Flushed.{contents-added}
 use Rattle.assemble.proofs.FillLaws.{present-same}
 use Rattle.assemble.proofs.CreateLaws.{fewer, not-backup, least_below-fails}
 use Rattle.assemble.proofs.Judged.{verdict-for, still_none}

@@ -29,9 +29,9 @@ use Rattle.superblocks.specs.Election.{reading_in}
 use Rattle.row_io.specs.Rows.{reading_of}
 use Rattle.flat_history.specs.Stands.{verdict, refusal_of}
 use Rattle.array.specs.declared.spec.CreateSpec.{CreateSpec}
-use Rattle.array.specs.Whole.{Places, AreFit, in_row, IsReadWhole}
-use Rattle.array.specs.Placed.{places_of}
-use Rattle.array.proofs.WholeLaws.{stands-length, stands-at}
+use Rattle.views.specs.Whole.{Places, AreFit, in_row, IsReadWhole}
+use Rattle.views.specs.Placed.{places_of}
+use Rattle.views.proofs.WholeLaws.{stands-length, stands-at}
 use Rattle.assemble.specs.declared.opening.Opened.{Opened}
 use Rattle.assemble.specs.Opening.{scope_of, IsOpened}
 use Rattle.assemble.specs.Filling.{AreZeros}

@@ -27,9 +27,9 @@ use Rattle.superblocks.proofs.SaidSlots.{read-parts}
 use Rattle.superblocks.proofs.FoundHeld.{found-of, found-held, found-exact, found-said, live-seen}
 use Rattle.superblocks.proofs.StageReads.{held-reads}
 use Rattle.flat_history.specs.Stands.{verdict, refusal_of, backup_absent}
-use Rattle.array.specs.Marking.{marking}
-use Rattle.array.specs.Held.{IsHeldBy}
-use Rattle.array.specs.Adopting.{AreNumbersKept}
+use Rattle.views.specs.Marking.{marking}
+use Rattle.views.specs.Held.{IsHeldBy}
+use Rattle.array_kept.specs.Adopting.{AreNumbersKept}
 use Rattle.assemble.specs.declared.opening.Opened.{Opened}
 use Rattle.assemble.specs.Opening.{scope_of, IsOpened, AreFlushed}
 use Rattle.assemble.proofs.SafeLaws.{one}

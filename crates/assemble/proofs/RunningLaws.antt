@@ -28,13 +28,13 @@ use Rattle.flat_history.specs.World.{World, opening_list, reading_at}
 use Rattle.flat_history.specs.Epochs.{OpensAlike}
 use Rattle.flat_history.specs.Opened.{IsSound, OpensSound}
 use Rattle.array.specs.declared.spec.CreateSpec.{CreateSpec}
-use Rattle.array.specs.Parts.{Parts}
-use Rattle.array.specs.Placed.{places_of, AreWhole, AreUnlost}
-use Rattle.array.specs.Lacking.{DoesWithout}
-use Rattle.array.specs.Rebuilding.{AreSparesFree}
-use Rattle.array.specs.Kept.{world_in, scope_in}
-use Rattle.array.specs.Calls.{world_for}
-use Rattle.array.specs.Adopting.{opener, found_loss, absent_losses, found_losses, found_work, IsAdoptable, IsAdopted}
+use Rattle.views.specs.Parts.{Parts}
+use Rattle.views.specs.Placed.{places_of, AreWhole, AreUnlost}
+use Rattle.views.specs.Lacking.{DoesWithout}
+use Rattle.views.specs.Rebuilding.{AreSparesFree}
+use Rattle.array_kept.specs.Kept.{world_in, scope_in}
+use Rattle.array_kept.specs.Calls.{world_for}
+use Rattle.array_kept.specs.Adopting.{opener, found_loss, absent_losses, found_losses, found_work, IsAdoptable, IsAdopted}
 use Rattle.assemble.specs.declared.opening.Opened.{Opened}
 use Rattle.assemble.specs.Opening.{scope_of, array_of, AreGiven, AreFlushed, IsOpened, IsReshapeRefused, HasCause}
 use Rattle.assemble.specs.Making.{created_sb}

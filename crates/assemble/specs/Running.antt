@@ -9,11 +9,11 @@ use Rattle.row_io.specs.Rows.{reading_of}
 use Rattle.flat_history.specs.World.{opening_list}
 use Rattle.flat_history.specs.Epochs.{OpensAlike}
 use Rattle.flat_history.specs.Opened.{OpensSound}
-use Rattle.array.specs.Parts.{Parts}
-use Rattle.array.specs.Placed.{AreWhole}
-use Rattle.array.specs.Lacking.{DoesWithout}
-use Rattle.array.specs.Calls.{world_for}
-use Rattle.array.specs.Adopting.{opener, found_losses, found_work}
+use Rattle.views.specs.Parts.{Parts}
+use Rattle.views.specs.Placed.{AreWhole}
+use Rattle.views.specs.Lacking.{DoesWithout}
+use Rattle.array_kept.specs.Calls.{world_for}
+use Rattle.array_kept.specs.Adopting.{opener, found_losses, found_work}
 use Rattle.flat_history.specs.Plain.{entries_of}
 use Rattle.array.specs.declared.spec.CreateSpec.{CreateSpec}
 use Rattle.assemble.specs.declared.opening.Opened.{Opened}

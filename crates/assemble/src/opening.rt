@@ -8,7 +8,7 @@ ghost use Rattle.superblocks.specs.Writing.{AreWritable};
 ghost use Rattle.superblocks.specs.Found.{AreInSectors};
 ghost use Rattle.assemble.specs.Looking.{lengths_scope, IsJudged};
 ghost use Rattle.assemble.specs.Opening.{IsOpened, AreGiven, AreOfGiven, AreCounted, AreFlushed, HasCause};
-ghost use Rattle.array.specs.Flushing.{OnlyFlushesAdded, OnlyItsSlotsFail};
+ghost use Rattle.views.specs.Flushing.{OnlyFlushesAdded, OnlyItsSlotsFail};
 
 use crate::reshape::reshape_refusal;
 use crate::slots::{Found, look};

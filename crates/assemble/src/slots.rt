@@ -7,10 +7,10 @@ ghost use Rattle.superblocks.specs.Election.{seen_superblocks};
 ghost use Rattle.superblocks.specs.Writing.{AreWritable};
 ghost use Rattle.superblocks.specs.Found.{AreInSectors};
 ghost use Rattle.assemble.specs.Opening.{scope_of, AreGiven, AreFlushed};
-ghost use Rattle.array.specs.Flushing.{OnlyFlushesAdded, OnlyItsSlotsFail};
+ghost use Rattle.views.specs.Flushing.{OnlyFlushesAdded, OnlyItsSlotsFail};
 
-use array::flush_slots;
 use bank::Bank;
+use safe_updates::flush_slots;
 use std::alloc::{AllocError, Global};
 use superblocks::SbList;
 use superblocks::election::reads::read_superblocks;

@@ -24,13 +24,13 @@ use Rattle.flat_history.specs.declared.events.StepKind.{StepKind}
 use Rattle.flat_history.specs.declared.events.StepKind.TheVariants.{RebuildTaken, RebuildStripe, RebuildEnded}
 use Rattle.flat_history.specs.Flat.{values_after, values_of}
 use Rattle.flat_history.specs.Plain.{entries_of}
-use Rattle.array.specs.declared.work.Work.{Work}
-use Rattle.array.specs.Losing.{losses_of}
-use Rattle.array.specs.Placed.{is_vacant}
-use Rattle.array.specs.Status.{stripes_of, rebuilt_of}
-use Rattle.array.specs.Calls.{IsRecovered, IsRecoveredOrLost, IsRebuildStepped, AreValuesKept, IsRoleLossBy, IsLossBy, AreLossesBy}
-use Rattle.array.proofs.CallLaws.{losses-are, values-losses}
-use Rattle.array.proofs.NowLaws.{values-more}
+use Rattle.views.specs.declared.work.Work.{Work}
+use Rattle.call_entries.specs.Losing.{losses_of}
+use Rattle.views.specs.Placed.{is_vacant}
+use Rattle.views.specs.Status.{stripes_of, rebuilt_of}
+use Rattle.array_kept.specs.Calls.{IsRecovered, IsRecoveredOrLost, IsRebuildStepped, AreValuesKept, IsRoleLossBy, IsLossBy, AreLossesBy}
+use Rattle.call_entries.proofs.CallLaws.{losses-are, values-losses}
+use Rattle.array_kept.proofs.NowLaws.{values-more}
 use Rattle.rebuild.specs.Steps.{recovers, first_recovering, first_vacant, first_spare, IsRebuildNext, rebuilt_role, rebuild_kind, rebuild_events, IsGivenToSpare}
 use Rattle.rebuild.proofs.Lowest.{lowest-found}
 

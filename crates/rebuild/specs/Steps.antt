@@ -12,10 +12,11 @@ use Rattle.flat_history.specs.declared.events.Event.{Event}
 use Rattle.flat_history.specs.declared.events.Event.TheVariants.{Step, Rebuilt}
 use Rattle.flat_history.specs.declared.events.StepKind.{StepKind}
 use Rattle.flat_history.specs.declared.events.StepKind.TheVariants.{RebuildTaken, RebuildStripe, RebuildEnded}
-use Rattle.array.specs.declared.work.Work.{Work}
-use Rattle.array.specs.Placed.{is_vacant}
-use Rattle.array.specs.Status.{stripes_of, rebuilt_of}
-use Rattle.array.specs.Calls.{Held, IsRecoveredOrLost, with_rebuilt}
+use Rattle.views.specs.declared.work.Work.{Work}
+use Rattle.views.specs.Placed.{is_vacant}
+use Rattle.views.specs.Status.{stripes_of, rebuilt_of}
+use Rattle.array_kept.specs.Calls.{IsRecoveredOrLost, with_rebuilt}
+use Rattle.views.specs.Rebuilding.{Held}
 
 -- a slot recovers the role
 abbrev pub recovers : Role → Bool

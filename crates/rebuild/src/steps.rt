@@ -10,17 +10,18 @@ ghost use Rattle.flat_history.specs.Flat.{now};
 ghost use Rattle.flat_history.specs.Sound.{OpensFit};
 ghost use Rattle.flat_history.specs.OneShape.{IsCallOpen};
 ghost use Rattle.flat_history.specs.declared.events.StepKind.TheVariants.{RebuildTaken as TakesRole, RebuildEnded as EndsRebuild};
-ghost use Rattle.array.specs.Whole.{list_size};
-ghost use Rattle.array.specs.Placed.{places_of};
-ghost use Rattle.array.specs.Moving.{Grows};
-ghost use Rattle.array.specs.Status.{left_of};
-ghost use Rattle.array.specs.Lacking.{HaveRolesFailed, AreTooMany, DoesWithout, RowsStand};
-ghost use Rattle.array.specs.Calls.{world_for, AreHeldOrSpare, IsWholeOrLost, by_answer, AreStepsFewer, AreStepsKept, AreValuesKept, IsRebuildStepped, IsCausedBy, IsSameArray, AreLossesBy, IsEndOf};
+ghost use Rattle.views.specs.Whole.{list_size};
+ghost use Rattle.views.specs.Placed.{places_of};
+ghost use Rattle.views.specs.Moving.{Grows};
+ghost use Rattle.views.specs.Status.{left_of};
+ghost use Rattle.views.specs.Lacking.{HaveRolesFailed, AreTooMany, DoesWithout, RowsStand};
+ghost use Rattle.array_kept.specs.Calls.{world_for, AreHeldOrSpare, IsWholeOrLost, by_answer, AreStepsFewer, AreStepsKept, AreValuesKept, IsRebuildStepped, IsCausedBy, IsSameArray, AreLossesBy, IsEndOf};
 ghost use Rattle.rebuild.specs.Steps.{first_recovering, first_vacant, first_spare, rebuilt_role, rebuild_kind, rebuild_events, after_rebuild, IsRebuildNext, IsGivenToSpare, IsHeldOrNext};
 
-use array::{Array, is_spare};
+use array::Array;
 use bank::Bank;
 use md_base::{Fault, Role, Who};
+use safe_updates::is_spare;
 use superblocks::Members;
 
 // The lowest role that a slot recovers, of so many.

@@ -12,11 +12,11 @@ use Rattle.flat_history.specs.declared.events.Event.TheVariants.{Step, Refused}
 use Rattle.flat_history.specs.declared.events.StepKind.{StepKind}
 use Rattle.flat_history.specs.Flat.{values_after, values_of}
 use Rattle.flat_history.specs.Plain.{entries_of}
-use Rattle.array.specs.Losing.{losses_of}
-use Rattle.array.specs.Status.{stripes_of}
-use Rattle.array.specs.Calls.{IsBehind, IsSettled, IsCausedBy, AreValuesKept}
-use Rattle.array.proofs.CallLaws.{losses-are, values-losses}
-use Rattle.array.proofs.NowLaws.{values-more}
+use Rattle.call_entries.specs.Losing.{losses_of}
+use Rattle.views.specs.Status.{stripes_of}
+use Rattle.array_kept.specs.Calls.{IsBehind, IsSettled, IsCausedBy, AreValuesKept}
+use Rattle.call_entries.proofs.CallLaws.{losses-are, values-losses}
+use Rattle.array_kept.proofs.NowLaws.{values-more}
 use Rattle.resync.specs.Steps.{is_at_end, IsUnmended}
 
 -- ---- the list

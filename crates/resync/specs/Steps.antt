@@ -4,9 +4,9 @@ use Rattle.md_base.specs.declared.answers.Refusal.{Refusal}
 use Rattle.superblocks.specs.declared.members.Members.{Members}
 use Rattle.flat_history.specs.declared.events.StepKind.{StepKind}
 use Rattle.flat_history.specs.declared.events.StepKind.TheVariants.{ResyncStripe, ResyncEnded}
-use Rattle.array.specs.Status.{stripes_of}
-use Rattle.array.specs.Lacking.{AreTooMany, IsUnwritten}
-use Rattle.array.specs.Calls.{one_more}
+use Rattle.views.specs.Status.{stripes_of}
+use Rattle.views.specs.Lacking.{AreTooMany, IsUnwritten}
+use Rattle.array_kept.specs.Calls.{one_more}
 
 -- a resync is pending, and has mended every stripe: its next step is its last
 abbrev pub is_at_end : Option ℕ → Members → Bool

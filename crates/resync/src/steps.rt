@@ -10,12 +10,12 @@ ghost use Rattle.flat_history.specs.Flat.{now};
 ghost use Rattle.flat_history.specs.Sound.{OpensFit};
 ghost use Rattle.flat_history.specs.OneShape.{IsCallOpen};
 ghost use Rattle.flat_history.specs.declared.events.Event.TheVariants.{Step};
-ghost use Rattle.array.specs.Whole.{list_size};
-ghost use Rattle.array.specs.Placed.{places_of, AreStillHeld};
-ghost use Rattle.array.specs.Moving.{Grows};
-ghost use Rattle.array.specs.Status.{left_of};
-ghost use Rattle.array.specs.Lacking.{HaveRolesFailed, AreHoldersFlushed, DoesWithout, RowsStand};
-ghost use Rattle.array.specs.Calls.{world_for, AreSparesFewer, by_answer, AreStepsFewer, AreStepsKept, AreValuesKept, IsSettled, IsCausedBy, IsSameArray, AreLossesOf, IsEndOf};
+ghost use Rattle.views.specs.Whole.{list_size};
+ghost use Rattle.views.specs.Placed.{places_of, AreStillHeld};
+ghost use Rattle.views.specs.Moving.{Grows};
+ghost use Rattle.views.specs.Status.{left_of};
+ghost use Rattle.views.specs.Lacking.{HaveRolesFailed, AreHoldersFlushed, DoesWithout, RowsStand};
+ghost use Rattle.array_kept.specs.Calls.{world_for, AreSparesFewer, by_answer, AreStepsFewer, AreStepsKept, AreValuesKept, IsSettled, IsCausedBy, IsSameArray, AreLossesOf, IsEndOf};
 ghost use Rattle.resync.specs.Steps.{is_at_end, next_kind, after_step, IsUnmended};
 
 use array::Array;

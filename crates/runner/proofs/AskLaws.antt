@@ -22,15 +22,15 @@ use Rattle.md_base.specs.declared.answers.Refusal.TheVariants.{PastEnd, SlotFaul
 use Rattle.superblocks.specs.declared.members.Members.{Members}
 use Rattle.superblocks.specs.Reads.{has_spare}
 use Rattle.bank.specs.Given.{Given}
-use Rattle.array.specs.Parts.{Parts}
-use Rattle.array.specs.Losing.{losses_of}
+use Rattle.views.specs.Parts.{Parts}
+use Rattle.call_entries.specs.Losing.{losses_of}
 use Rattle.flat_history.specs.declared.events.Request.{Request}
 use Rattle.flat_history.specs.declared.events.Request.TheVariants.{Add as AsksAdd}
 use Rattle.flat_history.specs.Flat.{rest_of_call, next_number}
 use Rattle.flat_history.specs.Plain.{entries_of}
 use Rattle.flat_history.specs.OneShape.{IsOfCall, OneShapeFits}
-use Rattle.array.specs.Lacking.{AreTooMany}
-use Rattle.array.specs.Calls.{OnNoMemory, IsReplied, IsAnswered, IsAddedFor, IsEntered, IsBehind, IsRefusedFor}
+use Rattle.views.specs.Lacking.{AreTooMany}
+use Rattle.array_kept.specs.Calls.{OnNoMemory, IsReplied, IsAnswered, IsAddedFor, IsEntered, IsBehind, IsRefusedFor}
 use Rattle.script.specs.declared.lines.Line.TheVariants.{Wait, Stop, Halt}
 use Rattle.script.specs.declared.lines.Line.{Line}
 use Rattle.script.specs.Seeds.{seeded, seed_sector}

@@ -15,9 +15,9 @@ use Rattle.bank.specs.declared.bank.Operation.{Operation}
 use Rattle.bank.specs.declared.bank.Operation.TheVariants.{Write, Flush}
 use Rattle.bank.specs.Tape.{Contents, contents, value_after}
 use Rattle.bank.proofs.Laws.{value_after-append}
-use Rattle.array.specs.Flushing.{OnlyFlushesAdded}
-use Rattle.array.specs.Moving.{Grows}
-use Rattle.array.proofs.Flushed.{contents-added}
+use Rattle.views.specs.Flushing.{OnlyFlushesAdded}
+use Rattle.views.specs.Moving.{Grows}
+use Rattle.views.proofs.Flushed.{contents-added}
 use Rattle.assemble.specs.Filling.{AreBelow, OnlyBelow}
 use Rattle.superblocks.specs.Reading.{Scope, of_array, is_seen}
 use Rattle.flat_history.specs.Stands.{verdict}

@@ -11,10 +11,10 @@ use Rattle.flat_history.specs.declared.events.Epoch.{Epoch}
 use Rattle.flat_history.specs.declared.events.Event.TheVariants.{Halted}
 use Rattle.flat_history.specs.Flat.{next_number, last_of}
 use Rattle.md_base.specs.declared.answers.Who.{Who}
-use Rattle.array.specs.Calls.{IsEntered}
-use Rattle.array.specs.Parts.{Parts}
-use Rattle.array.specs.Whole.{list_size}
-use Rattle.array.specs.Placed.{places_of}
+use Rattle.array_kept.specs.Calls.{IsEntered}
+use Rattle.views.specs.Parts.{Parts}
+use Rattle.views.specs.Whole.{list_size}
+use Rattle.views.specs.Placed.{places_of}
 use Rattle.script.specs.declared.lines.Line.TheVariants.{Halt}
 use Rattle.script.specs.declared.lines.Numbered.{Numbered}
 use Rattle.runner.specs.declared.sessions.Session.{Session}

@@ -22,15 +22,15 @@ use Rattle.flat_history.specs.World.{World, reading_at, opening_list}
 use Rattle.flat_history.specs.Stands.{stands, standing_sector}
 use Rattle.flat_history.specs.Fits.{whole_slot}
 use Rattle.flat_history.specs.Reopened.{OpensAccepted}
-use Rattle.array.specs.Adopting.{absent_loss, absent_losses, found_losses, stripes_held, found_stripes, found_work}
-use Rattle.array.specs.declared.work.Work.{Work}
-use Rattle.array.specs.Parts.{Parts}
-use Rattle.array.specs.Whole.{list_size}
-use Rattle.array.specs.Placed.{places_of}
+use Rattle.array_kept.specs.Adopting.{absent_loss, absent_losses, found_losses, stripes_held, found_stripes, found_work}
+use Rattle.views.specs.declared.work.Work.{Work}
+use Rattle.views.specs.Parts.{Parts}
+use Rattle.views.specs.Whole.{list_size}
+use Rattle.views.specs.Placed.{places_of}
 use Rattle.array.specs.declared.spec.CreateSpec.{CreateSpec}
 use Rattle.assemble.specs.Opening.{scope_of, IsOpened}
 use Rattle.assemble.specs.Running.{opened_of, IsBegun, IsCreated, IsAssembled}
-use Rattle.array.specs.Status.{stripes_of, rebuilt_of, vacant_count, spare_count, resync_left, role_left, recovery_left, left_of, IsStatusFor}
+use Rattle.views.specs.Status.{stripes_of, rebuilt_of, vacant_count, spare_count, resync_left, role_left, recovery_left, left_of, IsStatusFor}
 use Rattle.runner.specs.Histories.{History}
 use Rattle.runner.specs.Making.{Setting, world_at, history_world, MissingAtFirst, AreHeldSince, found_left, IsStored, IsStoredNew, IsStoredAs}
 use Rattle.runner.specs.States.{running_history}

@@ -18,7 +18,7 @@ use Rattle.flat_history.specs.World.{World, opening_list}
 use Rattle.flat_history.specs.Epochs.{OpensAlike}
 use Rattle.flat_history.specs.Opened.{OpensSound}
 use Rattle.flat_history.specs.Growing.{grown}
-use Rattle.array.specs.Moving.{Grows}
+use Rattle.views.specs.Moving.{Grows}
 use Rattle.assemble.specs.Creating.{create_refusal}
 use Rattle.assemble.specs.Opening.{AreGiven, HasCause, array_of, scope_of}
 use Rattle.assemble.specs.Made.{HasCreateCause, used_slot}
@@ -30,7 +30,7 @@ use Rattle.script.specs.declared.lines.Line.TheVariants.{Create, Read, Write, Fl
 use Rattle.flat_history.specs.declared.events.Entry.{Entry}
 use Rattle.flat_history.specs.declared.events.Event.TheVariants.{Shown}
 use Rattle.flat_history.specs.Plain.{entries_of}
-use Rattle.array.specs.Adopting.{opener}
+use Rattle.array_kept.specs.Adopting.{opener}
 use Rattle.flat_history.specs.Flat.{rest_of_call, is_same_call}
 use Rattle.script.specs.Texts.{lane_text}
 use Rattle.script.specs.declared.lines.Line.{Line}

@@ -9,9 +9,9 @@ use Rattle.flat_history.specs.Epochs.{world_of}
 use Rattle.flat_history.specs.OneShape.{ShapeOpening, opening_in, IsOneShapeLegal}
 use Rattle.flat_history.proofs.OneShapeLegal.{opening-grown, found-in, one_shape-legal}
 use Rattle.flat_history.proofs.OneShapeGrowing.{one_shape-later}
-use Rattle.array.specs.Calls.{IsEndOf, world_for}
-use Rattle.array.specs.Moving.{Grows}
-use Rattle.array.specs.Parts.{Parts}
+use Rattle.array_kept.specs.Calls.{IsEndOf, world_for}
+use Rattle.views.specs.Moving.{Grows}
+use Rattle.views.specs.Parts.{Parts}
 use Rattle.std.specs.Prelude.{⊤, slice_get, Result, Ok, Err, IfOk, IfErr}
 use Rattle.md_base.specs.declared.answers.NoMemory.{NoMemory}
 use Rattle.std.proofs.lemmas.List.{map-append}

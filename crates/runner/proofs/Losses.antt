@@ -21,14 +21,15 @@ use Rattle.md_base.specs.declared.status.Role.TheVariants.{Whole, Recovering as 
 use Rattle.superblocks.specs.Reading.{Reading, shape_of, is_whole, role_state}
 use Rattle.superblocks.specs.Reads.{has_spare}
 use Rattle.row_io.specs.Rows.{is_missing}
-use Rattle.array.specs.Adopting.{opener, found_loss, absent_loss, absent_losses, found_losses}
-use Rattle.array.specs.Calls.{Held, MayHold, IsRoleLossBy, IsLossBy, AreLossesBy, AreLossesOf, AreSparesFewer, AreHeldOrSpare, IsSameArray, IsEntered}
-use Rattle.array.specs.Placed.{AreStillHeld}
-use Rattle.array.specs.Moving.{Grows}
+use Rattle.array_kept.specs.Adopting.{opener, found_loss, absent_loss, absent_losses, found_losses}
+use Rattle.array_kept.specs.Calls.{IsRoleLossBy, IsLossBy, AreLossesBy, AreLossesOf, AreSparesFewer, AreHeldOrSpare, IsSameArray, IsEntered}
+use Rattle.views.specs.Rebuilding.{Held, MayHold}
+use Rattle.views.specs.Placed.{AreStillHeld}
+use Rattle.views.specs.Moving.{Grows}
 use Rattle.runner.specs.Histories.{History}
 use Rattle.runner.specs.Making.{Setting, world_at, history_world, HeldAtFirst, MissingAtFirst, SpareAtFirst, is_added, IsSpareSince, MayHaveHeld, AreHeldSince}
 use Rattle.runner.specs.States.{running_history, IsRoleLossSince, IsLossSince, AreLossesSince, AreLossesFrom, AreGrown}
-use Rattle.array.specs.Parts.{Parts}
+use Rattle.views.specs.Parts.{Parts}
 use Rattle.runner.proofs.AskLaws.{one, entries_of-append}
 use Rattle.runner.proofs.Causes.{faulted-wider}
 use Rattle.runner.proofs.Growth.{IsWider, world_stays}

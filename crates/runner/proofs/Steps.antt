@@ -9,7 +9,7 @@ use Rattle.std.proofs.Math.ListN.{get_or}
 use Rattle.std.specs.Prelude.{MatchOption}
 use Rattle.bank.specs.Given.{Given, NeverFalls}
 use Rattle.bank.specs.declared.bank.Operation.{Operation}
-use Rattle.array.specs.Moving.{Grows}
+use Rattle.views.specs.Moving.{Grows}
 use Rattle.flat_history.specs.declared.events.Entry.{Entry}
 use Rattle.text_io.specs.Causes.{HasRisen}
 use Rattle.flat_history.specs.declared.events.Epoch.{Epoch}

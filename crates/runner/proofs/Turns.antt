@@ -13,10 +13,10 @@ use Rattle.md_base.specs.declared.answers.Refusal.{Refusal}
 use Rattle.md_base.specs.declared.answers.Refusal.TheVariants.{Running as IsRunning}
 use Rattle.md_base.specs.declared.status.Status.{Status}
 use Rattle.md_base.specs.Shapes.{data_disks}
-use Rattle.array.specs.Parts.{Parts}
-use Rattle.array.specs.Status.{IsStatusFor}
-use Rattle.array.specs.Whole.{list_size}
-use Rattle.array.specs.Placed.{places_of}
+use Rattle.views.specs.Parts.{Parts}
+use Rattle.views.specs.Status.{IsStatusFor}
+use Rattle.views.specs.Whole.{list_size}
+use Rattle.views.specs.Placed.{places_of}
 use Rattle.flat_history.specs.declared.events.Entry.{Entry}
 use Rattle.flat_history.specs.declared.events.Epoch.{Epoch}
 use Rattle.flat_history.specs.declared.events.Event.{Event}
@@ -35,8 +35,8 @@ use Rattle.flat_history.specs.Opened.{OpensSound}
 use Rattle.bank.specs.Given.{sizes}
 use Rattle.superblocks.specs.declared.members.Members.{Members}
 use Rattle.row_io.specs.Rows.{reading_of}
-use Rattle.array.specs.Adopting.{opener, found_losses}
-use Rattle.array.specs.Calls.{IsEndOf, IsEntered, world_for}
+use Rattle.array_kept.specs.Adopting.{opener, found_losses}
+use Rattle.array_kept.specs.Calls.{IsEndOf, IsEntered, world_for}
 use Rattle.assemble.specs.Creating.{create_refusal}
 use Rattle.assemble.specs.Opening.{AreGiven, array_of, scope_of}
 use Rattle.assemble.specs.Made.{used_slot}

@@ -8,8 +8,8 @@ use Rattle.superblocks.specs.declared.members.Members.{Members}
 use Rattle.superblocks.specs.Reading.{shape_of}
 use Rattle.flat_history.specs.declared.events.Entry.{Entry}
 use Rattle.flat_history.specs.Flat.{next_number}
-use Rattle.array.specs.Whole.{list_size}
-use Rattle.array.specs.Placed.{places_of}
+use Rattle.views.specs.Whole.{list_size}
+use Rattle.views.specs.Placed.{places_of}
 use Rattle.script.specs.declared.lines.Line.TheVariants.{Step, Wait}
 use Rattle.runner.specs.Asked.{IsAskedAt, IsStillWaiting, IsWaitedFor}
 use Rattle.runner.specs.Replies.{steps_at_once, leaves_more, leaves_more_at, IsReplyAt, IsWaitedAt, IsRepliedAt}

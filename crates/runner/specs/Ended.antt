@@ -10,8 +10,8 @@ use Rattle.flat_history.specs.CrashSafe.{IsCrashSafe}
 use Rattle.flat_history.specs.Growing.{EndBy}
 use Rattle.flat_history.specs.Reopened.{OpensAccepted}
 use Rattle.flat_history.specs.Sound.{FillsRight, StaysSound}
-use Rattle.array.specs.Calls.{IsEndOf}
-use Rattle.array.specs.Parts.{Parts}
+use Rattle.array_kept.specs.Calls.{IsEndOf}
+use Rattle.views.specs.Parts.{Parts}
 use Rattle.runner.specs.declared.states.State.{State}
 use Rattle.runner.specs.declared.states.State.TheVariants.{Idle, Running}
 use Rattle.runner.specs.Histories.{History, histories_of}

@@ -22,8 +22,8 @@ use Rattle.flat_history.specs.Fits.{IsStatusOf}
 use Rattle.flat_history.specs.Legal.{IsAbsentAtFirst}
 use Rattle.flat_history.specs.Plain.{entries_of}
 use Rattle.array.specs.declared.spec.CreateSpec.{CreateSpec}
-use Rattle.array.specs.Status.{left_of}
-use Rattle.array.specs.Adopting.{opener, found_losses, found_work}
+use Rattle.views.specs.Status.{left_of}
+use Rattle.array_kept.specs.Adopting.{opener, found_losses, found_work}
 use Rattle.assemble.specs.Made.{HasCreateCause}
 use Rattle.assemble.specs.Opening.{HasCause}
 use Rattle.runner.specs.Histories.{History}

@@ -9,9 +9,9 @@ use Rattle.flat_history.specs.declared.events.Event.TheVariants.{Lost, SpareLost
 use Rattle.flat_history.specs.declared.events.LostCause.{LostCause}
 use Rattle.flat_history.specs.declared.events.LostCause.TheVariants.{Absent, Recovering, Command, Fault}
 use Rattle.flat_history.specs.Flat.{rest_of_call, next_number}
-use Rattle.array.specs.Parts.{Parts}
-use Rattle.array.specs.Whole.{list_size}
-use Rattle.array.specs.Placed.{places_of}
+use Rattle.views.specs.Parts.{Parts}
+use Rattle.views.specs.Whole.{list_size}
+use Rattle.views.specs.Placed.{places_of}
 use Rattle.script.specs.declared.lines.Line.{Line}
 use Rattle.script.specs.declared.lines.Line.TheVariants.{Wait, Assemble}
 use Rattle.runner.specs.declared.report.Answered.{Answered}

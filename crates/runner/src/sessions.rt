@@ -3,7 +3,7 @@
 ghost use Rattle.std.specs.Prelude.{◌≡◌, ◌≤◌, ◌||◌, ℕ, [], ◌++◌, length, slice_index, Some, None, OnOk, IsTrue, IsSome};
 ghost use Rattle.std.specs.List.{AllPass};
 ghost use Rattle.bank.specs.Given.{NeverFalls};
-ghost use Rattle.array.specs.Moving.{Grows};
+ghost use Rattle.views.specs.Moving.{Grows};
 ghost use Rattle.text_io.specs.Causes.{HasRisen};
 ghost use Rattle.script.specs.Script.{is_within_limits};
 ghost use Rattle.runner.specs.Shown.{outside_text, entry_text, answer_text, reply_text, is_refused_outside, is_refusal, tells_refusal};

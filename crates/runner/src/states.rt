@@ -2,9 +2,9 @@
 
 ghost use Rattle.std.specs.Prelude.{◌≡◌, ◌<◌, ◌≤◌, ◌^◌, ℕ, List, length, vec_capacity, Some, Ok, IfOk, IsTrue, IsSome};
 ghost use Rattle.bank.specs.Given.{NeverFalls};
-ghost use Rattle.array.specs.Moving.{Grows};
-ghost use Rattle.array.specs.Whole.{list_size};
-ghost use Rattle.array.specs.Placed.{places_of};
+ghost use Rattle.views.specs.Moving.{Grows};
+ghost use Rattle.views.specs.Whole.{list_size};
+ghost use Rattle.views.specs.Placed.{places_of};
 ghost use Rattle.script.specs.Script.{is_within_limits};
 ghost use Rattle.script.specs.declared.lines.Line.TheVariants.{Create as AsksCreate, Stop as AsksStop, Halt as AsksHalt, Assemble as AsksAssemble};
 ghost use Rattle.runner.specs.Ended.{IsRunKept};

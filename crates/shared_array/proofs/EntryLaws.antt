@@ -22,15 +22,15 @@ use Rattle.flat_history.specs.Fits.{is_step_event, is_lost_event}
 use Rattle.flat_history.specs.Plain.{entries_of}
 use Rattle.flat_history.specs.OneShape.{GoesOnBehind, IsOfCall, IsCallOpen}
 use Rattle.flat_history.proofs.OneShapeGoing.{open-more}
-use Rattle.array.specs.declared.work.Work.{Work}
-use Rattle.array.specs.Losing.{losses_of}
-use Rattle.array.specs.Parts.{Parts}
-use Rattle.array.specs.Status.{left_of}
-use Rattle.array.specs.Calls.{IsEntered, IsBehind, IsRoleLost, IsRebuildStepped, IsSettled}
-use Rattle.array.proofs.PlainLaws.{one, last-snoc}
-use Rattle.array.proofs.LosingLaws.{entries-both}
-use Rattle.array.proofs.CallLaws.{AreLossEvents, losses-are, all-losses}
-use Rattle.array.proofs.LossLaws.{behind-alone}
+use Rattle.views.specs.declared.work.Work.{Work}
+use Rattle.call_entries.specs.Losing.{losses_of}
+use Rattle.views.specs.Parts.{Parts}
+use Rattle.views.specs.Status.{left_of}
+use Rattle.array_kept.specs.Calls.{IsEntered, IsBehind, IsRoleLost, IsRebuildStepped, IsSettled}
+use Rattle.call_entries.proofs.PlainLaws.{one, last-snoc}
+use Rattle.call_entries.proofs.LosingLaws.{entries-both}
+use Rattle.call_entries.proofs.CallLaws.{AreLossEvents, losses-are, all-losses}
+use Rattle.array_kept.proofs.LossLaws.{behind-alone}
 use Rattle.resync.specs.Steps as resync
 use Rattle.rebuild.specs.Steps.{rebuilt_role, rebuild_kind, rebuild_events}
 use Rattle.shared_array.specs.Steps.{AreStepsOf, IsStepEntered}

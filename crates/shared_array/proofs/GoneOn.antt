@@ -14,12 +14,13 @@ use Rattle.flat_history.specs.declared.events.LostCause.TheVariants.{Command, Fa
 use Rattle.flat_history.specs.declared.events.Request.{Request}
 use Rattle.flat_history.specs.declared.events.Request.TheVariants.{Add as AsksAdd}
 use Rattle.flat_history.specs.World.{World}
-use Rattle.array.specs.Placed.{AreStillHeld}
-use Rattle.array.specs.Moving.{Grows}
-use Rattle.array.specs.Parts.{Parts}
-use Rattle.array.specs.Lacking.{HaveRolesFailed}
-use Rattle.array.specs.Calls.{Held, MayHold, AreHeldOrSpare, AreSparesFewer, IsRoleLossBy, IsLossBy, AreLossesBy, AreLossesOf, IsSameArray, world_for}
-use Rattle.array.proofs.MovedLaws.{grows-none, grows-then}
+use Rattle.views.specs.Placed.{AreStillHeld}
+use Rattle.views.specs.Moving.{Grows}
+use Rattle.views.specs.Parts.{Parts}
+use Rattle.views.specs.Lacking.{HaveRolesFailed}
+use Rattle.array_kept.specs.Calls.{AreHeldOrSpare, AreSparesFewer, IsRoleLossBy, IsLossBy, AreLossesBy, AreLossesOf, IsSameArray, world_for}
+use Rattle.views.specs.Rebuilding.{Held, MayHold}
+use Rattle.views.proofs.MovedLaws.{grows-none, grows-then}
 use Rattle.shared_array.specs.Steps.{HasGoneOn}
 use Rattle.shared_array.specs.Replies.{IsLater}
 

@@ -14,11 +14,12 @@ use Rattle.superblocks.specs.Reads.{has_spare}
 use Rattle.row_io.specs.Rows.{reading_of}
 use Rattle.flat_history.specs.declared.events.StepKind.{StepKind}
 use Rattle.flat_history.specs.declared.events.StepKind.TheVariants.{RebuildTaken, RebuildStripe, RebuildEnded, ResyncStripe, ResyncEnded}
-use Rattle.array.specs.declared.work.Work.{Work}
-use Rattle.array.specs.Placed.{is_vacant}
-use Rattle.array.specs.Status.{stripes_of, rebuilt_of, vacant_count, spare_count, resync_left, role_left, recovery_left, left_of}
-use Rattle.array.specs.Lacking.{AreTooMany, IsUnwritten}
-use Rattle.array.specs.Calls.{Held, MayHold, IsRefusedFor}
+use Rattle.views.specs.declared.work.Work.{Work}
+use Rattle.views.specs.Placed.{is_vacant}
+use Rattle.views.specs.Status.{stripes_of, rebuilt_of, vacant_count, spare_count, resync_left, role_left, recovery_left, left_of}
+use Rattle.views.specs.Lacking.{AreTooMany, IsUnwritten}
+use Rattle.array_kept.specs.Calls.{IsRefusedFor}
+use Rattle.views.specs.Rebuilding.{Held, MayHold}
 use Rattle.resync.specs.Steps.{is_at_end, IsUnmended}
 use Rattle.resync.specs.Steps as resync
 use Rattle.rebuild.specs.Steps.{recovers, first_recovering, first_vacant, first_spare, IsRebuildNext, rebuild_kind, IsHeldOrNext}

@@ -27,13 +27,13 @@ use Rattle.flat_history.specs.Legal.{call_before}
 use Rattle.flat_history.specs.Fits.{IsTornOf, AreTornOf, is_step_event, is_lost_event}
 use Rattle.flat_history.specs.Plain.{entries_of}
 use Rattle.flat_history.specs.OneShape.{GoesOnBehind, IsOfCall, EndsIdleSteps, DidOneShapeSteps}
-use Rattle.array.specs.Lacking.{IsUnwritten}
-use Rattle.array.specs.Parts.{Parts}
-use Rattle.array.specs.Calls.{IsEntered, IsReplied, IsAnswered, TellNoRoleLoss}
-use Rattle.array.proofs.PlainLaws.{one}
-use Rattle.array.proofs.LosingLaws.{entries-both}
-use Rattle.array.proofs.CallLaws.{torn-reverse}
-use Rattle.array.proofs.ReplyLaws.{none_before}
+use Rattle.views.specs.Lacking.{IsUnwritten}
+use Rattle.views.specs.Parts.{Parts}
+use Rattle.array_kept.specs.Calls.{IsEntered, IsReplied, IsAnswered, TellNoRoleLoss}
+use Rattle.call_entries.proofs.PlainLaws.{one}
+use Rattle.call_entries.proofs.LosingLaws.{entries-both}
+use Rattle.call_entries.proofs.CallLaws.{torn-reverse}
+use Rattle.array_kept.proofs.ReplyLaws.{none_before}
 use Rattle.shared_array.specs.Steps.{AreStepsOf, IsAnsweredBy}
 use Rattle.shared_array.specs.Replies.{told_by, IsPerformed}
 use Rattle.shared_array.proofs.EntryLaws.{count-both}

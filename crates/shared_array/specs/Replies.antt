@@ -14,12 +14,13 @@ use Rattle.flat_history.specs.declared.events.Event.{Event}
 use Rattle.flat_history.specs.declared.events.Event.TheVariants.{Shown, Refused}
 use Rattle.flat_history.specs.declared.events.Request.{Request}
 use Rattle.flat_history.specs.declared.events.Request.TheVariants.{Read as AsksRead, Write as AsksWrite, Flush as AsksFlush, Fail as AsksFail, Add as AsksAdd, Steps as AsksSteps, Show as AsksShow}
-use Rattle.array.specs.Whole.{list_size}
-use Rattle.array.specs.Placed.{places_of}
-use Rattle.array.specs.Parts.{Parts}
-use Rattle.array.specs.Status.{IsStatusFor}
-use Rattle.array.specs.Moving.{Grows}
-use Rattle.array.specs.Calls.{Held, MayHold, AreLossesBy, IsSameArray, world_for}
+use Rattle.views.specs.Whole.{list_size}
+use Rattle.views.specs.Placed.{places_of}
+use Rattle.views.specs.Parts.{Parts}
+use Rattle.views.specs.Status.{IsStatusFor}
+use Rattle.views.specs.Moving.{Grows}
+use Rattle.array_kept.specs.Calls.{AreLossesBy, IsSameArray, world_for}
+use Rattle.views.specs.Rebuilding.{Held, MayHold}
 use Rattle.shared_array.specs.declared.reply.Reply.{Reply}
 use Rattle.shared_array.specs.declared.reply.Reply.TheVariants.{Done, NoMemory as Short}
 use Rattle.shared_array.specs.Steps.{IsAnsweredBy}

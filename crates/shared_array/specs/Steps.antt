@@ -19,12 +19,13 @@ use Rattle.flat_history.specs.declared.events.Request.{Request}
 use Rattle.flat_history.specs.Flat.{last_of}
 use Rattle.flat_history.specs.Fits.{is_step_event, is_lost_event}
 use Rattle.flat_history.specs.OneShape.{GoesOnBehind, IsOfCall, OneShapeFits}
-use Rattle.array.specs.declared.work.Work.{Work}
-use Rattle.array.specs.Status.{left_of}
-use Rattle.array.specs.Parts.{Parts}
-use Rattle.array.specs.Moving.{Grows}
-use Rattle.array.specs.Lacking.{HaveRolesFailed, AreTooMany, IsUnwritten}
-use Rattle.array.specs.Calls.{Held, MayHold, AreHeldOrSpare, AreLossesBy, AreValuesKept, TellNoLoss, IsSettled, IsRebuildStepped, IsSameArray, world_for}
+use Rattle.views.specs.declared.work.Work.{Work}
+use Rattle.views.specs.Status.{left_of}
+use Rattle.views.specs.Parts.{Parts}
+use Rattle.views.specs.Moving.{Grows}
+use Rattle.views.specs.Lacking.{HaveRolesFailed, AreTooMany, IsUnwritten}
+use Rattle.array_kept.specs.Calls.{AreHeldOrSpare, AreLossesBy, AreValuesKept, TellNoLoss, IsSettled, IsRebuildStepped, IsSameArray, world_for}
+use Rattle.views.specs.Rebuilding.{Held, MayHold}
 use Rattle.resync.specs.Steps.{is_at_end, IsUnmended}
 use Rattle.resync.specs.Steps as resync
 use Rattle.rebuild.specs.Steps.{first_spare, rebuilt_role, rebuild_kind, rebuild_events, after_rebuild}

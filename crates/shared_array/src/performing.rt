@@ -4,10 +4,11 @@ ghost use Rattle.std.specs.Prelude.{◌≡◌, ◌≢◌, ◌+◌, ◌*◌, ◌/
 ghost use Rattle.bank.specs.Given.{NeverFalls};
 ghost use Rattle.flat_history.specs.Flat.{next_number};
 ghost use Rattle.flat_history.specs.declared.events.Request.TheVariants.{Read as AsksRead, Write as AsksWrite, Flush as AsksFlush, Fail as AsksFail, Add as AsksAdd, Show as AsksShow};
-ghost use Rattle.array.specs.Whole.{list_size};
-ghost use Rattle.array.specs.Placed.{places_of};
-ghost use Rattle.array.specs.Moving.{Grows};
-ghost use Rattle.array.specs.Calls.{world_for, MayHold, IsSameArray, AreLossesBy, IsEndOf};
+ghost use Rattle.views.specs.Whole.{list_size};
+ghost use Rattle.views.specs.Placed.{places_of};
+ghost use Rattle.views.specs.Moving.{Grows};
+ghost use Rattle.array_kept.specs.Calls.{world_for, IsSameArray, AreLossesBy, IsEndOf};
+ghost use Rattle.views.specs.Rebuilding.{MayHold};
 ghost use Rattle.shared_array.specs.Steps.{IsAnsweredBy};
 ghost use Rattle.shared_array.specs.Replies.{IsAskable, told_by, AreHeldAfter, IsLater, IsShownBy, IsPerformed, IsRepliedBy, OnReply};
 

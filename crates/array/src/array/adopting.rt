@@ -5,17 +5,17 @@ ghost use Rattle.md_base.specs.Shapes.{has_slot};
 ghost use Rattle.superblocks.specs.Reading.{shape_of};
 ghost use Rattle.row_io.specs.Rows.{reading_of};
 ghost use Rattle.flat_history.specs.Plain.{entries_of};
-ghost use Rattle.array.specs.Losing.{IsSameEpoch};
-ghost use Rattle.array.specs.Kept.{scope_in};
-ghost use Rattle.array.specs.Adopting.{opener, absent_loss, absent_losses, IsAdoptable, IsAdopted};
+ghost use Rattle.call_entries.specs.Losing.{IsSameEpoch};
+ghost use Rattle.array_kept.specs.Kept.{scope_in};
+ghost use Rattle.array_kept.specs.Adopting.{opener, absent_loss, absent_losses, IsAdoptable, IsAdopted};
 
 use crate::array::Array;
-use crate::calls::enter;
-use crate::roles::shape_in;
 use crate::work::found_work;
 use bank::Bank;
+use call_entries::calls::enter;
 use flat_history::{Entries, Epoch, Event, LostCause};
 use md_base::{NoMemory, Role, Who};
+use safe_updates::roles::shape_in;
 use std::alloc::Global;
 use superblocks::Members;
 

@@ -7,21 +7,21 @@ ghost use Rattle.superblocks.specs.Reading.{shape_of};
 ghost use Rattle.row_io.specs.Rows.{reading_of};
 ghost use Rattle.flat_history.specs.Flat.{next_number};
 ghost use Rattle.flat_history.specs.declared.events.Event.TheVariants.{Shown};
-ghost use Rattle.array.specs.Calls.{world_for, IsEntered, IsSameArray, IsEndOf};
-ghost use Rattle.array.specs.Placed.{is_vacant};
-ghost use Rattle.array.specs.Status.{stripes_of, rebuilt_of, spare_count, recovery_left, left_of, IsStatusFor};
+ghost use Rattle.array_kept.specs.Calls.{world_for, IsEntered, IsSameArray, IsEndOf};
+ghost use Rattle.views.specs.Placed.{is_vacant};
+ghost use Rattle.views.specs.Status.{stripes_of, rebuilt_of, spare_count, recovery_left, left_of, IsStatusFor};
 
 use crate::array::Array;
-use crate::calls::{check_number, enter};
-use crate::mending::stripes;
-use crate::roles::{is_spare, is_vacant, list_length, shape_in};
-use crate::work::Work;
 use bank::Bank;
+use call_entries::calls::{check_number, enter};
 use flat_history::Event;
 use md_base::{NoMemory, Role, RoleList, SlotList, Status, Who};
+use safe_rows::mending::stripes;
+use safe_updates::roles::{is_spare, is_vacant, list_length, shape_in};
 use std::alloc::Global;
 use superblocks::Members;
 use superblocks::says::is_clean;
+use views::Work;
 
 // The same roles, in a list of their own.
 fn copy_roles(alloc: Global, roles: &RoleList) -> Result<RoleList, NoMemory>

@@ -4,22 +4,22 @@ ghost use Rattle.std.specs.Prelude.{◌≡◌, ◌≢◌, [], ◌∷◌, length,
 ghost use Rattle.bank.specs.Given.{NeverFalls};
 ghost use Rattle.flat_history.specs.Growing.{EndBy};
 ghost use Rattle.flat_history.specs.Epochs.{world_of, IsEpochRight, HasRoomForEvents, OpensAlike};
-ghost use Rattle.array.specs.Whole.{list_size};
-ghost use Rattle.array.specs.Moving.{Grows};
+ghost use Rattle.views.specs.Whole.{list_size};
+ghost use Rattle.views.specs.Moving.{Grows};
 ghost use Rattle.row_io.specs.Rows.{present};
 ghost use Rattle.flat_history.specs.World.{opening_list};
 ghost use Rattle.flat_history.specs.Flat.{next_number, now};
 ghost use Rattle.flat_history.specs.OneShape.{opening_in, IsOneShapeLegal};
 ghost use Rattle.flat_history.specs.declared.events.Event.TheVariants.{Halted, Stopped};
-ghost use Rattle.array.specs.Placed.{places_of, AreStillHeld};
-ghost use Rattle.array.specs.Kept.{AreRebuildsRight};
-ghost use Rattle.array.specs.Lacking.{DoesWithout, ListStands, RowsStandBelow, mended_rows, AreTooMany, HaveRolesFailed};
+ghost use Rattle.views.specs.Placed.{places_of, AreStillHeld};
+ghost use Rattle.array_kept.specs.Kept.{AreRebuildsRight};
+ghost use Rattle.views.specs.Lacking.{DoesWithout, ListStands, RowsStandBelow, mended_rows, AreTooMany, HaveRolesFailed};
 ghost use Rattle.flat_history.specs.Sound.{OpensFit, FillsRight};
-ghost use Rattle.array.specs.Calls.{AreSparesFewer, world_for, IsEntered, IsBehind, IsUnsettled, IsFaultFor, IsEndOf, IsSameArray, AreLossesOf, AreLeftFlushed};
+ghost use Rattle.array_kept.specs.Calls.{AreSparesFewer, world_for, IsEntered, IsBehind, IsUnsettled, IsFaultFor, IsEndOf, IsSameArray, AreLossesOf, AreLeftFlushed};
 
 use crate::array::Array;
-use crate::calls::{check_number, enter};
 use bank::Bank;
+use call_entries::calls::{check_number, enter};
 use flat_history::{Epoch, Event};
 use md_base::{Fault, Who};
 

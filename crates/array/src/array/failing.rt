@@ -8,20 +8,20 @@ ghost use Rattle.row_io.specs.Rows.{reading_of, present};
 ghost use Rattle.flat_history.specs.Flat.{next_number};
 ghost use Rattle.flat_history.specs.declared.events.Event.TheVariants.{Failed};
 ghost use Rattle.flat_history.specs.declared.events.Request.TheVariants.{Fail as AsksFail};
-ghost use Rattle.array.specs.Whole.{list_size};
-ghost use Rattle.array.specs.Placed.{places_of, AreStillHeld};
-ghost use Rattle.array.specs.Marking.{AreOthersPresent};
-ghost use Rattle.array.specs.Moving.{Grows};
-ghost use Rattle.array.specs.Calls.{world_for, AreSparesFewer, HasRole, IsAnswered, IsFailedFor, IsSameArray, AreLossesOf, IsEndOf, OnNoMemory};
+ghost use Rattle.views.specs.Whole.{list_size};
+ghost use Rattle.views.specs.Placed.{places_of, AreStillHeld};
+ghost use Rattle.views.specs.Marking.{AreOthersPresent};
+ghost use Rattle.views.specs.Moving.{Grows};
+ghost use Rattle.array_kept.specs.Calls.{world_for, AreSparesFewer, HasRole, IsAnswered, IsFailedFor, IsSameArray, AreLossesOf, IsEndOf, OnNoMemory};
 
 use crate::array::Array;
-use crate::calls::{check_number, enter, enter_behind};
-use crate::naming::{name_missing, newly_vacant};
-use crate::roles::{shape_in, vacant_roles};
 use bank::Bank;
+use call_entries::calls::{check_number, enter, enter_behind};
 use flat_history::{Event, LostCause};
 use md_base::{Fault, Refusal, Role, Who};
 use row_io::lose_slot;
+use safe_updates::naming::{name_missing, newly_vacant};
+use safe_updates::roles::{shape_in, vacant_roles};
 use superblocks::Members;
 
 // The slot that holds a role, whole or in part.

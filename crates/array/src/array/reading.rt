@@ -10,24 +10,24 @@ ghost use Rattle.flat_history.specs.World.{opening_list};
 ghost use Rattle.flat_history.specs.Flat.{next_number, now};
 ghost use Rattle.flat_history.specs.declared.events.Event.TheVariants.{Read};
 ghost use Rattle.flat_history.specs.declared.events.Request.TheVariants.{Read as AsksRead};
-ghost use Rattle.array.specs.Whole.{list_size};
-ghost use Rattle.array.specs.Placed.{places_of, AreWhole, AreStillHeld};
-ghost use Rattle.array.specs.Marking.{AreOthersPresent};
-ghost use Rattle.array.specs.Moving.{Grows};
-ghost use Rattle.array.specs.Lacking.{HaveRolesFailed, IsUnread, mended_rows};
-ghost use Rattle.array.specs.Kept.{AreFillsRight};
-ghost use Rattle.array.specs.Calls.{world_for, AreSparesFewer, IsAnswered, IsCausedBy, IsRefusalOf, IsSameArray, AreLossesOf, IsEndOf, OnNoMemory};
+ghost use Rattle.views.specs.Whole.{list_size};
+ghost use Rattle.views.specs.Placed.{places_of, AreWhole, AreStillHeld};
+ghost use Rattle.views.specs.Marking.{AreOthersPresent};
+ghost use Rattle.views.specs.Moving.{Grows};
+ghost use Rattle.views.specs.Lacking.{HaveRolesFailed, IsUnread, mended_rows};
+ghost use Rattle.array_kept.specs.Kept.{AreFillsRight};
+ghost use Rattle.array_kept.specs.Calls.{world_for, AreSparesFewer, IsAnswered, IsCausedBy, IsRefusalOf, IsSameArray, AreLossesOf, IsEndOf, OnNoMemory};
 
 use crate::array::{Array, refusal_of};
-use crate::calls::{check_number, enter, enter_behind};
-use crate::fetching::fetch;
-use crate::mending::mended_rows;
-use crate::naming::newly_vacant;
-use crate::refusing::missing_place;
-use crate::roles::{list_length, shape_in, vacant_roles};
 use bank::Bank;
+use call_entries::calls::{check_number, enter, enter_behind};
 use flat_history::Event;
 use md_base::{Fault, Refusal, Sectors, Who};
+use safe_rows::fetching::fetch;
+use safe_rows::mending::mended_rows;
+use safe_updates::naming::newly_vacant;
+use safe_updates::refusing::missing_place;
+use safe_updates::roles::{list_length, shape_in, vacant_roles};
 use std::alloc::Global;
 
 // So many zero bytes.

@@ -12,25 +12,25 @@ ghost use Rattle.flat_history.specs.Sound.{OpensFit};
 ghost use Rattle.flat_history.specs.OneShape.{IsCallOpen};
 ghost use Rattle.flat_history.specs.declared.events.Event.TheVariants.{Step, Rebuilt as IsRebuilt};
 ghost use Rattle.flat_history.specs.declared.events.StepKind.TheVariants.{RebuildTaken as TakesRole, RebuildStripe as FillsStripe, RebuildEnded as EndsRebuild};
-ghost use Rattle.array.specs.Whole.{list_size};
-ghost use Rattle.array.specs.Placed.{places_of, is_vacant};
-ghost use Rattle.array.specs.Moving.{Grows};
-ghost use Rattle.array.specs.Status.{stripes_of, rebuilt_of, left_of};
-ghost use Rattle.array.specs.Lacking.{HaveRolesFailed, AreTooMany, DoesWithout, RowsStand};
-ghost use Rattle.array.specs.Calls.{world_for, IsHeldOrGiven, AreHeldOrSpare, HasStripeUnbuilt, AreStripesRebuilt, IsWholeOrLost, IsRecoveredOrLost, with_rebuilt, by_answer, AreStepsFewer, AreStepsKept, IsRebuildStepped, IsCausedBy, IsSameArray, AreLossesBy, AreLossesOf, IsEndOf};
+ghost use Rattle.views.specs.Whole.{list_size};
+ghost use Rattle.views.specs.Placed.{places_of, is_vacant};
+ghost use Rattle.views.specs.Moving.{Grows};
+ghost use Rattle.views.specs.Status.{stripes_of, rebuilt_of, left_of};
+ghost use Rattle.views.specs.Lacking.{HaveRolesFailed, AreTooMany, DoesWithout, RowsStand};
+ghost use Rattle.array_kept.specs.Calls.{world_for, IsHeldOrGiven, AreHeldOrSpare, HasStripeUnbuilt, AreStripesRebuilt, IsWholeOrLost, IsRecoveredOrLost, with_rebuilt, by_answer, AreStepsFewer, AreStepsKept, IsRebuildStepped, IsCausedBy, IsSameArray, AreLossesBy, AreLossesOf, IsEndOf};
 
 use crate::array::asking::steps_left;
 use crate::array::{Array, refusal_of};
-use crate::calls::{check_open, enter, enter_behind, enter_lost};
-use crate::filling::{fill, recovering_slot};
-use crate::giving::{flush_and_record, give_role};
-use crate::naming::newly_vacant;
-use crate::roles::{is_vacant, shape_in, vacant_roles};
-use crate::work::Work;
 use bank::Bank;
+use call_entries::calls::{check_open, enter, enter_behind, enter_lost};
 use flat_history::{Event, StepKind};
 use md_base::{Fault, Who};
+use safe_rows::filling::{fill, recovering_slot};
+use safe_updates::giving::{flush_and_record, give_role};
+use safe_updates::naming::newly_vacant;
+use safe_updates::roles::{is_vacant, shape_in, vacant_roles};
 use superblocks::sets::{with, without};
+use views::Work;
 
 // So many stripes of the role are rebuilt.
 fn set_rebuilt(work: &mut Work, role: u32, stripes: u64)

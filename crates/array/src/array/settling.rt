@@ -7,21 +7,21 @@ ghost use Rattle.row_io.specs.Rows.{reading_of, present};
 ghost use Rattle.flat_history.specs.Flat.{next_number};
 ghost use Rattle.flat_history.specs.declared.events.Event.TheVariants.{Flushed};
 ghost use Rattle.flat_history.specs.declared.events.Request.TheVariants.{Flush as AsksFlush};
-ghost use Rattle.array.specs.Whole.{list_size};
-ghost use Rattle.array.specs.Placed.{places_of, AreStillHeld};
-ghost use Rattle.array.specs.Marking.{AreOthersPresent};
-ghost use Rattle.array.specs.Moving.{Grows};
-ghost use Rattle.array.specs.Lacking.{HaveRolesFailed, AreHoldersFlushed, AreTooMany};
-ghost use Rattle.array.specs.Calls.{world_for, AreSparesFewer, IsSettled, IsSettling, IsAnswered, IsCausedBy, IsSameArray, AreLossesOf, AreLeftFlushed, IsEndOf, OnNoMemory};
+ghost use Rattle.views.specs.Whole.{list_size};
+ghost use Rattle.views.specs.Placed.{places_of, AreStillHeld};
+ghost use Rattle.views.specs.Marking.{AreOthersPresent};
+ghost use Rattle.views.specs.Moving.{Grows};
+ghost use Rattle.views.specs.Lacking.{HaveRolesFailed, AreHoldersFlushed, AreTooMany};
+ghost use Rattle.array_kept.specs.Calls.{world_for, AreSparesFewer, IsSettled, IsSettling, IsAnswered, IsCausedBy, IsSameArray, AreLossesOf, AreLeftFlushed, IsEndOf, OnNoMemory};
 
 use crate::array::{Array, refusal_of};
-use crate::calls::{check_number, enter, enter_behind};
-use crate::naming::newly_vacant;
-use crate::roles::{shape_in, vacant_roles};
-use crate::settles::settle;
 use bank::Bank;
+use call_entries::calls::{check_number, enter, enter_behind};
 use flat_history::Event;
 use md_base::{Fault, Who};
+use safe_updates::naming::newly_vacant;
+use safe_updates::roles::{shape_in, vacant_roles};
+use safe_updates::settles::settle;
 
 impl<B: Bank> Array<B> {
     // Flushes the members, marks the array clean, and enters this event, `Flushed` or `Stopped`.

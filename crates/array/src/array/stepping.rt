@@ -12,24 +12,24 @@ ghost use Rattle.flat_history.specs.Sound.{OpensFit};
 ghost use Rattle.flat_history.specs.OneShape.{IsCallOpen};
 ghost use Rattle.flat_history.specs.declared.events.Event.TheVariants.{Step};
 ghost use Rattle.flat_history.specs.declared.events.StepKind.TheVariants.{ResyncStripe as MendsStripe, ResyncEnded as EndsResync};
-ghost use Rattle.array.specs.Whole.{list_size};
-ghost use Rattle.array.specs.Placed.{places_of, AreStillHeld};
-ghost use Rattle.array.specs.Moving.{Grows};
-ghost use Rattle.array.specs.Status.{left_of};
-ghost use Rattle.array.specs.Lacking.{HaveRolesFailed, AreHoldersFlushed, AreTooMany, IsUnwritten, DoesWithout, RowsStand};
-ghost use Rattle.array.specs.Calls.{world_for, AreSparesFewer, HasStripeLeft, IsAllMended, one_more, AreStepsFewer, AreStepsKept, IsStepsReply, by_answer, IsSettled, IsEntered, IsCausedBy, IsSameArray, AreLossesOf, IsEndOf};
+ghost use Rattle.views.specs.Whole.{list_size};
+ghost use Rattle.views.specs.Placed.{places_of, AreStillHeld};
+ghost use Rattle.views.specs.Moving.{Grows};
+ghost use Rattle.views.specs.Status.{left_of};
+ghost use Rattle.views.specs.Lacking.{HaveRolesFailed, AreHoldersFlushed, AreTooMany, IsUnwritten, DoesWithout, RowsStand};
+ghost use Rattle.array_kept.specs.Calls.{world_for, AreSparesFewer, HasStripeLeft, IsAllMended, one_more, AreStepsFewer, AreStepsKept, IsStepsReply, by_answer, IsSettled, IsEntered, IsCausedBy, IsSameArray, AreLossesOf, IsEndOf};
 
 use crate::array::asking::steps_left;
 use crate::array::{Array, refusal_of};
-use crate::calls::{check_open, enter, enter_behind};
-use crate::mending::mend;
-use crate::naming::newly_vacant;
-use crate::roles::{shape_in, vacant_roles};
-use crate::settles::settle;
 use bank::Bank;
+use call_entries::calls::{check_open, enter, enter_behind};
 use flat_history::{Event, StepKind};
 use list_io::missing_data;
 use md_base::{Fault, NoMemory, Refusal, Who};
+use safe_rows::mending::mend;
+use safe_updates::naming::newly_vacant;
+use safe_updates::roles::{shape_in, vacant_roles};
+use safe_updates::settles::settle;
 
 impl<B: Bank> Array<B> {
     /// Makes room for the entries of so many steps, each of which takes the room of one: none of them wants memory.

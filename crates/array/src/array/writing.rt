@@ -8,23 +8,23 @@ ghost use Rattle.row_io.specs.Rows.{present};
 ghost use Rattle.flat_history.specs.Flat.{next_number};
 ghost use Rattle.flat_history.specs.declared.events.Event.TheVariants.{Wrote};
 ghost use Rattle.flat_history.specs.declared.events.Request.TheVariants.{Write as AsksWrite};
-ghost use Rattle.array.specs.Whole.{list_size};
-ghost use Rattle.array.specs.Placed.{places_of, AreStillHeld};
-ghost use Rattle.array.specs.Marking.{AreOthersPresent};
-ghost use Rattle.array.specs.Moving.{Grows};
-ghost use Rattle.array.specs.Lacking.{HaveRolesFailed, IsUnwritten, are_mended, mended_rows};
-ghost use Rattle.array.specs.Calls.{world_for, AreSparesFewer, IsAnswered, IsCausedBy, IsRefusalOf, IsSameArray, AreLossesOf, IsEndOf, OnNoMemory, has_torn};
+ghost use Rattle.views.specs.Whole.{list_size};
+ghost use Rattle.views.specs.Placed.{places_of, AreStillHeld};
+ghost use Rattle.views.specs.Marking.{AreOthersPresent};
+ghost use Rattle.views.specs.Moving.{Grows};
+ghost use Rattle.views.specs.Lacking.{HaveRolesFailed, IsUnwritten, are_mended, mended_rows};
+ghost use Rattle.array_kept.specs.Calls.{world_for, AreSparesFewer, IsAnswered, IsCausedBy, IsRefusalOf, IsSameArray, AreLossesOf, IsEndOf, OnNoMemory, has_torn};
 
 use crate::array::{Array, refusal_of};
-use crate::calls::{check_number, enter, enter_behind, enter_failure};
-use crate::mending::mended_rows;
-use crate::naming::newly_vacant;
-use crate::putting::put;
-use crate::roles::{list_length, shape_in, vacant_roles};
 use bank::Bank;
+use call_entries::calls::{check_number, enter, enter_behind, enter_failure};
 use flat_history::Event;
 use list_io::missing_data;
 use md_base::{Fault, Refusal, Sectors, Shape, Who};
+use safe_rows::mending::mended_rows;
+use safe_rows::putting::put;
+use safe_updates::naming::newly_vacant;
+use safe_updates::roles::{list_length, shape_in, vacant_roles};
 
 impl<B: Bank> Array<B> {
     // Whether the sectors of the list below this one are all in rows whose parity is to be relied on.

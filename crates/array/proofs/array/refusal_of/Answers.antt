@@ -1,9 +1,9 @@
 use Rattle.std.proofs.Common.{ℕ, ◌≤◌, Option, Some, None, arith, MatchOption}
 use Rattle.md_base.specs.declared.answers.Refusal.{Refusal}
 use Rattle.superblocks.specs.declared.members.Members.{Members}
-use Rattle.array.specs.Lacking.{DoesWithout, AreTooMany}
-use Rattle.array.specs.Calls.{IsRefusalOf}
-use Rattle.array.proofs.ReplyLaws.{too-many-of, refused-for}
+use Rattle.views.specs.Lacking.{DoesWithout, AreTooMany}
+use Rattle.array_kept.specs.Calls.{IsRefusalOf}
+use Rattle.array_kept.proofs.ReplyLaws.{too-many-of, refused-for}
 use Rattle.array.proofs.array.refusal_of.Goals as goal
 
 by-missing : (visible to : ℕ) (m : Members) (found : Option Refusal) → to ≤ visible → MatchOption found (DoesWithout m) (AreTooMany m) → IsRefusalOf visible to AreTooMany m found

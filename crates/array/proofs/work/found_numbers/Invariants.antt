@@ -1,4 +1,4 @@
-use Rattle.array.proofs.FoundLaws.{AreNumbersFound}
+use Rattle.array_kept.proofs.FoundLaws.{AreNumbersFound}
 use Rattle.array.proofs.work.found_numbers.Given as goal
 
 -- the numbers before this one are looked for

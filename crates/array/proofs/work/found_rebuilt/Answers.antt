@@ -4,8 +4,8 @@ use Rattle.md_base.specs.declared.status.Role.{Role}
 use Rattle.md_base.specs.declared.status.Role.TheVariants.{Whole, Recovering, Missing}
 use Rattle.superblocks.specs.Reading.{holder}
 use Rattle.row_io.specs.Rows.{reading_of}
-use Rattle.array.specs.Adopting.{stripes_held}
-use Rattle.array.proofs.FoundLaws.{AreStripesFound, no-stripes, stripes-set, stripes-none, stripes-all}
+use Rattle.array_kept.specs.Adopting.{stripes_held}
+use Rattle.array_kept.proofs.FoundLaws.{AreStripesFound, no-stripes, stripes-set, stripes-none, stripes-all}
 use Rattle.array.proofs.work.found_rebuilt.Goals.{in-Recovering, in_default}
 use Rattle.array.proofs.work.found_rebuilt.Goals as goal
 

@@ -4,7 +4,7 @@ use Rattle.bank.specs.Given.{Given}
 use Rattle.bank.specs.Tape.{contents}
 use Rattle.superblocks.proofs.Elected.{lengths-taken}
 use Rattle.assemble.specs.Opening.{AreFlushed}
-use Rattle.array.proofs.Flushed.{contents-added}
+use Rattle.views.proofs.Flushed.{contents-added}
 use Rattle.assemble.proofs.Judged.{ok-opened, err-caused, ok-writable, ok-own, ok-named, ok-sectors, given-as, on-ok, counted-by}
 use Rattle.assemble.proofs.opening.open.Goals as goal
 

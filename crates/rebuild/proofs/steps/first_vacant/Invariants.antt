@@ -1,6 +1,6 @@
 use Rattle.std.proofs.Common.{◌≡◌, ◌<◌, ℕ, false}
 use Rattle.row_io.specs.Rows.{reading_of}
-use Rattle.array.specs.Placed.{is_vacant}
+use Rattle.views.specs.Placed.{is_vacant}
 use Rattle.rebuild.proofs.steps.first_vacant.Given as goal
 
 -- no lower one passes

@@ -2,8 +2,9 @@ use Rattle.std.proofs.Common.{◌≡◌, inl, inr, ℕ, Option, Some, None, sym,
 use Rattle.superblocks.specs.declared.members.Members.{Members}
 use Rattle.std.specs.Prelude.{unwrap_or}
 use Rattle.flat_history.specs.declared.events.StepKind.TheVariants.{RebuildTaken, RebuildStripe, RebuildEnded}
-use Rattle.array.specs.Status.{left_of}
-use Rattle.array.specs.Calls.{Held, IsHeldOrGiven}
+use Rattle.views.specs.Status.{left_of}
+use Rattle.array_kept.specs.Calls.{IsHeldOrGiven}
+use Rattle.views.specs.Rebuilding.{Held}
 use Rattle.rebuild.specs.Steps.{first_recovering, first_vacant, first_spare, IsRebuildNext, IsHeldOrNext, rebuild_kind}
 use Rattle.rebuild.proofs.StepLaws.{losses-wider, not-taking, given-to, found-recovered, role-recovered, kind-filled, kind-ended, kind-taken, IsTaking, takes-next, entered-as, kept-stepped, not-end, at-end}
 use Rattle.rebuild.proofs.steps.rebuild_step.Goals as goal

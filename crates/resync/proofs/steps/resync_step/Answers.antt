@@ -1,8 +1,8 @@
 use Rattle.std.proofs.Common.{true, false, ◌∙◌, sym}
 use Rattle.flat_history.specs.declared.events.StepKind.TheVariants.{ResyncStripe, ResyncEnded}
-use Rattle.array.specs.Whole.{list_size}
-use Rattle.array.specs.Placed.{places_of}
-use Rattle.array.specs.Status.{left_of}
+use Rattle.views.specs.Whole.{list_size}
+use Rattle.views.specs.Placed.{places_of}
+use Rattle.views.specs.Status.{left_of}
 use Rattle.resync.specs.Steps.{is_at_end}
 use Rattle.resync.proofs.StepLaws.{kept-settled, at_end-is, caused-as}
 use Rattle.resync.proofs.steps.resync_step.Goals as goal

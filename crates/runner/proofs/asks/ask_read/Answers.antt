@@ -4,8 +4,8 @@ use Rattle.flat_history.specs.declared.events.Entry.{Entry}
 use Rattle.flat_history.specs.declared.events.Event.TheVariants.{Read}
 use Rattle.flat_history.specs.declared.events.Request.TheVariants.{Read as AsksRead}
 use Rattle.flat_history.specs.OneShape.{OneShapeFits}
-use Rattle.array.specs.Whole.{list_size}
-use Rattle.array.specs.Placed.{places_of}
+use Rattle.views.specs.Whole.{list_size}
+use Rattle.views.specs.Placed.{places_of}
 use Rattle.script.specs.declared.lines.Line.TheVariants.{Read as ReadLine}
 use Rattle.runner.proofs.AskLaws.{on_no_memory, grew, asked_at, answered_reply, answered_none}
 use Rattle.runner.proofs.asks.ask_read.Goals as goal

@@ -1,8 +1,8 @@
 -- Each call so far left more to do.
 use Rattle.std.proofs.Common.{ℕ, ◌-◌, ◌^◌, List, length}
-use Rattle.array.specs.Whole.{list_size}
-use Rattle.array.specs.Placed.{places_of}
-use Rattle.array.specs.Calls.{IsEndOf}
+use Rattle.views.specs.Whole.{list_size}
+use Rattle.views.specs.Placed.{places_of}
+use Rattle.array_kept.specs.Calls.{IsEndOf}
 use Rattle.shared_array.specs.Steps.{HasGoneOn}
 use Rattle.runner.specs.Asked.{IsStillWaiting}
 use Rattle.runner.proofs.asks.ask_wait.Given as goal

@@ -1,7 +1,7 @@
 use Rattle.std.proofs.Common.{rules, ◌≡◌, ◌-◌, [], ◌∷◌, ◌++◌, length, sym, subst, arith}
 use Rattle.flat_history.specs.declared.events.Epoch.{Epoch}
-use Rattle.array.specs.Whole.{list_size}
-use Rattle.array.specs.Placed.{places_of}
+use Rattle.views.specs.Whole.{list_size}
+use Rattle.views.specs.Placed.{places_of}
 use Rattle.runner.specs.Ended.{IsRunKept, AreFormer}
 use Rattle.runner.specs.States.{bank_in, RunsOwn}
 use Rattle.runner.proofs.Legal.{former_halted}

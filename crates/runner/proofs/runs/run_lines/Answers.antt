@@ -1,7 +1,7 @@
 use Rattle.std.proofs.Common.{sym, subst}
 use Rattle.bank.specs.Given.{Given, NeverFalls}
 use Rattle.runner.specs.Ended.{AreLegal, AreRight}
-use Rattle.array.specs.Moving.{Grows}
+use Rattle.views.specs.Moving.{Grows}
 use Rattle.runner.specs.Kept.{AreKept}
 use Rattle.runner.specs.Making.{setting_of}
 use Rattle.runner.specs.Runs.{IsEnded}

@@ -1,7 +1,7 @@
 -- The lines so far were performed, and each reply was shown.
 use Rattle.std.proofs.Common.{◌≡◌, length, None}
 use Rattle.bank.specs.Given.{NeverFalls}
-use Rattle.array.specs.Moving.{Grows}
+use Rattle.views.specs.Moving.{Grows}
 use Rattle.runner.specs.Ended.{IsRunKept}
 use Rattle.runner.specs.Making.{setting_of}
 use Rattle.runner.specs.States.{bank_in}

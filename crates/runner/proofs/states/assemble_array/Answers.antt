@@ -2,7 +2,7 @@ use Rattle.std.proofs.Common.{rules, refl, List, ℕ, [], ◌∷◌, length, sym
 use Rattle.std.specs.Prelude.{IsTrue}
 use Rattle.bank.specs.Given.{NeverFalls}
 use Rattle.bank.specs.Tape.{contents}
-use Rattle.array.specs.Moving.{Grows}
+use Rattle.views.specs.Moving.{Grows}
 use Rattle.md_base.specs.declared.answers.Fault.{Fault}
 use Rattle.md_base.specs.declared.answers.Who.{Who}
 use Rattle.flat_history.specs.declared.events.Entry.{Entry}
@@ -10,9 +10,9 @@ use Rattle.flat_history.specs.declared.events.Event.TheVariants.{Shown}
 use Rattle.flat_history.specs.Plain.{entries_of}
 use Rattle.flat_history.specs.Transfers.{last_end_from}
 use Rattle.row_io.specs.Rows.{reading_of}
-use Rattle.array.specs.Adopting.{found_losses}
-use Rattle.array.specs.Calls.{IsEntered, IsEndOf}
-use Rattle.array.specs.Parts.{Parts}
+use Rattle.array_kept.specs.Adopting.{found_losses}
+use Rattle.array_kept.specs.Calls.{IsEntered, IsEndOf}
+use Rattle.views.specs.Parts.{Parts}
 use Rattle.assemble.specs.Opening.{HasCause}
 use Rattle.script.specs.declared.lines.Line.TheVariants.{Assemble as AsksAssemble}
 use Rattle.runner.specs.Ended.{IsGoing}

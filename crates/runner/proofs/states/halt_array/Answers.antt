@@ -2,8 +2,8 @@ use Rattle.std.proofs.Common.{rules, ◌≡◌, ◌-◌, [], ◌∷◌, ◌++◌
 use Rattle.flat_history.specs.declared.events.Epoch.{Epoch}
 use Rattle.flat_history.specs.declared.events.Event.{Event}
 use Rattle.runner.specs.Histories.{history_of, is_end}
-use Rattle.array.specs.Whole.{list_size}
-use Rattle.array.specs.Placed.{places_of}
+use Rattle.views.specs.Whole.{list_size}
+use Rattle.views.specs.Placed.{places_of}
 use Rattle.script.specs.declared.lines.Line.TheVariants.{Halt as AsksHalt}
 use Rattle.runner.specs.Making.{setting_of}
 use Rattle.runner.specs.States.{IsTurn}

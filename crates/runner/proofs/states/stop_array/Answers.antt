@@ -3,11 +3,11 @@ use Rattle.md_base.specs.declared.answers.Fault.{Fault}
 use Rattle.flat_history.specs.declared.events.Epoch.{Epoch}
 use Rattle.flat_history.specs.declared.events.Event.{Event}
 use Rattle.runner.specs.Histories.{history_of, is_end}
-use Rattle.array.specs.Whole.{list_size}
-use Rattle.array.specs.Placed.{places_of}
-use Rattle.array.specs.Lacking.{AreTooMany}
+use Rattle.views.specs.Whole.{list_size}
+use Rattle.views.specs.Placed.{places_of}
+use Rattle.views.specs.Lacking.{AreTooMany}
 use Rattle.flat_history.specs.Sound.{FillsRight}
-use Rattle.array.specs.Calls.{IsUnsettled, IsFaultFor}
+use Rattle.array_kept.specs.Calls.{IsUnsettled, IsFaultFor}
 use Rattle.script.specs.declared.lines.Line.TheVariants.{Stop as AsksStop}
 use Rattle.runner.specs.Making.{setting_of}
 use Rattle.runner.specs.States.{running_history, IsTurn}

@@ -1,8 +1,8 @@
 use Rattle.std.proofs.Common.{◌≡◌, ◌⊎◌, inl, inr, ℕ, sym, ap}
 use Rattle.flat_history.specs.declared.events.Event.TheVariants.{Added}
 use Rattle.flat_history.specs.declared.events.Request.TheVariants.{Add as AsksAdd}
-use Rattle.array.specs.Whole.{list_size}
-use Rattle.array.specs.Placed.{places_of}
+use Rattle.views.specs.Whole.{list_size}
+use Rattle.views.specs.Placed.{places_of}
 use Rattle.shared_array.proofs.GoneOn.{later-with}
 use Rattle.shared_array.proofs.Replies.{told-answer}
 use Rattle.shared_array.proofs.performing.add.Goals as goal

@@ -1,7 +1,7 @@
 use Rattle.flat_history.specs.declared.events.Event.TheVariants.{Failed}
 use Rattle.flat_history.specs.declared.events.Request.TheVariants.{Fail as AsksFail}
-use Rattle.array.specs.Whole.{list_size}
-use Rattle.array.specs.Placed.{places_of}
+use Rattle.views.specs.Whole.{list_size}
+use Rattle.views.specs.Placed.{places_of}
 use Rattle.shared_array.proofs.GoneOn.{later-held}
 use Rattle.shared_array.proofs.Replies.{told-answer}
 use Rattle.shared_array.proofs.performing.fail.Goals as goal

@@ -1,7 +1,7 @@
 use Rattle.flat_history.specs.declared.events.Event.TheVariants.{Flushed}
 use Rattle.flat_history.specs.declared.events.Request.TheVariants.{Flush as AsksFlush}
-use Rattle.array.specs.Whole.{list_size}
-use Rattle.array.specs.Placed.{places_of}
+use Rattle.views.specs.Whole.{list_size}
+use Rattle.views.specs.Placed.{places_of}
 use Rattle.shared_array.proofs.GoneOn.{later-held}
 use Rattle.shared_array.proofs.Replies.{told-answer}
 use Rattle.shared_array.proofs.performing.flush.Goals as goal

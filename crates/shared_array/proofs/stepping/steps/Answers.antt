@@ -6,8 +6,8 @@ use Rattle.md_base.specs.declared.answers.Refusal.TheVariants.{Nothing}
 use Rattle.flat_history.specs.declared.events.Event.TheVariants.{Stepped, Refused}
 use Rattle.flat_history.specs.Flat.{values_of}
 use Rattle.flat_history.specs.declared.events.Entry.{Entry}
-use Rattle.array.specs.Whole.{list_size}
-use Rattle.array.specs.Placed.{places_of}
+use Rattle.views.specs.Whole.{list_size}
+use Rattle.views.specs.Placed.{places_of}
 use Rattle.resync.proofs.StepLaws.{kept-behind}
 use Rattle.shared_array.proofs.EntryLaws.{alone, room-entries, room-left}
 use Rattle.shared_array.proofs.Replies.{answered-nothing, answered-stepped}

@@ -2,8 +2,8 @@ use Rattle.std.proofs.Common.{◌≡◌, inl, ℕ, Option, Some, None, is_some, 
 use Rattle.md_base.specs.declared.answers.Refusal.TheVariants.{Nothing}
 use Rattle.flat_history.specs.declared.events.Event.TheVariants.{Refused}
 use Rattle.flat_history.specs.declared.events.StepKind.TheVariants.{RebuildTaken, RebuildEnded}
-use Rattle.array.specs.Status.{left_of}
-use Rattle.array.specs.Calls.{Held}
+use Rattle.views.specs.Status.{left_of}
+use Rattle.views.specs.Rebuilding.{Held}
 use Rattle.resync.proofs.StepLaws.{kept-behind}
 use Rattle.rebuild.specs.Steps.{IsHeldOrNext}
 use Rattle.rebuild.proofs.StepLaws.{losses-wider}

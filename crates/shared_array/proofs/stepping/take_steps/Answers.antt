@@ -1,10 +1,10 @@
 use Rattle.std.proofs.Common.{inr, ℕ, ◌∙◌, sym, arith}
 use Rattle.flat_history.specs.Legal.{disturbs}
 use Rattle.flat_history.specs.Fits.{is_lost_event}
-use Rattle.array.specs.Whole.{list_size}
-use Rattle.array.specs.Placed.{places_of}
-use Rattle.array.specs.Status.{left_of}
-use Rattle.array.specs.Calls.{MayHold}
+use Rattle.views.specs.Whole.{list_size}
+use Rattle.views.specs.Placed.{places_of}
+use Rattle.views.specs.Status.{left_of}
+use Rattle.views.specs.Rebuilding.{MayHold}
 use Rattle.rebuild.proofs.StepLaws.{losses-wider}
 use Rattle.shared_array.specs.Steps.{IsHeldOrDue}
 use Rattle.shared_array.proofs.EntryLaws.{step-more, step-refused, steps-more, steps-refused, quiet-first, quiet-second}

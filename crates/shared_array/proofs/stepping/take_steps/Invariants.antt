@@ -1,7 +1,7 @@
 use Rattle.std.proofs.Common.{◌≡◌, ◌+◌, ◌≤◌, None}
 use Rattle.flat_history.specs.OneShape.{IsCallOpen}
-use Rattle.array.specs.Status.{left_of}
-use Rattle.array.specs.Calls.{TellNoLoss, TellNoRoleLoss}
+use Rattle.views.specs.Status.{left_of}
+use Rattle.array_kept.specs.Calls.{TellNoLoss, TellNoRoleLoss}
 use Rattle.shared_array.specs.Steps.{AreStepsOf, HasGoneOn}
 use Rattle.shared_array.proofs.stepping.take_steps.Given as goal
 

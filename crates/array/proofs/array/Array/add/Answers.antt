@@ -6,14 +6,14 @@ use Rattle.flat_history.specs.declared.events.Event.TheVariants.{Refused}
 use Rattle.flat_history.specs.Flat.{next_number}
 use Rattle.flat_history.specs.Plain.{entries_of}
 use Rattle.flat_history.proofs.OneShapeGoing.{begins-open}
-use Rattle.array.specs.Whole.{list_size}
-use Rattle.array.specs.Placed.{places_of}
-use Rattle.array.specs.Kept.{scope_in, IsReady}
-use Rattle.array.specs.Calls.{IsUnaddable}
-use Rattle.array.proofs.AddLaws.{slot-there, unadded_reply}
-use Rattle.array.proofs.AddedKept.{kept-unadded}
-use Rattle.array.proofs.LossLaws.{ended-behind}
-use Rattle.array.proofs.ReadyLaws.{ready, scope-same}
+use Rattle.views.specs.Whole.{list_size}
+use Rattle.views.specs.Placed.{places_of}
+use Rattle.array_kept.specs.Kept.{scope_in, IsReady}
+use Rattle.array_kept.specs.Calls.{IsUnaddable}
+use Rattle.array_kept.proofs.AddLaws.{slot-there, unadded_reply}
+use Rattle.array_kept.proofs.AddedKept.{kept-unadded}
+use Rattle.array_kept.proofs.LossLaws.{ended-behind}
+use Rattle.array_kept.proofs.ReadyLaws.{ready, scope-same}
 use Rattle.array.proofs.array.Array.add.Goals.{else-contains-via-then-contains+else-has_unnamed, else-contains-via-else-contains}
 use Rattle.array.proofs.array.Array.add.Goals as goal
 

@@ -5,10 +5,10 @@ use Rattle.superblocks.specs.Reading.{Scope}
 use Rattle.row_io.specs.Rows.{reading_of}
 use Rattle.flat_history.specs.declared.events.Entry.{Entry}
 use Rattle.flat_history.specs.Plain.{entries_of}
-use Rattle.array.specs.Kept.{scope_in}
-use Rattle.array.specs.Adopting.{opener, absent_losses, found_losses, IsAdoptable}
-use Rattle.array.proofs.ReadyLaws.{scope-same}
-use Rattle.array.proofs.AdoptingLaws.{ready_adopted}
+use Rattle.array_kept.specs.Kept.{scope_in}
+use Rattle.array_kept.specs.Adopting.{opener, absent_losses, found_losses, IsAdoptable}
+use Rattle.array_kept.proofs.ReadyLaws.{scope-same}
+use Rattle.array_kept.proofs.AdoptingLaws.{ready_adopted}
 use Rattle.array.proofs.array.Array.adopt.Goals as goal
 
 pub invariant_of-result : goal.invariant_of-result

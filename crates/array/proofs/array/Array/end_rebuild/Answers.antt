@@ -20,27 +20,28 @@ use Rattle.flat_history.specs.OneShape.{IsCallOpen}
 use Rattle.flat_history.specs.Plain.{entries_of}
 use Rattle.flat_history.specs.Transfers.{last_end_from}
 use Rattle.flat_history.proofs.OneShapeGrowing.{one}
-use Rattle.array.specs.Whole.{list_size}
-use Rattle.array.specs.Placed.{places_of}
-use Rattle.array.specs.Losing.{losses_of}
-use Rattle.array.specs.Lacking.{AreLostSince, AreTooMany, RowsStand, RowsStandBelow, mended_rows}
-use Rattle.array.specs.Rebuilding.{with_whole}
-use Rattle.array.specs.Kept.{scope_in}
-use Rattle.array.specs.Calls.{Held, IsLossBy, AreStripesRebuilt}
-use Rattle.array.proofs.CallLaws.{losses-are}
-use Rattle.array.proofs.DegradedLaws.{kept-refused, too-many-here, refused-here}
-use Rattle.array.proofs.GivenMembers.{placed-given, spare-before}
-use Rattle.array.proofs.LackingLaws.{lost-since, does-without}
-use Rattle.array.proofs.LosingLaws.{entries-both}
-use Rattle.array.proofs.LossLaws.{losses-tail, ended-behind, behind-alone}
-use Rattle.array.proofs.ReadyLaws.{ready, scope-same, list-same}
-use Rattle.array.proofs.ReplyLaws.{refused-zero}
-use Rattle.array.proofs.RebuildEnded.{whole-vacant, whole-after, whole-spare, failed-still, holder-before}
-use Rattle.array.proofs.RebuildGiven.{receiver-recovering}
-use Rattle.array.proofs.RebuildLaws.{losses-open, losses-end}
-use Rattle.array.proofs.RebuildWhole.{kept-ended_lost, ended-among, kept-whole}
-use Rattle.array.proofs.StepLaws.{still-open}
-use Rattle.array.proofs.StepsLeft.{left-whole, steps-fewer}
+use Rattle.views.specs.Whole.{list_size}
+use Rattle.views.specs.Placed.{places_of}
+use Rattle.call_entries.specs.Losing.{losses_of}
+use Rattle.views.specs.Lacking.{AreLostSince, AreTooMany, RowsStand, RowsStandBelow, mended_rows}
+use Rattle.views.specs.Rebuilding.{with_whole}
+use Rattle.array_kept.specs.Kept.{scope_in}
+use Rattle.array_kept.specs.Calls.{IsLossBy, AreStripesRebuilt}
+use Rattle.views.specs.Rebuilding.{Held}
+use Rattle.call_entries.proofs.CallLaws.{losses-are}
+use Rattle.array_kept.proofs.DegradedLaws.{kept-refused, too-many-here, refused-here}
+use Rattle.views.proofs.GivenMembers.{placed-given, spare-before}
+use Rattle.views.proofs.LackingLaws.{lost-since, does-without}
+use Rattle.call_entries.proofs.LosingLaws.{entries-both}
+use Rattle.array_kept.proofs.LossLaws.{losses-tail, ended-behind, behind-alone}
+use Rattle.array_kept.proofs.ReadyLaws.{ready, scope-same, list-same}
+use Rattle.array_kept.proofs.ReplyLaws.{refused-zero}
+use Rattle.array_kept.proofs.RebuildEnded.{whole-vacant, whole-after, whole-spare, failed-still, holder-before}
+use Rattle.array_kept.proofs.RebuildGiven.{receiver-recovering}
+use Rattle.array_kept.proofs.RebuildLaws.{losses-open, losses-end}
+use Rattle.array_kept.proofs.RebuildWhole.{kept-ended_lost, ended-among, kept-whole}
+use Rattle.call_entries.proofs.StepLaws.{still-open}
+use Rattle.array_kept.proofs.StepsLeft.{left-whole, steps-fewer}
 use Rattle.array.proofs.array.Array.end_rebuild.Goals as goal
 
 -- losses alone

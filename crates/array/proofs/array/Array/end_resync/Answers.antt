@@ -11,23 +11,23 @@ use Rattle.flat_history.specs.declared.events.Event.TheVariants.{Refused, Step}
 use Rattle.flat_history.specs.declared.events.StepKind.TheVariants.{ResyncEnded}
 use Rattle.flat_history.specs.OneShape.{IsCallOpen}
 use Rattle.flat_history.specs.Plain.{entries_of}
-use Rattle.array.specs.Whole.{list_size}
-use Rattle.array.specs.Placed.{places_of}
-use Rattle.array.specs.Status.{left_of}
-use Rattle.array.specs.Losing.{losses_of}
-use Rattle.array.specs.Lacking.{AreTooMany, RowsStand, RowsStandBelow}
-use Rattle.array.specs.Kept.{scope_in}
-use Rattle.array.specs.Calls.{IsAllMended}
-use Rattle.array.proofs.CallLaws.{losses-are}
-use Rattle.array.proofs.LackingLaws.{lost-since}
-use Rattle.array.proofs.ReadyLaws.{ready, scope-same, list-same}
-use Rattle.array.proofs.ReplyLaws.{refused-zero}
-use Rattle.array.proofs.LossLaws.{losses-behind, ended-behind, behind-alone}
-use Rattle.array.proofs.StepLaws.{losses-go_on, still-open, synced-behind}
-use Rattle.array.proofs.DegradedLaws.{kept-refused, degraded-refused, too-many-here, refused-here}
-use Rattle.array.proofs.SettledLaws.{leaves-refused, leaves-settled}
-use Rattle.array.proofs.StepsLeft.{left-ended, steps-fewer, steps-kept}
-use Rattle.array.proofs.EndLaws.{enough-mended, end-silent, degraded-ended}
+use Rattle.views.specs.Whole.{list_size}
+use Rattle.views.specs.Placed.{places_of}
+use Rattle.views.specs.Status.{left_of}
+use Rattle.call_entries.specs.Losing.{losses_of}
+use Rattle.views.specs.Lacking.{AreTooMany, RowsStand, RowsStandBelow}
+use Rattle.array_kept.specs.Kept.{scope_in}
+use Rattle.array_kept.specs.Calls.{IsAllMended}
+use Rattle.call_entries.proofs.CallLaws.{losses-are}
+use Rattle.views.proofs.LackingLaws.{lost-since}
+use Rattle.array_kept.proofs.ReadyLaws.{ready, scope-same, list-same}
+use Rattle.array_kept.proofs.ReplyLaws.{refused-zero}
+use Rattle.array_kept.proofs.LossLaws.{losses-behind, ended-behind, behind-alone}
+use Rattle.call_entries.proofs.StepLaws.{losses-go_on, still-open, synced-behind}
+use Rattle.array_kept.proofs.DegradedLaws.{kept-refused, degraded-refused, too-many-here, refused-here}
+use Rattle.array_kept.proofs.SettledLaws.{leaves-refused, leaves-settled}
+use Rattle.array_kept.proofs.StepsLeft.{left-ended, steps-fewer, steps-kept}
+use Rattle.array_kept.proofs.EndLaws.{enough-mended, end-silent, degraded-ended}
 use Rattle.array.proofs.array.Array.end_resync.Goals as goal
 
 too-many-of : (m : Members) (o : Option Refusal) (refusal : Refusal) → o ≡ Some refusal → MatchOption o ⊤ (AreTooMany m) → AreTooMany m refusal

@@ -10,18 +10,18 @@ use Rattle.flat_history.specs.Flat.{next_number}
 use Rattle.flat_history.specs.Plain.{entries_of}
 use Rattle.flat_history.proofs.OneShapeGrowing.{one}
 use Rattle.flat_history.proofs.OneShapeGoing.{begins-open}
-use Rattle.array.specs.Whole.{list_size}
-use Rattle.array.specs.Placed.{places_of}
-use Rattle.array.specs.Losing.{losses_of}
-use Rattle.array.specs.Kept.{scope_in}
-use Rattle.array.proofs.MovedLaws.{moved-then}
-use Rattle.array.proofs.LackingLaws.{lost-since}
-use Rattle.array.proofs.ReadyLaws.{ready, scope-same, list-same}
-use Rattle.array.proofs.ReplyLaws.{fail_reply, no_role_reply}
-use Rattle.array.proofs.LossLaws.{losses-failed, ended-behind}
-use Rattle.array.proofs.HeldRows.{vacant-moved}
-use Rattle.array.proofs.DegradedLaws.{kept-refused, leaves-failed, degraded-failed}
-use Rattle.array.proofs.FailedLaws.{placed-out, unlost-out, moved-out, out-vacant, out-only, clean-out, rise-out, named-out}
+use Rattle.views.specs.Whole.{list_size}
+use Rattle.views.specs.Placed.{places_of}
+use Rattle.call_entries.specs.Losing.{losses_of}
+use Rattle.array_kept.specs.Kept.{scope_in}
+use Rattle.views.proofs.MovedLaws.{moved-then}
+use Rattle.views.proofs.LackingLaws.{lost-since}
+use Rattle.array_kept.proofs.ReadyLaws.{ready, scope-same, list-same}
+use Rattle.array_kept.proofs.ReplyLaws.{fail_reply, no_role_reply}
+use Rattle.array_kept.proofs.LossLaws.{losses-failed, ended-behind}
+use Rattle.views.proofs.HeldRows.{vacant-moved}
+use Rattle.array_kept.proofs.DegradedLaws.{kept-refused, leaves-failed, degraded-failed}
+use Rattle.array_kept.proofs.FailedLaws.{placed-out, unlost-out, moved-out, out-vacant, out-only, clean-out, rise-out, named-out}
 use Rattle.array.proofs.array.Array.fail.Goals as goal
 
 -- an event, and others of its call behind it

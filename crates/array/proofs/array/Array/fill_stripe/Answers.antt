@@ -12,25 +12,26 @@ use Rattle.flat_history.specs.declared.events.StepKind.TheVariants.{RebuildStrip
 use Rattle.flat_history.specs.OneShape.{IsCallOpen}
 use Rattle.flat_history.specs.Plain.{entries_of}
 use Rattle.flat_history.specs.Transfers.{last_end_from}
-use Rattle.array.specs.Whole.{list_size}
-use Rattle.array.specs.Placed.{places_of}
-use Rattle.array.specs.Losing.{losses_of}
-use Rattle.array.specs.Lacking.{AreLostSince, AreTooMany, mended_rows}
-use Rattle.array.specs.declared.work.Work.{Work}
-use Rattle.array.specs.Status.{rebuilt_of, left_of}
-use Rattle.array.specs.Kept.{scope_in, IsKept}
-use Rattle.array.specs.Calls.{Held, IsLossBy, HasStripeUnbuilt, AreStepsFewer, with_rebuilt}
-use Rattle.array.proofs.CallLaws.{losses-are}
-use Rattle.array.proofs.DegradedLaws.{kept-refused, too-many-here, refused-here}
-use Rattle.array.proofs.LackingLaws.{lost-since, does-without}
-use Rattle.array.proofs.LossLaws.{losses-tail, losses-before, ended-behind, behind-alone}
-use Rattle.array.proofs.ReadLaws.{some-of}
-use Rattle.array.proofs.ReadyLaws.{ready, scope-same, list-same}
-use Rattle.array.proofs.ReplyLaws.{refused-zero}
-use Rattle.array.proofs.RebuildFilled.{kept-unfilled, kept-filled, kept-lost, among}
-use Rattle.array.proofs.RebuildLaws.{losses-open, losses-end}
-use Rattle.array.proofs.StepLaws.{losses-go_on, still-open}
-use Rattle.array.proofs.StepsLeft.{left-filled, steps-fewer, steps-kept}
+use Rattle.views.specs.Whole.{list_size}
+use Rattle.views.specs.Placed.{places_of}
+use Rattle.call_entries.specs.Losing.{losses_of}
+use Rattle.views.specs.Lacking.{AreLostSince, AreTooMany, mended_rows}
+use Rattle.views.specs.declared.work.Work.{Work}
+use Rattle.views.specs.Status.{rebuilt_of, left_of}
+use Rattle.array_kept.specs.Kept.{scope_in, IsKept}
+use Rattle.array_kept.specs.Calls.{IsLossBy, HasStripeUnbuilt, AreStepsFewer, with_rebuilt}
+use Rattle.views.specs.Rebuilding.{Held}
+use Rattle.call_entries.proofs.CallLaws.{losses-are}
+use Rattle.array_kept.proofs.DegradedLaws.{kept-refused, too-many-here, refused-here}
+use Rattle.views.proofs.LackingLaws.{lost-since, does-without}
+use Rattle.array_kept.proofs.LossLaws.{losses-tail, losses-before, ended-behind, behind-alone}
+use Rattle.array_kept.proofs.ReadLaws.{some-of}
+use Rattle.array_kept.proofs.ReadyLaws.{ready, scope-same, list-same}
+use Rattle.array_kept.proofs.ReplyLaws.{refused-zero}
+use Rattle.array_kept.proofs.RebuildFilled.{kept-unfilled, kept-filled, kept-lost, among}
+use Rattle.array_kept.proofs.RebuildLaws.{losses-open, losses-end}
+use Rattle.call_entries.proofs.StepLaws.{losses-go_on, still-open}
+use Rattle.array_kept.proofs.StepsLeft.{left-filled, steps-fewer, steps-kept}
 use Rattle.array.proofs.array.Array.fill_stripe.Goals as goal
 
 -- losses alone

@@ -1,6 +1,6 @@
-use Rattle.array.specs.Whole.{list_size}
-use Rattle.array.specs.Placed.{places_of}
-use Rattle.array.proofs.ReplyLaws.{flush_answer}
+use Rattle.views.specs.Whole.{list_size}
+use Rattle.views.specs.Placed.{places_of}
+use Rattle.array_kept.proofs.ReplyLaws.{flush_answer}
 use Rattle.array.proofs.array.Array.flush.Goals as goal
 
 pub returns-clause-answered : goal.returns-clause-answered

@@ -4,15 +4,15 @@ use Rattle.flat_history.specs.Epochs.{IsEpochRight, HasRoomForEvents, OpensAlike
 use Rattle.flat_history.specs.Growing.{EndBy}
 use Rattle.flat_history.specs.Plain.{entries_of}
 use Rattle.flat_history.specs.declared.events.Event.TheVariants.{Halted}
-use Rattle.array.specs.Kept.{scope_in, IsKept}
+use Rattle.array_kept.specs.Kept.{scope_in, IsKept}
 use Rattle.flat_history.specs.Sound.{FillsRight}
-use Rattle.array.specs.Calls.{world_for}
+use Rattle.array_kept.specs.Calls.{world_for}
 use Rattle.flat_history.specs.OneShape.{opening_in, IsOneShapeLegal}
 use Rattle.flat_history.specs.declared.events.Entry.{Entry}
 use Rattle.flat_history.specs.Flat.{next_number}
 use Rattle.flat_history.proofs.OneShapeGoing.{begins-open}
-use Rattle.array.proofs.ReadyLaws.{kept-legal, epoch-right, scope-same}
-use Rattle.array.proofs.DegradedLaws.{kept-halted}
+use Rattle.array_kept.proofs.ReadyLaws.{kept-legal, epoch-right, scope-same}
+use Rattle.array_kept.proofs.DegradedLaws.{kept-halted}
 use Rattle.array.proofs.array.Array.halt.Goals as goal
 
 pub returns-clause-legal : goal.returns-clause-legal

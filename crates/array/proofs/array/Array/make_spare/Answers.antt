@@ -8,22 +8,22 @@ use Rattle.flat_history.specs.declared.events.Event.TheVariants.{Refused, Added}
 use Rattle.flat_history.specs.Flat.{next_number}
 use Rattle.flat_history.specs.Plain.{entries_of}
 use Rattle.flat_history.proofs.OneShapeGoing.{begins-open}
-use Rattle.array.specs.Whole.{list_size}
-use Rattle.array.specs.Placed.{places_of, IsPlaced}
-use Rattle.array.specs.Losing.{losses_of}
-use Rattle.array.specs.Numbers.{is_carried, free_number}
-use Rattle.array.specs.Kept.{scope_in, IsKept}
-use Rattle.array.specs.Calls.{IsFirstOffset, IsUnaddable}
-use Rattle.array.specs.Rebuilding.{AreSparesFree}
-use Rattle.array.proofs.AddLaws.{slot-there, slot-free, slot-does, slot-unspare, slot-fits, slot-room, slot-of-scope, is-free, second-half, stored-as, added_reply, faulted_reply}
-use Rattle.array.proofs.AddedKept.{AddsSafe, with_carried, carries-number, carries-only, kept-looked, looked-others, looked-grows, kept-spare, kept-lost}
-use Rattle.array.proofs.AddedLosses.{add-done, others-lost, since-added, spares-added}
-use Rattle.array.proofs.CallLaws.{losses-are}
-use Rattle.array.proofs.Flushed.{contents-added}
-use Rattle.array.proofs.MovedLaws.{grows-then}
-use Rattle.array.proofs.LiveLeft.{without-left}
-use Rattle.array.proofs.LossLaws.{losses-behind, ended-behind}
-use Rattle.array.proofs.ReadyLaws.{ready, scope-same, list-same}
+use Rattle.views.specs.Whole.{list_size}
+use Rattle.views.specs.Placed.{places_of, IsPlaced}
+use Rattle.call_entries.specs.Losing.{losses_of}
+use Rattle.views.specs.Numbers.{is_carried, free_number}
+use Rattle.array_kept.specs.Kept.{scope_in, IsKept}
+use Rattle.array_kept.specs.Calls.{IsFirstOffset, IsUnaddable}
+use Rattle.views.specs.Rebuilding.{AreSparesFree}
+use Rattle.array_kept.proofs.AddLaws.{slot-there, slot-free, slot-does, slot-unspare, slot-fits, slot-room, slot-of-scope, is-free, second-half, stored-as, added_reply, faulted_reply}
+use Rattle.array_kept.proofs.AddedKept.{AddsSafe, with_carried, carries-number, carries-only, kept-looked, looked-others, looked-grows, kept-spare, kept-lost}
+use Rattle.array_kept.proofs.AddedLosses.{add-done, others-lost, since-added, spares-added}
+use Rattle.call_entries.proofs.CallLaws.{losses-are}
+use Rattle.views.proofs.Flushed.{contents-added}
+use Rattle.views.proofs.MovedLaws.{grows-then}
+use Rattle.views.proofs.LiveLeft.{without-left}
+use Rattle.array_kept.proofs.LossLaws.{losses-behind, ended-behind}
+use Rattle.array_kept.proofs.ReadyLaws.{ready, scope-same, list-same}
 use Rattle.array.proofs.array.Array.make_spare.Goals as goal
 
 pub look_at-requires-clause-slot : goal.look_at-requires-clause-slot

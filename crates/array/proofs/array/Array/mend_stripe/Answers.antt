@@ -4,23 +4,23 @@ use Rattle.flat_history.specs.declared.events.Event.TheVariants.{Refused, Step}
 use Rattle.flat_history.specs.declared.events.StepKind.TheVariants.{ResyncStripe}
 use Rattle.flat_history.specs.OneShape.{IsCallOpen}
 use Rattle.flat_history.specs.Plain.{entries_of}
-use Rattle.array.specs.Whole.{list_size}
-use Rattle.array.specs.Placed.{places_of}
-use Rattle.array.specs.Status.{left_of}
-use Rattle.array.specs.Losing.{losses_of}
-use Rattle.array.specs.Lacking.{AreLostSince, IsUnwritten}
-use Rattle.array.specs.Kept.{scope_in}
-use Rattle.array.specs.Calls.{HasStripeLeft}
-use Rattle.array.proofs.CallLaws.{losses-are}
-use Rattle.array.proofs.LackingLaws.{lost-since, does-without}
-use Rattle.array.proofs.ReadyLaws.{ready, scope-same, list-same}
-use Rattle.array.proofs.ReplyLaws.{unwritten-of, refused-for}
-use Rattle.array.proofs.ReadLaws.{some-of}
-use Rattle.array.proofs.LossLaws.{losses-behind, ended-behind, behind-alone}
-use Rattle.array.proofs.StepLaws.{losses-go_on, still-open}
-use Rattle.array.proofs.StepsLeft.{left-mended, steps-fewer, steps-kept}
-use Rattle.array.proofs.MendLaws.{is-pending, next-stripe, degraded-unmended, degraded-mended}
-use Rattle.array.proofs.DegradedLaws.{kept-refused, unwritten-here}
+use Rattle.views.specs.Whole.{list_size}
+use Rattle.views.specs.Placed.{places_of}
+use Rattle.views.specs.Status.{left_of}
+use Rattle.call_entries.specs.Losing.{losses_of}
+use Rattle.views.specs.Lacking.{AreLostSince, IsUnwritten}
+use Rattle.array_kept.specs.Kept.{scope_in}
+use Rattle.array_kept.specs.Calls.{HasStripeLeft}
+use Rattle.call_entries.proofs.CallLaws.{losses-are}
+use Rattle.views.proofs.LackingLaws.{lost-since, does-without}
+use Rattle.array_kept.proofs.ReadyLaws.{ready, scope-same, list-same}
+use Rattle.array_kept.proofs.ReplyLaws.{unwritten-of, refused-for}
+use Rattle.array_kept.proofs.ReadLaws.{some-of}
+use Rattle.array_kept.proofs.LossLaws.{losses-behind, ended-behind, behind-alone}
+use Rattle.call_entries.proofs.StepLaws.{losses-go_on, still-open}
+use Rattle.array_kept.proofs.StepsLeft.{left-mended, steps-fewer, steps-kept}
+use Rattle.array_kept.proofs.MendLaws.{is-pending, next-stripe, degraded-unmended, degraded-mended}
+use Rattle.array_kept.proofs.DegradedLaws.{kept-refused, unwritten-here}
 use Rattle.array.proofs.array.Array.mend_stripe.Goals as goal
 
 -- ---- refused before anything is done

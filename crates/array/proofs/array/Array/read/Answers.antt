@@ -10,21 +10,21 @@ use Rattle.flat_history.specs.declared.events.Request.TheVariants.{Read as AsksR
 use Rattle.flat_history.specs.World.{opening_list}
 use Rattle.flat_history.specs.Flat.{next_number, now}
 use Rattle.flat_history.specs.Plain.{entries_of}
-use Rattle.array.specs.Whole.{list_size}
-use Rattle.array.specs.Rows.{row_sector}
-use Rattle.array.specs.Placed.{places_of}
-use Rattle.array.specs.Losing.{losses_of}
-use Rattle.array.specs.Lacking.{AreLostSince, IsUnread, mended_rows}
-use Rattle.array.specs.Kept.{scope_in, world_in, AreFillsRight}
-use Rattle.array.specs.Calls.{world_for}
+use Rattle.views.specs.Whole.{list_size}
+use Rattle.views.specs.Rows.{row_sector}
+use Rattle.views.specs.Placed.{places_of}
+use Rattle.call_entries.specs.Losing.{losses_of}
+use Rattle.views.specs.Lacking.{AreLostSince, IsUnread, mended_rows}
+use Rattle.array_kept.specs.Kept.{scope_in, world_in, AreFillsRight}
+use Rattle.array_kept.specs.Calls.{world_for}
 use Rattle.flat_history.proofs.OneShapeGoing.{begins-open}
-use Rattle.array.proofs.LackingLaws.{lost-since, does-without}
-use Rattle.array.proofs.ReadyLaws.{ready, scope-same, list-same}
-use Rattle.array.proofs.DegradedLaws.{refused-here, kept-refused, unread-here}
-use Rattle.array.proofs.LossLaws.{losses-behind, ended-behind}
-use Rattle.array.proofs.ReplyLaws.{refused_reply, lost_reply, replied, read_kind, unread-of, refused-for}
-use Rattle.array.proofs.ReadLaws.{kept-unread, kept-read, fetched, some-of}
-use Rattle.array.proofs.CallLaws.{losses-are, torn-losses}
+use Rattle.views.proofs.LackingLaws.{lost-since, does-without}
+use Rattle.array_kept.proofs.ReadyLaws.{ready, scope-same, list-same}
+use Rattle.array_kept.proofs.DegradedLaws.{refused-here, kept-refused, unread-here}
+use Rattle.array_kept.proofs.LossLaws.{losses-behind, ended-behind}
+use Rattle.array_kept.proofs.ReplyLaws.{refused_reply, lost_reply, replied, read_kind, unread-of, refused-for}
+use Rattle.array_kept.proofs.ReadLaws.{kept-unread, kept-read, fetched, some-of}
+use Rattle.call_entries.proofs.CallLaws.{losses-are, torn-losses}
 use Rattle.array.proofs.array.Array.read.Goals as goal
 
 -- bytes that were written whole

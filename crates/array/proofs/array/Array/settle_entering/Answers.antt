@@ -10,17 +10,17 @@ use Rattle.flat_history.specs.declared.events.Entry.{Entry}
 use Rattle.flat_history.specs.Flat.{next_number}
 use Rattle.flat_history.specs.Plain.{entries_of}
 use Rattle.flat_history.proofs.OneShapeGoing.{begins-open}
-use Rattle.array.specs.Whole.{list_size}
-use Rattle.array.specs.Placed.{places_of}
-use Rattle.array.specs.Losing.{losses_of}
-use Rattle.array.specs.Lacking.{AreTooMany}
-use Rattle.array.specs.Kept.{scope_in, AreTold}
-use Rattle.array.proofs.LackingLaws.{lost-since}
-use Rattle.array.proofs.ReadyLaws.{ready, settles-of, scope-same, list-same}
-use Rattle.array.proofs.ReplyLaws.{refused-zero}
-use Rattle.array.proofs.LossLaws.{losses-behind, ended-behind, behind-alone, settling-no-loss}
-use Rattle.array.proofs.DegradedLaws.{told-since, kept-refused, degraded-refused, degraded-settled, too-many-here, refused-here}
-use Rattle.array.proofs.SettledLaws.{left-flushed, all-mended, leaves-refused, leaves-flushed}
+use Rattle.views.specs.Whole.{list_size}
+use Rattle.views.specs.Placed.{places_of}
+use Rattle.call_entries.specs.Losing.{losses_of}
+use Rattle.views.specs.Lacking.{AreTooMany}
+use Rattle.array_kept.specs.Kept.{scope_in, AreTold}
+use Rattle.views.proofs.LackingLaws.{lost-since}
+use Rattle.array_kept.proofs.ReadyLaws.{ready, settles-of, scope-same, list-same}
+use Rattle.array_kept.proofs.ReplyLaws.{refused-zero}
+use Rattle.array_kept.proofs.LossLaws.{losses-behind, ended-behind, behind-alone, settling-no-loss}
+use Rattle.array_kept.proofs.DegradedLaws.{told-since, kept-refused, degraded-refused, degraded-settled, too-many-here, refused-here}
+use Rattle.array_kept.proofs.SettledLaws.{left-flushed, all-mended, leaves-refused, leaves-flushed}
 use Rattle.array.proofs.array.Array.settle_entering.Goals as goal
 
 too-many-of : (m : Members) (o : Option Refusal) (refusal : Refusal) → o ≡ Some refusal → MatchOption o ⊤ (AreTooMany m) → AreTooMany m refusal

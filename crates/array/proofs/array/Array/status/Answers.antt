@@ -3,10 +3,10 @@ use Rattle.flat_history.specs.Flat.{next_number}
 use Rattle.flat_history.specs.Plain.{entries_of}
 use Rattle.flat_history.specs.declared.events.Event.TheVariants.{Shown}
 use Rattle.flat_history.proofs.OneShapeGoing.{begins-open}
-use Rattle.array.specs.Status.{left_of}
-use Rattle.array.proofs.LossLaws.{ended-behind}
-use Rattle.array.proofs.ReadyLaws.{ready, scope-same}
-use Rattle.array.proofs.DegradedLaws.{kept-shown}
+use Rattle.views.specs.Status.{left_of}
+use Rattle.array_kept.proofs.LossLaws.{ended-behind}
+use Rattle.array_kept.proofs.ReadyLaws.{ready, scope-same}
+use Rattle.array_kept.proofs.DegradedLaws.{kept-shown}
 use Rattle.array.proofs.array.Array.status.Goals as goal
 
 pub invariant_of-self-2 : goal.invariant_of-self-2

@@ -2,9 +2,9 @@ use Rattle.std.proofs.Common.{◌≡◌, ℕ, Option, length, refl, ap, ◌∙�
 use Rattle.flat_history.specs.Epochs.{IsEpochRight, HasRoomForEvents, OpensAlike, world_of}
 use Rattle.flat_history.specs.OneShape.{opening_in, IsOneShapeLegal}
 use Rattle.flat_history.specs.Sound.{FillsRight}
-use Rattle.array.specs.Calls.{AreLeftFlushed}
-use Rattle.array.proofs.ReadyLaws.{kept-legal, epoch-right}
-use Rattle.array.proofs.LackingLaws.{does-without}
+use Rattle.array_kept.specs.Calls.{AreLeftFlushed}
+use Rattle.array_kept.proofs.ReadyLaws.{kept-legal, epoch-right}
+use Rattle.views.proofs.LackingLaws.{does-without}
 use Rattle.array.proofs.array.Array.stop.Goals as goal
 
 pub returns-in-Ok-clause-ready : goal.returns-in-Ok-clause-ready

@@ -8,26 +8,26 @@ use Rattle.flat_history.specs.declared.events.Event.TheVariants.{Refused, Step}
 use Rattle.flat_history.specs.declared.events.StepKind.TheVariants.{RebuildTaken}
 use Rattle.flat_history.specs.OneShape.{IsCallOpen}
 use Rattle.flat_history.specs.Plain.{entries_of}
-use Rattle.array.specs.Whole.{list_size}
-use Rattle.array.specs.Placed.{places_of, is_vacant}
-use Rattle.array.specs.Losing.{losses_of}
-use Rattle.array.specs.Lacking.{AreLostSince, AreTooMany}
-use Rattle.array.specs.declared.work.Work.{Work}
-use Rattle.array.specs.Status.{left_of}
-use Rattle.array.specs.Rebuilding.{with_recovering}
-use Rattle.array.specs.Kept.{scope_in, IsKept}
-use Rattle.array.specs.Calls.{IsHeldOrGiven, AreStepsFewer, with_rebuilt}
-use Rattle.array.proofs.CallLaws.{losses-are}
-use Rattle.array.proofs.DegradedLaws.{kept-refused, too-many-here, refused-here}
-use Rattle.array.proofs.LackingLaws.{lost-since, does-without}
-use Rattle.array.proofs.LossLaws.{losses-before, ended-behind, behind-alone}
-use Rattle.array.proofs.ReadyLaws.{ready, scope-same, list-same}
-use Rattle.array.proofs.ReplyLaws.{refused-zero}
-use Rattle.array.proofs.GivenMembers.{placed-given, spare-before}
-use Rattle.array.proofs.RebuildGiven.{receiver-spare, taken-vacant, taken-held, taken-by, taken-before, taken-after}
-use Rattle.array.proofs.RebuildTaken.{kept-taken}
-use Rattle.array.proofs.StepLaws.{losses-go_on, still-open}
-use Rattle.array.proofs.StepsLeft.{left-taken, steps-fewer}
+use Rattle.views.specs.Whole.{list_size}
+use Rattle.views.specs.Placed.{places_of, is_vacant}
+use Rattle.call_entries.specs.Losing.{losses_of}
+use Rattle.views.specs.Lacking.{AreLostSince, AreTooMany}
+use Rattle.views.specs.declared.work.Work.{Work}
+use Rattle.views.specs.Status.{left_of}
+use Rattle.views.specs.Rebuilding.{with_recovering}
+use Rattle.array_kept.specs.Kept.{scope_in, IsKept}
+use Rattle.array_kept.specs.Calls.{IsHeldOrGiven, AreStepsFewer, with_rebuilt}
+use Rattle.call_entries.proofs.CallLaws.{losses-are}
+use Rattle.array_kept.proofs.DegradedLaws.{kept-refused, too-many-here, refused-here}
+use Rattle.views.proofs.LackingLaws.{lost-since, does-without}
+use Rattle.array_kept.proofs.LossLaws.{losses-before, ended-behind, behind-alone}
+use Rattle.array_kept.proofs.ReadyLaws.{ready, scope-same, list-same}
+use Rattle.array_kept.proofs.ReplyLaws.{refused-zero}
+use Rattle.views.proofs.GivenMembers.{placed-given, spare-before}
+use Rattle.array_kept.proofs.RebuildGiven.{receiver-spare, taken-vacant, taken-held, taken-by, taken-before, taken-after}
+use Rattle.array_kept.proofs.RebuildTaken.{kept-taken}
+use Rattle.call_entries.proofs.StepLaws.{losses-go_on, still-open}
+use Rattle.array_kept.proofs.StepsLeft.{left-taken, steps-fewer}
 use Rattle.array.proofs.array.Array.take_role.Goals as goal
 
 -- ---- refused before anything is done

@@ -9,11 +9,11 @@ use Rattle.layout.proofs.Places.{place-row_below}
 use Rattle.superblocks.specs.declared.members.Members.{Members}
 use Rattle.superblocks.specs.Reading.{shape_of}
 use Rattle.row_io.specs.Rows.{reading_of, is_missing}
-use Rattle.array.specs.Whole.{list_size}
-use Rattle.array.specs.Placed.{places_of, IsPlaced}
-use Rattle.array.specs.Lacking.{AreTooMany, IsAskedBeyond, IsUnread, mended_rows}
-use Rattle.array.specs.Calls.{IsRefusalOf}
-use Rattle.array.proofs.MemberLaws.{list-few}
+use Rattle.views.specs.Whole.{list_size}
+use Rattle.views.specs.Placed.{places_of, IsPlaced}
+use Rattle.views.specs.Lacking.{AreTooMany, IsAskedBeyond, IsUnread, mended_rows}
+use Rattle.array_kept.specs.Calls.{IsRefusalOf}
+use Rattle.views.proofs.MemberLaws.{list-few}
 use Rattle.array.proofs.array.Array.unread.Goals as goal
 
 neither : (a b : Bool) → (a || b) ≡ false → (a ≡ false) × (b ≡ false)

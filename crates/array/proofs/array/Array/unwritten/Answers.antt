@@ -7,10 +7,10 @@ use Rattle.superblocks.specs.declared.members.Members.{Members}
 use Rattle.superblocks.specs.Reading.{shape_of}
 use Rattle.row_io.specs.Rows.{reading_of}
 use Rattle.list_io.specs.Buffers.{IsDataWhole}
-use Rattle.array.specs.Whole.{list_size}
-use Rattle.array.specs.Placed.{places_of}
-use Rattle.array.specs.Lacking.{AreTooMany, IsUnwritten, are_mended, mended_rows}
-use Rattle.array.specs.Calls.{IsRefusalOf}
+use Rattle.views.specs.Whole.{list_size}
+use Rattle.views.specs.Placed.{places_of}
+use Rattle.views.specs.Lacking.{AreTooMany, IsUnwritten, are_mended, mended_rows}
+use Rattle.array_kept.specs.Calls.{IsRefusalOf}
 use Rattle.array.proofs.array.Array.unwritten.Goals as goal
 
 neither : (a b : Bool) → (a || b) ≡ false → a ≡ false

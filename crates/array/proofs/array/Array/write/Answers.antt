@@ -9,21 +9,21 @@ use Rattle.flat_history.specs.declared.events.Request.TheVariants.{Write as Asks
 use Rattle.flat_history.specs.Flat.{next_number}
 use Rattle.flat_history.specs.Plain.{entries_of}
 use Rattle.flat_history.proofs.OneShapeGoing.{begins-open}
-use Rattle.array.specs.Whole.{list_size}
-use Rattle.array.specs.Placed.{places_of}
-use Rattle.array.specs.Losing.{losses_of, failure_events}
-use Rattle.array.specs.Lacking.{AreLostSince, IsUnwritten, AreTooMany, AreBytes, are_mended, mended_rows}
-use Rattle.array.specs.Kept.{scope_in}
-use Rattle.array.specs.Calls.{IsRefusedFor}
-use Rattle.array.proofs.LackingLaws.{lost-since, does-without}
-use Rattle.array.proofs.ReadyLaws.{ready, scope-same, list-same}
-use Rattle.array.proofs.DegradedLaws.{refused-here, kept-refused, pending-of, unwritten-here}
-use Rattle.array.proofs.LossLaws.{losses-behind, losses-failure, ended-behind, ended-failure, torn-told}
-use Rattle.array.proofs.ReplyLaws.{refused_reply, failed_reply, replied, write_kind, unwritten-of, refused-for}
-use Rattle.array.proofs.ReadLaws.{some-of}
-use Rattle.array.proofs.WriteLaws.{kept-unwritten, kept-wrote}
-use Rattle.array.proofs.MemberLaws.{list-few}
-use Rattle.array.proofs.CallLaws.{losses-are, torn-losses}
+use Rattle.views.specs.Whole.{list_size}
+use Rattle.views.specs.Placed.{places_of}
+use Rattle.call_entries.specs.Losing.{losses_of, failure_events}
+use Rattle.views.specs.Lacking.{AreLostSince, IsUnwritten, AreTooMany, AreBytes, are_mended, mended_rows}
+use Rattle.array_kept.specs.Kept.{scope_in}
+use Rattle.array_kept.specs.Calls.{IsRefusedFor}
+use Rattle.views.proofs.LackingLaws.{lost-since, does-without}
+use Rattle.array_kept.proofs.ReadyLaws.{ready, scope-same, list-same}
+use Rattle.array_kept.proofs.DegradedLaws.{refused-here, kept-refused, pending-of, unwritten-here}
+use Rattle.array_kept.proofs.LossLaws.{losses-behind, losses-failure, ended-behind, ended-failure, torn-told}
+use Rattle.array_kept.proofs.ReplyLaws.{refused_reply, failed_reply, replied, write_kind, unwritten-of, refused-for}
+use Rattle.array_kept.proofs.ReadLaws.{some-of}
+use Rattle.array_kept.proofs.WriteLaws.{kept-unwritten, kept-wrote}
+use Rattle.views.proofs.MemberLaws.{list-few}
+use Rattle.call_entries.proofs.CallLaws.{losses-are, torn-losses}
 use Rattle.array.proofs.array.Array.write.Goals as goal
 
 -- ---- refused before any row is read

@@ -1,6 +1,6 @@
 use Rattle.std.proofs.Common.{ap, ◌∙◌, sym, inl, inr}
 use Rattle.superblocks.specs.Reading.{holder}
-use Rattle.array.specs.Calls.{Held}
+use Rattle.views.specs.Rebuilding.{Held}
 use Rattle.array.proofs.array.adding.first_offset.Goals as goal
 
 pub data_offset-requires : goal.data_offset-requires

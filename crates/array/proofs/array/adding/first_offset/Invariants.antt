@@ -1,6 +1,6 @@
 use Rattle.std.proofs.Common.{◌≡◌, ◌<◌, ℕ, true}
 use Rattle.row_io.specs.Rows.{reading_of}
-use Rattle.array.specs.Placed.{is_vacant}
+use Rattle.views.specs.Placed.{is_vacant}
 use Rattle.array.proofs.array.adding.first_offset.Given as goal
 
 -- no role before this one is held

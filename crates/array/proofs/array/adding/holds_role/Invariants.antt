@@ -1,5 +1,5 @@
 use Rattle.std.proofs.Common.{◌<◌, ℕ}
-use Rattle.array.specs.Calls.{Held}
+use Rattle.views.specs.Rebuilding.{Held}
 use Rattle.array.proofs.array.adding.holds_role.Given as goal
 
 -- no role before this one is held by the slot

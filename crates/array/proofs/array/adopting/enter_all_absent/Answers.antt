@@ -2,9 +2,9 @@ use Rattle.std.proofs.Common.{◌++◌, List, sym, ap, ◌∙◌, refl, arith}
 use Rattle.row_io.specs.Rows.{reading_of}
 use Rattle.flat_history.specs.declared.events.Event.{Event}
 use Rattle.flat_history.specs.Plain.{entries_of}
-use Rattle.array.specs.Adopting.{opener, absent_losses, absent_loss}
-use Rattle.array.proofs.LosingLaws.{entered-more, entered-none}
-use Rattle.array.proofs.AbsentLaws.{absents-first, absents-next}
+use Rattle.array_kept.specs.Adopting.{opener, absent_losses, absent_loss}
+use Rattle.call_entries.proofs.LosingLaws.{entered-more, entered-none}
+use Rattle.array_kept.proofs.AbsentLaws.{absents-first, absents-next}
 use Rattle.array.proofs.array.adopting.enter_all_absent.Goals as goal
 
 pub loop-role-init : goal.loop-role-init

@@ -4,8 +4,8 @@ use Rattle.md_base.specs.declared.status.Role.{Role}
 use Rattle.md_base.specs.declared.status.Role.TheVariants.{Whole, Recovering, Missing}
 use Rattle.superblocks.specs.Reading.{shape_of, role_state}
 use Rattle.row_io.specs.Rows.{reading_of}
-use Rattle.array.specs.Status.{stripes_of, rebuilt_of, role_left}
-use Rattle.array.proofs.StepsLeft.{recovery-none, recovery-more}
+use Rattle.views.specs.Status.{stripes_of, rebuilt_of, role_left}
+use Rattle.array_kept.proofs.StepsLeft.{recovery-none, recovery-more}
 use Rattle.array.proofs.array.asking.recovery_left.Goals.{in-Recovering, in_default}
 use Rattle.array.proofs.array.asking.recovery_left.Goals as goal
 

@@ -1,5 +1,5 @@
 use Rattle.std.proofs.Common.{◌≡◌, ◌≤◌, ◌+◌, ◌*◌, ◌^◌}
-use Rattle.array.specs.Status.{recovery_left}
+use Rattle.views.specs.Status.{recovery_left}
 use Rattle.array.proofs.array.asking.recovery_left.Given as goal
 
 -- the steps of the roles before this one are counted

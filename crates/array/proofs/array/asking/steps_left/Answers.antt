@@ -3,7 +3,7 @@ use Rattle.std.proofs.Math.Nat.{div-le_self, mul-le-mul_right}
 use Rattle.md_base.specs.declared.places.Shape.{Shape}
 use Rattle.layout.proofs.Limits.{limited}
 use Rattle.superblocks.specs.Reading.{shape_of}
-use Rattle.array.specs.Status.{stripes_of}
+use Rattle.views.specs.Status.{stripes_of}
 use Rattle.array.proofs.array.asking.steps_left.Goals.{in-Some, in-None}
 use Rattle.array.proofs.array.asking.steps_left.Goals as goal
 

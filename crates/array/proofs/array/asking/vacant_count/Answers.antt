@@ -1,7 +1,7 @@
 use Rattle.std.proofs.Common.{sym, arith}
 use Rattle.row_io.specs.Rows.{reading_of}
 use Rattle.row_io.proofs.Tables.{count_below-none, count_below-le, count_step}
-use Rattle.array.specs.Placed.{is_vacant}
+use Rattle.views.specs.Placed.{is_vacant}
 use Rattle.array.proofs.array.asking.vacant_count.Goals.{then-is_vacant, else-is_vacant}
 use Rattle.array.proofs.array.asking.vacant_count.Goals as goal
 

@@ -1,7 +1,7 @@
 use Rattle.std.proofs.Common.{◌≡◌}
 use Rattle.md_base.specs.Search.{count_below}
 use Rattle.row_io.specs.Rows.{reading_of}
-use Rattle.array.specs.Placed.{is_vacant}
+use Rattle.views.specs.Placed.{is_vacant}
 use Rattle.array.proofs.array.asking.vacant_count.Given as goal
 
 -- those before this one are counted

@@ -1,5 +1,0 @@
-use Rattle.array.proofs.Marked.{mark-is-read}
-use Rattle.array.proofs.laws.mark_is_read.Goals as goal
-
-pub returns : goal.returns
-returns c = mark-is-read

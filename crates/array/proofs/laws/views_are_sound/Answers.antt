@@ -1,5 +1,0 @@
-use Rattle.array.proofs.SoundViews.{views-are-sound}
-use Rattle.array.proofs.laws.views_are_sound.Goals as goal
-
-pub returns : goal.returns
-returns c = views-are-sound

@@ -1,0 +1,46 @@
+-- What is kept of an array after a reply to a request for steps.
+use Rattle.std.proofs.Common.{◌≡◌, ◌≢◌, inl, inr, ℕ, Option, Some, None, List, length, [], ◌∷◌, ◌++◌, refl}
+use Rattle.std.specs.Prelude.{IfSome, MatchOption, ⊤}
+use Rattle.md_base.specs.declared.answers.Who.{Who}
+use Rattle.md_base.specs.declared.answers.Refusal.{Refusal}
+use Rattle.md_base.specs.declared.answers.Refusal.TheVariants.{Nothing}
+use Rattle.bank.specs.Given.{Given}
+use Rattle.bank.specs.declared.bank.Operation.{Operation}
+use Rattle.superblocks.specs.declared.members.Members.{Members}
+use Rattle.superblocks.specs.Reading.{Scope}
+use Rattle.flat_history.specs.declared.events.Entry.{Entry}
+use Rattle.flat_history.specs.declared.events.Event.{Event}
+use Rattle.flat_history.specs.declared.events.Event.TheVariants.{Stepped, Refused}
+use Rattle.flat_history.specs.Flat.{last_of}
+use Rattle.flat_history.specs.Plain.{entries_of}
+use Rattle.flat_history.specs.OneShape.{opening_in, IsCallOpen, IsOneShapeRefusal}
+use Rattle.views.specs.declared.work.Work.{Work}
+use Rattle.views.specs.Status.{left_of}
+use Rattle.array_kept.specs.Kept.{world_in, AreFillsRight, IsKept}
+use Rattle.array_kept.specs.Calls.{IsStepsReply}
+use Rattle.call_entries.proofs.PlainLaws.{one}
+use Rattle.call_entries.proofs.LeftLaws.{keeps-left}
+use Rattle.call_entries.proofs.StepLaws.{last-refused}
+use Rattle.array_kept.proofs.KeptLaws.{unrebuilt-before}
+use Rattle.array_kept.proofs.DegradedLaws.{kept-alone}
+
+module _ {tells : Type 0} {given : Given} {tape : List Operation} {scope : Scope} {first : ℕ} {entries : List Entry} {members : Members} {work : Work}
+    (who : Who) (end : ℕ) (was : IsKept tells given tape scope first entries members work)
+    (opens : IsCallOpen entries who) (caller : who.caller ≢ 254) (at_end : tells → end ≡ length tape) where
+  -- what ended the steps is refused rightly
+  ended-right : (ended : Option Refusal) → MatchOption ended ⊤ (λ refusal. MatchOption (last_of entries) ⊥ (λ e. e.event ≡ Refused refusal)) → tells → AreFillsRight (world_in given tape scope first) work.resync members entries
+      → IfSome ended (IsOneShapeRefusal (opening_in (world_in given tape scope first)) entries)
+  ended-right None last t fills = tt
+  ended-right (Some refusal) last t fills = last-refused (opening_in (world_in given tape scope first)) (length tape) [] entries refusal ((was.recorded t).legal fills) last
+
+  -- what is filled in is right before it
+  fills-before : (event : Event) → AreFillsRight (world_in given tape scope first) work.resync members (entries ++ entries_of who end (event ∷ [])) → AreFillsRight (world_in given tape scope first) work.resync members entries
+  fills-before event fills begun = elim (fills begun) [ inl is ↦ inl (is.0, unrebuilt-before entries (entries_of who end (event ∷ [])) is.1) | inr fit ↦ inr fit ]
+
+  pub kept-answered : (event : Event) → IsStepsReply work members entries event → IsKept tells given tape scope first (entries ++ entries_of who end (event ∷ [])) members work
+  kept-answered (Refused Nothing) reply =
+      kept-alone who end was opens caller at_end (Refused Nothing) (record { length = λ n. refl; limit = refl }) (λ left is. is) refl (λ x values. refl) (λ x values v may. may) refl refl (λ role. refl) (λ t fills. (tt, tt, tt))
+  kept-answered (Stepped done left ended) reply =
+      kept-alone who end was opens caller at_end (Stepped done left ended) (record { length = λ n. refl; limit = refl }) (λ before is. reply.0) refl (λ x values. refl) (λ x values v may. may) refl refl (λ role. refl)
+      (λ t fills. ((keeps-left (left_of work members) entries (one who end (Stepped done left ended)) [] left was.left reply.0, ended-right ended reply.1 t (fills-before (Stepped done left ended) fills)), tt, tt))
+  kept-answered event reply = absurd reply

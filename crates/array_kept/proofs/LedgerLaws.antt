@@ -1,0 +1,371 @@
+-- What a call tells, as the ledger by which its marks are judged.
+use Rattle.std.proofs.Common.{◌≡◌, ℕ, zero, suc, ◌+◌, ◌-◌, ◌/◌, ◌<◌, ◌≤◌, ◌⊎◌, inl, inr, Bool, true, false, not, cond, ◌&&◌, ◌||◌, List, [], ◌∷◌, ◌++◌, length, take, drop, refl, sym, ◌∙◌, ap, ap₂, subst, arith, length-append, append_assoc, slice_range}
+use Rattle.std.specs.Prelude.{fold, slice_index_or}
+use Rattle.std.specs.List.{list_any, list_all}
+use Rattle.std.proofs.Math.Seq.{take-append_seam, drop-append_seam, take-length}
+use Rattle.std.proofs.lemmas.Bool.{cases_lt}
+use Rattle.std.proofs.lemmas.Bool.Decides.{nat_tests}
+use Rattle.std.proofs.lemmas.List.Folds.{list_any-append}
+use Rattle.md_base.specs.Sectors.{Sector, sectors_of}
+use Rattle.md_base.proofs.SectorLaws.{length-sectors_of}
+use Rattle.md_base.specs.declared.answers.Who.{Who}
+use Rattle.bank.specs.Given.{Given}
+use Rattle.bank.specs.Tape.{IsIn}
+use Rattle.superblocks.specs.declared.members.Members.{Members}
+use Rattle.superblocks.specs.Reading.{Scope}
+use Rattle.list_io.specs.Writing.{IsWritten}
+use Rattle.flat_history.specs.declared.events.Entry.{Entry}
+use Rattle.flat_history.specs.declared.events.Event.{Event}
+use Rattle.flat_history.specs.declared.events.Event.TheVariants.{Wrote, Torn, Flushed, Stopped, Lost, SpareLost, Resized}
+use Rattle.flat_history.specs.declared.events.LostCause.TheVariants.{Fault}
+use Rattle.flat_history.specs.Flat.{values_after, values_of, first_values, now, covers, sector_at, behind}
+use Rattle.flat_history.specs.Losses.{was_dirty, is_resync_end, is_unsynced, settles, unsettles}
+use Rattle.flat_history.specs.Plain.{entries_of, loses_role}
+use Rattle.flat_history.specs.World.{World, opening_list}
+use Rattle.flat_history.specs.OneShape.{ShapeOpening, IsOneShapeEvent, AreOneShape, is_lost, is_gone_now, gives_role, is_gone_by, is_unsettled, is_written, keeps_shape_event, KeepShape}
+use Rattle.flat_history.proofs.OneShapeGone.{gone-or_lost}
+use Rattle.flat_history.proofs.OneShapeGrowing.{gone-more}
+use Rattle.array_kept.specs.Kept.{ledger_now}
+use Rattle.views.specs.declared.work.Work.{Work}
+use Rattle.views.specs.Numbers.{is_carried}
+use Rattle.views.specs.Views.{Ledger, ledger_of}
+use Rattle.views.specs.Steady.{IsSafeNow, IsMoreTold, settled_ledger}
+use Rattle.call_entries.proofs.CallLaws.{AreLossEvents, GivesNone}
+use Rattle.views.proofs.LackingLists.{row-sector}
+use Rattle.call_entries.proofs.LosingLaws.{entries-both}
+use Rattle.views.proofs.MemberLaws.{without-none}
+use Rattle.array_kept.proofs.NowLaws.{values-more, sectors_of-at}
+use Rattle.views.proofs.Steady.{losing-stays-safe}
+
+-- ---- the ledger of a call
+
+-- by the history before the call, the first of its entries, and the numbers that are known with it
+abbrev pub told_by : World → Work → List Entry → List Entry → Ledger
+told_by world work entries more = record {
+  values = values_of (opening_list world) (entries ++ more);
+  gone = is_gone_now (entries ++ more);
+  unclean = is_unsynced world entries || (is_unsettled entries || list_any (λ e. unsettles e.event) more);
+  carried = is_carried work;
+}
+
+-- each number is told
+abbrev pub any_carried : Ledger → Ledger
+any_carried told = record told { carried = λ number. true }
+
+pub any-carried : (size : ℕ) (told : Ledger) → IsMoreTold size told (any_carried told)
+any-carried size told = record { values = λ x lt v may. may; gone = λ role is. is; unclean = λ is. is; carried = λ number is. refl }
+
+-- superblocks of the array bear no fewer numbers
+abbrev pub CarriesMore : Work → Work → Type 0
+CarriesMore old new = (number : ℕ) → is_carried old number ≡ true → is_carried new number ≡ true
+
+-- it judges a mark at which the call's entries aren't made yet, where the first of them give no role back
+pub told-ledger : (world : World) (work : Work) (entries more rest : List Entry) → GivesNone more
+    → ledger_of world (entries ++ (more ++ rest)) (length entries) (length (entries ++ more)) ≡ any_carried (told_by world work entries more)
+told-ledger world work entries more rest none =
+    λ i. record {
+      values = values_of (opening_list world) (first i);
+      gone = λ role. gone role i;
+      unclean = is_unsynced world (take-append_seam entries (more ++ rest) i) || (is_unsettled (take-append_seam entries (more ++ rest) i) || list_any (λ e. unsettles e.event) (range i));
+      carried = λ number. true;
+    }
+  where
+    first : take (length (entries ++ more)) (entries ++ (more ++ rest)) ≡ entries ++ more
+    first = ap (take (length (entries ++ more))) (sym (append_assoc entries more rest)) ∙ take-append_seam (entries ++ more) rest
+
+    count : length (entries ++ more) - length entries ≡ length more
+    count = let both : length (entries ++ more) ≡ length entries + length more = length-append entries more in omega (arith, both)
+
+    range : slice_range (entries ++ (more ++ rest)) (length entries) (length (entries ++ more)) ≡ more
+    range = ap₂ (λ (n : ℕ) (l : List Entry). take n l) count (drop-append_seam entries (more ++ rest)) ∙ take-append_seam more rest
+
+    gone : (role : ℕ) → is_gone_by (entries ++ (more ++ rest)) (length entries) (length (entries ++ more)) role ≡ is_gone_now (entries ++ more) role
+    gone role = (λ i. is_gone_now (take-append_seam entries (more ++ rest) i) role || is_lost (range i) role) ∙ sym (gone-or_lost entries more role (none role))
+
+-- the whole history's judges one at which each entry is made
+pub now-ledger : (world : World) (work : Work) (entries : List Entry) → ledger_of world entries (length entries) (length entries) ≡ any_carried (ledger_now world work entries)
+now-ledger world work entries =
+    λ i. record {
+      values = values_of (opening_list world) (take-length entries i);
+      gone = λ role. gone role i;
+      unclean = is_unsynced world (take-length entries i) || unwritten i;
+      carried = λ number. true;
+    }
+  where
+    none : (test : Entry → Bool) (n : ℕ) (l : List Entry) → n ≡ 0 → list_any test (take n l) ≡ false
+    none test n l is = ap (λ (m : ℕ). list_any test (take m l)) is
+
+    same : (n : ℕ) → n - n ≡ 0
+    same n = omega arith
+
+    or_none : (a b : Bool) → b ≡ false → (a || b) ≡ a
+    or_none true b e = refl
+    or_none false b e = e
+
+    unwritten : is_written entries (length entries) (length entries) ≡ is_unsettled entries
+    unwritten = or_none (is_unsettled (take (length entries) entries)) _ (none (λ e. unsettles e.event) _ _ (same (length entries))) ∙ ap is_unsettled (take-length entries)
+
+    gone : (role : ℕ) → is_gone_by entries (length entries) (length entries) role ≡ is_gone_now entries role
+    gone role =
+        or_none (is_gone_now (take (length entries) entries) role) _ (none (λ e. loses_role role e.event) _ _ (same (length entries)))
+        ∙ ap (λ (l : List Entry). is_gone_now l role) (take-length entries)
+
+-- ---- what more entries tell
+
+neither : (a b : Bool) → (a || b) ≡ false → (a ≡ false) × (b ≡ false)
+neither true b e = absurd (cc)
+neither false b e = (refl, e)
+
+-- These entries settle nothing, keep the shape, and give no role back: whatever value a sector may have, it may have after them.
+pub record OnlyAdd (more : List Entry) : Type 0 where
+  pub values : (x : ℕ) (values : List Sector) (v : Sector) → IsIn values v → IsIn (fold (λ values e. values_after x values e.event) values more) v
+  pub settles : list_any (λ e. settles e.event) more ≡ false
+  pub keep : KeepShape more
+  pub gives : GivesNone more
+
+pub add-none : OnlyAdd []
+add-none = record { values = λ x values v may. may; settles = refl; keep = refl; gives = λ role. refl }
+
+pub add-one : (e : Entry) (more : List Entry) → ((x : ℕ) (values : List Sector) (v : Sector) → IsIn values v → IsIn (values_after x values e.event) v) → settles e.event ≡ false → keeps_shape_event e.event ≡ true
+    → GivesNone (e ∷ []) → OnlyAdd more → OnlyAdd (e ∷ more)
+add-one e more adds unsettled keeps none rest = record {
+  values = λ x values v may. rest.values x (values_after x values e.event) v (adds x values v may);
+  settles = ap (λ (b : Bool). b || list_any (λ e. settles e.event) more) unsettled ∙ rest.settles;
+  keep = ap (λ (b : Bool). b && list_all (λ e. keeps_shape_event e.event) more) keeps ∙ rest.keep;
+  gives = λ role. ap₂ (λ (a b : Bool). a || b) (neither (gives_role role e.event) false (none role)).0 (rest.gives role);
+}
+
+pub add-losses : (who : Who) (end : ℕ) (xs ys : List Event) → AreLossEvents xs → OnlyAdd (entries_of who end ys) → OnlyAdd (entries_of who end (xs ++ ys))
+add-losses who end [] ys are rest = rest
+add-losses who end (Lost role Fault ∷ xs) ys are rest = add-one _ _ (λ x values v may. may) refl refl (λ r. refl) (add-losses who end xs ys are rest)
+add-losses who end (SpareLost slot ∷ xs) ys are rest = add-one _ _ (λ x values v may. may) refl refl (λ r. refl) (add-losses who end xs ys are rest)
+add-losses who end (event ∷ xs) ys are rest = absurd are
+
+pub keep-losses : (who : Who) (end : ℕ) (xs ys : List Event) → AreLossEvents xs → KeepShape (entries_of who end ys) → KeepShape (entries_of who end (xs ++ ys))
+keep-losses who end [] ys are rest = rest
+keep-losses who end (Lost role Fault ∷ xs) ys are rest = keep-losses who end xs ys are rest
+keep-losses who end (SpareLost slot ∷ xs) ys are rest = keep-losses who end xs ys are rest
+keep-losses who end (event ∷ xs) ys are rest = absurd are
+
+-- a write's values are added, and so are those of one that was torn
+pub wrote-adds : (at : ℕ) (body : List Sector) (x : ℕ) (values : List Sector) (v : Sector) → IsIn values v → IsIn (values_after x values (Wrote at body)) v
+wrote-adds at body x values v may = by (covers at body x)
+  where
+    by : (b : Bool) → IsIn (cond b (sector_at at body x ∷ values) values) v
+    by true = inr may
+    by false = may
+
+pub torn-adds : (at : ℕ) (body : List Sector) (x : ℕ) (values : List Sector) (v : Sector) → IsIn values v → IsIn (values_after x values (Torn at body)) v
+torn-adds at body x values v may = by (covers at body x) values may
+  where
+    by : (b : Bool) (values : List Sector) → IsIn values v → IsIn (cond b (behind (sector_at at body x) values) values) v
+    by false values may = may
+    by true [] may = absurd may
+    by true (w ∷ values) (inl is) = inl is
+    by true (w ∷ values) (inr may) = inr (inr may)
+
+-- ---- whether a write is unsettled
+
+or_left : (a b : Bool) → a ≡ true → (a || b) ≡ true
+or_left true b e = refl
+or_left false b e = absurd (cc)
+
+or_right : (a b : Bool) → b ≡ true → (a || b) ≡ true
+or_right true b e = refl
+or_right false b e = e
+
+or_assoc : (a b c : Bool) → (a || (b || c)) ≡ ((a || b) || c)
+or_assoc true b c = refl
+or_assoc false b c = refl
+
+-- where none settles, it is so if one of them is
+alone-unsettled : (more : List Entry) → list_any (λ e. settles e.event) more ≡ false → is_unsettled more ≡ list_any (λ e. unsettles e.event) more
+alone-unsettled [] none = refl
+alone-unsettled (e ∷ more) none =
+    let parts = neither (settles e.event) (list_any (λ e. settles e.event) more) none in
+    ap₂ (λ (a b : Bool). a || b) (unclosed (unsettles e.event) (list_any (λ e. settles e.event) more) parts.1) (alone-unsettled more parts.1)
+  where
+    unclosed : (a b : Bool) → b ≡ false → (a && not b) ≡ a
+    unclosed true b e = ap not e
+    unclosed false b e = refl
+
+pub unsettled-more : (entries more : List Entry) → list_any (λ e. settles e.event) more ≡ false → is_unsettled (entries ++ more) ≡ (is_unsettled entries || list_any (λ e. unsettles e.event) more)
+unsettled-more [] more none = alone-unsettled more none
+unsettled-more (e ∷ entries) more none =
+    ap₂ (λ (a b : Bool). unsettles e.event && not a || b) (list_any-append (λ e. settles e.event) entries more ∙ or_none (list_any (λ e. settles e.event) entries) _ none) (unsettled-more entries more none)
+    ∙ or_assoc (unsettles e.event && not (list_any (λ e. settles e.event) entries)) (is_unsettled entries) (list_any (λ e. unsettles e.event) more)
+  where
+    or_none : (a b : Bool) → b ≡ false → (a || b) ≡ a
+    or_none true b e = refl
+    or_none false b e = e
+
+-- what was unsettled stays so
+pub unsettled-still : (entries more : List Entry) → list_any (λ e. settles e.event) more ≡ false → is_unsettled entries ≡ true → is_unsettled (entries ++ more) ≡ true
+unsettled-still entries more none is = unsettled-more entries more none ∙ or_left (is_unsettled entries) (list_any (λ e. unsettles e.event) more) is
+
+-- and it is so where one of them unsettles
+pub unsettled-by : (entries more : List Entry) → list_any (λ e. settles e.event) more ≡ false → list_any (λ e. unsettles e.event) more ≡ true → is_unsettled (entries ++ more) ≡ true
+unsettled-by entries more none is = unsettled-more entries more none ∙ or_right (is_unsettled entries) (list_any (λ e. unsettles e.event) more) is
+
+-- one stands behind others
+pub unsettles-behind : (who : Who) (end : ℕ) (xs ys : List Event) → list_any (λ e. unsettles e.event) (entries_of who end ys) ≡ true → list_any (λ e. unsettles e.event) (entries_of who end (xs ++ ys)) ≡ true
+unsettles-behind who end xs ys is =
+    ap (λ (l : List Entry). list_any (λ e. unsettles e.event) l) (entries-both who end xs ys) ∙ list_any-append (λ e. unsettles e.event) (entries_of who end xs) (entries_of who end ys)
+    ∙ or_right (list_any (λ e. unsettles e.event) (entries_of who end xs)) (list_any (λ e. unsettles e.event) (entries_of who end ys)) is
+
+-- ---- whether a resync has ended
+
+pub ends-nothing : (event : Event) → settles event ≡ false → is_resync_end event ≡ false
+ends-nothing Flushed none = refl
+ends-nothing Stopped none = refl
+ends-nothing event none = none
+
+-- what settles nothing ends no resync
+pub none-ends : (more : List Entry) → list_any (λ e. settles e.event) more ≡ false → list_any (λ e. is_resync_end e.event) more ≡ false
+none-ends [] none = refl
+none-ends (e ∷ more) none =
+    let parts = neither (settles e.event) (list_any (λ e. settles e.event) more) none in
+    ap₂ (λ (a b : Bool). a || b) (ends-nothing e.event parts.0) (none-ends more parts.1)
+
+-- where none of them ends it, it is pending as before
+pub pending-more : (dirty : Bool) (entries more : List Entry) → list_any (λ e. is_resync_end e.event) more ≡ false
+    → (dirty && not (list_any (λ e. is_resync_end e.event) (entries ++ more))) ≡ (dirty && not (list_any (λ e. is_resync_end e.event) entries))
+pending-more dirty entries more none =
+    ap (λ (b : Bool). dirty && not b) (list_any-append (λ e. is_resync_end e.event) entries more ∙ or_none (list_any (λ e. is_resync_end e.event) entries) (list_any (λ e. is_resync_end e.event) more) none)
+  where
+    or_none : (a b : Bool) → b ≡ false → (a || b) ≡ a
+    or_none true b e = refl
+    or_none false b e = e
+
+unsynced-more : (world : World) (entries more : List Entry) → list_any (λ e. is_resync_end e.event) more ≡ false → is_unsynced world (entries ++ more) ≡ is_unsynced world entries
+unsynced-more world entries more none = pending-more (was_dirty world) entries more none
+
+-- ---- more that is told
+
+-- where no role is told lost, none was before
+pub none-lost-before : (entries more : List Entry) → ((role : ℕ) → is_lost (entries ++ more) role ≡ false) → (role : ℕ) → is_lost entries role ≡ false
+none-lost-before entries more none role = (neither (is_lost entries role) (is_lost more role) (sym (list_any-append (λ e. loses_role role e.event) entries more) ∙ none role)).0
+
+module _ (world : World) (size : ℕ) (old work : Work) (carries : CarriesMore old work) (entries more : List Entry) (adds : OnlyAdd more) where
+  -- a call tells more than the history before it
+  pub told-more : IsMoreTold size (ledger_now world old entries) (told_by world work entries more)
+  told-more = record {
+    values = λ x lt v may. subst (λ (l : List Sector). IsIn l v) (sym (values-more (opening_list world) entries more x)) (adds.values x (values_of (opening_list world) entries x) v may);
+    gone = λ role is. gone-more role entries more (adds.gives role) is;
+    unclean = λ is. by (is_unsynced world entries) (is_unsettled entries) is;
+    carried = carries;
+  }
+    where
+      by : (a b : Bool) → (a || b) ≡ true → (a || (b || list_any (λ e. unsettles e.event) more)) ≡ true
+      by true b e = refl
+      by false b e = or_left b (list_any (λ e. unsettles e.event) more) e
+
+  -- and its end no less than the call
+  pub told-now : IsMoreTold size (told_by world work entries more) (ledger_now world work (entries ++ more))
+  told-now = record {
+    values = λ x lt v may. may;
+    gone = λ role is. is;
+    unclean = λ is. ap₂ (λ (a b : Bool). a || b) (unsynced-more world entries more (none-ends more adds.settles)) (unsettled-more entries more adds.settles) ∙ is;
+    carried = λ number is. is;
+  }
+
+  -- what was unclean before the call is told so
+  pub told-unclean : (unsynced : Bool) → is_unsynced world entries ≡ unsynced → (unsynced || is_unsettled entries) ≡ true → (told_by world work entries more).unclean ≡ true
+  told-unclean unsynced same is = told-more.unclean (ap (λ (b : Bool). b || is_unsettled entries) same ∙ is)
+
+-- what is told of an array is told if more is
+pub more-safe : (sound : Type 0) (scope : Scope) (given : Given) (size : ℕ) (told more : Ledger) (members : Members) (d : ℕ → ℕ → List Sector) → IsMoreTold size told more
+    → IsSafeNow sound scope given size told members d → IsSafeNow sound scope given size more members d
+more-safe sound scope given size told more members d is safe =
+    subst (λ (m : Members). IsSafeNow sound scope given size more m d) (without-none members) (losing-stays-safe sound scope given size 0 told more members d is safe)
+
+-- ---- the newest value of a sector
+
+-- it is among its values
+abbrev pub HasNewest : List Sector → Type 0
+HasNewest values = IsIn values (slice_index_or values 0 [])
+
+first-newest : (list : List Sector) (x : ℕ) → x < length list → HasNewest (take 1 (drop x list))
+first-newest [] x lt = absurd (omega (arith, lt))
+first-newest (w ∷ list) zero lt = inl refl
+first-newest (w ∷ list) (suc x) lt = first-newest list x (omega (arith, lt))
+
+newest-first : (values : List Sector) → HasNewest values → HasNewest (take 1 values)
+newest-first [] has = absurd has
+newest-first (w ∷ values) has = inl refl
+
+-- a legal event leaves it one
+event-newest : (opening : ShapeOpening) (before : List Entry) (e : Entry) (rest : List Entry) (event : Event) → IsOneShapeEvent opening before e rest event → (x : ℕ) (values : List Sector) → HasNewest values
+    → HasNewest (values_after x values event)
+event-newest opening before e rest (Wrote at body) is x values has = by (covers at body x)
+  where
+    by : (b : Bool) → HasNewest (cond b (sector_at at body x ∷ values) values)
+    by true = inl refl
+    by false = has
+event-newest opening before e rest (Torn at body) is x values has = by (covers at body x) values has
+  where
+    by : (b : Bool) (values : List Sector) → HasNewest values → HasNewest (cond b (behind (sector_at at body x) values) values)
+    by false values has = has
+    by true [] has = absurd has
+    by true (w ∷ values) has = inl refl
+event-newest opening before e rest Flushed is x values has = newest-first values has
+event-newest opening before e rest Stopped is x values has = newest-first values has
+event-newest opening before e rest (Resized n) is x values has = absurd is
+event-newest opening before e rest event is x values has = has
+
+entries-newest : (opening : ShapeOpening) (ops : ℕ) (before entries : List Entry) → AreOneShape opening ops before entries → (x : ℕ) (values : List Sector) → HasNewest values
+    → HasNewest (fold (λ values e. values_after x values e.event) values entries)
+entries-newest opening ops before [] legal x values has = has
+entries-newest opening ops before (e ∷ entries) legal x values has =
+    entries-newest opening ops (before ++ e ∷ []) entries legal.1 x (values_after x values e.event) (event-newest opening before e _ e.event legal.0.event x values has)
+
+-- so has each sector of the list, after a legal history
+pub newest-allowed : (opening : ShapeOpening) (ops : ℕ) (list : List Sector) (entries : List Entry) → AreOneShape opening ops [] entries → (x : ℕ) → x < length list → IsIn (values_of list entries x) (now list entries x)
+unfolding values_of
+newest-allowed opening ops list entries legal x lt = entries-newest opening ops [] entries legal x (first_values list x) (first-newest list x lt)
+
+-- ---- the values of a write
+
+covered : (at : ℕ) (body : List Sector) (x : ℕ) → at ≤ x → x < at + length body → covers at body x ≡ true
+covered at body x low high = grind (arith, nat_tests, low, high)
+
+-- the sectors of a write, and those that it leaves, are allowed
+pub written-allowed : (size first : ℕ) (from : List ℕ) (list list' : ℕ → Sector) (values : ℕ → List Sector) → IsWritten list list' first from → ((x : ℕ) → x < size → IsIn (values x) (list x))
+    → ((x : ℕ) → x < size → covers first (sectors_of from) x ≡ true → IsIn (values x) (sector_at first (sectors_of from) x)) → (x : ℕ) → x < size → IsIn (values x) (list' x)
+written-allowed size first from list list' values w old new x lt = elim (cases_lt x first) [
+  | inl low ↦ outside (inl low)
+  | inr within ↦ elim (cases_lt x (first + length from / 512)) [
+    | inl high ↦ subst (λ (v : Sector). IsIn (values x) v)
+        (sectors_of-at (x - first) from (omega (arith, within, high)) ∙ sym (row-sector from (x - first)) ∙ sym (w.here x within high))
+        (new x lt (covered first (sectors_of from) x within (let n = length-sectors_of from in omega (arith, high, n))))
+    | inr high ↦ outside (inr high)
+  ]
+]
+  where
+    outside : (x < first) ⊎ (first + length from / 512 ≤ x) → IsIn (values x) (list' x)
+    outside out = subst (λ (v : Sector). IsIn (values x) v) (sym (w.other x out)) (old x lt)
+
+-- a write's entry gives its sectors
+pub wrote-in : (at : ℕ) (body : List Sector) (x : ℕ) (values : List Sector) → covers at body x ≡ true → IsIn (values_after x values (Wrote at body)) (sector_at at body x)
+wrote-in at body x values is = subst (λ (b : Bool). IsIn (cond b (sector_at at body x ∷ values) values) (sector_at at body x)) (sym is) (inl refl)
+
+-- and so does that of one that was torn
+pub torn-in : (at : ℕ) (body : List Sector) (x : ℕ) (values : List Sector) → HasNewest values → covers at body x ≡ true → IsIn (values_after x values (Torn at body)) (sector_at at body x)
+torn-in at body x values has is = subst (λ (b : Bool). IsIn (cond b (behind (sector_at at body x) values) values) (sector_at at body x)) (sym is) (by values has)
+  where
+    by : (values : List Sector) → HasNewest values → IsIn (behind (sector_at at body x) values) (sector_at at body x)
+    by [] has = absurd has
+    by (w ∷ values) has = inr (inl refl)
+
+-- ---- what is settled
+
+-- A flush or a stop behind the call's losses leaves each sector its newest value, and so does the end of a resync.
+pub settled-now : (world : World) (size : ℕ) (work : Work) (unsynced : Bool) (entries more rest : List Entry) → is_unsynced world (entries ++ (more ++ rest)) ≡ unsynced
+    → ((x : ℕ) → x < size → IsIn (values_of (opening_list world) (entries ++ (more ++ rest)) x) (now (opening_list world) entries x)) → GivesNone rest
+    → IsMoreTold size (settled_ledger unsynced (now (opening_list world) entries) (told_by world work entries more)) (ledger_now world work (entries ++ (more ++ rest)))
+settled-now world size work unsynced entries more rest dirty newest none = record {
+  values = λ x lt v only. elim only [ inl same ↦ subst (λ (w : Sector). IsIn (values_of (opening_list world) (entries ++ (more ++ rest)) x) w) (sym same) (newest x lt) | inr none ↦ absurd none ];
+  gone = λ role is. subst (λ (l : List Entry). is_gone_now l role ≡ true) (append_assoc entries more rest) (gone-more role (entries ++ more) rest (none role) is);
+  unclean = λ is. or_left (is_unsynced world (entries ++ (more ++ rest))) (is_unsettled (entries ++ (more ++ rest))) (dirty ∙ is);
+  carried = λ number is. is;
+}

@@ -1,0 +1,132 @@
+-- The calls of the steps of a rebuild: what they enter, and what is kept after them.
+use Rattle.std.proofs.Common.{◌≡◌, ◌≢◌, ℕ, ◌+◌, Bool, true, false, cond, Option, Some, None, List, [], ◌∷◌, ◌++◌, length, sym, ◌∙◌, ap, subst, arith}
+use Rattle.std.specs.Prelude.{IfSome, slice_index_or, fold}
+use Rattle.std.specs.List.{list_any, Contains}
+use Rattle.md_base.specs.Sectors.{Sector}
+use Rattle.md_base.specs.declared.answers.Who.{Who}
+use Rattle.bank.specs.Given.{Given}
+use Rattle.bank.specs.declared.bank.Operation.{Operation}
+use Rattle.superblocks.specs.declared.members.Members.{Members}
+use Rattle.superblocks.specs.Reading.{Scope}
+use Rattle.row_io.specs.Rows.{present}
+use Rattle.flat_history.specs.declared.events.Entry.{Entry}
+use Rattle.flat_history.specs.declared.events.Event.{Event}
+use Rattle.flat_history.specs.declared.events.Event.TheVariants.{Lost, SpareLost, Step}
+use Rattle.flat_history.specs.declared.events.LostCause.TheVariants.{Fault}
+use Rattle.flat_history.specs.declared.events.StepKind.{StepKind}
+use Rattle.flat_history.specs.World.{World, opening_list}
+use Rattle.flat_history.specs.Flat.{now, values_after}
+use Rattle.flat_history.specs.Legal.{told_left, disturbs, call_before}
+use Rattle.flat_history.specs.Losses.{is_resync_end}
+use Rattle.flat_history.specs.Plain.{entries_of}
+use Rattle.flat_history.specs.Transfers.{last_end_from}
+use Rattle.flat_history.specs.OneShape.{ShapeOpening, opening_in, IsIdleStep, IsCallOpen}
+use Rattle.flat_history.specs.Sound.{OpensFit}
+use Rattle.flat_history.proofs.OneShapeGrowing.{one, IsOneShapeCall, call-faults, inner-of, call-ends}
+use Rattle.views.specs.declared.work.Work.{Work}
+use Rattle.views.specs.Placed.{AreWhole}
+use Rattle.views.specs.Moving.{Grows}
+use Rattle.views.specs.Rebuilding.{HasNoRebuilt, AreRebuilt}
+use Rattle.views.specs.Lacking.{DoesWithout, ListStands, RowsStandBelow, mended_rows}
+use Rattle.array_kept.specs.Kept.{world_in, AreTold, AreFillsRight, AreRebuildsRight, IsKept}
+use Rattle.call_entries.proofs.CallLaws.{AreLossEvents, length-losses, limit-losses, values-losses, builds-losses, ends-losses}
+use Rattle.array_kept.proofs.LedgerLaws.{OnlyAdd, add-losses}
+use Rattle.array_kept.proofs.RecordLaws.{AreSilent}
+use Rattle.array_kept.proofs.ReadyLaws.{AreStill}
+use Rattle.call_entries.proofs.StepLaws.{GoOnBehind, faults-are}
+use Rattle.array_kept.proofs.KeptLaws.{StayPlaced, LeavesSafe, LeavesWork, kept-after, same-now, whole-still}
+
+-- ---- events behind the losses of a call
+
+-- They leave the list and the resync, and give no role back.
+pub record AreQuiet (who : Who) (end : ℕ) (events : List Event) : Type 0 where
+  pub silent : AreSilent who end events
+  pub values : (x : ℕ) (values : List Sector) → fold (λ values e. values_after x values e.event) values (entries_of who end events) ≡ values
+  pub adds : OnlyAdd (entries_of who end events)
+  pub unbuilt : HasNoRebuilt (entries_of who end events)
+  pub ends : list_any (λ e. is_resync_end e.event) (entries_of who end events) ≡ false
+
+pub quiet-behind : (who : Who) (end : ℕ) (xs tail : List Event) → AreLossEvents xs → AreQuiet who end tail → AreQuiet who end (xs ++ tail)
+quiet-behind who end xs tail are quiet = record {
+  silent = record {
+    length = λ n. length-losses who end xs tail are n ∙ quiet.silent.length n;
+    limit = limit-losses who end xs tail are None ∙ quiet.silent.limit;
+  };
+  values = λ x values. values-losses who end xs tail are x values ∙ quiet.values x values;
+  adds = add-losses who end xs tail are quiet.adds;
+  unbuilt = builds-losses who end xs tail are quiet.unbuilt;
+  ends = ends-losses who end xs tail are ∙ quiet.ends;
+}
+
+pub still-quiet : (who : Who) (end : ℕ) (events : List Event) → ((x : ℕ) (values : List Sector) → fold (λ values e. values_after x values e.event) values (entries_of who end events) ≡ values) → AreStill who end events
+still-quiet who end events same x values = ap (λ (l : List Sector). slice_index_or l 0 []) (same x values)
+
+-- they go on behind the losses
+pub losses-open : (xs tail : List Event) → AreLossEvents xs → GoOnBehind tail → GoOnBehind (xs ++ tail)
+losses-open [] tail are goes = goes
+losses-open (Lost role Fault ∷ xs) tail are goes = (tt, losses-open xs tail are goes)
+losses-open (SpareLost slot ∷ xs) tail are goes = (tt, losses-open xs tail are goes)
+losses-open (x ∷ xs) tail are goes = absurd are
+
+-- where something is lost, the call ends with its losses
+pub losses-end : (first : ℕ) (entries : List Entry) (who : Who) (end : ℕ) (xs : List Event) (event : Event) → Contains xs event → last_end_from first (entries ++ entries_of who end xs) ≡ end
+losses-end first entries who end [] event has = absurd (let below = has.1 in omega (arith, below))
+losses-end first entries who end (x ∷ xs) event has = call-ends first entries who end x xs
+
+pub some-lost : (xs : List Event) (event : Event) → Contains xs event → xs ≡ [] → ⊥
+some-lost [] event has none = absurd (let below = has.1 in omega (arith, below))
+some-lost (x ∷ xs) event has none = absurd (cc)
+
+-- ---- a step behind losses is legal
+
+-- where the history tells one more step left behind them, or none, whatever its call enters behind it
+pub call-stepped_on : (opening : ShapeOpening) (entries : List Entry) (who : Who) (end : ℕ) (xs : List Event) (kind : StepKind) (left : ℕ) (tail : List Event) → AreLossEvents xs → IsIdleStep kind
+    → IfSome (told_left (entries ++ entries_of who end xs)) (λ n. n ≡ left + 1)
+    → IsOneShapeCall opening ((entries ++ entries_of who end xs) ++ one who end (Step kind left) ∷ []) who end tail → IsOneShapeCall opening entries who end (xs ++ Step kind left ∷ tail)
+call-stepped_on opening entries who end xs kind left tail are idle told call =
+    call-faults opening entries who end xs (Step kind left ∷ tail) (faults-are xs are) (
+      (idle, by (list_any (λ e. disturbs e.event) (call_before (entries ++ entries_of who end xs) (one who end (Step kind left)) ++ entries_of who end tail)) (told_left (entries ++ entries_of who end xs)) told),
+      inner-of (Step kind left) (entries_of who end tail) tt,
+      call,
+    )
+  where
+    by : (b : Bool) (o : Option ℕ) → IfSome o (λ n. n ≡ left + 1) → IfSome (cond b None o) (λ n. left + 1 ≡ n)
+    by true o told = tt
+    by false None told = tt
+    by false (Some n) told = sym told
+
+-- ---- what is kept after a call that leaves the list
+
+module _ {tells : Type 0} {given : Given} {tape tape' : List Operation} {scope : Scope} {first : ℕ} {entries : List Entry} {members members' : Members} {work : Work}
+    (who : Who) (end : ℕ) (was : IsKept tells given tape scope first entries members work)
+    (opens : IsCallOpen entries who) (caller : who.caller ≢ 254) (at_end : tells → end ≡ length tape')
+    (stays : StayPlaced given members members') (grows : Grows tells tape tape') where
+  abbrev pub world : World
+  world = world_in given tape scope first
+
+  abbrev pub list : ℕ → Sector
+  list = now (opening_list world) entries
+
+  pub kept-listed : {work' : Work} (events : List Event) → AreSilent who end events → ((x : ℕ) (values : List Sector) → fold (λ values e. values_after x values e.event) values (entries_of who end events) ≡ values)
+      → LeavesWork work work' members' entries (entries_of who end events)
+      → last_end_from first (entries ++ entries_of who end events) ≡ end
+      → (AreWhole members' → HasNoRebuilt (entries ++ entries_of who end events) → AreWhole members)
+      → AreTold members' (entries ++ entries_of who end events)
+      → (tells → AreFillsRight world work'.resync members' (entries ++ entries_of who end events) → IsOneShapeCall (opening_in world) entries who end events)
+      → (tells → DoesWithout members' → AreRebuildsRight world (entries ++ entries_of who end events) → ListStands members' (present given tape') list)
+      → (tells → DoesWithout members' → OpensFit world → RowsStandBelow (mended_rows work'.resync members') members' (present given tape') list)
+      → (tells → DoesWithout members' → OpensFit world → AreRebuilt work' members' (present given tape') list)
+      → LeavesSafe tells given tape' scope first (entries ++ entries_of who end events) members' work'
+      → IsKept tells given tape' scope first (entries ++ entries_of who end events) members' work'
+  kept-listed {work' = work'} events silent values leaves ended smaller told call holds good rebuilt safe =
+      kept-after who end was opens caller at_end stays grows {work' = work'} events silent leaves ended smaller told call
+      (λ t does rebuilds. subst (λ (l : ℕ → Sector). ListStands members' (present given tape') l) (sym same) (holds t does rebuilds))
+      (whole-still who end was opens caller at_end stays grows events still)
+      (λ t does fit. subst (λ (l : ℕ → Sector). RowsStandBelow (mended_rows work'.resync members') members' (present given tape') l) (sym same) (good t does fit))
+      (λ t does fit. subst (λ (l : ℕ → Sector). AreRebuilt work' members' (present given tape') l) (sym same) (rebuilt t does fit)) safe
+    where
+      still : AreStill who end events
+      still = still-quiet who end events values
+
+      same : now (opening_list world) (entries ++ entries_of who end events) ≡ list
+      same = same-now who end was opens caller at_end stays grows events still

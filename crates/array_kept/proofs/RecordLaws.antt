@@ -1,0 +1,63 @@
+-- What is kept of the history after a call, by what the call entered.
+use Rattle.std.proofs.Common.{◌≡◌, ℕ, zero, suc, ◌+◌, ◌<◌, ◌≤◌, ◌||◌, Bool, true, false, cond, Option, None, List, [], ◌∷◌, ◌++◌, refl, sym, ◌∙◌, ap, arith}
+use Rattle.std.proofs.lemmas.Bool.Decides.{nat_tests}
+use Rattle.std.specs.Prelude.{fold, IsTrue}
+use Rattle.md_base.specs.Search.{count_below}
+use Rattle.md_base.specs.declared.answers.Who.{Who}
+use Rattle.superblocks.specs.declared.members.Members.{Members}
+use Rattle.row_io.specs.Rows.{reading_of, is_missing}
+use Rattle.flat_history.specs.declared.events.Entry.{Entry}
+use Rattle.flat_history.specs.declared.events.Event.{Event}
+use Rattle.flat_history.specs.Flat.{length_after, limit_after}
+use Rattle.flat_history.specs.Growing.{EndBy}
+use Rattle.flat_history.specs.Plain.{entries_of}
+use Rattle.flat_history.specs.OneShape.{is_lost, is_gone_now}
+use Rattle.flat_history.proofs.OneShapeGone.{never-gone, gone-or_lost}
+use Rattle.flat_history.proofs.OneShapeGrowing.{gone-more}
+use Rattle.views.specs.Placed.{AreWhole}
+use Rattle.array_kept.specs.Kept.{AreTold}
+use Rattle.flat_history.specs.Sound.{LosesNoRole}
+use Rattle.call_entries.proofs.CallLaws.{GivesNone}
+
+-- these events change neither the length nor the limit, nor what the list holds
+pub record AreSilent (who : Who) (end : ℕ) (events : List Event) : Type 0 where
+  pub length : (n : ℕ) → fold (λ m e. length_after m e.event) n (entries_of who end events) ≡ n
+  pub limit : fold (λ (limit : Option ℕ) e. limit_after limit e.event) None (entries_of who end events) ≡ None
+
+-- ---- where the entries end
+
+ends-more : (ops more : ℕ) (entries added : List Entry) → ops ≤ more → EndBy ops entries → EndBy more added → EndBy more (entries ++ added)
+ends-more ops more [] added le ends behind = behind
+ends-more ops more (e ∷ entries) added le ends behind = (let at = ends.0 in omega (arith, at, le), ends-more ops more entries added le ends.1 behind)
+
+pub ends-at : (who : Who) (end : ℕ) (events : List Event) → EndBy end (entries_of who end events)
+ends-at who end [] = tt
+ends-at who end (event ∷ events) = (omega arith, ends-at who end events)
+
+-- the entries of a call end with it
+pub ends-call : (ops : ℕ) (entries : List Entry) (who : Who) (end : ℕ) (events : List Event) → ops ≤ end → EndBy ops entries → EndBy end (entries ++ entries_of who end events)
+ends-call ops entries who end events le ends = ends-more ops end entries (entries_of who end events) le ends (ends-at who end events)
+
+-- ---- losses
+
+-- a role is gone behind entries that lose it and give none back
+pub gone-lately : (role : ℕ) (entries added : List Entry) → GivesNone added → IsTrue (is_lost added role) → IsTrue (is_gone_now (entries ++ added) role)
+gone-lately role entries added none lost =
+    gone-or_lost entries added role (none role) ∙ ap (λ (b : Bool). is_gone_now entries role || b) lost ∙ last (is_gone_now entries role)
+  where
+    last : (b : Bool) → (b || true) ≡ true
+    last b = grind (arith, nat_tests)
+
+-- what was told stays so, where no role is given back
+pub told-more : (members : Members) (entries added : List Entry) → GivesNone added → AreTold members entries → AreTold members (entries ++ added)
+told-more members entries added none told role lt missing = gone-more role entries added (none role) (told role lt missing)
+
+-- ---- where no role is told lost
+
+-- every role is whole
+pub whole-told : (members : Members) (entries : List Entry) → AreTold members entries → LosesNoRole entries → AreWhole members
+whole-told members entries told none role lt = by (is_missing (reading_of members) role) refl
+  where
+    by : (b : Bool) → is_missing (reading_of members) role ≡ b → b ≡ false
+    by false is = refl
+    by true is = absurd (let e = sym (told role lt is) ∙ never-gone entries role (none role) in cc)

@@ -1,0 +1,41 @@
+-- A step that is told behind the losses of its call.
+use Rattle.std.proofs.Common.{◌≡◌, ℕ, ◌+◌, List, [], ◌∷◌, ◌++◌, sym, ap, subst, arith, append-nil}
+use Rattle.std.specs.Prelude.{IfSome}
+use Rattle.md_base.specs.declared.answers.Who.{Who}
+use Rattle.bank.specs.Given.{Given}
+use Rattle.superblocks.specs.declared.members.Members.{Members}
+use Rattle.flat_history.specs.declared.events.Entry.{Entry}
+use Rattle.flat_history.specs.declared.events.Event.{Event}
+use Rattle.flat_history.specs.declared.events.Event.TheVariants.{Step}
+use Rattle.flat_history.specs.declared.events.StepKind.{StepKind}
+use Rattle.flat_history.specs.Legal.{told_left}
+use Rattle.flat_history.specs.Plain.{entries_of}
+use Rattle.flat_history.specs.OneShape.{ShapeOpening, IsIdleStep}
+use Rattle.flat_history.proofs.OneShapeGrowing.{IsOneShapeCall}
+use Rattle.views.specs.declared.work.Work.{Work}
+use Rattle.call_entries.specs.Losing.{losses_of}
+use Rattle.views.specs.Moving.{IsMoved}
+use Rattle.views.specs.Lacking.{AreLostSince}
+use Rattle.views.specs.Status.{left_of}
+use Rattle.call_entries.proofs.CallLaws.{losses-are}
+use Rattle.array_kept.proofs.StepsLeft.{left-moved}
+use Rattle.call_entries.proofs.StepLaws.{call-stepped}
+use Rattle.array_kept.proofs.KeptLaws.{left-lost}
+
+-- Behind the losses of a call whose step lowers the steps left by one, the history tells one more than are left in the end, or none.
+pub told-stepped : {given : Given} {old new : Members} {roles spares : ℕ} {before after : ℕ → ℕ} (work : Work) (left : ℕ) (entries : List Entry) (who : Who) (end : ℕ)
+    → IsMoved given old new → AreLostSince old new roles spares before after → left_of work old + 1 ≡ left → IfSome (told_left entries) (λ n. n ≡ left)
+    → IfSome (told_left (entries ++ entries_of who end (losses_of roles spares))) (λ n. n ≡ left_of work new + 1)
+told-stepped {new = new} {roles = roles} {spares = spares} {before = before} {after = after} work left entries who end moved since less was =
+    subst (λ (l : List Event). IfSome (told_left (entries ++ entries_of who end l)) (λ n. n ≡ left_of work new + 1)) (append-nil (losses_of roles spares))
+    (left-lost left (left_of work new + 1) entries who end (losses_of roles spares) [] (losses-are roles spares)
+    (λ none. let same = left-moved moved work roles spares before after since none in omega (arith, same, less)) was (λ told is. is))
+
+-- so the step is legal
+pub call-stepping : {given : Given} {old new : Members} {roles spares : ℕ} {before after : ℕ → ℕ} (opening : ShapeOpening) (work : Work) (left : ℕ) (entries : List Entry) (who : Who) (end : ℕ) (kind : StepKind) (steps : ℕ)
+    → IsMoved given old new → AreLostSince old new roles spares before after → left_of work old + 1 ≡ left → IfSome (told_left entries) (λ n. n ≡ left) → IsIdleStep kind → steps ≡ left_of work new
+    → IsOneShapeCall opening entries who end (losses_of roles spares ++ Step kind steps ∷ [])
+call-stepping {roles = roles} {spares = spares} opening work left entries who end kind steps moved since less was idle steps_are =
+    call-stepped opening entries who end (losses_of roles spares) kind steps (losses-are roles spares) idle
+    (subst (λ (n : ℕ). IfSome (told_left (entries ++ entries_of who end (losses_of roles spares))) (λ told. told ≡ n)) (ap (λ (n : ℕ). n + 1) (sym steps_are))
+    (told-stepped work left entries who end moved since less was))

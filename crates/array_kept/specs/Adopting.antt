@@ -1,0 +1,117 @@
+-- An array that is taken over from its superblocks.
+use Rattle.std.specs.Prelude.{◌≡◌, ℕ, zero, suc, ◌/◌, ◌<◌, ◌≤◌, ◌==◌, nat_lt, Bool, true, false, not, List, [], ◌∷◌, ◌++◌, length, if◌then◌else◌, Option, Some, None, IsTrue}
+use Rattle.md_base.specs.Shapes.{tolerance}
+use Rattle.md_base.specs.declared.answers.Who.{Who}
+use Rattle.bank.specs.declared.bank.Operation.{Operation}
+use Rattle.bank.specs.Given.{Given, sizes}
+use Rattle.bank.specs.Tape.{disk}
+use Rattle.superblocks.specs.declared.members.Members.{Members}
+use Rattle.md_base.specs.declared.status.Role.{Role}
+use Rattle.md_base.specs.declared.status.Role.TheVariants.{Whole, Recovering, Missing}
+use Rattle.std.specs.Option.{option_map_or}
+use Rattle.md_base.specs.Sectors.{Sector}
+use Rattle.md_base.specs.Search.{tabulate, any_below}
+use Rattle.sb1.specs.declared.sb.Sb.{Sb}
+use Rattle.superblocks.specs.Update.{own_in}
+use Rattle.superblocks.specs.Held.{MayRead}
+use Rattle.superblocks.specs.Reading.{Scope, Reading, reading, is_clean, shape_of, role_state, rows_held}
+use Rattle.row_io.specs.Rows.{reading_of, present, is_missing}
+use Rattle.flat_history.specs.declared.events.Event.{Event}
+use Rattle.flat_history.specs.declared.events.Event.TheVariants.{Lost}
+use Rattle.flat_history.specs.declared.events.LostCause.TheVariants.{Absent, Recovering as ByRecovering}
+use Rattle.flat_history.specs.World.{opening_list}
+use Rattle.flat_history.specs.Flat.{now}
+use Rattle.flat_history.specs.Losses.{was_dirty}
+use Rattle.flat_history.specs.Epochs.{OpensAlike}
+use Rattle.flat_history.specs.Plain.{entries_of}
+use Rattle.flat_history.specs.OneShape.{opening_in, is_absent_at_first}
+use Rattle.views.specs.Held.{IsHeldBy}
+use Rattle.views.specs.Whole.{list_size}
+use Rattle.views.specs.Placed.{places_of, IsPlaced, AreUnlost}
+use Rattle.views.specs.Lacking.{ListStands, RowsStand, AreHoldersFlushed}
+use Rattle.array_kept.specs.Kept.{world_in, AreSectorsWhole}
+use Rattle.flat_history.specs.Opened.{OpensGood, OpensWhole}
+use Rattle.views.specs.Rebuilding.{AreSparesFree}
+use Rattle.views.specs.declared.work.Work.{Work}
+use Rattle.views.specs.Parts.{Parts}
+
+-- the caller of what an opening enters
+abbrev pub opener : Who
+opener = record { caller = 254; number = 0 }
+
+-- what an opening tells of a role by its state: that no slot holds it, or that one recovers it
+abbrev pub found_loss : ℕ → Role → List Event
+found_loss role (Whole slot) = []
+found_loss role (Recovering slot) = Lost role ByRecovering ∷ []
+found_loss role Missing = Lost role Absent ∷ []
+
+abbrev pub absent_loss : Reading → ℕ → List Event
+absent_loss r role = found_loss role (role_state r role)
+
+-- a loss for each role below n that isn't whole, in order
+unfoldable pub absent_losses : Reading → ℕ → List Event
+absent_losses r zero = []
+absent_losses r (suc n) = absent_losses r n ++ absent_loss r n
+
+-- the losses that an opening tells
+abbrev pub found_losses : Reading → List Event
+found_losses r = absent_losses r (shape_of r.newest).disks
+
+-- the stripes of a role that the slot holds which recovers it
+abbrev pub stripes_held : Reading → ℕ → Role → ℕ
+stripes_held r chunk (Recovering slot) = rows_held r (Recovering slot) / chunk
+stripes_held r chunk state = 0
+
+-- so it is of each role of so many disks
+abbrev pub found_stripes : Reading → ℕ → ℕ → ℕ → ℕ
+found_stripes r chunk disks role = if nat_lt role disks then stripes_held r chunk (role_state r role) else 0
+
+-- one of these superblocks bears the device number
+abbrev pub is_number_of : List (Option Sb) → ℕ → Bool
+is_number_of own number = any_below 32 (λ slot. option_map_or (λ sb. sb.dev_number == number) (own_in own slot) false)
+
+-- What is under way in an array that is found: a resync, where it is dirty.
+abbrev pub found_work : Members → Work
+found_work members = record {
+  resync = if is_clean members.newest then None else Some 0;
+  rebuilt = tabulate 16 (found_stripes (reading_of members) (shape_of members.newest).chunk (shape_of members.newest).disks);
+  carried = tabulate 128 (is_number_of members.own);
+}
+
+-- each superblock of the array that a slot may show has the number of the one that is kept of it
+abbrev pub AreNumbersKept : Scope → List (Option Sb) → (ℕ → ℕ → List Sector) → Type 0
+AreNumbersKept scope own d = (slot : ℕ) (sb : Sb) → MayRead scope d slot (Some sb) → (kept : Sb) × (own_in own slot ≡ Some kept) × (kept.dev_number ≡ sb.dev_number)
+
+-- What an array needs that begins here: the members are read from its slots; its list stands on them, and
+-- its rows where the opening finds them good; a stop leaves what is there, and the next update may start.
+pub record IsAdoptable (tells : Type 0) (given : Given) (tape : List Operation) (scope : Scope) (members : Members) : Type 0 where
+  pub slots : given.slots ≤ 32
+  pub spares : length members.spares ≤ 32
+  pub placed : IsPlaced given members
+  pub unlost : AreUnlost members
+  pub free : AreSparesFree given members
+  pub sizes_are : scope.sizes ≡ sizes given
+  pub opened : tells → length (opening_list (world_in given tape scope (length tape))) ≡ list_size (places_of members)
+  pub tolerated : tells → (opening_in (world_in given tape scope (length tape))).tolerance ≡ tolerance (shape_of members.newest)
+  pub dirty : tells → was_dirty (world_in given tape scope (length tape)) ≡ not (is_clean members.newest)
+  pub absent : tells → (role : ℕ) → role < (shape_of members.newest).disks → is_missing (reading_of members) role ≡ true
+      → IsTrue (is_absent_at_first (world_in given tape scope (length tape)) role)
+  pub holds : tells → ListStands members (present given tape) (now (opening_list (world_in given tape scope (length tape))) [])
+  pub whole : tells → OpensWhole (world_in given tape scope (length tape)) → AreSectorsWhole (list_size (places_of members)) (now (opening_list (world_in given tape scope (length tape))) [])
+  pub good : tells → OpensGood (world_in given tape scope (length tape)) → RowsStand members (present given tape) (now (opening_list (world_in given tape scope (length tape))) [])
+  pub flushed : tells → AreHoldersFlushed (reading_of members) given tape
+  pub next : tells → OpensAlike (world_in given tape scope (length tape)) → IsHeldBy scope members (disk given.start tape)
+  pub numbers : tells → AreNumbersKept scope members.own (disk given.start tape)
+  pub newest : tells → (r : Reading) × (reading scope (present given tape) ≡ Some r) × (members.newest.events ≤ r.newest.events)
+
+-- an array that was just taken over: the losses that it found stand first
+pub record IsAdopted {B : Type 0} (tells : Type 0) (bank : B) (tape : List Operation) (slots : ℕ) (backup : Option ℕ) (members : Members) (made : Parts B) : Type 0 where
+  pub bank_is : made.bank ≡ bank
+  pub uuid : made.uuid ≡ members.newest.set_uuid
+  pub given : made.given ≡ slots
+  pub first : tells → made.first ≡ length tape
+  pub last : made.last ≡ made.first
+  pub entries : made.entries ≡ entries_of opener made.first (found_losses (reading_of members))
+  pub backup_is : made.backup ≡ backup
+  pub members_are : made.members ≡ members
+  pub work : made.work ≡ found_work members

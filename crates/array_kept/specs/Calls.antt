@@ -1,0 +1,328 @@
+-- What a call of an array answers, why it is refused, and what it enters.
+use Rattle.std.specs.Prelude.{◌≡◌, ◌⊎◌, ℕ, ◌+◌, ◌<◌, ◌≤◌, ◌++◌, Bool, true, false, not, List, [], ◌∷◌, length, drop, slice_set, Option, option_map, Some, None, IsSome, IsTrue, MatchOption, Result, Ok, Err, ⊤, Contains}
+use Rattle.std.specs.List.{list_any, All}
+use Rattle.md_base.specs.Shapes.{tolerance}
+use Rattle.md_base.specs.declared.answers.Who.{Who}
+use Rattle.md_base.specs.declared.answers.Fault.{Fault}
+use Rattle.md_base.specs.declared.answers.Fault.TheVariants.{Refused as IsRefusedWith, NoMemory}
+use Rattle.md_base.specs.declared.answers.Refusal.{Refusal}
+use Rattle.md_base.specs.declared.answers.Refusal.TheVariants.{PastEnd, TooManyMissing, NotResynced, NoSuchRole, NoSuchSlot, SlotTaken, SlotTooSmall, SlotFault, Nothing}
+use Rattle.bank.specs.declared.bank.Operation.{Operation}
+use Rattle.bank.specs.Given.{Given, IsFaulted}
+use Rattle.bank.specs.Tape.{disk}
+use Rattle.sb1.specs.declared.sb.Sb.{Sb}
+use Rattle.superblocks.specs.declared.members.Members.{Members}
+use Rattle.md_base.specs.declared.status.Role.TheVariants.{Whole, Recovering}
+use Rattle.superblocks.specs.Reading.{shape_of, is_backup, role_state, holder, data_offset_of}
+use Rattle.superblocks.specs.Reads.{has_spare}
+use Rattle.row_io.specs.Rows.{reading_of, present, is_missing}
+use Rattle.flat_history.specs.declared.events.Entry.{Entry}
+use Rattle.flat_history.specs.declared.events.Event.{Event}
+use Rattle.flat_history.specs.declared.events.Event.TheVariants.{Torn, Flushed, Lost, SpareLost, Stepped, Stopped, Refused}
+use Rattle.flat_history.specs.declared.events.LostCause.{LostCause}
+use Rattle.flat_history.specs.declared.events.LostCause.TheVariants.{Command, Fault as ByFault}
+use Rattle.flat_history.specs.declared.events.Request.{Request}
+use Rattle.flat_history.specs.World.{World, opening_list}
+use Rattle.flat_history.specs.Transfers.{last_end_from}
+use Rattle.md_base.specs.Sectors.{Sector}
+use Rattle.flat_history.specs.Flat.{last_of, values_of}
+use Rattle.flat_history.specs.Fits.{is_lost_event}
+use Rattle.flat_history.specs.Legal.{disturbs}
+use Rattle.flat_history.specs.Plain.{entries_of}
+use Rattle.flat_history.specs.OneShape.{is_gone_now, OneShapeFits}
+use Rattle.views.specs.Placed.{is_vacant}
+use Rattle.call_entries.specs.Losing.{losses_of}
+use Rattle.views.specs.Lacking.{lacking, DoesWithout, AreTooMany}
+use Rattle.views.specs.Parts.{Parts}
+use Rattle.views.specs.declared.work.Work.{Work}
+use Rattle.views.specs.Status.{stripes_of, rebuilt_of, left_of}
+use Rattle.views.specs.Numbers.{is_carried, free_number}
+use Rattle.views.specs.Rebuilding.{IfOwn, Held, MayHold}
+use Rattle.array_kept.specs.Kept.{scope_in, world_in}
+
+-- ---- what a call enters
+
+-- A call entered these events, under its own number, where the tape ended.
+pub record IsEntered (tells : Type 0) (tape : List Operation) (who : Who) (old new : List Entry) (events : List Event) : Type 0 where
+  pub end : ℕ
+  pub at_end : tells → end ≡ length tape
+  pub is : new ≡ old ++ entries_of who end events
+
+-- A call was answered by this event, which fits its request and stands behind the other entries of the call.
+pub record IsReplied (size : ℕ) (request : Request) (who : Who) (old new : List Entry) (event : Event) : Type 0 where
+  pub inner : List Event
+  pub end : ℕ
+  pub is : new ≡ old ++ entries_of who end (inner ++ event ∷ [])
+  pub fits : OneShapeFits size (old ++ entries_of who end inner) (record { caller = who.caller; number = who.number; end = end; event = event }) request
+
+-- the reply of a request by its answer, with the event of an Ok
+abbrev pub IsAnswered : {T : Type 0} → ℕ → Request → Who → List Entry → List Entry → Event → Result T Fault → Type 0
+IsAnswered size request who old new event (Ok x) = IsReplied size request who old new event
+IsAnswered size request who old new event (Err (IsRefusedWith refusal)) = IsReplied size request who old new (Refused refusal)
+IsAnswered size request who old new event (Err NoMemory) = new ≡ old
+
+-- A call was answered by this event, behind the entries of what it lost.
+pub record IsBehind (who : Who) (old new : List Entry) (event : Event) : Type 0 where
+  pub roles : ℕ
+  pub spares : ℕ
+  pub end : ℕ
+  pub is : new ≡ old ++ entries_of who end (losses_of roles spares ++ event ∷ [])
+
+-- These events are a call's last ones, behind the entries of what it lost.
+abbrev pub IsBehindAll : Who → List Entry → List Entry → List Event → Type 0
+IsBehindAll who old new events = (roles : ℕ) × (spares : ℕ) × (end : ℕ) × (new ≡ old ++ entries_of who end (losses_of roles spares ++ events))
+
+-- why a flush or a stop was not done
+abbrev pub IsUnsettled : Who → List Entry → List Entry → Fault → Type 0
+IsUnsettled who old new (IsRefusedWith refusal) = IsBehind who old new (Refused refusal)
+IsUnsettled who old new NoMemory = new ≡ old
+
+-- a flush's or a stop's event, by its answer
+abbrev pub IsSettled : {T : Type 0} → Who → List Entry → List Entry → Event → Result T Fault → Type 0
+IsSettled who old new event (Ok x) = IsBehind who old new event
+IsSettled who old new event (Err (IsRefusedWith refusal)) = IsBehind who old new (Refused refusal)
+IsSettled who old new event (Err NoMemory) = new ≡ old
+
+abbrev pub IsSettling : Event → Type 0
+IsSettling event = (event ≡ Flushed) ⊎ (event ≡ Stopped)
+
+-- one of the entries behind the old ones tells of a torn write
+abbrev pub is_torn : Event → Bool
+is_torn (Torn at body) = true
+is_torn event = false
+
+abbrev pub has_torn : List Entry → List Entry → Bool
+has_torn old new = list_any (λ e. is_torn e.event) (drop (length old) new)
+
+-- the tape stands where the last entry ended; at the opening mark, if there is none
+abbrev pub IsEndOf : Type 0 → ℕ → List Entry → List Operation → Type 0
+IsEndOf tells first entries tape = tells → last_end_from first entries ≡ length tape
+
+-- ---- why it is refused
+
+-- what stands behind a refusal
+abbrev pub IsRefusedHere : ℕ → Option ℕ → Members → Refusal → Type 0
+IsRefusedHere visible resync members (PastEnd told) = told ≡ visible
+IsRefusedHere visible resync members (TooManyMissing count most) = (most < count) × (count ≡ lacking members) × (most ≡ tolerance (shape_of members.newest))
+IsRefusedHere visible resync members (NotResynced role) = IsSome resync × (role < (shape_of members.newest).disks) × (is_missing (reading_of members) role ≡ true)
+IsRefusedHere visible resync members (NoSuchRole role) = ⊤
+IsRefusedHere visible resync members refusal = ⊥
+
+-- A refusal's cause: the call ends past the visible size; or else what its kind gives for the members that it leaves.
+abbrev pub IsRefusedFor : ℕ → ℕ → (Members → Refusal → Type 0) → Members → Members → Refusal → Type 0
+IsRefusedFor visible to why old new (PastEnd told) = (told ≡ visible) × (visible < to) × (new ≡ old)
+IsRefusedFor visible to why old new refusal = (to ≤ visible) × why new refusal
+
+-- nothing of the kind spoke against a call that is answered Ok
+abbrev pub IsCausedBy : {T : Type 0} → ℕ → ℕ → (Members → Refusal → Type 0) → Members → Members → Result T Fault → Type 0
+IsCausedBy visible to why old new (Ok x) = (to ≤ visible) × ((refusal : Refusal) → why old refusal → ⊥)
+IsCausedBy visible to why old new (Err (IsRefusedWith refusal)) = IsRefusedFor visible to why old new refusal
+IsCausedBy visible to why old new (Err NoMemory) = new ≡ old
+
+-- the cause where it was refused or memory was short
+abbrev pub IsFaultFor : ℕ → ℕ → (Members → Refusal → Type 0) → Members → Members → Fault → Type 0
+IsFaultFor visible to why old new (IsRefusedWith refusal) = IsRefusedFor visible to why old new refusal
+IsFaultFor visible to why old new NoMemory = new ≡ old
+
+-- the refusal of a call that ends at `to`, before its kind is asked
+abbrev pub IsRefusalOf : ℕ → ℕ → (Members → Refusal → Type 0) → Members → Option Refusal → Type 0
+IsRefusalOf visible to why members None = (to ≤ visible) × ((refusal : Refusal) → why members refusal → ⊥)
+IsRefusalOf visible to why members (Some refusal) = IsRefusedFor visible to why members members refusal
+
+-- a slot holds this role of the array, whole or in part
+abbrev pub HasRole : Members → ℕ → Type 0
+HasRole members role = (role < (shape_of members.newest).disks) × (is_vacant (reading_of members) role ≡ false)
+
+-- a fail is answered Ok exactly where a slot holds the role, which it loses, and refused, with nothing changed, exactly where none does
+abbrev pub IsFailedFor : {T : Type 0} → ℕ → Members → Members → Result T Fault → Type 0
+IsFailedFor role old new (Ok x) = HasRole old role × (is_vacant (reading_of new) role ≡ true)
+IsFailedFor role old new (Err (IsRefusedWith refusal)) = (refusal ≡ NoSuchRole role) × (new ≡ old) × (HasRole old role → ⊥)
+IsFailedFor role old new (Err NoMemory) = new ≡ old
+
+-- a fact that holds where memory was short
+abbrev pub OnNoMemory : {T : Type 0} → Result T Fault → Type 0 → Type 0
+OnNoMemory (Err NoMemory) fact = fact
+OnNoMemory result fact = ⊤
+
+-- ---- steps
+
+-- a slot recovers the role
+abbrev pub IsRecovered : Members → ℕ → Type 0
+IsRecovered members role = (role < (shape_of members.newest).disks) × (slot : ℕ) × (role_state (reading_of members) role ≡ Recovering slot)
+
+-- a resync is pending, and has a stripe to mend
+abbrev pub HasStripeLeft : Option ℕ → Members → Type 0
+HasStripeLeft resync members = MatchOption resync ⊥ (λ mended. mended < stripes_of members)
+
+-- a resync is pending, and has mended every stripe
+abbrev pub IsAllMended : Option ℕ → Members → Type 0
+IsAllMended resync members = resync ≡ Some (stripes_of members)
+
+-- the resync after the step that mends its next stripe
+abbrev pub one_more : Option ℕ → Option ℕ
+one_more resync = option_map (λ mended. mended + 1) resync
+
+-- a reply to a request for steps: nothing was left to do; or so many steps are left, and the last entry is the refusal that ended it
+abbrev pub IsStepsReply : Work → Members → List Entry → Event → Type 0
+IsStepsReply work members entries (Refused Nothing) = left_of work members ≡ 0
+IsStepsReply work members entries (Stepped done left ended) = (left ≡ left_of work members)
+    × MatchOption ended ⊤ (λ refusal. MatchOption (last_of entries) ⊥ (λ e. e.event ≡ Refused refusal))
+IsStepsReply work members entries event = ⊥
+
+-- one value where a step was done, and another where it was refused
+abbrev pub by_answer : {T : Type 0} {A : Type 0} → Result T Fault → A → A → A
+by_answer (Ok x) done refused = done
+by_answer (Err fault) done refused = refused
+
+-- the role's next stripe is to be rebuilt on the slot that recovers it
+abbrev pub HasStripeUnbuilt : Work → Members → ℕ → Type 0
+HasStripeUnbuilt work members role = IsRecovered members role × (rebuilt_of work role < stripes_of members)
+
+-- every stripe of it is
+abbrev pub AreStripesRebuilt : Work → Members → ℕ → Type 0
+AreStripesRebuilt work members role = IsRecovered members role × (stripes_of members ≤ rebuilt_of work role)
+
+-- the slot recovers the role, or no slot holds it
+abbrev pub IsRecoveredOrLost : Members → ℕ → ℕ → Type 0
+IsRecoveredOrLost members role slot = (role_state (reading_of members) role ≡ Recovering slot) ⊎ (is_vacant (reading_of members) role ≡ true)
+
+-- the role is whole on the slot that recovered it, or no slot holds it
+abbrev pub IsWholeOrLost : Members → Members → ℕ → Type 0
+IsWholeOrLost old new role = ((slot : ℕ) × (role_state (reading_of old) role ≡ Recovering slot) × (role_state (reading_of new) role ≡ Whole slot))
+    ⊎ (is_vacant (reading_of new) role ≡ true)
+
+-- so many stripes of the role are rebuilt
+abbrev pub with_rebuilt : ℕ → ℕ → Work → Work
+with_rebuilt role stripes work = record work { rebuilt = slice_set work.rebuilt role stripes }
+
+-- none of the entries behind the old ones tells a loss
+abbrev pub TellNoLoss : List Entry → List Entry → Type 0
+TellNoLoss old new = IsTrue (not (list_any (λ e. disturbs e.event) (drop (length old) new)))
+
+-- none tells the loss of a role
+abbrev pub TellNoRoleLoss : List Entry → List Entry → Type 0
+TellNoRoleLoss old new = IsTrue (not (list_any (λ e. is_lost_event e.event) (drop (length old) new)))
+
+-- A step lowers the steps that are left by one where its call tells no loss, and by one at least where it tells that of no role.
+pub record AreStepsFewer (old new : List Entry) (left left' : ℕ) : Type 0 where
+  pub one : TellNoLoss old new → left' + 1 ≡ left
+  pub some : TellNoRoleLoss old new → left' + 1 ≤ left
+
+-- A step that is refused leaves as many steps as before where its call tells no loss, and no more where it tells that of no role.
+pub record AreStepsKept (old new : List Entry) (left left' : ℕ) : Type 0 where
+  pub same : TellNoLoss old new → left' ≡ left
+  pub fewer : TellNoRoleLoss old new → left' ≤ left
+
+-- each sector of the list that stood at the opening holds what it held, and a stop may leave the same in its place
+abbrev pub AreValuesKept : List Entry → List Entry → Type 0
+AreValuesKept old new = (list : List Sector) (x : ℕ) → values_of list new x ≡ values_of list old x
+
+-- A call entered losses alone, and that of this role is among them.
+pub record IsRoleLost (who : Who) (old new : List Entry) (role : ℕ) : Type 0 where
+  pub roles : ℕ
+  pub spares : ℕ
+  pub end : ℕ
+  pub is : new ≡ old ++ entries_of who end (losses_of roles spares)
+  pub among : Contains (losses_of roles spares) (Lost role ByFault)
+
+-- a step of a rebuild ended with its own entries, or with the loss of the slot that was rebuilt, or it was refused
+abbrev pub IsRebuildStepped : {T : Type 0} → Who → List Entry → List Entry → Members → ℕ → List Event → Result T Fault → Type 0
+IsRebuildStepped who old new members role events (Ok x) = IsBehindAll who old new events ⊎ (IsRoleLost who old new role × (is_vacant (reading_of members) role ≡ true))
+IsRebuildStepped who old new members role events (Err (IsRefusedWith refusal)) = IsBehind who old new (Refused refusal)
+IsRebuildStepped who old new members role events (Err NoMemory) = new ≡ old
+
+-- ---- what it lost
+
+-- it held the role, or it is the spare that is given it
+abbrev pub IsHeldOrGiven : Members → ℕ → ℕ → ℕ → ℕ → Type 0
+IsHeldOrGiven members given to role slot = Held members role slot ⊎ ((role ≡ given) × (slot ≡ to))
+
+-- a lost role had such a slot, which has failed since, unless it was taken out by command
+abbrev pub IsRoleLossBy : (ℕ → ℕ → Type 0) → (ℕ → ℕ) → (ℕ → ℕ) → ℕ → LostCause → Type 0
+IsRoleLossBy Had before now role ByFault = (slot : ℕ) × Had role slot × IsFaulted slot before now
+IsRoleLossBy Had before now role Command = (slot : ℕ) × Had role slot
+IsRoleLossBy Had before now role cause = ⊥
+
+abbrev pub IsLossBy : (ℕ → ℕ → Type 0) → (ℕ → ℕ) → (ℕ → ℕ) → Event → Type 0
+IsLossBy Had before now (Lost role cause) = IsRoleLossBy Had before now role cause
+IsLossBy Had before now (SpareLost slot) = IsFaulted slot before now
+IsLossBy Had before now event = ⊤
+
+-- More entries stand behind the old ones, and each loss that they tell has its cause, by the slots that had the role.
+pub record AreLossesBy (Had : ℕ → ℕ → Type 0) (before now : ℕ → ℕ) (old new : List Entry) : Type 0 where
+  pub more : List Entry
+  pub grown : new ≡ old ++ more
+  pub failed : All (λ e. IsLossBy Had before now e.event) more
+
+-- the same where roles are only lost
+abbrev pub AreLossesOf : Members → (ℕ → ℕ) → (ℕ → ℕ) → List Entry → List Entry → Type 0
+AreLossesOf members before now old new = AreLossesBy (Held members) before now old new
+
+-- each spare was one before
+abbrev pub AreSparesFewer : Members → Members → Type 0
+AreSparesFewer old new = (slot : ℕ) → has_spare new.spares slot ≡ true → has_spare old.spares slot ≡ true
+
+-- each role that has a slot had it before, or that slot was a spare; each spare was one before
+pub record AreHeldOrSpare (old new : Members) : Type 0 where
+  pub roles : (role slot : ℕ) → Held new role slot → MayHold old role slot
+  pub spares : AreSparesFewer old new
+
+-- ---- a slot that is made a spare
+
+-- the slot is the backup, holds a role or is a spare
+abbrev pub IsTaken : Option ℕ → Members → ℕ → Type 0
+IsTaken backup members slot = IsTrue (is_backup backup slot) ⊎ ((role : ℕ) × MayHold members role slot)
+
+-- the sector at which the rows begin on the slot of the lowest role that one holds
+abbrev pub IsFirstOffset : Members → ℕ → Type 0
+IsFirstOffset members offset = ((role slot : ℕ) → Held members role slot → ((lower : ℕ) → lower < role → is_vacant (reading_of members) lower ≡ true)
+    → offset ≡ data_offset_of (reading_of members) slot)
+
+-- why a slot isn't made a spare, before it is touched
+abbrev pub IsUnaddable : Given → Option ℕ → ℕ → Members → Refusal → Type 0
+IsUnaddable given backup slot members (NoSuchSlot asked) = (asked ≡ slot) × (given.slots ≤ slot)
+IsUnaddable given backup slot members (SlotTaken taken) = (taken ≡ slot) × (slot < given.slots) × IsTaken backup members slot
+IsUnaddable given backup slot members (TooManyMissing count most) = (slot < given.slots) × (IsTaken backup members slot → ⊥) × AreTooMany members (TooManyMissing count most)
+IsUnaddable given backup slot members (SlotTooSmall have want) = (slot < given.slots) × (IsTaken backup members slot → ⊥) × DoesWithout members
+    × (have ≡ given.sectors slot) × (have < want) × (offset : ℕ) × IsFirstOffset members offset × (want ≡ offset + members.newest.size)
+IsUnaddable given backup slot members refusal = ⊥
+
+-- An add is done exactly where nothing speaks against it and the slot didn't fail. A refusal before it leaves the members as they are.
+abbrev pub IsAddedFor : {T : Type 0} → Given → Option ℕ → ℕ → Members → Members → (ℕ → ℕ) → (ℕ → ℕ) → Result T Fault → Type 0
+IsAddedFor given backup slot old new before after (Ok x) = ((refusal : Refusal) → IsUnaddable given backup slot old refusal → ⊥) × (has_spare new.spares slot ≡ true)
+IsAddedFor given backup slot old new before after (Err (IsRefusedWith (SlotFault failed))) = (failed ≡ slot) × ((refusal : Refusal) → IsUnaddable given backup slot old refusal → ⊥)
+    × IsFaulted slot before after × (has_spare new.spares slot ≡ false)
+IsAddedFor given backup slot old new before after (Err (IsRefusedWith refusal)) = IsUnaddable given backup slot old refusal × (new ≡ old)
+IsAddedFor given backup slot old new before after (Err NoMemory) = new ≡ old
+
+-- What a stop leaves of the slots that held a role that isn't gone: all is as it is, and nothing else, but for the superblocks.
+abbrev pub AreLeftFlushed : Members → List Entry → Given → List Operation → Type 0
+AreLeftFlushed members entries given tape = (role slot k : ℕ) → holder (role_state (reading_of members) role) ≡ Some slot → is_gone_now entries role ≡ false → (k ≡ 8 → ⊥)
+    → disk given.start tape slot k ≡ present given tape slot k ∷ []
+
+-- the new spare's superblock has the free number, and the data offset of the slot that holds the lowest role
+abbrev pub IsAddedAs : Members → Work → Members → ℕ → Type 0
+IsAddedAs old work new slot = IfOwn new slot (λ sb. (free_number old.newest work ≡ Some sb.dev_number) × IsFirstOffset old sb.data_offset)
+
+-- superblocks of the array may bear one number more, which was free
+pub record IsWorkAdded (newest : Sb) (old new : Work) : Type 0 where
+  pub resync : new.resync ≡ old.resync
+  pub rebuilt : new.rebuilt ≡ old.rebuilt
+  pub carried : (number : ℕ) → is_carried old number ≡ true → is_carried new number ≡ true
+  pub one : (number : ℕ) → is_carried new number ≡ true → (is_carried old number ≡ true) ⊎ (free_number newest old ≡ Some number)
+
+-- ---- what no call changes
+
+-- the world of an array over its bank
+abbrev pub world_for : {B : Type 0} → Given → List Operation → Parts B → World
+world_for given tape parts = world_in given tape (scope_in given parts.uuid parts.given parts.backup) parts.first
+
+-- over a bank that tells its contents the list at the opening is among it
+pub record IsSameArray {B : Type 0} (tells : Type 0) (old new : Parts B) (before after : World) : Type 0 where
+  pub uuid : new.uuid ≡ old.uuid
+  pub given : new.given ≡ old.given
+  pub first : new.first ≡ old.first
+  pub backup : new.backup ≡ old.backup
+  pub shape : shape_of new.members.newest ≡ shape_of old.members.newest
+  pub size : new.members.newest.size ≡ old.members.newest.size
+  pub list : tells → opening_list after ≡ opening_list before

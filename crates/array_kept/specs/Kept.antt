@@ -1,0 +1,128 @@
+-- What an array keeps that may lack members, over plain data.
+use Rattle.std.specs.Prelude.{◌≡◌, ◌⊎◌, ℕ, ◌+◌, ◌*◌, ◌<◌, ◌≤◌, ◌||◌, true, false, List, length, Option, Some, None, is_some, IsTrue, IsSome, IfSome}
+use Rattle.md_base.specs.Shapes.{tolerance, has_slot}
+use Rattle.md_base.specs.Sectors.{Sector}
+use Rattle.parity.specs.Rows.{IsSector}
+use Rattle.bank.specs.declared.bank.Operation.{Operation}
+use Rattle.bank.specs.Given.{Given, sizes}
+use Rattle.superblocks.specs.declared.members.Members.{Members}
+use Rattle.superblocks.specs.Reading.{Scope, Reading, is_clean, shape_of}
+use Rattle.row_io.specs.Rows.{reading_of, present, is_missing}
+use Rattle.flat_history.specs.declared.events.Entry.{Entry}
+use Rattle.flat_history.specs.World.{World, opening_list, reading_at}
+use Rattle.flat_history.specs.Flat.{now, values_of, length_of, limit_of}
+use Rattle.flat_history.specs.Legal.{told_left}
+use Rattle.flat_history.specs.Transfers.{last_end_from}
+use Rattle.flat_history.specs.Losses.{is_unsynced}
+use Rattle.flat_history.specs.Opened.{OpensWhole}
+use Rattle.flat_history.specs.Sound.{FillsRight, LosesNoRole, OpensFit, LeavesSoundThroughout}
+use Rattle.flat_history.specs.Epochs.{HasRoomForEvents, OpensAlike}
+use Rattle.flat_history.specs.Growing.{EndBy, IsSafeThroughout}
+use Rattle.flat_history.specs.OneShape.{opening_in, is_gone_now, is_unsettled, IsOneShapeLegal}
+use Rattle.views.specs.Whole.{list_size}
+use Rattle.views.specs.Views.{Ledger}
+use Rattle.views.specs.Steady.{IsSafeOver}
+use Rattle.views.specs.Placed.{places_of, AreWhole, IsPlaced, AreUnlost}
+use Rattle.views.specs.Safety.{HasLiveSlot}
+use Rattle.views.specs.declared.work.Work.{Work}
+use Rattle.views.specs.Status.{stripes_of, left_of}
+use Rattle.views.specs.Numbers.{is_carried}
+use Rattle.views.specs.Rebuilding.{AreSparesFree, AreRebuilt, HasNoRebuilt}
+use Rattle.views.specs.Lacking.{DoesWithout, ListStands, RowsStandBelow, mended_rows}
+
+-- these slots of a bank, looked at for an array
+abbrev pub scope_in : Given → List ℕ → ℕ → Option ℕ → Scope
+scope_in given uuid slots backup = record { uuid = uuid; given = slots; backup = backup; sizes = sizes given }
+
+-- an epoch's world
+abbrev pub world_in : Given → List Operation → Scope → ℕ → World
+world_in given tape scope first = record { start = given.start; tape = tape; scope = scope; first = first }
+
+-- each missing role is told gone
+abbrev pub AreTold : Members → List Entry → Type 0
+AreTold members entries = (role : ℕ) → role < (shape_of members.newest).disks → is_missing (reading_of members) role ≡ true
+    → IsTrue (is_gone_now entries role)
+
+-- What was filled in is right: none is missing and none was rebuilt, or the epoch opened sound, in whole sectors. Before a pending resync has
+-- mended a stripe nothing is filled in.
+abbrev pub AreFillsRight : World → Option ℕ → Members → List Entry → Type 0
+AreFillsRight world resync members entries = (resync ≡ Some 0 → ⊥) → (AreWhole members × HasNoRebuilt entries) ⊎ OpensFit world
+
+-- What was rebuilt is right: nothing was, or the epoch opened sound, in whole sectors.
+abbrev pub AreRebuildsRight : World → List Entry → Type 0
+AreRebuildsRight world entries = HasNoRebuilt entries ⊎ OpensFit world
+
+-- each of the first so many sectors of a list is whole
+abbrev pub AreSectorsWhole : ℕ → (ℕ → Sector) → Type 0
+AreSectorsWhole size list = (x : ℕ) → x < size → IsSector (list x)
+
+-- what is kept of the history over a bank that tells its contents
+pub record IsRecorded (world : World) (size : ℕ) (resync : Option ℕ) (members : Members) (entries : List Entry) : Type 0 where
+  pub begun : world.first ≤ length world.tape
+  pub opened : length (opening_list world) ≡ size
+  pub tolerated : (opening_in world).tolerance ≡ tolerance (shape_of members.newest)
+  pub dirty : is_unsynced world entries ≡ is_some resync
+  pub legal : AreFillsRight world resync members entries → IsOneShapeLegal (opening_in world) (length world.tape) entries
+  pub ends : EndBy (length world.tape) entries
+  pub ended : last_end_from world.first entries ≡ length world.tape
+
+-- the event count rose by no more than the operations since the opening
+pub record IsCounted (world : World) (members : Members) : Type 0 where
+  pub found : Reading
+  pub is : reading_at world world.first ≡ Some found
+  pub events : members.newest.events + world.first ≤ found.newest.events + length world.tape
+
+-- what the whole history tells: the values of each sector, the roles that are gone, and whether a write may be unsettled; and the numbers
+-- that are known
+abbrev pub ledger_now : World → Work → List Entry → Ledger
+ledger_now world work entries = record {
+  values = values_of (opening_list world) entries;
+  gone = is_gone_now entries;
+  unclean = is_unsynced world entries || is_unsettled entries;
+  carried = is_carried work;
+}
+
+-- Every mark so far is safe and leaves sound images, what a stop may leave now is right, and the next update may start; as long as a live
+-- slot is left, the event count has room.
+pub record IsSafe (world : World) (given : Given) (size : ℕ) (members : Members) (work : Work) (entries : List Entry) : Type 0 where
+  pub past : IsSafeThroughout world entries
+  pub sound : OpensFit world → LeavesSoundThroughout world
+  pub now : IsSafeOver world given size (ledger_now world work entries) members world.tape
+  pub counted : HasLiveSlot members → IsCounted world members
+
+-- The list stands on the members that are there, as long as they suffice, and each that is missing was told; what was rebuilt on recovering
+-- slots is the list's.
+pub record IsKept (tells : Type 0) (given : Given) (tape : List Operation) (scope : Scope) (first : ℕ) (entries : List Entry)
+    (members : Members) (work : Work) : Type 0 where
+  pub slots : given.slots ≤ 32
+  pub spares : length members.spares ≤ 32
+  pub placed : IsPlaced given members
+  pub unlost : AreUnlost members
+  pub free : AreSparesFree given members
+  pub told : AreTold members entries
+  pub sized : length_of (list_size (places_of members)) entries ≡ list_size (places_of members)
+  pub unlimited : limit_of entries ≡ None
+  pub left : IfSome (told_left entries) (λ n. n ≡ left_of work members)
+  pub progress : IfSome work.resync (λ mended. mended ≤ stripes_of members)
+  pub unbuilt : IsSome work.resync → HasNoRebuilt entries
+  pub built : LosesNoRole entries → HasNoRebuilt entries
+  pub recorded : tells → IsRecorded (world_in given tape scope first) (list_size (places_of members)) work.resync members entries
+  pub holds : tells → DoesWithout members → AreRebuildsRight (world_in given tape scope first) entries → ListStands members (present given tape) (now (opening_list (world_in given tape scope first)) entries)
+  pub whole : tells → OpensWhole (world_in given tape scope first) → AreSectorsWhole (list_size (places_of members)) (now (opening_list (world_in given tape scope first)) entries)
+  pub good : tells → DoesWithout members → OpensFit (world_in given tape scope first) → RowsStandBelow (mended_rows work.resync members) members (present given tape) (now (opening_list (world_in given tape scope first)) entries)
+  pub rebuilt : tells → DoesWithout members → OpensFit (world_in given tape scope first) → AreRebuilt work members (present given tape) (now (opening_list (world_in given tape scope first)) entries)
+  pub sizes_are : scope.sizes ≡ sizes given
+  pub dirty : DoesWithout members → IsSome work.resync → is_clean members.newest ≡ false
+  pub unclean : is_clean members.newest ≡ false → (is_some work.resync || is_unsettled entries) ≡ true
+  pub safe : tells → FillsRight (world_in given tape scope first) entries → HasRoomForEvents (world_in given tape scope first) → OpensAlike (world_in given tape scope first)
+      → IsSafe (world_in given tape scope first) given (list_size (places_of members)) members work entries
+
+-- what an array keeps besides: each slot that wasn't found sound has failed, and there is room for the entries of so many steps and of its
+-- end, and buffers for the rows of one call
+pub record IsReady (tells : Type 0) (given : Given) (tape : List Operation) (scope : Scope) (first : ℕ) (entries : List Entry)
+    (members : Members) (work : Work) (faults : ℕ → ℕ) (steps room rows buffer : ℕ) : Type 0 where
+  pub kept : IsKept tells given tape scope first entries members work
+  pub failed : (slot : ℕ) → slot < given.slots → has_slot scope.given slot ≡ false → 0 < faults slot
+  pub room_left : 50 * steps < room
+  pub rows_fit : 128 ≤ rows
+  pub buffer_fits : 1048576 ≤ buffer

@@ -1,0 +1,5 @@
+pub mod PlainLaws
+pub mod LosingLaws
+pub mod CallLaws
+pub mod LeftLaws
+pub mod StepLaws

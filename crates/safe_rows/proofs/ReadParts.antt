@@ -1,0 +1,77 @@
+-- Sectors that were read in two parts: those of mended rows, which may be filled in, and the rest.
+use Rattle.std.proofs.Common.{◌≡◌, ◌⊎◌, inl, inr, ℕ, ◌+◌, ◌-◌, ◌*◌, ◌<◌, ◌++◌, true, false, List, length, take, drop, sym, ◌∙◌, ap, ap₂, subst, arith}
+use Rattle.std.proofs.Math.Seq.{drop-append-add}
+use Rattle.std.proofs.lemmas.List.{drop-append-le, take-append-le, length-drop}
+use Rattle.md_base.specs.Sectors.{Sector}
+use Rattle.md_base.specs.Shapes.{is_valid_shape, is_multiple, data_disks}
+use Rattle.md_base.specs.declared.places.Shape.{Shape}
+use Rattle.bank.specs.Given.{Given}
+use Rattle.bank.specs.Tape.{Contents}
+use Rattle.layout.specs.Layout.{place}
+use Rattle.layout.proofs.Places.{place-role_below, place-row_below}
+use Rattle.parity.specs.Rows.{sector_of}
+use Rattle.superblocks.specs.declared.members.Members.{Members}
+use Rattle.superblocks.specs.Reading.{shape_of}
+use Rattle.row_io.specs.Rows.{reading_of, is_held, members_without}
+use Rattle.row_io.proofs.Lacks.{lacking-missing}
+use Rattle.list_io.specs.Calls.{IsListed}
+use Rattle.list_io.specs.Full.{DataStands, RowStands}
+use Rattle.list_io.proofs.ListLaws.{listed_since, lacks_by}
+use Rattle.views.specs.Lacking.{ListStands, RowsStandBelow}
+use Rattle.views.specs.Placed.{places_of, AreWhole, IsPlaced}
+use Rattle.views.specs.Whole.{list_size}
+
+-- ---- the bytes
+
+rest : (i : ℕ) → 512 * i + 512 - 512 * i ≡ 512
+rest i = omega arith
+
+pub sector-front : (front back : List ℕ) (n i : ℕ) → length front ≡ 512 * n → i < n → sector_of (front ++ back) i ≡ sector_of front i
+sector-front front back n i len lt =
+    let there : length (drop (512 * i) front) ≡ length front - 512 * i = length-drop (512 * i) front in
+    ap (take (512 * i + 512 - 512 * i)) (drop-append-le (512 * i) front back (omega (arith, len, lt)))
+    ∙ take-append-le (512 * i + 512 - 512 * i) (drop (512 * i) front) back (omega (arith, there, len, lt))
+
+pub sector-back : (front back : List ℕ) (n i : ℕ) → length front ≡ 512 * n → sector_of (front ++ back) (n + i) ≡ sector_of back i
+sector-back front back n i len =
+    let at : 512 * (n + i) ≡ length front + 512 * i = omega (arith, len) in
+    ap₂ (λ (k m : ℕ). take k (drop m (front ++ back))) (rest (n + i) ∙ sym (rest i)) at ∙ ap (take (512 * i + 512 - 512 * i)) (drop-append-add front back (512 * i))
+
+-- ---- what was read
+
+module _ (given : Given) (shape : Shape) (old mid new : Members) (lost lost' : ℕ) (between : mid ≡ members_without lost old) (after : new ≡ members_without lost' mid) (was : IsPlaced given old)
+    (shape_is : shape ≡ shape_of old.newest) (c c' : Contents) (still : c' ≡ c) (list : ℕ → Sector) (stands : ListStands old c list) (x : ℕ) (within : x < list_size (places_of old)) (v : Sector) where
+  valid : is_valid_shape shape ≡ true
+  valid = subst (λ (s : Shape). is_valid_shape s ≡ true) (sym shape_is) was.valid
+
+  row-within : (size : ℕ) → is_multiple size shape.chunk ≡ true → x < data_disks shape * size → (place shape x).row < size
+  row-within size multiple lt = place-row_below shape valid x size multiple lt
+
+  below : (place shape x).row < old.newest.size
+  below = subst (λ (s : Shape). is_multiple old.newest.size s.chunk ≡ true → x < data_disks s * old.newest.size → (place shape x).row < old.newest.size) shape_is (row-within old.newest.size) was.multiple within
+
+  data_there : DataStands (reading_of old) c shape list (place shape x).row
+  data_there = subst (λ (s : Shape). DataStands (reading_of old) c s list (place shape x).row) (sym shape_is) (stands (place shape x).row below)
+
+  -- where no role is missing in the end, each sector is held
+  held-in_whole : AreWhole new → is_held (reading_of mid) (place shape x).role (place shape x).row ≡ false → ⊥
+  held-in_whole whole lacks =
+      let newest = ap (λ (m : Members). m.newest) after ∙ ap (λ (m : Members). m.newest) between in
+      let shape_new : shape ≡ shape_of new.newest = shape_is ∙ ap (λ n. shape_of n) (sym newest) in
+      let missing = lacking-missing (reading_of new) (place shape x).role (place shape x).row (subst (λ (n : ℕ). (place shape x).row < n) (ap (λ n. n.size) (sym newest)) below)
+      (lacks_by (place shape x).role (place shape x).row mid lost' new after lacks) in
+      let there = whole (place shape x).role (subst (λ (s : Shape). (place shape x).role < s.disks) shape_new (place-role_below shape valid x)) in
+      absurd (let both = sym there ∙ missing in cc)
+
+  -- one of the mended rows
+  pub listed-mended : (mended : ℕ) → is_multiple mended shape.chunk ≡ true → x < data_disks shape * mended → AreWhole new ⊎ RowsStandBelow mended old c list
+      → IsListed shape true (reading_of old) (reading_of mid) c x v → v ≡ list x
+  listed-mended mended multiple lt fills listed = listed list data_there (λ on lacks. by fills lacks)
+    where
+      by : AreWhole new ⊎ RowsStandBelow mended old c list → is_held (reading_of mid) (place shape x).role (place shape x).row ≡ false → RowStands (reading_of old) c shape list (place shape x).row
+      by (inl whole) lacks = absurd (held-in_whole whole lacks)
+      by (inr rows) lacks = subst (λ (s : Shape). RowStands (reading_of old) c s list (place shape x).row) (sym shape_is) (rows (place shape x).row (row-within mended multiple lt) below)
+
+  -- one behind them, of which nothing was filled in
+  pub listed-beyond : IsListed shape false (reading_of mid) (reading_of new) c' x v → v ≡ list x
+  listed-beyond listed = listed_since shape false (reading_of new) c c' x v old lost mid between still listed list data_there (λ on. absurd (cc))

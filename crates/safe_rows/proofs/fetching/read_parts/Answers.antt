@@ -1,0 +1,88 @@
+use Rattle.std.proofs.Common.{◌≡◌, inl, inr, ℕ, ◌+◌, ◌-◌, ◌*◌, ◌/◌, ◌<◌, ◌++◌, true, false, length, sym, ◌∙◌, ap, subst, arith}
+use Rattle.std.proofs.lemmas.Bool.{cases_lt}
+use Rattle.std.proofs.lemmas.Bool.Decides.{nat_tests}
+use Rattle.std.specs.Prelude.{OnOk, Result, Ok, Err}
+use Rattle.std.specs.Result.{is_err}
+use Rattle.md_base.specs.declared.places.Shape.{Shape}
+use Rattle.md_base.specs.Shapes.{is_valid_shape}
+use Rattle.parity.specs.Rows.{sector_of}
+use Rattle.row_io.specs.Rows.{reading_of, present}
+use Rattle.list_io.specs.declared.outcome.Unavailable.{Unavailable}
+use Rattle.list_io.specs.Calls.{IsAsked, IsListed}
+use Rattle.list_io.proofs.LossLaws.{lost_then, rows_by}
+use Rattle.list_io.proofs.ListLaws.{asked_more, followed, present_same}
+use Rattle.views.specs.Lacking.{IsAskedBeyond}
+use Rattle.views.specs.Placed.{places_of}
+use Rattle.views.specs.Whole.{list_size}
+use Rattle.views.proofs.LackingWrites.{has-rows}
+use Rattle.views.proofs.Stripes.{row-beyond}
+use Rattle.safe_rows.proofs.ReadParts.{sector-front, sector-back, listed-mended, listed-beyond}
+use Rattle.safe_rows.proofs.fetching.read_parts.Goals as goal
+
+pub read_list-rest-requires-clause-rows : goal.read_list-rest-requires-clause-rows
+read_list-rest-requires-clause-rows g c =
+    rows_by c.args.members.now c.read_list-read.result.lost c.read_list-read.ensures.given c.read_list-read.ensures.lost.members
+    (has-rows (g.B.Bank.given c.args.bank.now) c.args.members.now c.requires.placed c.args.shape.now c.requires.shape)
+
+pub returns-clause-lost : goal.returns-clause-lost
+returns-clause-lost g c = lost_then c.read_list-read.ensures.lost c.read_list-rest.ensures.lost
+
+pub returns-clause-answer : goal.returns-clause-answer
+returns-clause-answer g c =
+    let shape = c.args.shape.now in
+    let cut = c.split_at_mut-below.ensures in
+    let size = c.min-split.ensures in
+    let reach = c.saturating_sub-reach.ensures in
+    let all = c.list_length.ensures in
+    asked_more shape false (reading_of c.read_list-rest.new.members) (IsAsked shape (c.args.first + c.min-split.result) (length c.split_at_mut-below.result.1.now / 512))
+    (IsAskedBeyond shape c.args.mended c.args.first (length c.args.into.now / 512)) c.read_list-rest.result.answer
+    (λ role asked. (
+      asked.0,
+      omega (arith, asked.1),
+      grind (arith, nat_tests, asked.2, cut.back_len, size),
+      asked.3,
+      row-beyond shape (subst (λ (s : Shape). is_valid_shape s ≡ true) (sym c.requires.shape) c.requires.placed.valid) asked.0 c.args.mended c.requires.stripes
+          (grind (arith, nat_tests, asked.1, asked.2, cut.back_len, size, reach, all)),
+    )) c.read_list-rest.ensures.answer
+
+-- an answer that is no error
+at-done : {T Q : Type 0} (answer : Result T Unavailable) → is_err answer ≡ false → OnOk answer Q → Q
+at-done (Ok done) fine held = held
+at-done (Err cause) fine held = absurd (cc)
+
+pub returns-clause-sectors : goal.returns-clause-sectors
+returns-clause-sectors g c =
+    followed c.args.shape.now false (reading_of c.read_list-rest.new.members) _ c.read_list-rest.result.answer (λ few beyond told list stands fills i lt.
+    let given = g.B.Bank.given c.args.bank.now in
+    let shape = c.args.shape.now in
+    let m = c.args.members.now in
+    let mid = c.read_list-read.new.members in
+    let new = c.read_list-rest.new.members in
+    let one = c.read_list-read.ensures in
+    let two = c.read_list-rest.ensures in
+    let c0 = present given (g.B.Bank.tape c.args.bank.now) in
+    let c1 = present (g.B.Bank.given c.read_list-read.new.bank) (g.B.Bank.tape c.read_list-read.new.bank) in
+    let cut = c.split_at_mut-below.ensures in
+    let size = c.min-split.ensures in
+    let reach = c.saturating_sub-reach.ensures in
+    let all = c.list_length.ensures in
+    let split = c.min-split.result in
+    let front = c.read_list-read.new.into in
+    let back = c.read_list-rest.new.into in
+    let front_len : length front ≡ 512 * split = c.read_list-read.auto.into ∙ cut.front_len in
+    let within : c.args.first + i < list_size (places_of m) = omega (arith, lt, c.requires.within) in
+    elim (cases_lt i split) [
+      | inl early ↦
+          sector-front front back split i front_len early
+          ∙ listed-mended given shape m mid new c.read_list-read.result.lost c.read_list-rest.result.lost one.lost.members two.lost.members c.requires.placed c.requires.shape c0 c1
+          (present_same one.given (one.tape told)) list stands (c.args.first + i) within (sector_of front i) c.args.mended c.requires.stripes
+          (grind (arith, nat_tests, early, size, reach, all)) fills
+          (at-done c.read_list-read.result.answer (sym c.is_err.ensures.value ∙ c.if-is_err.false) one.sectors told i (omega (arith, early, cut.front_len)))
+      | inr late ↦
+          let here : split + (i - split) ≡ i = omega (arith, late) in
+          let there : c.args.first + split + (i - split) ≡ c.args.first + i = omega (arith, late) in
+          ap (λ (k : ℕ). sector_of (front ++ back) k) (sym here) ∙ sector-back front back split (i - split) front_len
+          ∙ listed-beyond given shape m mid new c.read_list-read.result.lost c.read_list-rest.result.lost one.lost.members two.lost.members c.requires.placed c.requires.shape c0 c1
+          (present_same one.given (one.tape told)) list stands (c.args.first + i) within (sector_of back (i - split))
+          (subst (λ (k : ℕ). IsListed shape false (reading_of mid) (reading_of new) c1 k (sector_of back (i - split))) there (beyond told (i - split) (omega (arith, late, lt, cut.back_len))))
+    ]) c.read_list-rest.ensures.answer c.read_list-rest.ensures.sectors

@@ -1,0 +1,349 @@
+use Rattle.std.proofs.Common.{◌≡◌, inl, inr, ℕ, ◌+◌, ◌*◌, ◌<◌, ◌≤◌, refl, sym, ◌∙◌, ap, subst, arith}
+use Rattle.md_base.specs.declared.status.Role.TheVariants.{Recovering}
+use Rattle.bank.specs.Given.{Given}
+use Rattle.superblocks.specs.Reading.{role_state, rows_held, data_offset_of, holder}
+use Rattle.row_io.specs.Rows.{reading_of, present}
+use Rattle.list_io.specs.Buffers.{IsTouched}
+use Rattle.list_io.specs.Writing.{HasFull}
+use Rattle.flat_history.specs.Sound.{OpensFit}
+use Rattle.views.specs.Moving.{IsMoved}
+use Rattle.views.specs.Lacking.{IsOfStripe, ListStands, RowsStandAmong}
+use Rattle.views.specs.Rebuilding.{AreSparesFree, IsFilledAmong}
+use Rattle.views.proofs.MovedLaws.{moved-then, moved-same, grows-none, grows-then, moved-from, size-moved}
+use Rattle.views.proofs.LackingLaws.{since-same, since-then, in-either}
+use Rattle.views.proofs.LackingLists.{none-of}
+use Rattle.views.proofs.Risen.{risen-none, risen-then}
+use Rattle.views.proofs.SafeStretch.{safe-none}
+use Rattle.views.proofs.MendedParts.{IsInParts, valid-in, part-within, part-touches, safe-part}
+use Rattle.safe_rows.proofs.FillingLaws.{filled-none, filled-then}
+use Rattle.views.proofs.FilledParts.{touched-in_parts, touched-late, parts-longer, parts-of_stripe, stripe-in_parts, found-in, none-found, recovered-alone, recovered-rows, filled-before, list-filled, row-filled, full-kept}
+use Rattle.safe_rows.proofs.filling.fill.Goals as goal
+
+pub target_of-target-requires-clause-few : goal.target_of-target-requires-clause-few
+target_of-target-requires-clause-few g c =
+    (c.requires.placed.holders c.args.role c.args.slot (ap holder c.requires.recovering)).small
+
+pub overflow_mul-first : goal.overflow_mul-first
+overflow_mul-first g c =
+    let fits = part-within (g.B.Bank.given c.args.bank.now) c.args.members.now c.requires.placed c.args.shape.now c.requires.shape c.args.stripe c.requires.stripe c.list_length.result c.list_length.ensures 0 0
+    (omega arith) in
+    omega (arith, fits.0, fits.1)
+
+pub loop-done-init : goal.loop-done-init
+loop-done-init g c =
+    let m = c.args.members.now in
+    let given = g.B.Bank.given c.args.bank.now in
+    let tape0 = g.B.Bank.tape c.args.bank.now in
+    let f0 = g.B.Bank.faults_of c.args.bank.now in
+    record {
+      moved = moved-same given given m m refl refl c.requires.placed c.requires.unlost;
+      failed = since-same m f0 f0;
+      grows = grows-none (λ told. refl);
+      clean = refl;
+      within = omega arith;
+      full = λ told list stands among recovers row at high. absurd (let low = at.0 in let end = at.1 in omega (arith, low, end));
+      others = λ told. filled-none m c.args.role c.args.slot _ (present given tape0);
+      rise = risen-none m tape0 tape0 (λ told. omega arith);
+      safe = λ told world size ledger room gone unclean safe. safe-none (OpensFit world) world.scope given size ledger m tape0 safe;
+      given = refl;
+      counts = λ s. omega arith;
+      rows = omega arith;
+      buffer = refl;
+    }
+
+pub overflow_add-first : goal.overflow_add-first
+overflow_add-first g c =
+    let fits = part-within (g.B.Bank.given c.args.bank.now) c.args.members.now c.requires.placed c.args.shape.now c.requires.shape c.args.stripe c.requires.stripe c.list_length.result c.list_length.ensures c.loop-done.done 0
+    (let within = c.loop-done.invariant.within in omega (arith, within)) in
+    omega (arith, fits.0, fits.1)
+
+pub fill_part-part-requires-clause-free : goal.fill_part-part-requires-clause-free
+fill_part-part-requires-clause-free g c =
+    let was = c.loop-done.invariant in
+    let m = c.args.members.now in
+    let n = c.loop-done.members in
+    let given = g.B.Bank.given c.args.bank.now in
+    let given1 = g.B.Bank.given c.loop-done.bank in
+    let role = c.args.role in
+    let slot = c.args.slot in
+    let t = c.target_of-target.result in
+    let same_role : t.role ≡ role = c.target_of-target.ensures.role in
+    let same_slot : t.slot ≡ slot = c.target_of-target.ensures.slot in
+    subst (λ (b : Given). AreSparesFree b n) (sym was.given) (was.moved.free c.requires.free)
+
+pub fill_part-part-requires-clause-recovering : goal.fill_part-part-requires-clause-recovering
+fill_part-part-requires-clause-recovering g c =
+    let was = c.loop-done.invariant in
+    let m = c.args.members.now in
+    let n = c.loop-done.members in
+    let given = g.B.Bank.given c.args.bank.now in
+    let given1 = g.B.Bank.given c.loop-done.bank in
+    let role = c.args.role in
+    let slot = c.args.slot in
+    let t = c.target_of-target.result in
+    let same_role : t.role ≡ role = c.target_of-target.ensures.role in
+    let same_slot : t.slot ≡ slot = c.target_of-target.ensures.slot in
+    let found = found-in c.recovering_slot.result _ (sym c.is_some.ensures ∙ c.if-is_some.true) c.recovering_slot.ensures.some in
+    let recovers : role_state (reading_of n) role ≡ Recovering slot = subst (λ (s : ℕ). role_state (reading_of n) role ≡ Recovering s) (recovered-alone was.moved role slot found.0 c.requires.recovering found.1) found.1 in
+    ap (role_state (reading_of n)) same_role ∙ recovers ∙ ap (λ (s : ℕ). Recovering s) (sym same_slot)
+
+pub fill_part-part-requires-clause-offset : goal.fill_part-part-requires-clause-offset
+fill_part-part-requires-clause-offset g c =
+    let was = c.loop-done.invariant in
+    let m = c.args.members.now in
+    let n = c.loop-done.members in
+    let given = g.B.Bank.given c.args.bank.now in
+    let given1 = g.B.Bank.given c.loop-done.bank in
+    let role = c.args.role in
+    let slot = c.args.slot in
+    let t = c.target_of-target.result in
+    let same_role : t.role ≡ role = c.target_of-target.ensures.role in
+    let same_slot : t.slot ≡ slot = c.target_of-target.ensures.slot in
+    c.target_of-target.ensures.offset ∙ sym (was.moved.offsets slot) ∙ ap (data_offset_of (reading_of n)) (sym same_slot)
+
+pub fill_part-part-requires-clause-held : goal.fill_part-part-requires-clause-held
+fill_part-part-requires-clause-held g c =
+    let was = c.loop-done.invariant in
+    let m = c.args.members.now in
+    let n = c.loop-done.members in
+    let given = g.B.Bank.given c.args.bank.now in
+    let given1 = g.B.Bank.given c.loop-done.bank in
+    let role = c.args.role in
+    let slot = c.args.slot in
+    let t = c.target_of-target.result in
+    let same_role : t.role ≡ role = c.target_of-target.ensures.role in
+    let same_slot : t.slot ≡ slot = c.target_of-target.ensures.slot in
+    let found = found-in c.recovering_slot.result _ (sym c.is_some.ensures ∙ c.if-is_some.true) c.recovering_slot.ensures.some in
+    let recovers : role_state (reading_of n) role ≡ Recovering slot = subst (λ (s : ℕ). role_state (reading_of n) role ≡ Recovering s) (recovered-alone was.moved role slot found.0 c.requires.recovering found.1) found.1 in
+    c.target_of-target.ensures.held ∙ sym (recovered-rows was.moved role slot recovers) ∙ ap (λ (s : ℕ). rows_held (reading_of n) (Recovering s)) (sym same_slot)
+
+pub fill_part-part-requires-clause-within : goal.fill_part-part-requires-clause-within
+fill_part-part-requires-clause-within g c =
+    let fits = part-within (g.B.Bank.given c.args.bank.now) c.args.members.now c.requires.placed c.args.shape.now c.requires.shape c.args.stripe c.requires.stripe c.list_length.result c.list_length.ensures c.loop-done.done c.min-count.result
+    (let count = c.min-count.ensures in let within = c.loop-done.invariant.within in omega (arith, count, within)) in
+    let size = size-moved (g.B.Bank.given c.args.bank.now) c.args.members.now c.loop-done.members c.loop-done.invariant.moved in
+    omega (arith, fits.0, size)
+
+pub fill_part-part-requires-clause-short : goal.fill_part-part-requires-clause-short
+fill_part-part-requires-clause-short g c =
+    let fits = part-within (g.B.Bank.given c.args.bank.now) c.args.members.now c.requires.placed c.args.shape.now c.requires.shape c.args.stripe c.requires.stripe c.list_length.result c.list_length.ensures c.loop-done.done c.min-count.result
+    (let count = c.min-count.ensures in let within = c.loop-done.invariant.within in omega (arith, count, within)) in
+    omega (arith, fits.0, fits.1)
+
+pub returns-then-is_some-2-clause-moved : goal.returns-then-is_some-2-clause-moved
+returns-then-is_some-2-clause-moved g c =
+    let was = c.loop-done.invariant in
+    let m = c.args.members.now in
+    let n = c.loop-done.members in
+    let given = g.B.Bank.given c.args.bank.now in
+    let given1 = g.B.Bank.given c.loop-done.bank in
+    let role = c.args.role in
+    let slot = c.args.slot in
+    let t = c.target_of-target.result in
+    let same_role : t.role ≡ role = c.target_of-target.ensures.role in
+    let same_slot : t.slot ≡ slot = c.target_of-target.ensures.slot in
+    let did = c.fill_part-part.ensures in
+    let new = c.fill_part-part.new.members in
+    let moved : IsMoved given n new = moved-from given given1 n n new was.given refl did.moved in
+    moved-then given m n new was.moved moved
+
+pub returns-then-is_some-2-clause-failed : goal.returns-then-is_some-2-clause-failed
+returns-then-is_some-2-clause-failed g c =
+    let was = c.loop-done.invariant in
+    let m = c.args.members.now in
+    let n = c.loop-done.members in
+    let given = g.B.Bank.given c.args.bank.now in
+    let given1 = g.B.Bank.given c.loop-done.bank in
+    let role = c.args.role in
+    let slot = c.args.slot in
+    let t = c.target_of-target.result in
+    let same_role : t.role ≡ role = c.target_of-target.ensures.role in
+    let same_slot : t.slot ≡ slot = c.target_of-target.ensures.slot in
+    let did = c.fill_part-part.ensures in
+    let new = c.fill_part-part.new.members in
+    let moved : IsMoved given n new = moved-from given given1 n n new was.given refl did.moved in
+    let f0 = g.B.Bank.faults_of c.args.bank.now in
+    let f1 = g.B.Bank.faults_of c.loop-done.bank in
+    let f2 = g.B.Bank.faults_of c.fill_part-part.new.bank in
+    since-then m n new c.loop-done.spares c.fill_part-part.result.spares _ f0 f1 f2 was.counts did.counts was.failed did.failed (in-either c.loop-done.spares c.fill_part-part.result.spares)
+
+pub returns-then-is_some-2-clause-grows : goal.returns-then-is_some-2-clause-grows
+returns-then-is_some-2-clause-grows g c =
+    grows-then c.loop-done.invariant.grows c.fill_part-part.ensures.grows
+
+pub returns-then-is_some-2-clause-others : goal.returns-then-is_some-2-clause-others
+returns-then-is_some-2-clause-others g c =
+    λ told.
+    let was = c.loop-done.invariant in
+    let m = c.args.members.now in
+    let n = c.loop-done.members in
+    let given = g.B.Bank.given c.args.bank.now in
+    let given1 = g.B.Bank.given c.loop-done.bank in
+    let role = c.args.role in
+    let slot = c.args.slot in
+    let t = c.target_of-target.result in
+    let same_role : t.role ≡ role = c.target_of-target.ensures.role in
+    let same_slot : t.slot ≡ slot = c.target_of-target.ensures.slot in
+    let found = found-in c.recovering_slot.result _ (sym c.is_some.ensures ∙ c.if-is_some.true) c.recovering_slot.ensures.some in
+    let recovers : role_state (reading_of n) role ≡ Recovering slot = subst (λ (s : ℕ). role_state (reading_of n) role ≡ Recovering s) (recovered-alone was.moved role slot found.0 c.requires.recovering found.1) found.1 in
+    let did = c.fill_part-part.ensures in
+    let new = c.fill_part-part.new.members in
+    let moved : IsMoved given n new = moved-from given given1 n n new was.given refl did.moved in
+    let tape0 = g.B.Bank.tape c.args.bank.now in
+    let tape1 = g.B.Bank.tape c.loop-done.bank in
+    let tape2 = g.B.Bank.tape c.fill_part-part.new.bank in
+    let shape = c.args.shape.now in
+    let stripe = c.args.stripe in
+    let done = c.loop-done.done in
+    let count = c.min-count.result in
+    let valid = valid-in given m c.requires.placed shape c.requires.shape in
+    let part : done + count ≤ shape.chunk = (let low = c.min-count.ensures in let within = was.within in omega (arith, low, within)) in
+    let touched = IsTouched shape (stripe * c.list_length.result + done) count in
+    let here = touched-in_parts shape valid stripe c.list_length.result c.list_length.ensures done count part in
+    let filled : g.B.Bank.tells → IsFilledAmong n role slot touched (present given tape1) (present given tape2) =
+    λ told. subst (λ (b : Given). IsFilledAmong n role slot touched (present b tape1) (present b tape2)) was.given
+    (subst (λ (r : ℕ). IsFilledAmong n r slot touched (present given1 tape1) (present given1 tape2)) same_role
+    (subst (λ (s : ℕ). IsFilledAmong n t.role s touched (present given1 tape1) (present given1 tape2)) same_slot (did.others told))) in
+    filled-then m role slot (IsInParts shape stripe done) (IsOfStripe shape stripe) (IsOfStripe shape stripe) (present given tape0) (present given tape1) (present given tape2)
+    (λ row at. parts-of_stripe shape stripe done row was.within at) (λ row at. at) (was.others told)
+    (filled-before was.moved role slot touched (IsOfStripe shape stripe) (present given tape1) (present given tape2) recovers (λ row at. parts-of_stripe shape stripe (done + count) row part (here row at)) (filled told))
+
+pub returns-then-is_some-2-clause-rise : goal.returns-then-is_some-2-clause-rise
+returns-then-is_some-2-clause-rise g c =
+    risen-then c.loop-done.invariant.rise c.fill_part-part.ensures.rise
+
+pub returns-then-is_some-2-clause-safe : goal.returns-then-is_some-2-clause-safe
+returns-then-is_some-2-clause-safe g c =
+    let was = c.loop-done.invariant in
+    let m = c.args.members.now in
+    let n = c.loop-done.members in
+    let given = g.B.Bank.given c.args.bank.now in
+    let given1 = g.B.Bank.given c.loop-done.bank in
+    let role = c.args.role in
+    let slot = c.args.slot in
+    let t = c.target_of-target.result in
+    let same_role : t.role ≡ role = c.target_of-target.ensures.role in
+    let same_slot : t.slot ≡ slot = c.target_of-target.ensures.slot in
+    let did = c.fill_part-part.ensures in
+    let new = c.fill_part-part.new.members in
+    let moved : IsMoved given n new = moved-from given given1 n n new was.given refl did.moved in
+    let tape0 = g.B.Bank.tape c.args.bank.now in
+    let tape1 = g.B.Bank.tape c.loop-done.bank in
+    let tape2 = g.B.Bank.tape c.fill_part-part.new.bank in
+    λ told world size ledger room gone unclean safe.
+    safe-part world given given1 size ledger m n new tape0 tape1 tape2 told was.given was.moved.placed moved did.grows was.rise room gone
+    (λ first gone1. was.safe told world size ledger first gone1 unclean safe)
+    (λ then now. did.safe told world size ledger then gone (λ dirty. unclean (sym was.clean ∙ dirty)) now)
+
+pub returns-then-is_some-2-clause-counts : goal.returns-then-is_some-2-clause-counts
+returns-then-is_some-2-clause-counts g c =
+    λ s.
+    let one = c.loop-done.invariant.counts s in
+    let two = c.fill_part-part.ensures.counts s in
+    omega (arith, one, two)
+
+pub loop-done-preserved : goal.loop-done-preserved
+loop-done-preserved g c =
+    let was = c.loop-done.invariant in
+    let m = c.args.members.now in
+    let n = c.loop-done.members in
+    let given = g.B.Bank.given c.args.bank.now in
+    let given1 = g.B.Bank.given c.loop-done.bank in
+    let role = c.args.role in
+    let slot = c.args.slot in
+    let t = c.target_of-target.result in
+    let same_role : t.role ≡ role = c.target_of-target.ensures.role in
+    let same_slot : t.slot ≡ slot = c.target_of-target.ensures.slot in
+    let found = found-in c.recovering_slot.result _ (sym c.is_some.ensures ∙ c.if-is_some.true) c.recovering_slot.ensures.some in
+    let recovers : role_state (reading_of n) role ≡ Recovering slot = subst (λ (s : ℕ). role_state (reading_of n) role ≡ Recovering s) (recovered-alone was.moved role slot found.0 c.requires.recovering found.1) found.1 in
+    let did = c.fill_part-part.ensures in
+    let new = c.fill_part-part.new.members in
+    let moved : IsMoved given n new = moved-from given given1 n n new was.given refl did.moved in
+    let tape0 = g.B.Bank.tape c.args.bank.now in
+    let tape1 = g.B.Bank.tape c.loop-done.bank in
+    let tape2 = g.B.Bank.tape c.fill_part-part.new.bank in
+    let shape = c.args.shape.now in
+    let stripe = c.args.stripe in
+    let done = c.loop-done.done in
+    let count = c.min-count.result in
+    let valid = valid-in given m c.requires.placed shape c.requires.shape in
+    let part : done + count ≤ shape.chunk = (let low = c.min-count.ensures in let within = was.within in omega (arith, low, within)) in
+    let touched = IsTouched shape (stripe * c.list_length.result + done) count in
+    let here = touched-in_parts shape valid stripe c.list_length.result c.list_length.ensures done count part in
+    let filled : g.B.Bank.tells → IsFilledAmong n role slot touched (present given tape1) (present given tape2) =
+    λ told. subst (λ (b : Given). IsFilledAmong n role slot touched (present b tape1) (present b tape2)) was.given
+    (subst (λ (r : ℕ). IsFilledAmong n r slot touched (present given1 tape1) (present given1 tape2)) same_role
+    (subst (λ (s : ℕ). IsFilledAmong n t.role s touched (present given1 tape1) (present given1 tape2)) same_slot (did.others told))) in
+    let f0 = g.B.Bank.faults_of c.args.bank.now in
+    let f1 = g.B.Bank.faults_of c.loop-done.bank in
+    let f2 = g.B.Bank.faults_of c.fill_part-part.new.bank in
+    record {
+      moved = moved-then given m n new was.moved moved;
+      failed = since-then m n new c.loop-done.spares c.fill_part-part.result.spares _ f0 f1 f2 was.counts did.counts was.failed did.failed (in-either c.loop-done.spares c.fill_part-part.result.spares);
+      grows = grows-then was.grows did.grows;
+      clean = did.clean ∙ was.clean;
+      within = part;
+      full = λ told list stands among then row at high.
+          let c1 = present given tape1 in
+          let c2 = present given tape2 in
+          elim (part-touches shape valid stripe c.list_length.result c.list_length.ensures done count part row at) [
+            | inl early ↦ full-kept moved was.moved.placed role slot recovers touched c1 c2 (filled told) shape list role slot row then
+                (λ same touch. touched-late shape valid stripe c.list_length.result c.list_length.ensures done count part row early touch) (was.full told list stands among recovers row early high)
+            | inr late ↦
+                let none = none-of c.fill_part-part.result.refusal (sym c.is_some-in-loop-done.ensures ∙ c.if-is_some-2.false) in
+                let list1 : ListStands n c1 list = list-filled was.moved c.requires.placed role slot c.requires.recovering (IsInParts shape stripe done) (present given tape0) c1 (was.others told) list stands in
+                let rows1 : RowsStandAmong touched n c1 list = λ other touch below. row-filled was.moved c.requires.placed role slot c.requires.recovering (IsInParts shape stripe done) (present given tape0) c1 (was.others told) list other
+                (among other (parts-of_stripe shape stripe (done + count) other part (here other touch)) (subst (λ (k : ℕ). other < k) was.moved.size below)) in
+                let then_t : role_state (reading_of new) t.role ≡ Recovering t.slot = ap (role_state (reading_of new)) same_role ∙ then ∙ ap (λ (s : ℕ). Recovering s) (sym same_slot) in
+                let high_t : t.held ≤ row = subst (λ (k : ℕ). k ≤ row) (sym c.target_of-target.ensures.held) high in
+                let done_t : HasFull (reading_of new) (present given1 tape2) shape list row t.role t.slot = did.filled none then_t told list
+                (subst (λ (b : Given). ListStands n (present b tape1) list) (sym was.given) list1) (subst (λ (b : Given). RowsStandAmong touched n (present b tape1) list) (sym was.given) rows1) row late high_t in
+                subst (λ (b : Given). HasFull (reading_of new) (present b tape2) shape list row role slot) was.given
+                (subst (λ (r : ℕ). HasFull (reading_of new) (present given1 tape2) shape list row r slot) same_role
+                (subst (λ (s : ℕ). HasFull (reading_of new) (present given1 tape2) shape list row t.role s) same_slot done_t))
+          ];
+      others = λ told.
+          filled-then m role slot (IsInParts shape stripe done) (IsInParts shape stripe (done + count)) (IsInParts shape stripe (done + count)) (present given tape0) (present given tape1) (present given tape2)
+          (λ row at. parts-longer shape stripe done count row at) (λ row at. at) (was.others told)
+          (filled-before was.moved role slot touched (IsInParts shape stripe (done + count)) (present given tape1) (present given tape2) recovers here (filled told));
+      rise = risen-then was.rise did.rise;
+      safe = λ told world size ledger room gone unclean safe.
+          safe-part world given given1 size ledger m n new tape0 tape1 tape2 told was.given was.moved.placed moved did.grows was.rise room gone
+          (λ first gone1. was.safe told world size ledger first gone1 unclean safe)
+          (λ then now. did.safe told world size ledger then gone (λ dirty. unclean (sym was.clean ∙ dirty)) now);
+      given = did.given ∙ was.given;
+      counts = λ s. let one = was.counts s in let two = did.counts s in omega (arith, one, two);
+      rows = let one = was.rows in let two = did.rows in omega (arith, one, two);
+      buffer = did.buffer ∙ was.buffer;
+    }
+
+pub returns-else-is_some-clause-filled : goal.returns-else-is_some-clause-filled
+returns-else-is_some-clause-filled g c =
+    λ ok recovers. absurd (none-found c.recovering_slot.result _ (sym c.is_some.ensures ∙ c.if-is_some.false) c.recovering_slot.ensures.none c.args.slot recovers)
+
+pub returns-else-is_some-clause-others : goal.returns-else-is_some-clause-others
+returns-else-is_some-clause-others g c =
+    λ told.
+    let was = c.loop-done.invariant in
+    let given = g.B.Bank.given c.args.bank.now in
+    let c0 = present given (g.B.Bank.tape c.args.bank.now) in
+    let c1 = present given (g.B.Bank.tape c.loop-done.bank) in
+    let stripe = IsOfStripe c.args.shape.now c.args.stripe in
+    filled-then c.args.members.now c.args.role c.args.slot (IsInParts c.args.shape.now c.args.stripe c.loop-done.done) stripe stripe c0 c1 c1
+    (λ row at. parts-of_stripe c.args.shape.now c.args.stripe c.loop-done.done row was.within at) (λ row at. at) (was.others told) (filled-none c.args.members.now c.args.role c.args.slot stripe c1)
+
+pub returns-after-loop-done-clause-filled : goal.returns-after-loop-done-clause-filled
+returns-after-loop-done-clause-filled g c =
+    λ ok recovers told list stands among row of high.
+    c.loop-done.invariant.full told list stands among recovers row (stripe-in_parts c.args.shape.now c.args.stripe c.loop-done.done row c.loop-done-test.false of) high
+
+pub returns-after-loop-done-clause-others : goal.returns-after-loop-done-clause-others
+returns-after-loop-done-clause-others g c =
+    λ told.
+    let was = c.loop-done.invariant in
+    let given = g.B.Bank.given c.args.bank.now in
+    let c0 = present given (g.B.Bank.tape c.args.bank.now) in
+    let c1 = present given (g.B.Bank.tape c.loop-done.bank) in
+    let stripe = IsOfStripe c.args.shape.now c.args.stripe in
+    filled-then c.args.members.now c.args.role c.args.slot (IsInParts c.args.shape.now c.args.stripe c.loop-done.done) stripe stripe c0 c1 c1
+    (λ row at. parts-of_stripe c.args.shape.now c.args.stripe c.loop-done.done row was.within at) (λ row at. at) (was.others told) (filled-none c.args.members.now c.args.role c.args.slot stripe c1)

@@ -1,0 +1,73 @@
+use Rattle.std.proofs.Common.{◌≡◌, ℕ, ◌+◌, ◌∷◌, [], refl, sym, ◌∙◌, ap, subst, arith}
+use Rattle.bank.specs.declared.bank.Operation.TheVariants.{Write}
+use Rattle.bank.specs.Tape.{Did, disk}
+use Rattle.bank.proofs.Marks.{each_mark-map}
+use Rattle.parity.specs.Rows.{sector_of}
+use Rattle.row_io.proofs.Turns.{marks_last}
+use Rattle.superblocks.specs.Reading.{holder}
+use Rattle.views.specs.Rebuilding.{IsFilling}
+use Rattle.safe_rows.proofs.FillingLaws.{AreFilled, row_write, filled-present, filled-more, write-stands, marks-written}
+use Rattle.safe_rows.proofs.filling.fill_row.Goals as goal
+
+pub overflow_add-target : goal.overflow_add-target
+overflow_add-target g c =
+    let has = c.requires.placed.holders c.args.target.now.role c.args.target.now.slot (ap holder c.requires.recovering) in
+    let within = has.within in
+    let short = has.short in
+    omega (arith, within, short, c.requires.below, c.requires.offset)
+
+pub write_sector-requires-clause-place : goal.write_sector-requires-clause-place
+write_sector-requires-clause-place g c =
+    let has = c.requires.placed.holders c.args.target.now.role c.args.target.now.slot (ap holder c.requires.recovering) in
+    let within = has.within in
+    record {
+      known = has.known;
+      some = omega arith;
+      whole = refl;
+      within = omega (arith, within, c.requires.below, c.requires.offset);
+    }
+
+pub returns-clause-each_mark : goal.returns-clause-each_mark
+returns-clause-each_mark g c =
+    let m = c.args.members.now in
+    let role = c.args.target.now.role in
+    let slot = c.args.target.now.slot in
+    let row = c.args.row in
+    let start = (g.B.Bank.given c.args.bank.now).start in
+    let tape0 = g.B.Bank.tape c.args.bank.now in
+    let tape1 = g.B.Bank.tape c.write_sector.new.bank in
+    let bytes = sector_of c.make_sector.new.bytes role in
+    let did : Did g.B.Bank.tells c.write_sector.result tape0 tape1 (row_write m role slot row bytes) =
+    subst (λ (n : ℕ). Did g.B.Bank.tells c.write_sector.result tape0 tape1 (Write slot (n + row) bytes ∷ [])) c.requires.offset c.write_sector.ensures.did in
+    each_mark-map (IsFilling m role slot (disk start tape0)) (λ told e filled. filled-more m role slot (λ other. other ≡ row) (λ other. Unit {0}) (disk start tape0) e (λ other same. tt) filled)
+    (marks-written m role slot row bytes c.requires.below c.requires.recovering (let high = c.if-row-target.false in omega (arith, high, c.requires.held)) start tape0 tape1 did)
+
+pub returns-clause-written : goal.returns-clause-written
+returns-clause-written g c = λ ok told list own high.
+    let m = c.args.members.now in
+    let role = c.args.target.now.role in
+    let slot = c.args.target.now.slot in
+    let row = c.args.row in
+    let given = g.B.Bank.given c.args.bank.now in
+    let tape0 = g.B.Bank.tape c.args.bank.now in
+    let tape1 = g.B.Bank.tape c.write_sector.new.bank in
+    let bytes = sector_of c.make_sector.new.bytes role in
+    let did : Did g.B.Bank.tells c.write_sector.result tape0 tape1 (row_write m role slot row bytes) =
+    subst (λ (n : ℕ). Did g.B.Bank.tells c.write_sector.result tape0 tape1 (Write slot (n + row) bytes ∷ [])) c.requires.offset c.write_sector.ensures.did in
+    write-stands m role slot row bytes given tape0 tape1 (did.all told (sym c.is_ok.ensures.value ∙ ok)) ∙ c.make_sector.ensures.full list own
+
+pub returns-clause-others : goal.returns-clause-others
+returns-clause-others g c = λ told.
+    let m = c.args.members.now in
+    let role = c.args.target.now.role in
+    let slot = c.args.target.now.slot in
+    let row = c.args.row in
+    let given = g.B.Bank.given c.args.bank.now in
+    let tape0 = g.B.Bank.tape c.args.bank.now in
+    let tape1 = g.B.Bank.tape c.write_sector.new.bank in
+    let bytes = sector_of c.make_sector.new.bytes role in
+    let did : Did g.B.Bank.tells c.write_sector.result tape0 tape1 (row_write m role slot row bytes) =
+    subst (λ (n : ℕ). Did g.B.Bank.tells c.write_sector.result tape0 tape1 (Write slot (n + row) bytes ∷ [])) c.requires.offset c.write_sector.ensures.did in
+    filled-present m role slot (λ other. other ≡ row) given tape0 tape1
+    (marks_last {P = AreFilled m role slot (λ other. other ≡ row) (disk given.start tape0)}
+    (marks-written m role slot row bytes c.requires.below c.requires.recovering (let high = c.if-row-target.false in omega (arith, high, c.requires.held)) given.start tape0 tape1 did) told)

@@ -1,0 +1,66 @@
+use Rattle.std.proofs.Common.{◌≡◌, ◌+◌, ◌-◌, ◌*◌, ◌≤◌, ℕ, length, take, drop, inr, sym, ◌∙◌, subst, arith}
+use Rattle.std.specs.Prelude.{slice_index, Contains}
+use Rattle.bank.specs.Given.{Given}
+use Rattle.layout.proofs.Limits.{limited}
+use Rattle.parity.specs.Rows.{sector_of}
+use Rattle.row_io.specs.Rows.{reading_of, present}
+use Rattle.list_io.specs.Buffers.{buffered}
+use Rattle.list_io.specs.Writing.{HasFull}
+use Rattle.list_io.proofs.PartBytes.{sector-part_other}
+use Rattle.list_io.proofs.PutLaws.{data_same}
+use Rattle.views.specs.Rebuilding.{IsFilledAmong}
+use Rattle.views.proofs.Elements.{contains-at}
+use Rattle.views.proofs.MovedLaws.{grows-then}
+use Rattle.views.proofs.MendedParts.{valid-in}
+use Rattle.safe_rows.proofs.FillingLaws.{filled-then, marks-then, full-next, part-is}
+use Rattle.safe_rows.proofs.filling.write_filled.Goals as goal
+
+pub fill_row-requires-clause-below : goal.fill_row-requires-clause-below
+fill_row-requires-clause-below g c = c.requires.below (slice_index c.args.rows.now c.loop-i.i) (contains-at c.args.rows.now c.loop-i.i c.loop-i-test.true)
+
+pub returns-then-not-fill_row-clause-each_mark : goal.returns-then-not-fill_row-clause-each_mark
+returns-then-not-fill_row-clause-each_mark g c =
+    marks-then (g.B.Bank.given c.args.bank.now) (g.B.Bank.given c.loop-i.bank) c.loop-i.invariant.given c.args.members.now c.args.target.now.role c.args.target.now.slot
+    (g.B.Bank.tape c.args.bank.now) (g.B.Bank.tape c.loop-i.bank) (g.B.Bank.tape c.fill_row.new.bank) c.loop-i.invariant.marks c.fill_row.ensures.each_mark
+
+pub returns-then-not-fill_row-clause-grows : goal.returns-then-not-fill_row-clause-grows
+returns-then-not-fill_row-clause-grows g c = grows-then c.loop-i.invariant.grows c.fill_row.ensures.grows
+
+pub loop-i-preserved : goal.loop-i-preserved
+loop-i-preserved g c =
+    let was = c.loop-i.invariant in
+    let did = c.fill_row.ensures in
+    let m = c.args.members.now in
+    let role = c.args.target.now.role in
+    let slot = c.args.target.now.slot in
+    let shape = c.args.shape.now in
+    let rows = c.args.rows.now in
+    let i = c.loop-i.i in
+    let row = slice_index rows i in
+    let given = g.B.Bank.given c.args.bank.now in
+    let given1 = g.B.Bank.given c.loop-i.bank in
+    let tape0 = g.B.Bank.tape c.args.bank.now in
+    let tape1 = g.B.Bank.tape c.loop-i.bank in
+    let tape2 = g.B.Bank.tape c.fill_row.new.bank in
+    let valid = valid-in given m c.requires.placed shape c.requires.shape in
+    let few : shape.disks ≤ 16 = (limited shape valid).most in
+    let within : 8192 * i + 512 * shape.disks ≤ length c.loop-i.buffer = omega (arith, c.loop-i.auto.buffer, c.requires.buffer, few, c.loop-i-test.true) in
+    let filled : g.B.Bank.tells → IsFilledAmong m role slot (λ other. other ≡ row) (present given tape1) (present given tape2) =
+    λ told. subst (λ (b : Given). IsFilledAmong m role slot (λ other. other ≡ row) (present b tape1) (present b tape2)) was.given (did.others told) in
+    record {
+      marks = marks-then given given1 was.given m role slot tape0 tape1 tape2 was.marks did.each_mark;
+      done = λ told list own. full-next given m role slot shape list (present given tape1) (present given tape2) c.requires.placed c.requires.recovering rows c.requires.once c.args.target.now.held i c.loop-i-test.true
+          (filled told) (was.done told list own) (λ high. subst (λ (b : Given). HasFull (reading_of m) (present b tape2) shape list row role slot) was.given
+          (did.written c.if-not-fill_row.false told list
+          (data_same shape list row (buffered c.args.buffer.now i) (sector_of (take (8192 * i + 512 * shape.disks - 8192 * i) (drop (8192 * i) c.loop-i.buffer))) valid
+          (λ r lt. part-is c.loop-i.buffer c.args.buffer.now i shape.disks r lt (was.ahead i r (omega arith) c.loop-i-test.true lt)) (own i (omega arith) c.loop-i-test.true)) high));
+      others = λ told. filled-then m role slot (Contains rows) (λ other. other ≡ row) (Contains rows) (present given tape0) (present given tape1) (present given tape2) (λ other has. has)
+          (λ other same. subst (λ (r : ℕ). Contains rows r) (sym same) (contains-at rows i c.loop-i-test.true)) (was.others told) (filled told);
+      ahead = λ j r le lt is.
+          sector-part_other c.loop-i.buffer c.fill_row.new.bytes i (16 * j + r) (512 * shape.disks) (omega (arith, few)) within
+          (omega (arith, c.fill_row.auto.bytes, within)) (inr (omega (arith, le)))
+          ∙ was.ahead j r (omega (arith, le)) lt is;
+      grows = grows-then was.grows did.grows;
+      given = did.given ∙ was.given;
+      never_falls = λ s. omega (arith, was.never_falls s, did.counts s);
+    }

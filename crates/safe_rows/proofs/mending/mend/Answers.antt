@@ -1,0 +1,205 @@
+use Rattle.std.proofs.Common.{inl, inr, ◌+◌, ◌*◌, ◌≤◌, refl, sym, ◌∙◌, subst, arith}
+use Rattle.bank.specs.Given.{Given}
+use Rattle.row_io.specs.Rows.{present}
+use Rattle.list_io.specs.Buffers.{IsTouched}
+use Rattle.flat_history.specs.Sound.{OpensFit}
+use Rattle.views.specs.Moving.{IsMoved}
+use Rattle.views.specs.Rebuilding.{AreSparesFree}
+use Rattle.views.specs.Lacking.{ListStands}
+use Rattle.views.proofs.MovedLaws.{moved-then, moved-same, grows-none, grows-then, moved-from, size-moved}
+use Rattle.views.proofs.LackingLaws.{since-same, since-then, in-either}
+use Rattle.views.proofs.LackingLists.{none-of}
+use Rattle.views.proofs.Risen.{risen-none, risen-then}
+use Rattle.views.proofs.SafeStretch.{safe-none, allowed-later}
+use Rattle.views.proofs.MendedParts.{valid-in, stripe-within, part-within, part-touches, ArePut, put-none, put-then, put-untouched, nothing-written, no-bytes, not-begun, safe-part}
+use Rattle.safe_rows.proofs.mending.mend.Goals as goal
+
+pub overflow_mul-first : goal.overflow_mul-first
+overflow_mul-first g c =
+    let fits = part-within (g.B.Bank.given c.args.bank.now) c.args.members.now c.requires.placed c.args.shape.now c.requires.shape c.args.stripe c.requires.stripe c.list_length.result c.list_length.ensures 0 0 (omega arith) in
+    omega (arith, fits.0, fits.1)
+
+pub loop-done-init : goal.loop-done-init
+loop-done-init g c =
+    let m = c.args.members.now in
+    let given = g.B.Bank.given c.args.bank.now in
+    let tape0 = g.B.Bank.tape c.args.bank.now in
+    record {
+      moved = moved-same given given m m refl refl c.requires.placed c.requires.unlost;
+      failed = since-same m (g.B.Bank.faults_of c.args.bank.now) (g.B.Bank.faults_of c.args.bank.now);
+      grows = grows-none (λ told. refl);
+      dirty = c.requires.dirty;
+      within = omega arith;
+      put = λ told. put-none given c.args.shape.now _ m tape0 (λ row at. absurd (let low = at.0 in let high = at.1 in omega (arith, low, high)));
+      rise = risen-none m tape0 tape0 (λ told. omega arith);
+      safe = λ told world size ledger room gone unclean list stands allowed safe. safe-none (OpensFit world) world.scope given size ledger m tape0 safe;
+      given = refl;
+      counts = λ s. omega arith;
+      rows = omega arith;
+      buffer = refl;
+    }
+
+pub overflow_add-first : goal.overflow_add-first
+overflow_add-first g c =
+    let within = c.loop-done.invariant.within in
+    let fits = part-within (g.B.Bank.given c.args.bank.now) c.args.members.now c.requires.placed c.args.shape.now c.requires.shape c.args.stripe c.requires.stripe c.list_length.result c.list_length.ensures c.loop-done.done 0
+    (omega (arith, within)) in
+    omega (arith, fits.0, fits.1)
+
+pub put-part-requires-clause-free : goal.put-part-requires-clause-free
+put-part-requires-clause-free g c = subst (λ (b : Given). AreSparesFree b c.loop-done.members) (sym c.loop-done.invariant.given) (c.loop-done.invariant.moved.free c.requires.free)
+
+pub put-part-requires-clause-within : goal.put-part-requires-clause-within
+put-part-requires-clause-within g c =
+    let was = c.loop-done.invariant in
+    let given = g.B.Bank.given c.args.bank.now in
+    let fits = part-within given c.args.members.now c.requires.placed c.args.shape.now c.requires.shape c.args.stripe c.requires.stripe c.list_length.result c.list_length.ensures c.loop-done.done c.min-count.result
+    (let count = c.min-count.ensures in let within = was.within in omega (arith, count, within)) in
+    let size = size-moved given c.args.members.now c.loop-done.members was.moved in
+    omega (arith, fits.0, size)
+
+pub put-part-requires-clause-short : goal.put-part-requires-clause-short
+put-part-requires-clause-short g c =
+    let fits = part-within (g.B.Bank.given c.args.bank.now) c.args.members.now c.requires.placed c.args.shape.now c.requires.shape c.args.stripe c.requires.stripe c.list_length.result c.list_length.ensures c.loop-done.done
+    c.min-count.result (let count = c.min-count.ensures in let within = c.loop-done.invariant.within in omega (arith, count, within)) in
+    omega (arith, fits.0, fits.1)
+
+pub returns-then-is_some-clause-moved : goal.returns-then-is_some-clause-moved
+returns-then-is_some-clause-moved g c =
+    let was = c.loop-done.invariant in
+    moved-then (g.B.Bank.given c.args.bank.now) c.args.members.now c.loop-done.members c.put-part.new.members was.moved
+    (moved-from (g.B.Bank.given c.args.bank.now) (g.B.Bank.given c.loop-done.bank) c.loop-done.members c.loop-done.members c.put-part.new.members was.given refl c.put-part.ensures.moved)
+
+pub returns-then-is_some-clause-failed : goal.returns-then-is_some-clause-failed
+returns-then-is_some-clause-failed g c =
+    let was = c.loop-done.invariant in
+    since-then c.args.members.now c.loop-done.members c.put-part.new.members c.loop-done.spares c.put-part.result.spares _ (g.B.Bank.faults_of c.args.bank.now) (g.B.Bank.faults_of c.loop-done.bank)
+    (g.B.Bank.faults_of c.put-part.new.bank) was.counts c.put-part.ensures.counts was.failed c.put-part.ensures.failed (in-either c.loop-done.spares c.put-part.result.spares)
+
+pub returns-then-is_some-clause-grows : goal.returns-then-is_some-clause-grows
+returns-then-is_some-clause-grows g c = grows-then c.loop-done.invariant.grows c.put-part.ensures.grows
+
+pub returns-then-is_some-clause-stands : goal.returns-then-is_some-clause-stands
+returns-then-is_some-clause-stands g c = λ does told list stands.
+    let was = c.loop-done.invariant in
+    let did = c.put-part.ensures in
+    let given = g.B.Bank.given c.args.bank.now in
+    let given1 = g.B.Bank.given c.loop-done.bank in
+    let m = c.args.members.now in
+    let n = c.loop-done.members in
+    let new = c.put-part.new.members in
+    let others = did.untouched (not-begun new c.put-part.result.begun c.put-part.result.refusal (sym c.is_some.ensures ∙ c.if-is_some.true) does did.torn) told in
+    (put-untouched given given1 was.given c.args.shape.now _ m n new (g.B.Bank.tape c.args.bank.now) (g.B.Bank.tape c.loop-done.bank) (g.B.Bank.tape c.put-part.new.bank) c.requires.shape was.moved
+    (moved-from given given1 n n new was.given refl did.moved) others (was.put told)).stands list stands
+
+pub returns-then-is_some-clause-kept : goal.returns-then-is_some-clause-kept
+returns-then-is_some-clause-kept g c = λ does told list stands row lt here.
+    let was = c.loop-done.invariant in
+    let did = c.put-part.ensures in
+    let given = g.B.Bank.given c.args.bank.now in
+    let given1 = g.B.Bank.given c.loop-done.bank in
+    let m = c.args.members.now in
+    let n = c.loop-done.members in
+    let new = c.put-part.new.members in
+    let others = did.untouched (not-begun new c.put-part.result.begun c.put-part.result.refusal (sym c.is_some.ensures ∙ c.if-is_some.true) does did.torn) told in
+    (put-untouched given given1 was.given c.args.shape.now _ m n new (g.B.Bank.tape c.args.bank.now) (g.B.Bank.tape c.loop-done.bank) (g.B.Bank.tape c.put-part.new.bank) c.requires.shape was.moved
+    (moved-from given given1 n n new was.given refl did.moved) others (was.put told)).rows list stands row lt here.whole (inr here)
+
+pub returns-then-is_some-clause-rebuilt : goal.returns-then-is_some-clause-rebuilt
+returns-then-is_some-clause-rebuilt g c = λ does told list stands.
+    let was = c.loop-done.invariant in
+    let did = c.put-part.ensures in
+    let given = g.B.Bank.given c.args.bank.now in
+    let given1 = g.B.Bank.given c.loop-done.bank in
+    let m = c.args.members.now in
+    let n = c.loop-done.members in
+    let new = c.put-part.new.members in
+    let others = did.untouched (not-begun new c.put-part.result.begun c.put-part.result.refusal (sym c.is_some.ensures ∙ c.if-is_some.true) does did.torn) told in
+    (put-untouched given given1 was.given c.args.shape.now _ m n new (g.B.Bank.tape c.args.bank.now) (g.B.Bank.tape c.loop-done.bank) (g.B.Bank.tape c.put-part.new.bank) c.requires.shape was.moved
+    (moved-from given given1 n n new was.given refl did.moved) others (was.put told)).rebuilt list stands
+
+pub returns-then-is_some-clause-rise : goal.returns-then-is_some-clause-rise
+returns-then-is_some-clause-rise g c = risen-then c.loop-done.invariant.rise c.put-part.ensures.rise
+
+pub returns-then-is_some-clause-safe : goal.returns-then-is_some-clause-safe
+returns-then-is_some-clause-safe g c = λ told world size ledger room gone unclean list stands allowed safe.
+    let was = c.loop-done.invariant in
+    let did = c.put-part.ensures in
+    let m = c.args.members.now in
+    let n = c.loop-done.members in
+    let new = c.put-part.new.members in
+    let given = g.B.Bank.given c.args.bank.now in
+    let given1 = g.B.Bank.given c.loop-done.bank in
+    let tape0 = g.B.Bank.tape c.args.bank.now in
+    let tape1 = g.B.Bank.tape c.loop-done.bank in
+    let tape2 = g.B.Bank.tape c.put-part.new.bank in
+    safe-part world given given1 size ledger m n new tape0 tape1 tape2 told was.given was.moved.placed (moved-from given given1 n n new was.given refl did.moved) did.grows was.rise room gone
+    (λ first gone1. was.safe told world size ledger first gone1 unclean list stands allowed safe)
+    (λ then now. did.safe told world size ledger then gone unclean list list (nothing-written list _)
+    (subst (λ (b : Given). ListStands n (present b tape1) list) (sym was.given) ((was.put told).stands list stands)) (λ is. absurd (cc))
+    (λ begun. allowed-later given m n was.moved ledger.values list allowed) now)
+
+pub loop-done-preserved : goal.loop-done-preserved
+loop-done-preserved g c =
+    let was = c.loop-done.invariant in
+    let did = c.put-part.ensures in
+    let m = c.args.members.now in
+    let n = c.loop-done.members in
+    let new = c.put-part.new.members in
+    let given = g.B.Bank.given c.args.bank.now in
+    let given1 = g.B.Bank.given c.loop-done.bank in
+    let tape0 = g.B.Bank.tape c.args.bank.now in
+    let tape1 = g.B.Bank.tape c.loop-done.bank in
+    let tape2 = g.B.Bank.tape c.put-part.new.bank in
+    let moved : IsMoved given n new = moved-from given given1 n n new was.given refl did.moved in
+    let part : c.loop-done.done + c.min-count.result ≤ c.args.shape.now.chunk = (let count = c.min-count.ensures in let within = was.within in omega (arith, count, within)) in
+    record {
+      moved = moved-then given m n new was.moved moved;
+      failed = since-then m n new c.loop-done.spares c.put-part.result.spares _ (g.B.Bank.faults_of c.args.bank.now) (g.B.Bank.faults_of c.loop-done.bank) (g.B.Bank.faults_of c.put-part.new.bank)
+          was.counts did.counts was.failed did.failed (in-either c.loop-done.spares c.put-part.result.spares);
+      grows = grows-then was.grows did.grows;
+      dirty = did.stays was.dirty;
+      within = part;
+      put = λ told.
+          let none = none-of c.put-part.result.refusal (sym c.is_some.ensures ∙ c.if-is_some.false) in
+          let first = c.args.stripe * c.list_length.result + c.loop-done.done in
+          let touched = IsTouched c.args.shape.now first c.min-count.result in
+          put-then given c.args.shape.now _ touched _ m n new tape0 tape1 tape2 was.moved.size moved
+          (part-touches c.args.shape.now (valid-in given m c.requires.placed c.args.shape.now c.requires.shape) c.args.stripe c.list_length.result c.list_length.ensures c.loop-done.done c.min-count.result part)
+          (was.put told)
+          (subst (λ (b : Given). ArePut b c.args.shape.now touched n new tape1 tape2) was.given (record {
+            stands = λ list stands. did.put none told list list (nothing-written list first) stands;
+            rows = λ list stands row lt whole is. did.good none told list list (nothing-written list first) no-bytes stands (λ is. absurd (cc)) row lt whole is;
+            rebuilt = λ list stands. did.rebuilt none told list list (nothing-written list first) stands (λ is. absurd (cc));
+          }));
+      rise = risen-then was.rise did.rise;
+      safe = λ told world size ledger room gone unclean list stands allowed safe.
+          safe-part world given given1 size ledger m n new tape0 tape1 tape2 told was.given was.moved.placed moved did.grows was.rise room gone
+          (λ first gone1. was.safe told world size ledger first gone1 unclean list stands allowed safe)
+          (λ then now. did.safe told world size ledger then gone unclean list list (nothing-written list _)
+          (subst (λ (b : Given). ListStands n (present b tape1) list) (sym was.given) ((was.put told).stands list stands)) (λ is. absurd (cc))
+          (λ begun. allowed-later given m n was.moved ledger.values list allowed) now);
+      given = did.given ∙ was.given;
+      counts = λ s. let one = was.counts s in let two = did.counts s in omega (arith, one, two);
+      rows = let one = was.rows in let two = did.rows in omega (arith, one, two);
+      buffer = did.buffer ∙ was.buffer;
+    }
+
+pub returns-clause-mended : goal.returns-clause-mended
+returns-clause-mended g c = λ ok told list stands row of whole.
+    let was = c.loop-done.invariant in
+    let low = of.0 in
+    let high = of.1 in
+    let end = c.loop-done-test.false in
+    let within = was.within in
+    let rows = stripe-within (g.B.Bank.given c.args.bank.now) c.args.members.now c.requires.placed c.args.shape.now c.requires.shape c.args.stripe c.requires.stripe in
+    (was.put told).rows list stands row (omega (arith, high, rows)) whole (inl (low, omega (arith, high, end, within)))
+
+pub returns-clause-stands : goal.returns-clause-stands
+returns-clause-stands g c = λ does told. (c.loop-done.invariant.put told).stands
+
+pub returns-clause-kept : goal.returns-clause-kept
+returns-clause-kept g c = λ does told list stands row lt here. (c.loop-done.invariant.put told).rows list stands row lt here.whole (inr here)
+
+pub returns-clause-rebuilt : goal.returns-clause-rebuilt
+returns-clause-rebuilt g c = λ does told. (c.loop-done.invariant.put told).rebuilt

@@ -1,0 +1,21 @@
+use Rattle.std.proofs.Common.{◌≡◌, ◌*◌, ◌≤◌, ℕ, IfSome, Option, ap, sym, subst, arith, true}
+use Rattle.md_base.specs.Shapes.{is_multiple}
+use Rattle.md_base.specs.declared.places.Shape.{Shape}
+use Rattle.layout.proofs.Places.{chunk_some}
+use Rattle.superblocks.specs.Reading.{shape_of}
+use Rattle.views.specs.Status.{stripes_of}
+use Rattle.views.proofs.Stripes.{stripes-multiple, stripes-within}
+use Rattle.safe_rows.proofs.mending.mended_rows.Goals as goal
+
+pub overflow_mul-result : goal.overflow_mul-result
+overflow_mul-result c =
+    let m = c.args.members.now in
+    let few = subst (λ (o : Option ℕ). IfSome o (λ mended. mended ≤ stripes_of m)) c.in-Some.is c.requires.progress in
+    let within = stripes-within m.newest.size (shape_of m.newest).chunk c.in-Some.mended c.requires.multiple few in
+    let same = ap (λ (s : Shape). c.in-Some.mended * s.chunk) c.shape_in.ensures in
+    omega (arith, within, same)
+
+pub returns-in-Some-clause-stripes : goal.returns-in-Some-clause-stripes
+returns-in-Some-clause-stripes c =
+    let shape = shape_of c.args.members.now.newest in
+    subst (λ (s : Shape). is_multiple (c.in-Some.mended * s.chunk) shape.chunk ≡ true) (sym c.shape_in.ensures) (stripes-multiple c.in-Some.mended shape.chunk (chunk_some shape c.requires.shape))

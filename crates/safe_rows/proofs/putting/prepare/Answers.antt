@@ -1,0 +1,164 @@
+use Rattle.std.proofs.Common.{◌<◌, ℕ, List, length, arith, refl, sym, ◌∙◌, ap, subst}
+use Rattle.std.specs.Prelude.{Option, is_some}
+use Rattle.md_base.specs.declared.places.Shape.{Shape}
+use Rattle.md_base.specs.declared.answers.Refusal.{Refusal}
+use Rattle.bank.specs.Given.{Given}
+use Rattle.bank.specs.declared.bank.Operation.{Operation}
+use Rattle.superblocks.specs.declared.members.Members.{Members}
+use Rattle.row_io.specs.Rows.{present, reading_of}
+use Rattle.list_io.specs.Buffers.{buffered}
+use Rattle.list_io.specs.Full.{DataStands, RowStands}
+use Rattle.list_io.proofs.BufferLaws.{data_read}
+use Rattle.views.specs.Placed.{IsPlaced, AreLost}
+use Rattle.views.specs.Moving.{IsMoved}
+use Rattle.views.specs.Rebuilding.{AreSparesFree}
+use Rattle.views.proofs.MovedLaws.{moved-lost, moved-then, moved-from}
+use Rattle.views.proofs.LackingLaws.{since-lost, since-then, in-second}
+use Rattle.views.proofs.LackingWrites.{lost-of, ok-of, standing-later}
+use Rattle.flat_history.specs.Sound.{OpensFit}
+use Rattle.views.specs.Safety.{IsRisen}
+use Rattle.views.specs.Steady.{KeepsSafe}
+use Rattle.views.proofs.Risen.{risen-then, risen-lost, room-then}
+use Rattle.views.proofs.SafeStretch.{safe-then, safe-lost, over-at, keeps-from}
+use Rattle.safe_rows.proofs.putting.prepare.Goals as goal
+
+pub returns-then-is_some-clause-moved : goal.returns-then-is_some-clause-moved
+returns-then-is_some-clause-moved g c =
+    let m = c.args.members.now in
+    let n = c.read_touched-read.new.members in
+    let given = g.B.Bank.given c.args.bank.now in
+    let f0 = g.B.Bank.faults_of c.args.bank.now in
+    let f1 = g.B.Bank.faults_of c.read_touched-read.new.bank in
+    let r = c.read_touched-read.result.lost in
+    let shape = c.args.shape.now in
+    moved-lost given shape m n r f0 f1 c.requires.placed (lost-of given shape m n r f0 f1 c.requires.placed c.read_touched-read.ensures.lost) c.requires.unlost
+
+pub returns-then-is_some-clause-below : goal.returns-then-is_some-clause-below
+returns-then-is_some-clause-below g c row has = subst (λ (x : Members). row < x.newest.size) (sym c.read_touched-read.ensures.lost.members) (c.read_touched-read.ensures.below row has)
+
+pub raise-spares-requires-clause-placed : goal.raise-spares-requires-clause-placed
+raise-spares-requires-clause-placed g c =
+    let m = c.args.members.now in
+    let n = c.read_touched-read.new.members in
+    let given = g.B.Bank.given c.args.bank.now in
+    let f0 = g.B.Bank.faults_of c.args.bank.now in
+    let f1 = g.B.Bank.faults_of c.read_touched-read.new.bank in
+    let r = c.read_touched-read.result.lost in
+    let did = c.read_touched-read.ensures in
+    let lost : AreLost given c.args.shape.now m n r f0 f1 = lost-of given c.args.shape.now m n r f0 f1 c.requires.placed did.lost in
+    subst (λ (b : Given). IsPlaced b n) (sym did.given) lost.placed
+
+pub raise-spares-requires-clause-unlost : goal.raise-spares-requires-clause-unlost
+raise-spares-requires-clause-unlost g c =
+    let m = c.args.members.now in
+    let n = c.read_touched-read.new.members in
+    let given = g.B.Bank.given c.args.bank.now in
+    let f0 = g.B.Bank.faults_of c.args.bank.now in
+    let f1 = g.B.Bank.faults_of c.read_touched-read.new.bank in
+    let r = c.read_touched-read.result.lost in
+    let shape = c.args.shape.now in
+    (moved-lost given shape m n r f0 f1 c.requires.placed (lost-of given shape m n r f0 f1 c.requires.placed c.read_touched-read.ensures.lost) c.requires.unlost).unlost
+
+pub raise-spares-requires-clause-free : goal.raise-spares-requires-clause-free
+raise-spares-requires-clause-free g c =
+    let m = c.args.members.now in
+    let n = c.read_touched-read.new.members in
+    let given = g.B.Bank.given c.args.bank.now in
+    let f0 = g.B.Bank.faults_of c.args.bank.now in
+    let f1 = g.B.Bank.faults_of c.read_touched-read.new.bank in
+    let r = c.read_touched-read.result.lost in
+    let shape = c.args.shape.now in
+    subst (λ (b : Given). AreSparesFree b n) (sym c.read_touched-read.ensures.given)
+    ((moved-lost given shape m n r f0 f1 c.requires.placed (lost-of given shape m n r f0 f1 c.requires.placed c.read_touched-read.ensures.lost) c.requires.unlost).free c.requires.free)
+
+pub returns-clause-moved : goal.returns-clause-moved
+returns-clause-moved g c =
+    let m = c.args.members.now in
+    let n = c.read_touched-read.new.members in
+    let given = g.B.Bank.given c.args.bank.now in
+    let f0 = g.B.Bank.faults_of c.args.bank.now in
+    let f1 = g.B.Bank.faults_of c.read_touched-read.new.bank in
+    let r = c.read_touched-read.result.lost in
+    let shape = c.args.shape.now in
+    moved-then given m n c.raise-spares.new.members (moved-lost given shape m n r f0 f1 c.requires.placed (lost-of given shape m n r f0 f1 c.requires.placed c.read_touched-read.ensures.lost) c.requires.unlost)
+    (moved-from given (g.B.Bank.given c.read_touched-read.new.bank) n n c.raise-spares.new.members c.read_touched-read.ensures.given refl c.raise-spares.ensures.moved)
+
+pub returns-clause-failed : goal.returns-clause-failed
+returns-clause-failed g c =
+    let m = c.args.members.now in
+    let n = c.read_touched-read.new.members in
+    let given = g.B.Bank.given c.args.bank.now in
+    let f0 = g.B.Bank.faults_of c.args.bank.now in
+    let f1 = g.B.Bank.faults_of c.read_touched-read.new.bank in
+    let f2 = g.B.Bank.faults_of c.raise-spares.new.bank in
+    let r = c.read_touched-read.result.lost in
+    let shape = c.args.shape.now in
+    since-then m n c.raise-spares.new.members 0 c.raise-spares.result c.raise-spares.result f0 f1 f2 c.read_touched-read.ensures.lost.never_falls c.raise-spares.ensures.counts
+    (since-lost given shape m n r f0 f1 (lost-of given shape m n r f0 f1 c.requires.placed c.read_touched-read.ensures.lost)) c.raise-spares.ensures.failed (in-second c.raise-spares.result)
+
+pub returns-clause-read : goal.returns-clause-read
+returns-clause-read g c = λ none told.
+    let m = c.args.members.now in
+    let n = c.read_touched-read.new.members in
+    let given = g.B.Bank.given c.args.bank.now in
+    let given1 = g.B.Bank.given c.read_touched-read.new.bank in
+    let f0 = g.B.Bank.faults_of c.args.bank.now in
+    let f1 = g.B.Bank.faults_of c.read_touched-read.new.bank in
+    let r = c.read_touched-read.result.lost in
+    let shape = c.args.shape.now in
+    let did = c.read_touched-read.ensures in
+    let c0 = present given (g.B.Bank.tape c.args.bank.now) in
+    let rows = c.read_touched-read.new.rows.items in
+    let buffer = c.read_touched-read.new.buffer.items in
+    let lost : AreLost given shape m n r f0 f1 = lost-of given shape m n r f0 f1 c.requires.placed did.lost in
+    let moved : IsMoved given n c.raise-spares.new.members = moved-from given given1 n n c.raise-spares.new.members did.given refl c.raise-spares.ensures.moved in
+    let read = ok-of n c.read_touched-read.result.answer (ap (λ (o : Option Refusal). is_some o) (sym c.refused_by-unread.ensures) ∙ sym c.is_some.ensures ∙ c.if-is_some.false) did.read told in
+    record {
+      held = λ i lt. standing-later given n c.raise-spares.new.members moved lost.placed c0 c0 (λ s k other. refl) shape _ (buffered buffer i) (read i lt).held;
+      listed = λ list stands full. data_read 0 shape c.args.synced (reading_of m) (reading_of n) c0 list rows buffer read
+          (λ row has. subst (λ (s : Shape). DataStands (reading_of m) c0 s list row) (sym c.requires.shape) (stands row (did.below row has)))
+          (λ synced row has. subst (λ (s : Shape). RowStands (reading_of m) c0 s list row) (sym c.requires.shape) (full synced row has (did.below row has)));
+    }
+
+pub returns-clause-below : goal.returns-clause-below
+returns-clause-below g c row has =
+    subst (λ (n : ℕ). row < n) (sym c.raise-spares.ensures.moved.size) (subst (λ (x : Members). row < x.newest.size) (sym c.read_touched-read.ensures.lost.members) (c.read_touched-read.ensures.below row has))
+
+pub returns-then-is_some-clause-rise : goal.returns-then-is_some-clause-rise
+returns-then-is_some-clause-rise g c =
+    let tape0 = g.B.Bank.tape c.args.bank.now in
+    let tape1 = g.B.Bank.tape c.read_touched-read.new.bank in
+    risen-lost c.args.members.now c.read_touched-read.new.members c.read_touched-read.result.lost tape0 tape1 c.read_touched-read.ensures.lost.members
+    (λ told. let same = ap (λ (l : List Operation). length l) (c.read_touched-read.ensures.tape told) in omega (arith, same))
+
+pub returns-then-is_some-clause-safe : goal.returns-then-is_some-clause-safe
+returns-then-is_some-clause-safe g c = λ told world size ledger room gone unclean safe.
+    let did = c.read_touched-read.ensures in
+    safe-lost (OpensFit world) world.scope (g.B.Bank.given c.args.bank.now) size ledger c.args.members.now c.read_touched-read.new.members c.read_touched-read.result.lost
+    (g.B.Bank.tape c.args.bank.now) (g.B.Bank.tape c.read_touched-read.new.bank) did.lost.members (did.tape told) safe
+
+pub returns-clause-rise : goal.returns-clause-rise
+returns-clause-rise g c =
+    let tape0 = g.B.Bank.tape c.args.bank.now in
+    let tape1 = g.B.Bank.tape c.read_touched-read.new.bank in
+    risen-then
+    (risen-lost c.args.members.now c.read_touched-read.new.members c.read_touched-read.result.lost tape0 tape1 c.read_touched-read.ensures.lost.members
+    (λ told. let same = ap (λ (l : List Operation). length l) (c.read_touched-read.ensures.tape told) in omega (arith, same))) c.raise-spares.ensures.rise
+
+pub returns-clause-safe : goal.returns-clause-safe
+returns-clause-safe g c = λ told world size ledger room gone unclean safe.
+    let m = c.args.members.now in
+    let n = c.read_touched-read.new.members in
+    let given = g.B.Bank.given c.args.bank.now in
+    let given1 = g.B.Bank.given c.read_touched-read.new.bank in
+    let tape0 = g.B.Bank.tape c.args.bank.now in
+    let tape1 = g.B.Bank.tape c.read_touched-read.new.bank in
+    let tape2 = g.B.Bank.tape c.raise-spares.new.bank in
+    let did = c.read_touched-read.ensures in
+    let one : KeepsSafe world given size ledger n tape0 tape1 =
+    safe-lost (OpensFit world) world.scope given size ledger m n c.read_touched-read.result.lost tape0 tape1 did.lost.members (did.tape told) safe in
+    let risen : IsRisen g.B.Bank.tells m n tape0 tape1 = risen-lost m n c.read_touched-read.result.lost tape0 tape1 did.lost.members
+    (λ told. let same = ap (λ (l : List Operation). length l) (did.tape told) in omega (arith, same)) in
+    safe-then (OpensFit world) world.scope given size ledger n c.raise-spares.new.members tape0 tape1 tape2 one
+    (keeps-from world given given1 size ledger c.raise-spares.new.members tape1 tape2 did.given
+    (c.raise-spares.ensures.safe told world size ledger (room-then tape2 told room risen) gone unclean (over-at world given given1 size ledger n tape1 did.given one.next)))

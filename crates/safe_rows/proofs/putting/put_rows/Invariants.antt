@@ -1,0 +1,38 @@
+use Rattle.std.proofs.Common.{◌≡◌, ◌-◌, ◌≤◌, ℕ, true, false, length}
+use Rattle.bank.specs.Given.{NeverFalls}
+use Rattle.md_base.specs.Sectors.{Sector}
+use Rattle.superblocks.specs.Reading.{is_clean}
+use Rattle.row_io.specs.Rows.{present}
+use Rattle.list_io.specs.Writing.{IsWritten, AreDataFrom}
+use Rattle.views.specs.Placed.{AreWhole}
+use Rattle.views.specs.Moving.{Grows, IsMoved}
+use Rattle.views.specs.Lacking.{HaveFailedSince, AreRowsWritten}
+use Rattle.flat_history.specs.World.{World}
+use Rattle.views.specs.Safety.{HasRoomLeft, IsRisen}
+use Rattle.views.specs.Views.{Ledger}
+use Rattle.views.specs.Steady.{IsSafeOver, KeepsSafe, AreGoneTold, AreWritesAllowed}
+use Rattle.safe_rows.proofs.putting.put_rows.Given as goal
+
+abbrev pub decreases-loop-next : goal.decreases-loop-next
+decreases-loop-next g l = length l.rows - l.next
+
+abbrev pub invariant-loop-next : goal.invariant-loop-next
+invariant-loop-next g l = record {
+  moved : IsMoved (g.B.Bank.given l.fn.bank) l.fn.members l.members;
+  failed : HaveFailedSince l.fn.members l.members l.spares (g.B.Bank.faults_of l.fn.bank) (g.B.Bank.faults_of l.bank);
+  grows : Grows g.B.Bank.tells (g.B.Bank.tape l.fn.bank) (g.B.Bank.tape l.bank);
+  written : g.B.Bank.tells → AreRowsWritten l.shape l.first l.from l.rows 0 l.next l.members
+      (present (g.B.Bank.given l.fn.bank) (g.B.Bank.tape l.fn.bank)) (present (g.B.Bank.given l.fn.bank) (g.B.Bank.tape l.bank)) l.fn.buffer.items l.buffer.items;
+  within : l.next ≤ length l.rows;
+  clean : is_clean l.members.newest ≡ is_clean l.fn.members.newest;
+  kept : AreWhole l.members → l.members ≡ l.fn.members;
+  rise : IsRisen g.B.Bank.tells l.fn.members l.members (g.B.Bank.tape l.fn.bank) (g.B.Bank.tape l.bank);
+  safe : g.B.Bank.tells → (world : World) → (size : ℕ) → (told : Ledger) → HasRoomLeft l.fn.members (g.B.Bank.tape l.fn.bank) (g.B.Bank.tape l.bank)
+      → AreGoneTold told l.members → told.unclean ≡ true → is_clean l.fn.members.newest ≡ false → (list list' : ℕ → Sector) → IsWritten list list' l.first l.from
+      → (g.B.Bank.tells → AreDataFrom 0 l.shape list l.rows l.fn.buffer.items) → AreWritesAllowed l.fn.members told.values list'
+      → IsSafeOver world (g.B.Bank.given l.fn.bank) size told l.fn.members (g.B.Bank.tape l.fn.bank)
+      → KeepsSafe world (g.B.Bank.given l.fn.bank) size told l.members (g.B.Bank.tape l.fn.bank) (g.B.Bank.tape l.bank);
+  given : g.B.Bank.given l.bank ≡ g.B.Bank.given l.fn.bank;
+  counts : NeverFalls (g.B.Bank.faults_of l.fn.bank) (g.B.Bank.faults_of l.bank);
+  size : length l.buffer.items ≡ length l.fn.buffer.items;
+}

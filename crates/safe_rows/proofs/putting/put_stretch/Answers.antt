@@ -1,0 +1,67 @@
+use Rattle.std.proofs.Common.{refl, sym, subst}
+use Rattle.bank.specs.Given.{Given}
+use Rattle.row_io.specs.Rows.{present}
+use Rattle.views.specs.Marking.{AreOthersPresent}
+use Rattle.views.specs.Rebuilding.{AreSparesFree}
+use Rattle.views.proofs.MovedLaws.{moved-then, moved-from}
+use Rattle.views.proofs.LackingLaws.{since-then, in-second}
+use Rattle.views.proofs.LackingWrites.{written-later}
+use Rattle.flat_history.specs.Sound.{OpensFit}
+use Rattle.views.proofs.Risen.{risen-then, room-then}
+use Rattle.views.proofs.SafeStretch.{safe-then, over-at, keeps-from}
+use Rattle.safe_rows.proofs.putting.put_stretch.Goals as goal
+
+pub name_missing-spares-requires-clause-free : goal.name_missing-spares-requires-clause-free
+name_missing-spares-requires-clause-free g c =
+    let did = c.write_stretch-next.ensures in
+    subst (λ (b : Given). AreSparesFree b c.write_stretch-next.new.members) (sym did.given) (did.moved.free c.requires.free)
+
+pub returns-clause-moved : goal.returns-clause-moved
+returns-clause-moved g c =
+    let given = g.B.Bank.given c.args.bank.now in
+    let n = c.write_stretch-next.new.members in
+    let did = c.write_stretch-next.ensures in
+    moved-then given c.args.members.now n c.name_missing-spares.new.members did.moved
+    (moved-from given (g.B.Bank.given c.write_stretch-next.new.bank) n n c.name_missing-spares.new.members did.given refl c.name_missing-spares.ensures.moved)
+
+pub returns-clause-failed : goal.returns-clause-failed
+returns-clause-failed g c =
+    since-then c.args.members.now c.write_stretch-next.new.members c.name_missing-spares.new.members 0 c.name_missing-spares.result c.name_missing-spares.result
+    (g.B.Bank.faults_of c.args.bank.now) (g.B.Bank.faults_of c.write_stretch-next.new.bank) (g.B.Bank.faults_of c.name_missing-spares.new.bank)
+    c.write_stretch-next.ensures.counts c.name_missing-spares.ensures.counts c.write_stretch-next.ensures.failed c.name_missing-spares.ensures.failed (in-second c.name_missing-spares.result)
+
+pub returns-clause-written : goal.returns-clause-written
+returns-clause-written g c = λ told.
+    let given = g.B.Bank.given c.args.bank.now in
+    let given1 = g.B.Bank.given c.write_stretch-next.new.bank in
+    let tape1 = g.B.Bank.tape c.write_stretch-next.new.bank in
+    let tape2 = g.B.Bank.tape c.name_missing-spares.new.bank in
+    let n = c.write_stretch-next.new.members in
+    let did = c.write_stretch-next.ensures in
+    written-later given n c.name_missing-spares.new.members
+    (moved-from given given1 n n c.name_missing-spares.new.members did.given refl c.name_missing-spares.ensures.moved) did.moved.placed
+    (present given tape1) (present given tape2)
+    (subst (λ (b : Given). AreOthersPresent (present b tape1) (present b tape2)) did.given (c.name_missing-spares.ensures.others told))
+    c.args.shape.now c.args.first c.args.from.now c.args.rows.now c.args.start c.write_stretch-next.result.next (present given (g.B.Bank.tape c.args.bank.now)) c.args.buffer.now.items c.write_stretch-next.new.buffer.items
+    (did.written told)
+
+pub returns-then-is_some-clause-safe : goal.returns-then-is_some-clause-safe
+returns-then-is_some-clause-safe g c = λ told world size ledger room gone unclean dirty list list' w has allowed safe. c.write_stretch-next.ensures.safe told world size ledger dirty list list' w has allowed safe
+
+pub returns-clause-rise : goal.returns-clause-rise
+returns-clause-rise g c = risen-then c.write_stretch-next.ensures.rise c.name_missing-spares.ensures.rise
+
+pub returns-clause-safe : goal.returns-clause-safe
+returns-clause-safe g c = λ told world size ledger room gone unclean dirty list list' w has allowed safe.
+    let given = g.B.Bank.given c.args.bank.now in
+    let given1 = g.B.Bank.given c.write_stretch-next.new.bank in
+    let tape0 = g.B.Bank.tape c.args.bank.now in
+    let tape1 = g.B.Bank.tape c.write_stretch-next.new.bank in
+    let tape2 = g.B.Bank.tape c.name_missing-spares.new.bank in
+    let n = c.write_stretch-next.new.members in
+    let did = c.write_stretch-next.ensures in
+    let named = c.name_missing-spares.ensures in
+    let one = did.safe told world size ledger dirty list list' w has allowed safe in
+    safe-then (OpensFit world) world.scope given size ledger n c.name_missing-spares.new.members tape0 tape1 tape2 one
+    (keeps-from world given given1 size ledger c.name_missing-spares.new.members tape1 tape2 did.given
+    (named.safe told world size ledger (room-then tape2 told room did.rise) gone (λ is. unclean) (over-at world given given1 size ledger n tape1 did.given one.next)))

@@ -1,0 +1,111 @@
+use Rattle.std.specs.Prelude.{MatchOption, ⊤, Option, Contains}
+use Rattle.md_base.specs.declared.places.Shape.{Shape}
+use Rattle.md_base.specs.declared.answers.Refusal.{Refusal}
+use Rattle.bank.specs.Tape.{EachMark, disk}
+use Rattle.list_io.specs.Writing.{IsPutting, AreSuperblocksKept}
+use Rattle.std.proofs.Common.{◌≡◌, sym, ◌∙◌, ap, subst}
+use Rattle.bank.specs.Given.{Given}
+use Rattle.superblocks.specs.declared.members.Members.{Members}
+use Rattle.superblocks.specs.Reading.{shape_of}
+use Rattle.row_io.specs.Rows.{present, reading_of}
+use Rattle.views.specs.Placed.{AreLost}
+use Rattle.views.specs.Lacking.{AreRowsWritten, AreTooMany}
+use Rattle.views.proofs.MemberLaws.{are_lost}
+use Rattle.views.proofs.MovedLaws.{moved-lost, lost-none}
+use Rattle.views.proofs.MarkedLaws.{grows-marks}
+use Rattle.views.proofs.LackingLaws.{since-lost, too-many-answer}
+use Rattle.views.proofs.LackingWrites.{has-rows, list-in, list-in-is, list-with, list-with-is}
+use Rattle.flat_history.specs.Sound.{OpensFit}
+use Rattle.views.proofs.Risen.{risen-lost}
+use Rattle.views.proofs.SafeStretch.{safe-put}
+use Rattle.safe_rows.proofs.putting.write_stretch.Goals as goal
+
+pub write_touched-written-requires-clause-rows : goal.write_touched-written-requires-clause-rows
+write_touched-written-requires-clause-rows g c = has-rows (g.B.Bank.given c.args.bank.now) c.args.members.now c.requires.placed c.args.shape.now c.requires.shape
+
+pub returns-clause-moved : goal.returns-clause-moved
+returns-clause-moved g c =
+    let m = c.args.members.now in
+    let n = c.write_touched-written.new.members in
+    let given = g.B.Bank.given c.args.bank.now in
+    let did = c.write_touched-written.ensures in
+    let f0 = g.B.Bank.faults_of c.args.bank.now in
+    let f1 = g.B.Bank.faults_of c.write_touched-written.new.bank in
+    let r = c.write_touched-written.result.lost in
+    let shape = c.args.shape.now in
+    let lost : AreLost given shape m n r f0 f1 = are_lost given shape m n r f0 f1 c.requires.placed did.lost.members did.lost.failed did.lost.never_falls in
+    moved-lost given shape m n r f0 f1 c.requires.placed lost c.requires.unlost
+
+pub returns-clause-failed : goal.returns-clause-failed
+returns-clause-failed g c =
+    let m = c.args.members.now in
+    let n = c.write_touched-written.new.members in
+    let given = g.B.Bank.given c.args.bank.now in
+    let did = c.write_touched-written.ensures in
+    let f0 = g.B.Bank.faults_of c.args.bank.now in
+    let f1 = g.B.Bank.faults_of c.write_touched-written.new.bank in
+    let r = c.write_touched-written.result.lost in
+    let shape = c.args.shape.now in
+    since-lost given shape m n r f0 f1 (are_lost given shape m n r f0 f1 c.requires.placed did.lost.members did.lost.failed did.lost.never_falls)
+
+pub returns-clause-refused : goal.returns-clause-refused
+returns-clause-refused g c =
+    let n = c.write_touched-written.new.members in
+    let did = c.write_touched-written.ensures in
+    let same : c.args.shape.now ≡ shape_of n.newest = c.requires.shape ∙ ap (λ (m : Members). shape_of m.newest) (sym did.lost.members) in
+    subst (λ (o : Option Refusal). MatchOption o ⊤ (AreTooMany n)) (sym c.refused_by-refusal.ensures) (too-many-answer n c.args.shape.now c.write_touched-written.result.answer same did.answer)
+
+pub returns-clause-grows : goal.returns-clause-grows
+returns-clause-grows g c =
+    let shape = c.args.shape.now in
+    let list = list-in shape c.args.rows.now c.args.buffer.now.items in
+    grows-marks (c.write_touched-written.ensures.each_mark list (list-with list c.args.first c.args.from.now) (list-with-is list c.args.first c.args.from.now)
+    (λ told. list-in-is shape c.args.rows.now c.args.buffer.now.items c.args.start c.requires.once))
+
+pub returns-clause-written : goal.returns-clause-written
+returns-clause-written g c = λ told.
+    let did = c.write_touched-written.ensures in
+    let given = g.B.Bank.given c.args.bank.now in
+    let tape0 = g.B.Bank.tape c.args.bank.now in
+    let tape1 = g.B.Bank.tape c.write_touched-written.new.bank in
+    subst (λ (b : Given). AreRowsWritten c.args.shape.now c.args.first c.args.from.now c.args.rows.now c.args.start c.write_touched-written.result.next_row c.write_touched-written.new.members
+    (present given tape0) (present b tape1) c.args.buffer.now.items c.write_touched-written.new.buffer.items) did.given (record {
+      full = λ list list' w has. did.full list list' w told has;
+      rebuilt = λ list list' w has. did.rebuilt list list' w told has;
+      others = λ row none role slot held. did.others told row none slot;
+      rest = did.rest;
+      standing = did.standing told;
+    })
+
+pub returns-clause-kept : goal.returns-clause-kept
+returns-clause-kept g c = λ whole.
+    let m = c.args.members.now in
+    let n = c.write_touched-written.new.members in
+    let given = g.B.Bank.given c.args.bank.now in
+    let did = c.write_touched-written.ensures in
+    let f0 = g.B.Bank.faults_of c.args.bank.now in
+    let f1 = g.B.Bank.faults_of c.write_touched-written.new.bank in
+    let r = c.write_touched-written.result.lost in
+    let shape = c.args.shape.now in
+    let lost : AreLost given shape m n r f0 f1 = are_lost given shape m n r f0 f1 c.requires.placed did.lost.members did.lost.failed did.lost.never_falls in
+    lost.kept (lost-none given shape m n r f0 f1 lost c.requires.shape (ap (λ (x : Members). shape_of x.newest) did.lost.members) whole)
+
+pub returns-clause-rise : goal.returns-clause-rise
+returns-clause-rise g c =
+    let shape = c.args.shape.now in
+    let list = list-in shape c.args.rows.now c.args.buffer.now.items in
+    let did = c.write_touched-written.ensures in
+    risen-lost c.args.members.now c.write_touched-written.new.members c.write_touched-written.result.lost (g.B.Bank.tape c.args.bank.now) (g.B.Bank.tape c.write_touched-written.new.bank) did.lost.members
+    (did.each_mark list (list-with list c.args.first c.args.from.now) (list-with-is list c.args.first c.args.from.now)
+    (λ told. list-in-is shape c.args.rows.now c.args.buffer.now.items c.args.start c.requires.once)).longer
+
+pub returns-clause-safe : goal.returns-clause-safe
+returns-clause-safe g c = λ told world size ledger dirty list list' w has allowed safe.
+    let did = c.write_touched-written.ensures in
+    let given = g.B.Bank.given c.args.bank.now in
+    let tape0 = g.B.Bank.tape c.args.bank.now in
+    let tape1 = g.B.Bank.tape c.write_touched-written.new.bank in
+    safe-put (OpensFit world) world.scope given size ledger c.args.members.now c.write_touched-written.new.members c.write_touched-written.result.lost list' c.args.rows.now tape0 tape1 told
+    did.lost.members c.requires.placed dirty c.requires.unlost allowed
+    (subst (λ (s : Shape). EachMark g.B.Bank.tells given.start tape0 tape1
+    (λ e. IsPutting (reading_of c.args.members.now) s list' (Contains c.args.rows.now) (disk given.start tape0) e × AreSuperblocksKept (disk given.start tape0) e)) c.requires.shape (did.each_mark list list' w has)) safe

@@ -1,0 +1,127 @@
+//! Reads of an array that may lack members.
+
+ghost use Rattle.std.specs.Prelude.{◌≡◌, ◌⊎◌, ◌+◌, ◌*◌, ◌/◌, ◌^◌, ◌<◌, ◌≤◌, ℕ, false, length, None, OnOk, MatchOption, IsTrue, ⊤};
+ghost use Rattle.bank.specs.Given.{NeverFalls};
+ghost use Rattle.md_base.specs.Sectors.{Sector, IsWhole};
+ghost use Rattle.md_base.specs.Shapes.{is_multiple};
+ghost use Rattle.parity.specs.Rows.{sector_of};
+ghost use Rattle.superblocks.specs.Reading.{shape_of, is_clean};
+ghost use Rattle.row_io.specs.Rows.{reading_of, present};
+ghost use Rattle.list_io.specs.Calls.{AreLost, IsAnswer};
+ghost use Rattle.views.specs.Whole.{list_size};
+ghost use Rattle.views.specs.Placed.{places_of, AreWhole, IsPlaced, AreUnlost};
+ghost use Rattle.views.specs.Rebuilding.{AreSparesFree};
+ghost use Rattle.views.specs.Marking.{AreOthersPresent};
+ghost use Rattle.views.specs.Moving.{Grows, IsMoved};
+ghost use Rattle.views.specs.Lacking.{HaveFailedSince, IsAskedBeyond, IsUnread, ListStands, RowsStandBelow};
+ghost use Rattle.flat_history.specs.World.{World};
+ghost use Rattle.views.specs.Safety.{HasRoomLeft, IsRisen};
+ghost use Rattle.views.specs.Views.{Ledger};
+ghost use Rattle.views.specs.Steady.{IsSafeOver, KeepsSafe, AreGoneTold, IsUncleanTold};
+
+use bank::Bank;
+use list_io::{Outcome, read_list};
+use md_base::{Refusal, Shape};
+use safe_updates::naming::name_missing;
+use safe_updates::refusing::refused_by;
+use safe_updates::roles::list_length;
+use superblocks::Members;
+
+/// The spares that were lost in a read, and why it wasn't done.
+#[derive(Clone, Copy)]
+pub struct Fetched {
+    pub spares: u32,
+    pub refusal: Option<Refusal>,
+}
+
+// Reads sectors of the list, from `first` on: each from the slot that holds it, or, in one of the mended rows, filled in.
+fn read_parts<B: Bank>(
+    members: &mut Members,
+    bank: &mut B,
+    shape: &Shape,
+    first: u64,
+    into: &mut [u8],
+    scratch: &mut [u8],
+    mended: u64,
+) -> Outcome
+    requires placed { IsPlaced (B.given bank.old) members.old }
+    requires shape { shape.now ≡ shape_of members.old.newest }
+    requires into { IsWhole into.old }
+    requires within { first + length into.old / 512 ≤ list_size (places_of members.old) }
+    requires short { first + length into.old / 512 ≤ 2 ^ 53 }
+    requires scratch { 8192 ≤ length scratch.old }
+    requires mended { mended ≤ members.old.newest.size }
+    requires stripes { IsTrue (is_multiple mended shape.now.chunk) }
+    ensures lost { AreLost shape.now members.old members.new result.lost (B.faults_of bank.old) (B.faults_of bank.new) }
+    ensures answer { IsAnswer shape.now false (reading_of members.new) (IsAskedBeyond shape.now mended first (length into.old / 512)) result.answer }
+    ensures sectors { OnOk result.answer (B.tells → (list : ℕ → Sector) → ListStands members.old (present (B.given bank.old) (B.tape bank.old)) list
+        → AreWhole members.new ⊎ RowsStandBelow mended members.old (present (B.given bank.old) (B.tape bank.old)) list
+        → (i : ℕ) → i < length into.old / 512 → sector_of into.new i ≡ list (first + i)) }
+    ensures tape { B.tells → B.tape bank.new ≡ B.tape bank.old }
+    ensures given { B.given bank.new ≡ B.given bank.old }
+{
+    let reach = list_length(shape, mended).saturating_sub(first);
+    let split = reach.min((into.len() / 512) as u64);
+    let (below, beyond) = into.split_at_mut(512 * split as usize);
+    let read = read_list(members, bank, shape, first, below, scratch, true);
+    if read.answer.is_err() {
+        return read;
+    }
+    let rest = read_list(members, bank, shape, first + split, beyond, scratch, false);
+    Outcome {
+        lost: read.lost | rest.lost,
+        answer: rest.answer,
+    }
+}
+
+/// Fills `into` with sectors of the list, from `first` on: each from the slot that holds it, or, in one of the mended rows,
+/// filled in from its row; and names the members that are missing.
+pub fn fetch<B: Bank>(
+    members: &mut Members,
+    bank: &mut B,
+    shape: &Shape,
+    first: u64,
+    into: &mut [u8],
+    scratch: &mut [u8],
+    mended: u64,
+) -> Fetched
+    requires slots { (B.given bank.old).slots ≤ 32 }
+    requires placed { IsPlaced (B.given bank.old) members.old }
+    requires unlost { AreUnlost members.old }
+    requires free { AreSparesFree (B.given bank.old) members.old }
+    requires shape { shape.now ≡ shape_of members.old.newest }
+    requires into { IsWhole into.old }
+    requires within { first + length into.old / 512 ≤ list_size (places_of members.old) }
+    requires short { first + length into.old / 512 ≤ 2 ^ 53 }
+    requires scratch { 8192 ≤ length scratch.old }
+    requires mended { mended ≤ members.old.newest.size }
+    requires stripes { IsTrue (is_multiple mended shape.now.chunk) }
+    ensures moved { IsMoved (B.given bank.old) members.old members.new }
+    ensures failed { HaveFailedSince members.old members.new result.spares (B.faults_of bank.old) (B.faults_of bank.new) }
+    ensures refused { MatchOption result.refusal ⊤ (IsUnread mended first (length into.old / 512) members.new) }
+    ensures grows { Grows B.tells (B.tape bank.old) (B.tape bank.new) }
+    ensures others { B.tells → AreOthersPresent (present (B.given bank.old) (B.tape bank.old)) (present (B.given bank.old) (B.tape bank.new)) }
+    ensures holds { result.refusal ≡ None → B.tells → (list : ℕ → Sector) → ListStands members.old (present (B.given bank.old) (B.tape bank.old)) list
+        → AreWhole members.new ⊎ RowsStandBelow mended members.old (present (B.given bank.old) (B.tape bank.old)) list
+        → (i : ℕ) → i < length into.old / 512 → sector_of into.new i ≡ list (first + i) }
+    ensures clean { is_clean members.new.newest ≡ is_clean members.old.newest }
+    ensures kept { AreWhole members.new → members.new ≡ members.old }
+    ensures tape { AreWhole members.new → B.tells → B.tape bank.new ≡ B.tape bank.old }
+    ensures rise { IsRisen B.tells members.old members.new (B.tape bank.old) (B.tape bank.new) }
+    ensures safe { B.tells → (world : World) → (size : ℕ) → (told : Ledger) → HasRoomLeft members.old (B.tape bank.old) (B.tape bank.new)
+        → AreGoneTold told members.new → IsUncleanTold told members.old → IsSafeOver world (B.given bank.old) size told members.old (B.tape bank.old)
+        → KeepsSafe world (B.given bank.old) size told members.new (B.tape bank.old) (B.tape bank.new) }
+    ensures given { B.given bank.new ≡ B.given bank.old }
+    ensures counts { NeverFalls (B.faults_of bank.old) (B.faults_of bank.new) }
+{
+    let read = read_parts(members, bank, shape, first, into, scratch, mended);
+    let refusal = refused_by(read.answer, members);
+    if refusal.is_some() {
+        return Fetched { spares: 0, refusal };
+    }
+    let spares = name_missing(members, bank);
+    Fetched {
+        spares,
+        refusal: None,
+    }
+}

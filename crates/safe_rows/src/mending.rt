@@ -1,0 +1,137 @@
+//! The parity of stripes is made to fit their data.
+
+ghost use Rattle.std.specs.Prelude.{◌≡◌, ◌<◌, ◌≤◌, ℕ, true, false, length, vec_capacity, None, MatchOption, IfSome, IsTrue, ⊤};
+ghost use Rattle.bank.specs.Given.{NeverFalls};
+ghost use Rattle.md_base.specs.Sectors.{Sector};
+ghost use Rattle.md_base.specs.Shapes.{is_valid_shape, is_multiple};
+ghost use Rattle.md_base.specs.declared.status.Role.TheVariants.{Recovering as IsRecovering};
+ghost use Rattle.superblocks.specs.Reading.{shape_of, is_clean, role_state};
+ghost use Rattle.row_io.specs.Rows.{reading_of, present};
+ghost use Rattle.list_io.specs.Full.{AreWholeIn, RowStands};
+ghost use Rattle.list_io.specs.Writing.{HasFull};
+ghost use Rattle.views.specs.Placed.{IsPlaced, AreUnlost};
+ghost use Rattle.views.specs.Rebuilding.{AreSparesFree};
+ghost use Rattle.views.specs.Moving.{Grows, IsMoved};
+ghost use Rattle.views.specs.Safety.{HasRoomLeft, IsRisen};
+ghost use Rattle.views.specs.Status.{stripes_of};
+ghost use Rattle.views.specs.Lacking.{HaveFailedSince, DoesWithout, IsUnwritten, ListStands, IsOfStripe, mended_rows};
+ghost use Rattle.flat_history.specs.World.{World};
+ghost use Rattle.views.specs.Views.{Ledger};
+ghost use Rattle.views.specs.Steady.{IsSafeOver, KeepsSafe, AreGoneTold, AreWritesAllowed};
+
+use crate::putting::put;
+use bank::Bank;
+use md_base::{Refusal, Shape};
+use safe_updates::roles::{list_length, shape_in};
+use superblocks::Members;
+
+/// The rows that are read and rewritten at a time.
+const ROWS: u64 = 128;
+
+/// How many stripes an array has.
+pub fn stripes(members: &Members) -> u64
+    requires shape { IsTrue (is_valid_shape (shape_of members.now.newest)) }
+    ensures { result ≡ stripes_of members.now }
+{
+    members.newest.size / shape_in(members).chunk as u64
+}
+
+/// The rows whose parity is to be relied on: those of the stripes that a pending resync has mended, or else all.
+pub fn mended_rows(members: &Members, resync: Option<u64>) -> u64
+    requires shape { IsTrue (is_valid_shape (shape_of members.now.newest)) }
+    requires multiple { IsTrue (is_multiple members.now.newest.size (shape_of members.now.newest).chunk) }
+    requires progress { IfSome resync (λ mended. mended ≤ stripes_of members.now) }
+    ensures rows { result ≡ mended_rows resync members.now }
+    ensures within { result ≤ members.now.newest.size }
+    ensures stripes { IsTrue (is_multiple result (shape_of members.now.newest).chunk) }
+{
+    let size = members.newest.size;
+    match resync {
+        Some(mended) => mended * shape_in(members).chunk as u64,
+        None => size,
+    }
+}
+
+/// The spares that were lost while a stripe was mended, and why it wasn't.
+#[derive(Clone, Copy)]
+pub struct Mended {
+    pub spares: u32,
+    pub refusal: Option<Refusal>,
+}
+
+/// Makes the parity of a stripe fit its data: its rows are read and rewritten, a part of them at a time, and those that are
+/// missing are named. It ends where more are missing than the array can do without, or one that has data.
+pub fn mend<B: Bank>(
+    members: &mut Members,
+    bank: &mut B,
+    shape: &Shape,
+    stripe: u64,
+    rows: &mut Vec<u64>,
+    buffer: &mut Vec<u8>,
+) -> Mended
+    requires slots { (B.given bank.old).slots ≤ 32 }
+    requires placed { IsPlaced (B.given bank.old) members.old }
+    requires unlost { AreUnlost members.old }
+    requires free { AreSparesFree (B.given bank.old) members.old }
+    requires shape { shape.now ≡ shape_of members.old.newest }
+    requires stripe { stripe < stripes_of members.old }
+    requires dirty { is_clean members.old.newest ≡ false }
+    requires rows { 128 ≤ vec_capacity rows.old }
+    requires buffer { 1048576 ≤ length buffer.old.items }
+    ensures moved { IsMoved (B.given bank.old) members.old members.new }
+    ensures failed { HaveFailedSince members.old members.new result.spares (B.faults_of bank.old) (B.faults_of bank.new) }
+    ensures refused { MatchOption result.refusal ⊤ (IsUnwritten false members.new) }
+    ensures grows { Grows B.tells (B.tape bank.old) (B.tape bank.new) }
+    ensures dirty { is_clean members.new.newest ≡ false }
+    ensures mended { result.refusal ≡ None → B.tells → (list : ℕ → Sector) → ListStands members.old (present (B.given bank.old) (B.tape bank.old)) list
+        → (row : ℕ) → IsOfStripe shape.now stripe row → AreWholeIn shape.now list row → RowStands (reading_of members.new) (present (B.given bank.old) (B.tape bank.new)) shape.now list row }
+    ensures stands { DoesWithout members.new → B.tells → (list : ℕ → Sector) → ListStands members.old (present (B.given bank.old) (B.tape bank.old)) list
+        → ListStands members.new (present (B.given bank.old) (B.tape bank.new)) list }
+    ensures kept { DoesWithout members.new → B.tells → (list : ℕ → Sector) → ListStands members.old (present (B.given bank.old) (B.tape bank.old)) list
+        → (row : ℕ) → row < members.old.newest.size → RowStands (reading_of members.old) (present (B.given bank.old) (B.tape bank.old)) shape.now list row
+        → RowStands (reading_of members.new) (present (B.given bank.old) (B.tape bank.new)) shape.now list row }
+    ensures rebuilt { DoesWithout members.new → B.tells → (list : ℕ → Sector) → ListStands members.old (present (B.given bank.old) (B.tape bank.old)) list
+        → (role slot row : ℕ) → role < shape.now.disks → role_state (reading_of members.new) role ≡ IsRecovering slot → row < members.old.newest.size
+        → HasFull (reading_of members.old) (present (B.given bank.old) (B.tape bank.old)) shape.now list row role slot
+        → HasFull (reading_of members.new) (present (B.given bank.old) (B.tape bank.new)) shape.now list row role slot }
+    ensures rise { IsRisen B.tells members.old members.new (B.tape bank.old) (B.tape bank.new) }
+    ensures safe { B.tells → (world : World) → (size : ℕ) → (told : Ledger) → HasRoomLeft members.old (B.tape bank.old) (B.tape bank.new)
+        → AreGoneTold told members.new → told.unclean ≡ true → (list : ℕ → Sector) → ListStands members.old (present (B.given bank.old) (B.tape bank.old)) list
+        → AreWritesAllowed members.old told.values list → IsSafeOver world (B.given bank.old) size told members.old (B.tape bank.old)
+        → KeepsSafe world (B.given bank.old) size told members.new (B.tape bank.old) (B.tape bank.new) }
+    ensures given { B.given bank.new ≡ B.given bank.old }
+    ensures counts { NeverFalls (B.faults_of bank.old) (B.faults_of bank.new) }
+    ensures rows { vec_capacity rows.old ≤ vec_capacity rows.new }
+    ensures buffer { length buffer.new.items ≡ length buffer.old.items }
+{
+    let chunk = shape.chunk as u64;
+    let first = stripe * list_length(shape, chunk);
+    let mut done = 0;
+    let mut spares = 0;
+    while done < chunk {
+        let count = ROWS.min(chunk - done);
+        let part = put(
+            members,
+            bank,
+            shape,
+            first + done,
+            count,
+            &[],
+            rows,
+            buffer,
+            false,
+        );
+        spares |= part.spares;
+        if part.refusal.is_some() {
+            return Mended {
+                spares,
+                refusal: part.refusal,
+            };
+        }
+        done += count;
+    }
+    Mended {
+        spares,
+        refusal: None,
+    }
+}

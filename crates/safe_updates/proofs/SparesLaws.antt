@@ -1,0 +1,60 @@
+-- The spares that an update leaves.
+use Rattle.std.proofs.Common.{◌≡◌, ◌⊎◌, inl, inr, ℕ, ◌<◌, ◌&&◌, ◌||◌, Bool, true, false, not, nat_lt, List, replicate, refl, sym, ◌∙◌, ap, arith}
+use Rattle.std.specs.Prelude.{None}
+use Rattle.std.proofs.lemmas.Bool.Decides.{nat_tests}
+use Rattle.md_base.specs.Shapes.{has_slot}
+use Rattle.bank.specs.Given.{Given}
+use Rattle.superblocks.specs.declared.change.Give.{Give}
+use Rattle.superblocks.specs.declared.change.Give.TheVariants.{Same}
+use Rattle.superblocks.specs.declared.members.Members.{Members}
+use Rattle.superblocks.specs.Outcome.{planned_spares}
+use Rattle.superblocks.specs.Reads.{has_spare}
+use Rattle.superblocks.specs.Update.{is_planned_spare, give_of}
+use Rattle.superblocks.proofs.SaidSlots.{has-slots_below}
+use Rattle.row_io.specs.Rows.{reading_of}
+use Rattle.views.specs.Flushing.{AreHolders}
+use Rattle.views.specs.Marking.{marking}
+use Rattle.views.specs.Rebuilding.{IsFree}
+use Rattle.views.proofs.MarkLaws.{give_of-same}
+
+-- a mark leaves those that aren't lost
+module _ (old : Members) (clean : Bool) (lost : ℕ) (slots : List ℕ) (is : slots ≡ planned_spares old (marking old clean) lost) where
+  pub spares-are : (s : ℕ) → has_spare slots s ≡ (nat_lt s 32 && (not (has_slot lost s) && (has_spare old.spares s || false)))
+  spares-are s =
+      ap (λ (l : List ℕ). has_spare l s) is
+      ∙ has-slots_below (λ slot. not (has_slot lost slot) && is_planned_spare old.spares None (give_of (replicate 32 Same) slot) slot) s 32
+      ∙ ap (λ (g : Give). nat_lt s 32 && (not (has_slot lost s) && is_planned_spare old.spares None g s)) (give_of-same 32 s)
+
+  pub spare-left : (s : ℕ) → has_spare slots s ≡ true → (has_spare old.spares s ≡ true) × (has_slot lost s ≡ false)
+  spare-left s has = parts (nat_lt s 32) (has_slot lost s) (has_spare old.spares s) (sym (spares-are s) ∙ has)
+    where
+      parts : (below gone spare : Bool) → (below && (not gone && (spare || false))) ≡ true → (spare ≡ true) × (gone ≡ false)
+      parts false gone spare e = absurd (cc)
+      parts true true spare e = absurd (cc)
+      parts true false true e = (refl, refl)
+      parts true false false e = absurd (cc)
+
+  pub spare-stays : (s : ℕ) → s < 32 → has_slot lost s ≡ false → has_spare old.spares s ≡ true → has_spare slots s ≡ true
+  spare-stays s lt kept has = spares-are s ∙ all (nat_lt s 32) (has_slot lost s) (has_spare old.spares s) (grind (arith, nat_tests, lt)) kept has
+    where
+      all : (below gone spare : Bool) → below ≡ true → gone ≡ false → spare ≡ true → (below && (not gone && (spare || false))) ≡ true
+      all true false true one two three = refl
+      all below true spare one two three = absurd (cc)
+      all false gone spare one two three = absurd (cc)
+      all below gone false one two three = absurd (cc)
+
+-- Of the slots that were lost in an update those that held no role are told: a free one is left, or it is among them.
+pub free-told : {given : Given} (m : Members) (held after lost told slot : ℕ) → IsFree given m slot → AreHolders (reading_of m) held
+    → has_slot lost slot ≡ (has_slot after slot && not (has_slot m.lost slot)) → has_slot told slot ≡ (has_slot lost slot && not (has_slot held slot))
+    → (has_slot after slot ≡ false) ⊎ (has_slot told slot ≡ true)
+free-told m held after lost told slot free holders is_lost is_told = by (has_slot after slot) refl
+  where
+    none : (b : Bool) → has_slot held slot ≡ b → b ≡ false
+    none true here = absurd (let of = holders.only slot here in free.none of.0 of.1)
+    none false here = refl
+
+    by : (b : Bool) → has_slot after slot ≡ b → (has_slot after slot ≡ false) ⊎ (has_slot told slot ≡ true)
+    by false kept = inl kept
+    by true gone = inr (is_told
+        ∙ ap (λ (b : Bool). b && not (has_slot held slot)) (is_lost ∙ ap (λ (b : Bool). b && not (has_slot m.lost slot)) gone ∙ ap not free.unlost)
+        ∙ ap not (none (has_slot held slot) refl))

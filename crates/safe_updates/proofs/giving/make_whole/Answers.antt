@@ -1,0 +1,128 @@
+use Rattle.std.proofs.Common.{◌≡◌, inl, inr, ℕ, ◌&&◌, ◌||◌, Bool, false, not, refl, sym, ◌∙◌, ap, subst, arith}
+use Rattle.std.specs.Prelude.{None, ⊤}
+use Rattle.std.proofs.lemmas.Bool.{cases_eq, cases_lt}
+use Rattle.md_base.specs.Shapes.{has_slot}
+use Rattle.layout.proofs.Limits.{limited}
+use Rattle.md_base.specs.Sectors.{Sector}
+use Rattle.bank.specs.Given.{Given}
+use Rattle.bank.specs.Tape.{disk}
+use Rattle.superblocks.specs.declared.change.Change.{Change}
+use Rattle.superblocks.specs.Reading.{holder, shape_of}
+use Rattle.superblocks.specs.Update.{IsRoleGive, give_of}
+use Rattle.superblocks.specs.Outcome.{AreLive, AreGivesOfLive, is_in_update, with_added}
+use Rattle.superblocks.proofs.SlotSets.{none_above}
+use Rattle.flat_history.specs.World.{World}
+use Rattle.flat_history.specs.Sound.{OpensFit}
+use Rattle.row_io.specs.Rows.{present}
+use Rattle.views.specs.Lacking.{DoesWithout, RowsStand}
+use Rattle.views.specs.Rebuilding.{IsFlushedFull}
+use Rattle.views.specs.Views.{Ledger}
+use Rattle.views.specs.Steady.{AreWritesAllowed, given_back}
+use Rattle.views.proofs.LiveLeft.{holder-left}
+use Rattle.views.specs.Marking.{giving}
+use Rattle.views.proofs.MarkedLaws.{grows-marks, others-of}
+use Rattle.views.proofs.Gives.{gives_of, give-here, give-other}
+use Rattle.views.proofs.GivenMembers.{IsReceiver}
+use Rattle.safe_updates.proofs.GivenMoved.{moved-given, failed-given, holders-more}
+use Rattle.safe_updates.proofs.GivenRead.{IsGiving}
+use Rattle.safe_updates.proofs.GivenSafe.{IsGivenRight, risen-given, giving-safe, giving-last, told-giving}
+use Rattle.safe_updates.proofs.GivingDone.{giving-done, losses-done}
+use Rattle.safe_updates.proofs.MadeWhole.{holder-receives, made-given, back-told, held-already}
+use Rattle.safe_updates.proofs.giving.make_whole.Given.{Over}
+use Rattle.safe_updates.proofs.giving.make_whole.Goals.{After-without}
+use Rattle.safe_updates.proofs.giving.make_whole.Goals as goal
+
+pub giving-change-requires : goal.giving-change-requires
+giving-change-requires g c = (c.requires.placed.holders c.args.role c.args.slot (ap holder c.requires.recovering)).small
+
+pub holders-held-requires-clause-small : goal.holders-held-requires-clause-small
+holders-held-requires-clause-small g c role slot held = (c.requires.placed.holders role slot held).small
+
+pub update-lost-requires-clause-gives : goal.update-lost-requires-clause-gives
+update-lost-requires-clause-gives g c s below =
+    subst (λ (ch : Change). IsRoleGive (give_of ch.gives s)) (sym c.giving-change.ensures) (elim (cases_eq s c.args.slot) [
+      | inl same ↦ subst IsRoleGive (sym (ap (give_of (gives_of c.args.slot c.args.role None)) same ∙ give-here c.args.slot c.args.role None (holder-receives (g.B.Bank.given c.args.bank.now) c.args.members.now c.args.role c.args.slot c.requires.placed c.requires.unlost c.requires.role c.requires.recovering).room.small))
+          (let most = (limited (shape_of c.args.members.now.newest) c.requires.placed.valid).most in let lt = c.requires.role in omega (arith, most, lt))
+      | inr apart ↦ subst IsRoleGive (sym (give-other c.args.slot c.args.role None s apart)) tt
+    ])
+
+pub update-lost-requires-clause-alone : goal.update-lost-requires-clause-alone
+update-lost-requires-clause-alone g c =
+    subst (λ (ch : Change). AreGivesOfLive c.args.members.now ch) (sym c.giving-change.ensures) (λ s none. elim (cases_eq s c.args.slot) [
+      | inl same ↦ absurd (
+          let live = (holder-receives (g.B.Bank.given c.args.bank.now) c.args.members.now c.args.role c.args.slot c.requires.placed c.requires.unlost c.requires.role c.requires.recovering).live in
+          let there = ap (λ (t : ℕ). is_in_update c.args.members.now (giving c.args.members.now c.args.slot c.args.role None) t) same ∙ ap (λ (b : Bool). b || false) live in
+          let clash = sym there ∙ none in cc
+          )
+      | inr apart ↦ give-other c.args.slot c.args.role None s apart
+    ])
+
+module _ (g : Over) (c : After-without g) where
+  to : IsReceiver (g.B.Bank.given c.args.bank.now) c.args.members.now c.args.role c.args.slot
+  to = holder-receives (g.B.Bank.given c.args.bank.now) c.args.members.now c.args.role c.args.slot c.requires.placed c.requires.unlost c.requires.role c.requires.recovering
+
+  done : IsGiving g.B.Bank.tells (g.B.Bank.given c.args.bank.now) None c.args.role c.args.slot c.args.members.now c.update-lost.new.members (g.B.Bank.tape c.args.bank.now) (g.B.Bank.tape c.update-lost.new.bank)
+  done =
+      let did = c.update-lost.ensures in
+      giving-done g.B.Bank.tells (g.B.Bank.given c.args.bank.now) None c.args.role c.args.slot c.args.members.now c.update-lost.new.members (g.B.Bank.tape c.args.bank.now) (g.B.Bank.tape c.update-lost.new.bank)
+      (g.B.Bank.faults_of c.args.bank.now) (g.B.Bank.faults_of c.update-lost.new.bank) c.giving-change.result c.giving-change.ensures
+      did.update did.named did.newest did.rounds did.past did.turns did.turned did.rise did.own did.roles did.spares
+      (subst (λ (b : Given). AreLive b c.update-lost.new.members) did.given did.live) did.losses
+
+pub returns-clause-moved : goal.returns-clause-moved
+returns-clause-moved g c = moved-given (g.B.Bank.given c.args.bank.now) None c.args.role c.args.slot c.args.members.now c.update-lost.new.members c.requires.placed (to g c) (done g c).left c.requires.unlost
+
+pub returns-clause-failed : goal.returns-clause-failed
+returns-clause-failed g c =
+    let did = c.update-lost.ensures in
+    let given = g.B.Bank.given c.args.bank.now in
+    let before = g.B.Bank.faults_of c.args.bank.now in
+    let after = g.B.Bank.faults_of c.update-lost.new.bank in
+    failed-given given None c.args.role c.args.slot c.args.members.now c.update-lost.new.members c.requires.placed (to g c) (done g c).left c.holders-held.result c.update-lost.result c.without.result before after
+    c.requires.unlost c.requires.free
+    (holders-more given None c.args.role c.args.slot c.args.members.now c.update-lost.new.members c.requires.placed (to g c) (done g c).left c.holders-held.result c.holders-held.result c.holders-held.ensures
+    (held-already c.args.members.now c.args.role c.args.slot c.holders-held.result c.holders-held.ensures c.requires.recovering))
+    (losses-done g.B.Bank.tells given None c.args.role c.args.slot c.args.members.now c.update-lost.new.members (g.B.Bank.tape c.args.bank.now) (g.B.Bank.tape c.update-lost.new.bank) before after
+    c.giving-change.result c.giving-change.ensures did.losses)
+    (subst (λ (ch : Change). (s : ℕ) → has_slot c.update-lost.result s ≡ (has_slot c.update-lost.new.members.lost s && not (has_slot (with_added c.args.members.now ch.added).lost s))) c.giving-change.ensures did.result)
+    (λ s. elim (cases_lt s 32) [
+      | inl below ↦ c.without.ensures s below
+      | inr above ↦ none_above c.without.result s (omega arith) above ∙ sym (ap (λ (b : Bool). b && not (has_slot c.holders-held.result s)) (none_above c.update-lost.result s (omega arith) above))
+    ])
+
+pub returns-clause-grows : goal.returns-clause-grows
+returns-clause-grows g c = grows-marks c.update-lost.ensures.update.marks
+
+pub returns-clause-others : goal.returns-clause-others
+returns-clause-others g c = λ told. others-of (g.B.Bank.given c.args.bank.now) (g.B.Bank.tape c.args.bank.now) (g.B.Bank.tape c.update-lost.new.bank)
+    (λ s k other. ((done g c).update.end told).touched.elsewhere s k other)
+
+pub returns-clause-rise : goal.returns-clause-rise
+returns-clause-rise g c = risen-given (g.B.Bank.given c.args.bank.now) None c.args.role c.args.slot c.args.members.now c.update-lost.new.members (g.B.Bank.tape c.args.bank.now) (g.B.Bank.tape c.update-lost.new.bank)
+    c.requires.placed (to g c) (done g c)
+
+-- what the update did, and that it is right
+module _ (g : Over) (c : After-without g) (tell : g.B.Bank.tells) (world : World) (size : ℕ) (told : Ledger) (premise : OpensFit world) (does : DoesWithout c.args.members.now) (list : ℕ → Sector)
+    (stands : RowsStand c.args.members.now (present (g.B.Bank.given c.args.bank.now) (g.B.Bank.tape c.args.bank.now)) list) (allowed : AreWritesAllowed c.args.members.now told.values list)
+    (full : IsFlushedFull c.args.members.now c.args.role c.args.slot list (disk (g.B.Bank.given c.args.bank.now).start (g.B.Bank.tape c.args.bank.now))) where
+  did : IsGiving ⊤ (g.B.Bank.given c.args.bank.now) None c.args.role c.args.slot c.args.members.now c.update-lost.new.members (g.B.Bank.tape c.args.bank.now) (g.B.Bank.tape c.update-lost.new.bank)
+  did = told-giving tell (done g c)
+
+  right : IsGivenRight (OpensFit world) world.scope (g.B.Bank.given c.args.bank.now) size told None c.args.role c.args.slot c.args.members.now c.update-lost.new.members (g.B.Bank.tape c.args.bank.now)
+      (g.B.Bank.tape c.update-lost.new.bank) c.requires.placed (to g c) did
+  right = made-given (OpensFit world) world.scope (g.B.Bank.given c.args.bank.now) size told c.args.role c.args.slot c.args.members.now c.update-lost.new.members (g.B.Bank.tape c.args.bank.now)
+      (g.B.Bank.tape c.update-lost.new.bank) c.requires.placed (to g c) did c.requires.role c.requires.recovering premise does list stands allowed full
+
+pub returns-clause-safe : goal.returns-clause-safe
+returns-clause-safe g c = λ tell world size told room gone here unclean premise does list stands allowed full safe.
+    giving-safe (OpensFit world) world.scope (g.B.Bank.given c.args.bank.now) size told None c.args.role c.args.slot c.args.members.now c.update-lost.new.members (g.B.Bank.tape c.args.bank.now)
+    (g.B.Bank.tape c.update-lost.new.bank) c.requires.placed (to g c) (did g c tell world size told premise does list stands allowed full) (right g c tell world size told premise does list stands allowed full)
+    room gone here safe
+
+pub returns-clause-given_back : goal.returns-clause-given_back
+returns-clause-given_back g c = λ whole tell world size told room gone here unclean premise does list stands allowed full safe.
+    let moved = returns-clause-moved g c in
+    giving-last (OpensFit world) world.scope (g.B.Bank.given c.args.bank.now) size told None c.args.role c.args.slot c.args.members.now c.update-lost.new.members (g.B.Bank.tape c.args.bank.now)
+    (g.B.Bank.tape c.update-lost.new.bank) c.requires.placed (to g c) (did g c tell world size told premise does list stands allowed full) (right g c tell world size told premise does list stands allowed full)
+    room gone (given_back c.args.role told) refl refl refl (back-told told c.args.role c.args.slot c.update-lost.new.members gone whole)
+    (holder-left (g.B.Bank.given c.args.bank.now) c.update-lost.new.members c.args.role c.args.slot moved.placed moved.unlost (ap holder whole)) safe

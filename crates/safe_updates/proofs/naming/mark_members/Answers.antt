@@ -1,0 +1,85 @@
+use Rattle.std.proofs.Common.{◌≡◌, ℕ, ◌<◌, ◌≤◌, Bool, true, false, not, ◌&&◌, List, length, inl, inr, refl, subst, sym, ◌∙◌, arith}
+use Rattle.std.proofs.lemmas.Bool.{cases_lt}
+use Rattle.md_base.specs.Shapes.{has_slot}
+use Rattle.bank.specs.Given.{Given}
+use Rattle.superblocks.specs.Outcome.{live_set}
+use Rattle.superblocks.proofs.SlotSets.{none_above}
+use Rattle.views.specs.Placed.{IsPlaced}
+use Rattle.views.specs.Marking.{marking}
+use Rattle.views.proofs.MarkLaws.{few-planned}
+use Rattle.views.proofs.MovedLaws.{moved-less}
+use Rattle.safe_updates.proofs.SparesLaws.{spare-left, spare-stays, free-told}
+use Rattle.views.proofs.MarkedLaws.{grows-marks, others-present, failed-marked}
+use Rattle.views.proofs.LackingLaws.{since-failed, holders-marked}
+use Rattle.views.proofs.MarkedSafe.{marked-safe, marked-named}
+use Rattle.flat_history.specs.Sound.{OpensFit}
+use Rattle.views.proofs.Risen.{risen-marked}
+use Rattle.safe_updates.proofs.naming.mark_members.Goals as goal
+
+pub holders-held-requires-clause-small : goal.holders-held-requires-clause-small
+holders-held-requires-clause-small g c role slot held = (c.requires.placed.holders role slot held).small
+
+pub returns-clause-moved : goal.returns-clause-moved
+returns-clause-moved g c =
+    let did = c.mark-lost.ensures in
+    moved-less (g.B.Bank.given c.args.bank.now) c.mark-lost.new.members.lost c.args.members.now c.mark-lost.new.members did.less c.requires.placed
+    (subst (λ (b : Given). IsPlaced b c.mark-lost.new.members) did.given did.placed) did.unlost
+    (λ few. subst (λ (slots : List ℕ). length slots ≤ 32) (sym did.marked.spares) (few-planned c.args.members.now (marking c.args.members.now c.args.clean) c.mark-lost.new.members.lost))
+    (λ slot has. (spare-left c.args.members.now c.args.clean c.mark-lost.new.members.lost c.mark-lost.new.members.spares did.marked.spares slot has).0)
+    (λ slot has free. (spare-left c.args.members.now c.args.clean c.mark-lost.new.members.lost c.mark-lost.new.members.spares did.marked.spares slot has).1)
+
+pub returns-clause-grows : goal.returns-clause-grows
+returns-clause-grows g c = grows-marks c.mark-lost.ensures.marked.update.marks
+
+pub returns-clause-others : goal.returns-clause-others
+returns-clause-others g c = λ told. others-present c.mark-lost.ensures.marked told
+
+pub returns-clause-failed : goal.returns-clause-failed
+returns-clause-failed g c =
+    let did = c.mark-lost.ensures in
+    since-failed c.args.members.now c.mark-lost.new.members c.without.result (g.B.Bank.faults_of c.args.bank.now) (g.B.Bank.faults_of c.mark-lost.new.bank)
+    (failed-marked c.args.members.now c.mark-lost.new.members (live_set c.args.members.now (marking c.args.members.now c.args.clean)) c.without.result
+    (g.B.Bank.faults_of c.args.bank.now) (g.B.Bank.faults_of c.mark-lost.new.bank) c.requires.unlost did.less did.losses
+    (λ slot has.
+    let below : slot < 32 = small slot has in
+    let parts = both (has_slot c.mark-lost.result slot) (not (has_slot c.holders-held.result slot)) (sym (c.without.ensures slot below) ∙ has) in
+    let lost = both (has_slot c.mark-lost.new.members.lost slot) (not (has_slot c.args.members.now.lost slot)) (sym (did.result slot) ∙ parts.0) in
+    (lost.0, flip (has_slot c.args.members.now.lost slot) lost.1)))
+    (λ slot has.
+    let free = c.requires.free slot has in
+    elim (free-told c.args.members.now c.holders-held.result c.mark-lost.new.members.lost c.mark-lost.result c.without.result slot free c.holders-held.ensures (did.result slot) (c.without.ensures slot free.room.small)) [
+      | inl kept ↦ inl (spare-stays c.args.members.now c.args.clean c.mark-lost.new.members.lost c.mark-lost.new.members.spares did.marked.spares slot free.room.small kept has)
+      | inr told ↦ inr told
+    ])
+  where
+    both : (a b : Bool) → (a && b) ≡ true → (a ≡ true) × (b ≡ true)
+    both true b e = (refl, e)
+    both false b e = absurd (cc)
+
+    flip : (b : Bool) → not b ≡ true → b ≡ false
+    flip true e = absurd (cc)
+    flip false e = refl
+
+    small : (slot : ℕ) → has_slot c.without.result slot ≡ true → slot < 32
+    small slot has = elim (cases_lt slot 32) [
+      | inl below ↦ below
+      | inr above ↦ absurd (let e = none_above c.without.result slot (omega arith) above in cc)
+    ]
+
+pub returns-clause-flushed : goal.returns-clause-flushed
+returns-clause-flushed g c = λ told flushed. holders-marked c.mark-lost.ensures.marked told flushed
+
+pub returns-clause-safe : goal.returns-clause-safe
+returns-clause-safe g c = λ tell world size told room markable now.
+    let did = c.mark-lost.ensures in
+    marked-safe (OpensFit world) world.scope (g.B.Bank.given c.args.bank.now) size told c.args.clean c.args.members.now c.mark-lost.new.members (g.B.Bank.tape c.args.bank.now) (g.B.Bank.tape c.mark-lost.new.bank)
+    tell did.marked c.requires.placed did.less room markable now
+
+pub returns-clause-named : goal.returns-clause-named
+returns-clause-named g c = λ tell world size told room markable now left.
+    let did = c.mark-lost.ensures in
+    marked-named (OpensFit world) world.scope (g.B.Bank.given c.args.bank.now) size told c.args.clean c.args.members.now c.mark-lost.new.members (g.B.Bank.tape c.args.bank.now) (g.B.Bank.tape c.mark-lost.new.bank)
+    tell did.marked c.requires.placed did.less room markable now left
+
+pub returns-clause-rise : goal.returns-clause-rise
+returns-clause-rise g c = risen-marked c.mark-lost.ensures.marked c.mark-lost.ensures.less

@@ -1,0 +1,48 @@
+//! The clean mark of the superblocks.
+
+ghost use Rattle.std.specs.Prelude.{◌≡◌, ◌&&◌, ℕ, not};
+ghost use Rattle.bank.specs.Given.{NeverFalls};
+ghost use Rattle.md_base.specs.Shapes.{has_slot};
+ghost use Rattle.superblocks.specs.Reading.{is_clean};
+ghost use Rattle.superblocks.specs.Outcome.{live_set};
+ghost use Rattle.superblocks.specs.Updating.{AreLosses};
+ghost use Rattle.row_io.specs.Rows.{present};
+ghost use Rattle.views.specs.Placed.{IsPlaced, AreUnlost, AreLess};
+ghost use Rattle.views.specs.Marking.{marking, resync_of, IsMarked, AreOthersPresent};
+
+use bank::Bank;
+use sb1::Sb;
+use superblocks::{Change, Give, Lostness, Members, update};
+
+// The update that marks an array clean or dirty.
+fn marking(members: &Members, clean: bool) -> Change
+    ensures { result ≡ marking members.now clean }
+{
+    let resync_offset = if clean { u64::MAX } else { 0 };
+    Change {
+        shared: Sb {
+            resync_offset,
+            ..members.newest
+        },
+        gives: [Give::Same; 32],
+        added: None,
+    }
+}
+
+/// Marks the array clean, or dirty, in the superblocks of all live slots; answers the slots that were lost in this.
+pub fn mark<B: Bank>(members: &mut Members, bank: &mut B, clean: bool) -> Lostness
+    requires placed { IsPlaced (B.given bank.old) members.old }
+    requires unlost { AreUnlost members.old }
+    ensures marked { IsMarked B.tells (B.given bank.old) clean members.old members.new (B.tape bank.old) (B.tape bank.new) }
+    ensures clean { is_clean members.new.newest ≡ clean }
+    ensures less { AreLess members.new.lost members.old members.new }
+    ensures placed { IsPlaced (B.given bank.new) members.new }
+    ensures unlost { AreUnlost members.new }
+    ensures result { (s : ℕ) → has_slot result s ≡ (has_slot members.new.lost s && not (has_slot members.old.lost s)) }
+    ensures losses { AreLosses (live_set members.old (marking members.old clean)) members.old.lost members.new.lost (B.faults_of bank.old) (B.faults_of bank.new) }
+    ensures counts { NeverFalls (B.faults_of bank.old) (B.faults_of bank.new) }
+    ensures given { B.given bank.new ≡ B.given bank.old }
+{
+    let change = marking(members, clean);
+    update(members, bank, &change)
+}

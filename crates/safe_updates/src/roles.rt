@@ -1,0 +1,70 @@
+//! The shape of an array, and the roles that no slot holds.
+
+ghost use Rattle.std.specs.Prelude.{◌≡◌, ◌*◌, ◌^◌, ◌<◌, ◌≤◌, ◌&&◌, ℕ, nat_lt, length, IsTrue};
+ghost use Rattle.md_base.specs.Shapes.{has_slot, is_valid_shape, data_disks};
+ghost use Rattle.superblocks.specs.Reading.{shape_of};
+ghost use Rattle.superblocks.specs.Reads.{has_spare};
+ghost use Rattle.row_io.specs.Rows.{reading_of};
+ghost use Rattle.views.specs.Placed.{is_vacant};
+
+use md_base::{Role, Shape};
+use superblocks::Members;
+use superblocks::says::shape_of;
+use superblocks::sets::with;
+
+/// The shape of the array, by its newest superblock.
+pub fn shape_in(members: &Members) -> Shape
+    requires { IsTrue (is_valid_shape (shape_of members.now.newest)) }
+    ensures { result ≡ shape_of members.now.newest }
+{
+    shape_of(&members.newest)
+}
+
+/// The sectors of the flat list over so many rows of each data disk.
+#[tactic(auto, using(layout::proofs::Limits::limited))]
+pub fn list_length(shape: &Shape, size: u64) -> u64
+    requires shape { IsTrue (is_valid_shape shape.now) }
+    requires size { size ≤ 2 ^ 48 }
+    ensures { result ≡ data_disks shape.now * size }
+{
+    let parities = if shape.level == 6 { 2 } else { 1 };
+    (shape.disks - parities) as u64 * size
+}
+
+/// Whether no slot holds the role, whole or in part.
+pub fn is_vacant(members: &Members, role: u32) -> bool
+    requires { role < length members.now.roles }
+    ensures { result ≡ is_vacant (reading_of members.now) role }
+{
+    match members.roles.get(role) {
+        Role::Whole(_) | Role::Recovering(_) => false,
+        Role::Missing => true,
+    }
+}
+
+/// The roles that no slot holds, of so many.
+pub fn vacant_roles(members: &Members, disks: u32) -> u32
+    requires known { disks ≤ length members.now.roles }
+    requires few { disks ≤ 32 }
+    ensures { (role : ℕ) → has_slot result role ≡ (nat_lt role disks && is_vacant (reading_of members.now) role) }
+{
+    let mut roles = 0;
+    for role in 0..disks {
+        if is_vacant(members, role) {
+            roles = with(roles, role);
+        }
+    }
+    roles
+}
+
+/// Whether the slot is a spare.
+pub fn is_spare(members: &Members, slot: u32) -> bool
+    ensures { result ≡ has_spare members.now.spares slot }
+{
+    for place in 0..members.spares.len() {
+        if members.spares.get(place) == slot {
+            return true;
+        }
+    }
+    false
+}

@@ -1,0 +1,120 @@
+-- Marks and flushes of a call that keep an array safe.
+use Rattle.std.proofs.Common.{◌≡◌, ℕ, ◌≤◌, Bool, true, List, length, length-append, take, take_all, le_refl, ◌++◌, sym, ◌∙◌, ap, subst, arith}
+use Rattle.std.specs.Prelude.{⊤}
+use Rattle.md_base.specs.Sectors.{Sector}
+use Rattle.bank.specs.declared.bank.Operation.{Operation}
+use Rattle.bank.specs.Given.{Given}
+use Rattle.bank.specs.Tape.{EachMark, disk}
+use Rattle.superblocks.specs.declared.members.Members.{Members}
+use Rattle.superblocks.specs.Reading.{Scope, is_clean}
+use Rattle.row_io.specs.Rows.{reading_of, present, members_without}
+use Rattle.views.specs.Placed.{IsPlaced, AreUnlost, AreLess}
+use Rattle.views.specs.Lacking.{DoesWithout, AreHoldersFlushed, RowsStand}
+use Rattle.views.specs.Flushing.{OnlyFlushesAdded}
+use Rattle.views.specs.Marking.{IsMarked}
+use Rattle.views.specs.Safety.{HasLiveSlot, HasRoomLeft}
+use Rattle.views.specs.Views.{Ledger, IsSettled}
+use Rattle.views.specs.Steady.{IsSteady, IsSafeNow, IsNamedNow, IsSafeStretch, IsMarkable, AreGoneTold, IsUncleanTold, AreWritesAllowed}
+use Rattle.views.proofs.MemberLaws.{less-without}
+use Rattle.views.proofs.LiveLeft.{without-left, left-steady}
+use Rattle.views.proofs.MarkSafe.{mark-keeps-safe, mark-stays-named}
+use Rattle.views.proofs.Risen.{risen-marked}
+use Rattle.views.proofs.Steady.{safe-is-seen, losing-stays-safe, flushes-stay-safe, flushed-is-settled}
+use Rattle.views.proofs.ViewsKept.{settled-less, did-without}
+
+-- ---- a mark, over a bank that tells its contents
+
+pub told-marks : {tells : Type 0} {start : ℕ → ℕ → Sector} {old new : List Operation} {P : (ℕ → ℕ → List Sector) → Type 0} → tells → EachMark tells start old new P → EachMark ⊤ start old new P
+told-marks told marks = record { longer = λ u. marks.longer told; earlier = λ u. marks.earlier told; each = λ u. marks.each told }
+
+told-mark : {tells : Type 0} {given : Given} {clean : Bool} {old new : Members} {before after : List Operation} → tells → IsMarked tells given clean old new before after → IsMarked ⊤ given clean old new before after
+told-mark told m = record {
+  update = record { marks = told-marks told m.update.marks; end = λ u. m.update.end told };
+  planned = λ u. m.planned told;
+  named = m.named;
+  newest = m.newest;
+  events = m.events;
+  plan = m.plan;
+  stages = λ left are same. told-marks told (m.stages left are same);
+  whole = λ left are same u. m.whole left are same told;
+  rounds = told-marks told m.rounds;
+  past = λ u. m.past told;
+  rise = λ u. m.rise told;
+  stay = m.stay;
+  live = m.live;
+  own = m.own;
+  spares = m.spares;
+}
+
+module _ {tells : Type 0} (sound : Type 0) (scope : Scope) (given : Given) (size : ℕ) (told : Ledger) (clean : Bool) (old new : Members) (before after : List Operation) (tell : tells)
+    (marked : IsMarked tells given clean old new before after) (placed : IsPlaced given old) (less : AreLess new.lost old new) (room : HasRoomLeft old before after)
+    (markable : IsMarkable sound clean told old new (disk given.start before)) (safe : IsSafeNow sound scope given size told old (disk given.start before)) where
+  pub marked-safe : IsSafeStretch sound scope given size told new before after
+  marked-safe = mark-keeps-safe sound scope given size told clean old new before after (told-mark tell marked) placed less room markable safe
+
+  pub marked-named : HasLiveSlot new → IsNamedNow sound scope given size told new (disk given.start after)
+  marked-named left = mark-stays-named sound scope given size told clean old new before after
+      (record { marked = told-mark tell marked; placed = placed; less = less; room = room ((risen-marked marked less).left left) }) markable safe left
+
+-- A clean array that can do without the roles that it misses has settled rows: they were so by the members before they lost slots.
+pub clean-settled : (sound : Type 0) (scope : Scope) (given : Given) (size : ℕ) (told : Ledger) (m : Members) (d : ℕ → ℕ → List Sector) → IsPlaced given m → AreUnlost m
+    → IsSafeNow sound scope given size told m d → is_clean m.newest ≡ true → DoesWithout m → sound → IsSettled m told.values d
+clean-settled sound scope given size told m d placed unlost safe clean does premise =
+    let steady = left-steady (without-left given m placed unlost does) safe in
+    of steady steady.since.gone steady.since.since
+  where
+    of : (steady : IsSteady sound scope given size told m d) (gone : ℕ) → m ≡ members_without gone steady.former → IsSettled m told.values d
+    of steady gone is =
+        let less = less-without steady.former gone in
+        let former = steady.former in
+        subst (λ (n : Members). IsSettled n told.values d) (sym is)
+        (settled-less given gone former (members_without gone former) steady.right.placed less told.values d
+        (steady.right.settled (ap (λ (n : Members). is_clean n.newest) (sym is) ∙ clean)
+        (did-without given gone former (members_without gone former) steady.right.placed less (subst DoesWithout is does)) premise))
+
+-- so it can be marked again as it is
+pub same-markable : (sound : Type 0) (scope : Scope) (given : Given) (size : ℕ) (told : Ledger) (clean : Bool) (old new : Members) (d : ℕ → ℕ → List Sector) → IsPlaced given old → AreUnlost old
+    → clean ≡ is_clean old.newest → AreGoneTold told new → IsUncleanTold told old → IsSafeNow sound scope given size told old d → IsMarkable sound clean told old new d
+same-markable sound scope given size told clean old new d placed unlost same gone unclean safe = record {
+  gone = gone;
+  unclean = λ dirty. unclean (sym same ∙ dirty);
+  settled = λ is does premise. clean-settled sound scope given size told old d placed unlost safe (sym same ∙ is) does premise;
+}
+
+-- A clean mark behind a flush: the rows stand as the list, where the array can do without the roles that it misses.
+pub settled-markable : (sound : Type 0) (given : Given) (told : Ledger) (old new : Members) (tape : List Operation) (list : ℕ → Sector) → IsPlaced given old → AreHoldersFlushed (reading_of old) given tape
+    → AreGoneTold told new → AreWritesAllowed old told.values list → (DoesWithout old → sound → RowsStand old (present given tape) list) → IsMarkable sound true told old new (disk given.start tape)
+settled-markable sound given told old new tape list placed flushed gone allowed rows = record {
+  gone = gone;
+  unclean = λ dirty. absurd (cc);
+  settled = λ clean does premise. flushed-is-settled given old tape told.values list placed flushed (rows does premise) allowed;
+}
+
+-- ---- flushes
+
+pub added-longer : (before after : List Operation) → OnlyFlushesAdded before after → length before ≤ length after
+added-longer before after added = subst (λ (l : List Operation). length before ≤ length l) (sym added.2) (let all = length-append before added.0 in omega (arith, all))
+
+-- flushes alone were done
+pub flushed-safe : (sound : Type 0) (scope : Scope) (given : Given) (size : ℕ) (told : Ledger) (members : Members) (before after : List Operation) → OnlyFlushesAdded before after
+    → IsSafeNow sound scope given size told members (disk given.start before) → IsSafeStretch sound scope given size told members before after
+flushed-safe sound scope given size told members before after added safe =
+    subst (λ (l : List Operation). IsSafeStretch sound scope given size told members before l) (sym added.2) (record {
+      marks = record {
+        longer = marks.longer;
+        earlier = marks.earlier;
+        each = λ u n low high. safe-is-seen sound scope given size told members (take n (before ++ added.0)) (marks.each u n low high);
+      };
+      next = subst (λ (l : List Operation). IsSafeNow sound scope given size told members (disk given.start l)) (take_all (length (before ++ added.0)) (before ++ added.0) (le_refl (length (before ++ added.0))))
+          (marks.each tt (length (before ++ added.0)) (marks.longer tt) (le_refl (length (before ++ added.0))));
+    })
+  where
+    marks : EachMark ⊤ given.start before (before ++ added.0) (IsSafeNow sound scope given size told members)
+    marks = flushes-stay-safe sound scope given size told members before added.0 added.1 safe
+
+-- and slots were lost
+pub lost-safe : (sound : Type 0) (scope : Scope) (given : Given) (size : ℕ) (told : Ledger) (old new : Members) (lost : ℕ) (before after : List Operation) → new ≡ members_without lost old
+    → OnlyFlushesAdded before after → IsSafeNow sound scope given size told old (disk given.start before) → IsSafeStretch sound scope given size told new before after
+lost-safe sound scope given size told old new lost before after is added safe = flushed-safe sound scope given size told new before after added
+    (subst (λ (m : Members). IsSafeNow sound scope given size told m (disk given.start before)) (sym is)
+    (losing-stays-safe sound scope given size lost told told old (disk given.start before) (record { values = λ x lt v may. may; gone = λ role told. told; unclean = λ told. told; carried = λ number told. told }) safe))

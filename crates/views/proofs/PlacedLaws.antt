@@ -1,0 +1,229 @@
+-- An array's places after slots were lost, and after its superblocks were marked.
+use Rattle.std.proofs.Common.{◌≡◌, ℕ, zero, suc, ◌-◌, ◌≤◌, Bool, true, false, not, cond, ◌==◌, List, [], ◌∷◌, length, get_or, refl, sym, ap, ap₂, ◌∙◌, subst, arith, Option, Some, None, map, replicate, max, unwrap_or}
+use Rattle.std.specs.Prelude.{◌^◌, pos, ◌-ℤ◌}
+use Rattle.std.specs.Option.{option_map_or}
+use Rattle.std.proofs.lemmas.Bool.Decides.{nat_tests}
+use Rattle.md_base.specs.Shapes.{has_slot, is_valid_shape, is_multiple}
+use Rattle.md_base.specs.declared.places.Shape.{Shape}
+use Rattle.md_base.specs.declared.status.Role.{Role}
+use Rattle.md_base.specs.declared.status.Role.TheVariants.{Whole, Recovering, Missing}
+use Rattle.bank.specs.Given.{Given}
+use Rattle.sb1.specs.Superblock.{checksum}
+use Rattle.sb1.specs.declared.sb.Sb.{Sb}
+use Rattle.superblocks.specs.declared.change.Give.TheVariants.{Same}
+use Rattle.superblocks.specs.declared.members.Members.{Members}
+use Rattle.superblocks.specs.Reading.{count_of, is_reshaping, is_clean, shape_of, role_count, role_state, holder, data_offset_of}
+use Rattle.superblocks.specs.Reads.{SaysSame}
+use Rattle.superblocks.specs.Update.{own_in, planned}
+use Rattle.superblocks.specs.Updating.{IsLater, planned_newest}
+use Rattle.superblocks.specs.Outcome.{AreLive, AreStored, IsPlannedOwn, planned_roles}
+use Rattle.superblocks.proofs.SlotSets.{none_there}
+use Rattle.superblocks.proofs.PlannedSb.{planned-of}
+use Rattle.row_io.specs.Rows.{reading_of, role_without, IsHolder}
+use Rattle.views.specs.Placed.{places_of, IsPlaced, AreUnlost, AreLess}
+use Rattle.views.specs.Marking.{resync_of, marking}
+use Rattle.views.proofs.MarkLaws.{give_of-same, roles-kept}
+use Rattle.views.proofs.HeldRows.{rows-same}
+
+-- ---- a role whose slot may be lost
+
+without-holder : (lost : ℕ) (state : Role) (slot : ℕ) → holder (role_without lost state) ≡ Some slot → holder state ≡ Some slot
+without-holder lost (Whole s) slot is = by (has_slot lost s) is
+  where
+    by : (b : Bool) → holder (cond b Missing (Whole s)) ≡ Some slot → holder (Whole s) ≡ Some slot
+    by true e = absurd (cc)
+    by false e = e
+without-holder lost (Recovering s) slot is = by (has_slot lost s) is
+  where
+    by : (b : Bool) → holder (cond b Missing (Recovering s)) ≡ Some slot → holder (Recovering s) ≡ Some slot
+    by true e = absurd (cc)
+    by false e = e
+without-holder lost Missing slot is = is
+
+pub state-without : (lost : ℕ) (roles : List Role) (role : ℕ) → get_or (map (role_without lost) roles) role Missing ≡ role_without lost (get_or roles role Missing)
+state-without lost [] role = refl
+state-without lost (state ∷ roles) zero = refl
+state-without lost (state ∷ roles) (suc role) = state-without lost roles role
+
+length-without : (lost : ℕ) (roles : List Role) → length (map (role_without lost) roles) ≡ length roles
+length-without lost [] = refl
+length-without lost (state ∷ roles) = ap suc (length-without lost roles)
+
+pub none-lost : (roles : List Role) → map (role_without 0) roles ≡ roles
+none-lost [] = refl
+none-lost (Whole slot ∷ roles) = ap₂ (λ (b : Bool) (l : List Role). cond b Missing (Whole slot) ∷ l) (no_slot slot) (none-lost roles)
+  where
+    no_slot : (slot : ℕ) → has_slot 0 slot ≡ false
+    no_slot slot = none_there slot
+none-lost (Recovering slot ∷ roles) = ap₂ (λ (b : Bool) (l : List Role). cond b Missing (Recovering slot) ∷ l) (none_there slot) (none-lost roles)
+none-lost (Missing ∷ roles) = ap (λ (l : List Role). Missing ∷ l) (none-lost roles)
+
+-- ---- the same array, with some slots lost
+
+module _ (given : Given) (lost : ℕ) (old new : Members) (less : AreLess lost old new) where
+  state-is : (role : ℕ) → role_state (reading_of new) role ≡ role_without lost (role_state (reading_of old) role)
+  state-is role = ap (λ (l : List Role). get_or l role Missing) less.roles ∙ state-without lost old.roles role
+
+  held-before : (role slot : ℕ) → holder (role_state (reading_of new) role) ≡ Some slot → holder (role_state (reading_of old) role) ≡ Some slot
+  held-before role slot is = without-holder lost (role_state (reading_of old) role) slot (ap holder (sym (state-is role)) ∙ is)
+
+  pub placed-less : IsPlaced given old → AreLive given new → IsPlaced given new
+  placed-less placed live = record {
+    still = less.still ∙ placed.still;
+    valid = ap is_valid_shape less.shape ∙ placed.valid;
+    multiple = ap₂ (λ (n : ℕ) (s : Shape). is_multiple n s.chunk) less.size less.shape ∙ placed.multiple;
+    short = rw less.size placed.short;
+    roles = ap length less.roles ∙ length-without lost old.roles ∙ placed.roles ∙ ap (λ (s : Shape). s.disks) (sym less.shape);
+    holders = λ role slot is.
+        let was : IsHolder given (reading_of old) slot = placed.holders role slot (held-before role slot is) in
+        record { small = was.small; known = was.known; short = was.short; within = rw (less.offsets slot) (rw less.size was.within) };
+    behind = λ role slot is. rw (less.offsets slot) (placed.behind role slot (held-before role slot is));
+    apart = λ a b slot one two. placed.apart a b slot (held-before a slot one) (held-before b slot two);
+    live = live;
+  }
+
+-- where none is lost, all stands where it stood
+module _ (old new : Members) (less : AreLess 0 old new) where
+  pub roles-same : new.roles ≡ old.roles
+  roles-same = less.roles ∙ none-lost old.roles
+
+  pub places-same : places_of new ≡ places_of old
+  places-same = λ i. record {
+    shape = less.shape i;
+    size = less.size i;
+    slot = λ role. unwrap_or (holder (get_or (roles-same i) role Missing)) 0;
+    offset = λ role. offset-same role i;
+  }
+    where
+      offset-same : (role : ℕ) → data_offset_of (reading_of new) (unwrap_or (holder (role_state (reading_of new) role)) 0)
+          ≡ data_offset_of (reading_of old) (unwrap_or (holder (role_state (reading_of old) role)) 0)
+      offset-same role =
+          less.offsets (unwrap_or (holder (role_state (reading_of new) role)) 0)
+          ∙ ap (λ (l : List Role). data_offset_of (reading_of old) (unwrap_or (holder (get_or l role Missing)) 0)) roles-same
+
+-- what is left of roles that had lost no slot
+kept-state : (lost : ℕ) (state : Role) → ((slot : ℕ) → holder state ≡ Some slot → has_slot lost slot ≡ false) → role_without lost state ≡ state
+kept-state lost (Whole slot) kept = ap (λ (b : Bool). cond b Missing (Whole slot)) (kept slot refl)
+kept-state lost (Recovering slot) kept = ap (λ (b : Bool). cond b Missing (Recovering slot)) (kept slot refl)
+kept-state lost Missing kept = refl
+
+pub kept-roles : (lost : ℕ) (roles : List Role) → ((role slot : ℕ) → holder (get_or roles role Missing) ≡ Some slot → has_slot lost slot ≡ false) → map (role_without lost) roles ≡ roles
+kept-roles lost [] kept = refl
+kept-roles lost (state ∷ roles) kept = ap₂ (λ (r : Role) (l : List Role). r ∷ l) (kept-state lost state (kept 0)) (kept-roles lost roles (λ role. kept (suc role)))
+
+-- a slot that still holds its role isn't among those that were lost
+gone-state : (lost : ℕ) (state : Role) (slot : ℕ) → holder (role_without lost state) ≡ Some slot → has_slot lost slot ≡ false
+gone-state lost (Whole s) slot is = by (has_slot lost s) refl is
+  where
+    by : (b : Bool) → has_slot lost s ≡ b → holder (cond b Missing (Whole s)) ≡ Some slot → has_slot lost slot ≡ false
+    by true gone e = absurd (cc)
+    by false kept e = let same : s ≡ slot = cc in ap (has_slot lost) (sym same) ∙ kept
+gone-state lost (Recovering s) slot is = by (has_slot lost s) refl is
+  where
+    by : (b : Bool) → has_slot lost s ≡ b → holder (cond b Missing (Recovering s)) ≡ Some slot → has_slot lost slot ≡ false
+    by true gone e = absurd (cc)
+    by false kept e = let same : s ≡ slot = cc in ap (has_slot lost) (sym same) ∙ kept
+gone-state lost Missing slot is = absurd (cc)
+
+pub less-unlost : (lost : ℕ) (old new : Members) → AreLess lost old new → new.lost ≡ lost → AreUnlost new
+less-unlost lost old new less is role slot held =
+    ap (λ (n : ℕ). has_slot n slot) is
+    ∙ gone-state lost (role_state (reading_of old) role) slot
+    (ap holder (sym (ap (λ (l : List Role). get_or l role Missing) less.roles ∙ state-without lost old.roles role)) ∙ held)
+
+-- ---- the clean mark
+
+module _ (old new : Members) (clean : Bool) (kept : ℕ → Bool)
+    (later : IsLater (planned_newest (marking old clean).shared old.newest) new.newest)
+    (own : AreStored new.newest (replicate 32 Same) kept old.own new.own) where
+  abbrev shared : Sb
+  shared = record old.newest { resync_offset = resync_of clean }
+
+  says : SaysSame shared (planned shared Same old.newest)
+  says = (planned-of shared old.newest Same).array
+
+  reshaping-same : is_reshaping new.newest ≡ is_reshaping old.newest
+  reshaping-same = ap is_reshaping later.same ∙ sym says.reshaping
+
+  same-shape : shape_of new.newest ≡ shape_of old.newest
+  same-shape = ap shape_of later.same ∙ ap (λ (b : Bool). record {
+    level = old.newest.level;
+    layout = old.newest.layout;
+    chunk = old.newest.chunksize;
+    disks = cond b (count_of (pos old.newest.raid_disks -ℤ old.newest.delta_disks)) old.newest.raid_disks;
+  }) (sym says.reshaping)
+
+  -- a field of the planned superblock of a slot that is its own device's
+  own-kept : (f : Sb → ℕ) → ((sb : Sb) (csum : ℕ) → f (record (planned new.newest Same sb) { sb_csum = csum }) ≡ f sb)
+      → (slot : ℕ) → option_map_or f (own_in new.own slot) 0 ≡ option_map_or f (own_in old.own slot) 0
+  own-kept f same slot = by (kept slot) refl
+    where
+      stored : (before after : Option Sb) → IsPlannedOwn new.newest Same before after → option_map_or f after 0 ≡ option_map_or f before 0
+      stored None after is = absurd is
+      stored (Some sb) after is = ap (λ (o : Option Sb). option_map_or f o 0) is.own ∙ ap f is.fields ∙ same sb (checksum is.bytes)
+
+      by : (b : Bool) → kept slot ≡ b → option_map_or f (own_in new.own slot) 0 ≡ option_map_or f (own_in old.own slot) 0
+      by true is =
+          stored (own_in old.own slot) (own_in new.own slot)
+          (subst (λ g. IsPlannedOwn new.newest g (own_in old.own slot) (own_in new.own slot)) (give_of-same 32 slot) (own.written slot is))
+      by false is = ap (λ (o : Option Sb). option_map_or f o 0) (own.others slot is)
+
+  size-same : new.newest.size ≡ old.newest.size
+  size-same = ap (λ (s : Sb). s.size) later.same
+
+  -- without a reshape there are as many roles as disks
+  count-is : is_reshaping old.newest ≡ false → role_count old.newest ≡ (shape_of old.newest).disks
+  count-is still =
+      ap (λ (t : Option Shape). max (shape_of old.newest).disks (unwrap_or t (shape_of old.newest)).disks) (none (is_reshaping old.newest) still)
+      ∙ max-same (shape_of old.newest).disks
+    where
+      none : (b : Bool) → b ≡ false → ◌≡◌ {A = Option Shape} (cond b (Some (record { level = old.newest.new_level; layout = old.newest.new_layout; chunk = old.newest.new_chunk; disks = old.newest.raid_disks })) None) None
+      none true e = absurd (cc)
+      none false e = refl
+
+      max-same : (n : ℕ) → max n n ≡ n
+      max-same n = grind (arith, nat_tests)
+
+  pub marked-clean : is_clean new.newest ≡ clean
+  marked-clean = ap is_clean later.same ∙ by clean
+    where
+      by : (b : Bool) → (resync_of b == 2 ^ 64 - 1) ≡ b
+      by true = refl
+      by false = refl
+
+  pub marked-less : (given : Given) (lost : ℕ) → IsPlaced given old → new.roles ≡ planned_roles old (marking old clean) lost → AreLess lost old new
+  marked-less given lost placed roles = record {
+    still = reshaping-same;
+    shape = same-shape;
+    size = size-same;
+    roles = roles ∙ roles-kept old.roles lost placed.apart (λ role slot is. (placed.holders role slot is).small) (role_count old.newest) (count-is placed.still ∙ sym placed.roles);
+    offsets = own-kept (λ sb. sb.data_offset) (λ sb csum. refl);
+    rows = rows-same (reading_of new) (reading_of old) reshaping-same size-same (own-kept (λ sb. sb.recovery_offset) (λ sb csum. refl));
+  }
+
+-- without a reshape there are as many roles as disks
+pub same-count : (newest : Sb) → is_reshaping newest ≡ false → (shape_of newest).disks ≤ 16 → role_count newest ≤ 16
+same-count newest still few = rw (count-by newest still) (few-disks still few)
+  where
+    disks-is : (sb : Sb) (b : Bool) → b ≡ false → (cond b (count_of (pos sb.raid_disks -ℤ sb.delta_disks)) sb.raid_disks) ≡ sb.raid_disks
+    disks-is sb true e = absurd (cc)
+    disks-is sb false e = refl
+
+    few-disks : is_reshaping newest ≡ false → (shape_of newest).disks ≤ 16 → newest.raid_disks ≤ 16
+    few-disks not few = subst (λ (n : ℕ). n ≤ 16) (disks-is newest (is_reshaping newest) not) few
+
+    no-target : (sb : Sb) (b : Bool) → b ≡ false → ◌≡◌ {A = Option Shape} (cond b (Some (record { level = sb.new_level; layout = sb.new_layout; chunk = sb.new_chunk; disks = sb.raid_disks })) None) None
+    no-target sb true e = absurd (cc)
+    no-target sb false e = refl
+
+    max-same : (n : ℕ) → max n n ≡ n
+    max-same n = grind (arith, nat_tests)
+
+    count-by : (sb : Sb) → is_reshaping sb ≡ false → role_count sb ≡ sb.raid_disks
+    count-by sb not =
+        ap (λ (t : Option Shape). max (shape_of sb).disks (unwrap_or t (shape_of sb)).disks) (no-target sb (is_reshaping sb) not)
+        ∙ max-same (shape_of sb).disks ∙ disks-is sb (is_reshaping sb) not
+
+-- so the mark's update has no more roles
+pub marked-count : (old : Members) (clean : Bool) → is_reshaping old.newest ≡ false → (shape_of old.newest).disks ≤ 16 → role_count (marking old clean).shared ≤ 16
+marked-count old clean still few = same-count old.newest still few

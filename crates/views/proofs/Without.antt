@@ -1,0 +1,131 @@
+-- Roles without lost slots, and the slots that are live then.
+use Rattle.std.proofs.Common.{◌≡◌, ℕ, ◌+◌, ◌<◌, ◌==◌, ◌||◌, ◌&&◌, Bool, true, false, not, cond, nat_lt, max, bit_or, map, List, [], ◌∷◌, get_or, Option, Some, None, refl, sym, ◌∙◌, ap, ap₂, arith}
+use Rattle.std.specs.Int.{bit_at}
+use Rattle.std.specs.List.{list_any}
+use Rattle.std.specs.Option.{is_some}
+use Rattle.std.proofs.lemmas.Bool.Decides.{nat_tests}
+use Rattle.std.proofs.lemmas.Nat.Bits.{bit_at_or, bit_at-lt}
+use Rattle.md_base.specs.Shapes.{has_slot}
+use Rattle.md_base.specs.declared.status.Role.{Role}
+use Rattle.md_base.specs.declared.status.Role.TheVariants.{Whole, Recovering, Missing}
+use Rattle.superblocks.specs.declared.members.Members.{Members}
+use Rattle.superblocks.specs.Reading.{holder}
+use Rattle.superblocks.specs.Update.{is_held_by, role_from}
+use Rattle.superblocks.specs.Outcome.{is_in_update, live_set}
+use Rattle.superblocks.specs.Reads.{has_spare}
+use Rattle.superblocks.proofs.SlotSets.{has-set_of, some_role}
+use Rattle.superblocks.proofs.SaidLists.{role-holder}
+use Rattle.row_io.specs.Rows.{role_without, members_without}
+use Rattle.views.specs.Marking.{marking}
+
+-- ---- sets
+
+or_of : (x a b : ℕ) → x ≡ max a b → a < 2 → b < 2 → (x == 1) ≡ ((a == 1) || (b == 1))
+or_of x a b is small small' = grind (arith, nat_tests)
+
+pub in-both : (a b s : ℕ) → has_slot (bit_or a b) s ≡ (has_slot a s || has_slot b s)
+in-both a b s = or_of (bit_at (bit_or a b) s) (bit_at a s) (bit_at b s) (bit_at_or a b s) (bit_at-lt a s) (bit_at-lt b s)
+
+-- ---- a role
+
+held-by : (L s t : ℕ) (x : Bool) → (t == s) ≡ x → (b : Bool) → has_slot L t ≡ b → cond b false (t == s) ≡ (not (has_slot L s) && (t == s))
+held-by L s t false other b is = by b ∙ sym (ap (λ (x : Bool). not (has_slot L s) && x) other ∙ none (not (has_slot L s)))
+  where
+    by : (b : Bool) → cond b false (t == s) ≡ false
+    by true = refl
+    by false = other
+
+    none : (x : Bool) → (x && false) ≡ false
+    none true = refl
+    none false = refl
+held-by L s t true here b is = by b (ap (has_slot L) same ∙ is)
+  where
+    same : s ≡ t
+    same = grind (arith, nat_tests, here)
+
+    by : (b : Bool) → has_slot L s ≡ b → cond b false (t == s) ≡ (not (has_slot L s) && (t == s))
+    by true gone = sym (ap (λ (x : Bool). not x && (t == s)) gone)
+    by false kept = sym (ap (λ (x : Bool). not x && (t == s)) kept)
+
+none-held : (x : Bool) → false ≡ (x && false)
+none-held true = refl
+none-held false = refl
+
+pub held-without : (L s : ℕ) (state : Role) → is_held_by s (role_without L state) ≡ (not (has_slot L s) && is_held_by s state)
+held-without L s (Whole t) = by (has_slot L t) ∙ held-by L s t (t == s) refl (has_slot L t) refl
+  where
+    by : (b : Bool) → is_held_by s (cond b Missing (Whole t)) ≡ cond b false (t == s)
+    by true = refl
+    by false = refl
+held-without L s (Recovering t) = by (has_slot L t) ∙ held-by L s t (t == s) refl (has_slot L t) refl
+  where
+    by : (b : Bool) → is_held_by s (cond b Missing (Recovering t)) ≡ cond b false (t == s)
+    by true = refl
+    by false = refl
+held-without L s Missing = none-held (not (has_slot L s))
+
+pub any-without : (L s : ℕ) (roles : List Role) → list_any (is_held_by s) (map (role_without L) roles) ≡ (not (has_slot L s) && list_any (is_held_by s) roles)
+any-without L s [] = none-held (not (has_slot L s))
+any-without L s (state ∷ roles) = ap₂ (λ (a b : Bool). a || b) (held-without L s state) (any-without L s roles) ∙ joined (not (has_slot L s)) (is_held_by s state) (list_any (is_held_by s) roles)
+  where
+    joined : (n a b : Bool) → ((n && a) || (n && b)) ≡ (n && (a || b))
+    joined true a b = refl
+    joined false a b = refl
+
+-- a slot that isn't lost holds the same role
+pub from-without : (L s i : ℕ) (roles : List Role) → has_slot L s ≡ false → role_from s i (map (role_without L) roles) ≡ role_from s i roles
+from-without L s i [] kept = refl
+from-without L s i (state ∷ roles) kept =
+    ap₂ (λ (b : Bool) (rest : Option ℕ). cond b (Some i) rest) (held-without L s state ∙ ap (λ (x : Bool). not x && is_held_by s state) kept) (from-without L s (i + 1) roles kept)
+
+twice : (L gone : ℕ) → ((s : ℕ) → has_slot gone s ≡ true → has_slot L s ≡ true) → (state : Role) → role_without L (role_without gone state) ≡ role_without L state
+twice L gone more (Whole t) = by (has_slot gone t) refl
+  where
+    by : (b : Bool) → has_slot gone t ≡ b → role_without L (cond b Missing (Whole t)) ≡ role_without L (Whole t)
+    by true is = sym (ap (λ (b : Bool). cond b Missing (Whole t)) (more t is))
+    by false is = refl
+twice L gone more (Recovering t) = by (has_slot gone t) refl
+  where
+    by : (b : Bool) → has_slot gone t ≡ b → role_without L (cond b Missing (Recovering t)) ≡ role_without L (Recovering t)
+    by true is = sym (ap (λ (b : Bool). cond b Missing (Recovering t)) (more t is))
+    by false is = refl
+twice L gone more Missing = refl
+
+-- of more slots that are lost, some were before
+pub without-twice : (L gone : ℕ) → ((s : ℕ) → has_slot gone s ≡ true → has_slot L s ≡ true) → (roles : List Role) → map (role_without L) (map (role_without gone) roles) ≡ map (role_without L) roles
+without-twice L gone more [] = refl
+without-twice L gone more (state ∷ roles) = ap₂ (λ (r : Role) (l : List Role). r ∷ l) (twice L gone more state) (without-twice L gone more roles)
+
+-- ---- who is live
+
+pub any-holds : (s : ℕ) (roles : List Role) → list_any (is_held_by s) roles ≡ true → (role : ℕ) × (holder (get_or roles role Missing) ≡ Some s)
+any-holds s roles is = of (role_from s 0 roles) refl (some_role s 0 roles ∙ is)
+  where
+    of : (found : Option ℕ) → role_from s 0 roles ≡ found → is_some (role_from s 0 roles) ≡ true → (role : ℕ) × (holder (get_or roles role Missing) ≡ Some s)
+    of None e some = absurd (let none = ap is_some e in let both = sym some ∙ none in cc)
+    of (Some role) e some = (role, role-holder s roles role e)
+
+pub live-is : (m : Members) (clean : Bool) (s : ℕ) → has_slot (live_set m (marking m clean)) s ≡ (nat_lt s 32 && ((list_any (is_held_by s) m.roles || has_spare m.spares s) || false))
+live-is m clean s = has-set_of 32 (is_in_update m (marking m clean)) s
+
+-- a slot that isn't lost is as live as before
+pub live-without : (m : Members) (gone : ℕ) (clean : Bool) (s : ℕ) → has_slot gone s ≡ false
+    → has_slot (live_set (members_without gone m) (marking (members_without gone m) clean)) s ≡ has_slot (live_set m (marking m clean)) s
+live-without m gone clean s kept =
+    live-is (members_without gone m) clean s
+    ∙ ap (λ (b : Bool). nat_lt s 32 && ((b || has_spare m.spares s) || false)) (any-without gone s m.roles ∙ ap (λ (x : Bool). not x && list_any (is_held_by s) m.roles) kept)
+    ∙ sym (live-is m clean s)
+
+-- and one that is live was live
+pub live-before : (m : Members) (gone : ℕ) (clean : Bool) (s : ℕ) → has_slot (live_set (members_without gone m) (marking (members_without gone m) clean)) s ≡ true
+    → has_slot (live_set m (marking m clean)) s ≡ true
+live-before m gone clean s is =
+    live-is m clean s
+    ∙ wider (nat_lt s 32) (not (has_slot gone s)) (list_any (is_held_by s) m.roles) (has_spare m.spares s)
+    (ap (λ (b : Bool). nat_lt s 32 && ((b || has_spare m.spares s) || false)) (sym (any-without gone s m.roles)) ∙ sym (live-is (members_without gone m) clean s) ∙ is)
+  where
+    wider : (below kept role spare : Bool) → (below && (((kept && role) || spare) || false)) ≡ true → (below && ((role || spare) || false)) ≡ true
+    wider false kept role spare e = absurd (cc)
+    wider true true role spare e = e
+    wider true false true spare e = refl
+    wider true false false spare e = e

@@ -1,0 +1,27 @@
+use Rattle.std.specs.Prelude.{⊤}
+use Rattle.views.proofs.Steady.{safe-is-seen, losing-stays-safe, flushes-stay-safe, flushed-is-settled}
+use Rattle.views.proofs.WriteSafe.{writes-stay-safe}
+use Rattle.views.proofs.FillingSafe.{filling-stays-safe}
+use Rattle.views.proofs.MarkSafe.{mark-stays-safe}
+use Rattle.views.proofs.laws.safety_is_kept.Goals as goal
+
+pub returns-clause-seen : goal.returns-clause-seen
+returns-clause-seen c = safe-is-seen ⊤
+
+pub returns-clause-losing : goal.returns-clause-losing
+returns-clause-losing c = losing-stays-safe ⊤
+
+pub returns-clause-flushes : goal.returns-clause-flushes
+returns-clause-flushes c = flushes-stay-safe ⊤
+
+pub returns-clause-flushed : goal.returns-clause-flushed
+returns-clause-flushed c = flushed-is-settled
+
+pub returns-clause-writes : goal.returns-clause-writes
+returns-clause-writes c = writes-stay-safe ⊤
+
+pub returns-clause-filling : goal.returns-clause-filling
+returns-clause-filling c = filling-stays-safe ⊤
+
+pub returns-clause-mark : goal.returns-clause-mark
+returns-clause-mark c = mark-stays-safe ⊤

@@ -1,0 +1,85 @@
+-- The device numbers that superblocks of an array bear.
+use Rattle.std.specs.Prelude.{◌≡◌, ℕ, ◌+◌, ◌-◌, ◌^◌, ◌<◌, ◌≤◌, Bool, true, not, ◌&&◌, nat_le, List, ◌++◌, length, take, replicate, slice_index, slice_index_or, bit_and, decimal, bytes_eq, Option, Some}
+use Rattle.sha1.specs.Sha1.{sha1}
+use Rattle.uuid.specs.Parts.{with_version, with_variant}
+use Rattle.uuid.specs.declared.Variant.TheVariants.{RFC4122}
+use Rattle.uuid.specs.declared.Version.TheVariants.{Sha1}
+use Rattle.md_base.specs.Sectors.{Sector}
+use Rattle.md_base.specs.Search.{least_below}
+use Rattle.sb1.specs.declared.sb.Sb.{Sb}
+use Rattle.sb1.specs.Superblock.{two_by_two}
+use Rattle.bank.specs.Given.{Given, sizes}
+use Rattle.superblocks.specs.Reading.{Scope, is_seen, entry_of}
+use Rattle.superblocks.specs.Update.{own_in}
+use Rattle.superblocks.specs.Held.{MayRead}
+use Rattle.views.specs.declared.work.Work.{Work}
+
+-- a superblock of the array bears the number; one from 128 on counts as such
+abbrev pub is_carried : Work → ℕ → Bool
+is_carried work number = slice_index_or work.carried number true
+
+-- each number that a kept superblock bears, or one that a slot may show, is among these
+pub record AreCarried (scope : Scope) (carried : ℕ → Bool) (own : List (Option Sb)) (d : ℕ → ℕ → List Sector) : Type 0 where
+  pub kept : (slot : ℕ) (sb : Sb) → own_in own slot ≡ Some sb → carried sb.dev_number ≡ true
+  pub shown : (slot : ℕ) (sb : Sb) → MayRead scope d slot (Some sb) → carried sb.dev_number ≡ true
+
+-- the uuid of a device: version 5, of the array's uuid and the decimal digits of the device's number
+abbrev pub device_uuid : List ℕ → ℕ → List ℕ
+device_uuid array number = with_version (with_variant (take 16 (sha1 (array ++ decimal number))) RFC4122) Sha1
+
+-- The superblock of a new spare of the array with this uuid, whose slot has so many sectors and these role entries in the superblock's second
+-- sector: the array's fields are the newest's, its name and creation time among them, and those of the device are new.
+abbrev pub spare_sb : Sb → List ℕ → ℕ → ℕ → ℕ → List ℕ → Sb
+spare_sb newest uuid number offset sectors second = record newest {
+  magic = 0xa92b4efc;
+  major = 1;
+  feature_map = bit_and newest.feature_map (4 + 32);
+  set_uuid = uuid;
+  data_offset = offset;
+  data_size = sectors - offset;
+  super_offset = 8;
+  recovery_offset = 0;
+  dev_number = number;
+  cnt_corrected_read = 0;
+  device_uuid = device_uuid uuid number;
+  devflags = 0;
+  bblog_shift = 0;
+  bblog_size = 0;
+  bblog_offset = 0;
+  utime = 0;
+  sb_csum = 0;
+  max_dev = 128;
+  pad3 = replicate 32 0;
+  dev_roles = take 128 newest.dev_roles ++ second;
+}
+
+-- A superblock with which a slot is made a spare: it says what the newest does, and the array's data fits behind it.
+pub record IsSpareSb (given : Given) (newest : Sb) (slot : ℕ) (sb : Sb) : Type 0 where
+  pub uuid : List ℕ
+  pub number : ℕ
+  pub offset : ℕ
+  pub second : List ℕ
+  pub is : sb ≡ spare_sb newest uuid number offset (given.sectors slot) second
+  pub few : number < 128
+  pub free : 0xfffe ≤ entry_of newest number
+  pub long : length second ≡ 256
+  pub small : (k : ℕ) → slice_index second k < 65536
+  pub behind : 10 ≤ offset
+  pub within : offset + newest.size ≤ given.sectors slot
+  pub short : given.sectors slot < 2 ^ 64
+
+-- the slot is looked at for the array that the superblock is of
+pub record IsOfScope (scope : Scope) (given : Given) (slot : ℕ) (sb : Sb) : Type 0 where
+  pub sizes_are : scope.sizes ≡ sizes given
+  pub seen : is_seen scope slot ≡ true
+  pub array : bytes_eq sb.set_uuid scope.uuid ≡ true
+
+-- these entries stand in the sector
+pub record AreSecondEntries (entries : List ℕ) (sector : Sector) : Type 0 where
+  pub long : length sector ≡ 512
+  pub bytes : (k : ℕ) → slice_index sector k < 256
+  pub entries_are : two_by_two sector ≡ entries
+
+-- the smallest number that none bears and that has no role
+abbrev pub free_number : Sb → Work → Option ℕ
+free_number newest work = least_below 128 (λ number. not (is_carried work number) && nat_le 0xfffe (entry_of newest number))

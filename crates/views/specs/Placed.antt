@@ -1,0 +1,71 @@
+-- Where the rows of a running array stand, by what its members say.
+use Rattle.std.specs.Prelude.{◌≡◌, ◌≢◌, ℕ, ◌^◌, ◌<◌, ◌≤◌, Bool, false, not, length, map, unwrap_or, Some, is_some, IsTrue}
+use Rattle.md_base.specs.declared.places.Shape.{Shape}
+use Rattle.md_base.specs.declared.status.Role.{Role}
+use Rattle.md_base.specs.Shapes.{is_valid_shape, is_multiple, has_slot}
+use Rattle.bank.specs.Given.{Given, NeverFalls}
+use Rattle.superblocks.specs.declared.members.Members.{Members}
+use Rattle.superblocks.specs.Reading.{Reading, is_reshaping, shape_of, role_state, rows_held, holder, data_offset_of}
+use Rattle.superblocks.specs.Outcome.{AreLive}
+use Rattle.row_io.specs.Rows.{reading_of, is_missing, missing_count, role_without, members_without, IsHolder, HaveFailed}
+use Rattle.row_io.specs.Writes.{AreApart}
+use Rattle.views.specs.Whole.{Places}
+
+-- each role has the slot that holds it, and its rows begin at that slot's data offset
+abbrev pub places_by : Reading → Places
+places_by r = record {
+  shape = shape_of r.newest;
+  size = r.newest.size;
+  slot = λ role. unwrap_or (holder (role_state r role)) 0;
+  offset = λ role. data_offset_of r (unwrap_or (holder (role_state r role)) 0);
+}
+
+abbrev pub places_of : Members → Places
+places_of members = places_by (reading_of members)
+
+-- no slot holds the role, whole or in part
+abbrev pub is_vacant : Reading → ℕ → Bool
+is_vacant r role = not (is_some (holder (role_state r role)))
+
+-- every role is whole
+abbrev pub AreWhole : Members → Type 0
+AreWhole members = (role : ℕ) → role < (shape_of members.newest).disks → is_missing (reading_of members) role ≡ false
+
+-- The members of an array of one shape: each role that a slot holds, whole or in part, has a slot of its own, where its rows lie behind the
+-- superblock.
+pub record IsPlaced (given : Given) (members : Members) : Type 0 where
+  pub still : is_reshaping members.newest ≡ false
+  pub valid : IsTrue (is_valid_shape (shape_of members.newest))
+  pub multiple : IsTrue (is_multiple members.newest.size (shape_of members.newest).chunk)
+  pub short : members.newest.size ≤ 2 ^ 48
+  pub roles : length members.roles ≡ (shape_of members.newest).disks
+  pub holders : (role slot : ℕ) → holder (role_state (reading_of members) role) ≡ Some slot → IsHolder given (reading_of members) slot
+  pub behind : (role slot : ℕ) → holder (role_state (reading_of members) role) ≡ Some slot → 10 ≤ data_offset_of (reading_of members) slot
+  pub apart : AreApart (reading_of members)
+  pub live : AreLive given members
+
+-- What a call leaves of the members: these slots are lost, and each of them held a role and has failed in the call.
+pub record AreLost (given : Given) (shape : Shape) (old new : Members) (lost : ℕ) (before after : ℕ → ℕ) : Type 0 where
+  pub members : new ≡ members_without lost old
+  pub kept : lost ≡ 0 → new ≡ old
+  pub failed : HaveFailed (reading_of old) shape.disks lost before after
+  pub missing : lost ≢ 0 → 0 < missing_count (reading_of new) shape
+  pub placed : IsPlaced given new
+  pub never_falls : NeverFalls before after
+
+-- no slot that holds a role was lost
+abbrev pub AreUnlost : Members → Type 0
+AreUnlost members = (role slot : ℕ) → holder (role_state (reading_of members) role) ≡ Some slot → has_slot members.lost slot ≡ false
+
+-- each role that has a slot had it before: roles are only lost
+abbrev pub AreStillHeld : Members → Members → Type 0
+AreStillHeld old new = (role slot : ℕ) → holder (role_state (reading_of new) role) ≡ Some slot → holder (role_state (reading_of old) role) ≡ Some slot
+
+-- the members say the same of the array, and some roles may have lost their slots
+pub record AreLess (lost : ℕ) (old new : Members) : Type 0 where
+  pub still : is_reshaping new.newest ≡ is_reshaping old.newest
+  pub shape : shape_of new.newest ≡ shape_of old.newest
+  pub size : new.newest.size ≡ old.newest.size
+  pub roles : new.roles ≡ map (role_without lost) old.roles
+  pub offsets : (slot : ℕ) → data_offset_of (reading_of new) slot ≡ data_offset_of (reading_of old) slot
+  pub rows : (state : Role) → rows_held (reading_of new) state ≡ rows_held (reading_of old) state
