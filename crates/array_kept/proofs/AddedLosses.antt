@@ -36,8 +36,7 @@ use Rattle.views.specs.Rebuilding.{AreSparesFree, with_spare}
 use Rattle.array_kept.specs.Kept.{AreTold}
 use Rattle.views.proofs.AddedMembers.{placed-with, free-with, spares-with}
 use Rattle.call_entries.proofs.CallLaws.{AreLossEvents, GivesNone, gives-losses, losses-are, told-losses}
-use Rattle.array_kept.proofs.DegradedLaws.{without-before}
-use Rattle.views.proofs.HeldRows.{missing-before, vacant-missing}
+use Rattle.views.proofs.HeldRows.{missing-before, vacant-missing, without-before}
 use Rattle.array_kept.proofs.KeptLaws.{StayPlaced}
 use Rattle.views.proofs.LackingLaws.{AreVacant, AreNewlyVacant, lost-since}
 use Rattle.call_entries.proofs.LeftLaws.{fold-left}

@@ -37,7 +37,7 @@ use Rattle.views.specs.declared.work.Work.{Work}
 use Rattle.views.specs.Rebuilding.{AreRebuilt, HasNoRebuilt}
 use Rattle.views.specs.Whole.{list_size}
 use Rattle.views.specs.Placed.{places_of, is_vacant, IsPlaced}
-use Rattle.views.proofs.HeldRows.{missing-moved, missing-before, vacant-missing}
+use Rattle.views.proofs.HeldRows.{missing-moved, missing-before, vacant-missing, without-before}
 use Rattle.views.proofs.LackingLaws.{since-missing}
 use Rattle.call_entries.specs.Losing.{losses_of}
 use Rattle.views.specs.Moving.{Grows, IsMoved}

@@ -44,7 +44,8 @@ use Rattle.call_entries.proofs.PlainLaws.{one}
 use Rattle.array_kept.proofs.RecordLaws.{AreSilent}
 use Rattle.array_kept.proofs.ReadyLaws.{Settles, KeepsNewest, silent-behind}
 use Rattle.array_kept.proofs.KeptLaws.{StayPlaced, LeavesSafe, holds-before, newest-old, safe-by, leaves-unsettled}
-use Rattle.array_kept.proofs.DegradedLaws.{stays-moved, without-before, told-behind, told-alone, none-ended}
+use Rattle.array_kept.proofs.DegradedLaws.{stays-moved, told-behind, told-alone, none-ended}
+use Rattle.views.proofs.HeldRows.{without-before}
 
 -- ---- what was told
 

@@ -53,8 +53,9 @@ use Rattle.array_kept.proofs.RecordLaws.{AreSilent, whole-told}
 use Rattle.array_kept.proofs.ReadyLaws.{silent-behind}
 use Rattle.array_kept.proofs.KeptLaws.{LeavesSafe, newest-old, holds-before, mended-are, leaves-unsettled}
 use Rattle.views.proofs.LackingWrites.{recovering-before}
-use Rattle.array_kept.proofs.DegradedLaws.{stays-moved, rows-same, without-before, too-many-here, pending-of, unwritten-here, told-behind, degraded-refused, degraded-torn, degraded-wrote}
+use Rattle.array_kept.proofs.DegradedLaws.{stays-moved, rows-same, too-many-here, pending-of, unwritten-here, told-behind, degraded-refused, degraded-torn, degraded-wrote}
 use Rattle.views.proofs.Stripes.{stripes-multiple}
+use Rattle.views.proofs.HeldRows.{without-before}
 
 -- ---- rows whose parity is to be relied on
 

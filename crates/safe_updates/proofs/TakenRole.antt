@@ -159,7 +159,7 @@ module _ (given : Given) (m : Members) (placed : IsPlaced given m) (role slot : 
   -- and can do without no fewer
   does-before : DoesWithout (W given m placed (Some 0) role slot to) → DoesWithout m
   does-before few =
-      let more = count-implied (shape_of m.newest).disks (is_missing (reading_of m)) (is_missing (reading_of (W given m placed (Some 0) role slot to))) missing in
+      let more = count-implied (shape_of m.newest).disks (is_missing (reading_of m)) (is_missing (reading_of (W given m placed (Some 0) role slot to))) (λ r lt. missing r) in
       omega (arith, few, more)
     where
       missing : (r : ℕ) → is_missing (reading_of m) r ≡ true → is_missing (reading_of (W given m placed (Some 0) role slot to)) r ≡ true
