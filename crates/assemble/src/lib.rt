@@ -18,6 +18,3 @@ pub use creating::refusal_of_create;
 pub use making::make;
 pub use opening::{Opened, open};
 pub use running::{assemble, create};
-
-#[cfg(test)]
-mod tests;

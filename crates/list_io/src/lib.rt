@@ -14,6 +14,3 @@ pub use buffers::{ROW_BYTES, missing_data, read_touched};
 pub use lists::read_list;
 pub use outcome::{Outcome, Unavailable, are_too_many, tolerance};
 pub use puts::{Written, write_touched};
-
-#[cfg(test)]
-mod tests;

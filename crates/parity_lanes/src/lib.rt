@@ -5,7 +5,5 @@ mod order;
 mod row;
 mod sectors;
 mod sums;
-#[cfg(test)]
-mod tests;
 
 pub use row::{fill_one, fill_two, syndromes};

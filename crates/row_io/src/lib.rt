@@ -14,6 +14,3 @@ pub use held::{data_offset, is_missing};
 pub use lose::{lose_slot, lose_slots, missing_count};
 pub use read::read_row;
 pub use write::write_row;
-
-#[cfg(test)]
-mod tests;

@@ -7,8 +7,6 @@ mod report;
 mod runs;
 mod sessions;
 mod states;
-#[cfg(test)]
-mod tests;
 mod text;
 mod words;
 

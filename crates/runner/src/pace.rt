@@ -31,18 +31,3 @@ impl<F: Fn(u64, u64) -> u64> Pace<F> {
         (self.f)(turn, left)
     }
 }
-
-#[cfg(test)]
-mod tests {
-    use super::*;
-    use std::test::Fail;
-
-    #[test]
-    fn a_closure_is_asked(rt: HostRuntime) -> Result<(), Fail> {
-        let most = 16;
-        let pace = Pace::new(move |_, left| if left < most { 1 } else { most });
-        assert_eq!(rt; pace.ask(7, 15), 1);
-        assert_eq!(rt; pace.ask(7, 16), 16);
-        Ok(())
-    }
-}

@@ -62,32 +62,3 @@ pub fn read_text<S: Source>(alloc: Global, source: &mut S) -> Result<Vec<u8>, Te
     }
     Ok(text)
 }
-
-#[cfg(test)]
-mod tests {
-    use super::*;
-    use std::test::Fail;
-    use text_io::MemorySource;
-
-    #[test]
-    fn a_text_is_read_whole_unless_a_pull_fails(rt: HostRuntime) -> Result<(), Fail> {
-        let alloc = rt.alloc();
-        let rows = [
-            (None, Ok(true)),
-            (Some(0), Err(TextFault::Failed)),
-            (Some(1), Err(TextFault::Failed)),
-            (Some(2), Ok(true)),
-        ];
-        for (failing, expected) in rows {
-            let mut numbers = Vec::new(alloc);
-            if let Some(number) = failing {
-                numbers.push(number)?;
-            }
-            let mut source = MemorySource::new(b"halt\n".to_vec(alloc)?, numbers);
-            let read = read_text(alloc, &mut source).map(|text| text.as_slice()
-                == b"halt\n".as_slice());
-            assert_eq!(rt; read, expected);
-        }
-        Ok(())
-    }
-}

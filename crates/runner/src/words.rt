@@ -17,30 +17,3 @@ pub fn command_of(words: &[String]) -> Option<Command>
         _ => None,
     }
 }
-
-#[cfg(test)]
-mod tests {
-    use super::*;
-    use std::test::Fail;
-
-    #[test]
-    fn memory_alone_is_a_command(rt: HostRuntime) -> Result<(), Fail> {
-        let alloc = rt.alloc();
-        let rows = [
-            ("memory", Some(Command::Memory)),
-            ("Memory", None),
-            ("memory ", None),
-            ("memor", None),
-            ("", None),
-            ("demo", None),
-        ];
-        for (word, expected) in rows {
-            let mut words = vec![in alloc; String::from_str(alloc, word)?]?;
-            assert_eq!(rt; command_of(&words), expected);
-            words.push(String::from_str(alloc, "memory")?)?;
-            assert_eq!(rt; command_of(&words), None);
-        }
-        assert_eq!(rt; command_of(&[]), None);
-        Ok(())
-    }
-}

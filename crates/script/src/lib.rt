@@ -8,8 +8,6 @@ pub mod lines;
 pub mod numbers;
 pub mod reply;
 pub mod seeds;
-#[cfg(test)]
-mod tests;
 
 pub use lines::{CreateLine, Line, Numbered, ScriptFault, read_script};
 pub use reply::{

@@ -391,6 +391,3 @@ fn push_runs(text: &mut Vec<u8>, at: u64, sectors: &[[u8; 512]]) -> Result<(), A
     }
     Ok(())
 }
-
-#[cfg(test)]
-mod tests;

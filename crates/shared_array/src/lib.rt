@@ -8,6 +8,3 @@ mod stepping;
 pub use performing::perform;
 pub use reply::Reply;
 pub use stepping::{step, steps};
-
-#[cfg(test)]
-mod tests;

@@ -1,0 +1,11 @@
+//! Tests of `assemble` and `shared_array`: arrays that are made, found, written, read, resynced and rebuilt.
+#![tactic(auto)]
+
+#[cfg(test)]
+mod arrays;
+#[cfg(test)]
+mod openings;
+#[cfg(test)]
+mod running;
+#[cfg(test)]
+mod shared;

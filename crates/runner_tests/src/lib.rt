@@ -1,0 +1,7 @@
+//! Tests of `runner`: runs of scripts, whose replies are worked out by hand, and the parts of a run.
+#![tactic(auto)]
+
+#[cfg(test)]
+mod parts;
+#[cfg(test)]
+mod runs;

@@ -1,0 +1,383 @@
+//! Runs whose replies are worked out by hand.
+
+ghost use Rattle.std.specs.Prelude.{◌≡◌, ◌≤◌, length, IfOk};
+
+use bank::MemoryBank;
+use runner::{Pace, Report, run};
+use std::alloc::Global;
+use std::process::Abort;
+use std::sync::Wait;
+use std::test::Fail;
+use std::thread::Threads;
+use text_io::{MemorySink, MemorySource};
+
+const CREATE: &str =
+    "create 6ba7b810-9dad-11d1-80b4-00c04fd430c8 level=5 disks=3 chunk=8 size=40 offset=16\n";
+
+/// A run: its words, whether the line above stands first, the lines behind it, and the numbers of the calls of bank, source
+/// and sink that fail; and then the status, the first bad line and the replies.
+struct Row {
+    words: &'static [&'static str],
+    create: bool,
+    lines: &'static str,
+    calls: &'static [u64],
+    pulls: &'static [u64],
+    pushes: &'static [u64],
+    status: u8,
+    bad_line: u64,
+    output: &'static [u8],
+}
+
+const PLAIN: Row = Row {
+    words: &["memory"],
+    create: true,
+    lines: "",
+    calls: &[],
+    pulls: &[],
+    pushes: &[],
+    status: 0,
+    bad_line: 0,
+    output: b"",
+};
+
+fn words_of(alloc: Global, words: &[&str]) -> Result<Vec<String>, Fail> {
+    let mut strings = Vec::new(alloc);
+    for word in words {
+        strings.push(String::from_str(alloc, word)?)?;
+    }
+    Ok(strings)
+}
+
+fn source_of(alloc: Global, row: &Row) -> Result<MemorySource, Fail> {
+    let mut text = Vec::new(alloc);
+    if row.create {
+        text.extend_from_slice(CREATE.as_bytes())?;
+    }
+    text.extend_from_slice(row.lines.as_bytes())?;
+    let pulls = Vec::from_slice(alloc, row.pulls)?;
+    Ok(MemorySource::new(text, pulls))
+}
+
+// Eight slots, of which the seventh is too short for the arrays of these tests.
+fn bank_of(alloc: Global, row: &Row) -> Result<MemoryBank, Fail>
+    ensures { IfOk result (λ bank. length bank.start ≡ 8) }
+{
+    let lengths = Vec::from_slice(alloc, &[64u64, 64, 64, 64, 64, 64, 48, 64])?;
+    let calls = Vec::from_slice(alloc, row.calls)?;
+    Ok(MemoryBank::new(alloc, lengths, 800, calls)?)
+}
+
+fn steps(_turn: u64, left: u64) -> u64
+    ensures low { 1 ≤ result }
+    ensures high { result ≤ 64 }
+{
+    if left < 16 { 1 } else { 16 }
+}
+
+fn steps(_turn: u64, left: u64) -> u64
+    ensures low { 1 ≤ result }
+    ensures high { result ≤ 64 }
+{
+    if left < 16 { 1 } else { 16 }
+}
+
+// The report of a run, and what its sink took.
+fn ran<R: Threads + Wait + Sync>(
+    rt: &R,
+    alloc: Global,
+    row: &Row,
+) -> Result<(Report<MemoryBank>, Vec<u8>), Fail> {
+    let words = words_of(alloc, row.words)?;
+    let mut source = source_of(alloc, row)?;
+    let pushes = Vec::from_slice(alloc, row.pushes)?;
+    let mut sink = MemorySink::new(alloc, 4096, pushes)?;
+    let bank = bank_of(alloc, row)?;
+    let pace = Pace::new(|turn, left| steps(turn, left));
+    let report = run(rt, alloc, &words, &mut source, &mut sink, bank, pace);
+    let taken = Vec::from_slice(alloc, sink.bytes())?;
+    Ok((report, taken))
+}
+
+fn compare<R: Threads + Wait + Sync + Abort>(
+    rt: &R,
+    alloc: Global,
+    rows: &[Row],
+) -> Result<(), Fail> {
+    for row in rows {
+        let (report, taken) = ran(rt, alloc, row)?;
+        assert!(rt; taken.as_slice() == row.output, "{}", row.lines);
+        assert!(rt;
+            report.status == row.status && report.bad_line == row.bad_line,
+            "{}",
+            row.lines
+        );
+        assert!(rt; report.shown == row.output.len() as u64, "{}", row.lines);
+    }
+    Ok(())
+}
+
+// Lines behind `create`, and the calls of the bank that fail. The array has 40 rows on three of the bank's eight slots.
+// Making it takes 147 calls: 7 reads and 8 flushes, as all slots are looked at; 3 * (40 writes and a flush) for the zeros;
+// 3 * (a read, a write and a flush) for the superblocks.
+const ANSWERED: [Row; 9] = [
+    Row {
+        lines: "write 0 1 7\nread 0 2\n",
+        output: b"created\nwrote 0 1\nread 0 2: seed 7 x1 zero x1\n",
+        ..PLAIN
+    },
+    Row {
+        lines: "read 79 1",
+        output: b"created\nread 79 1: zero x1\n",
+        ..PLAIN
+    },
+    Row {
+        lines: "read 79 2\n",
+        status: 1,
+        output: b"created\nrefused 1 PastEnd 80\n",
+        ..PLAIN
+    },
+    // the first read of a row fails, and its sector is filled in
+    Row {
+        lines: "read 0 1\n",
+        calls: &[147],
+        output: b"created\nread 0 1: zero x1\n",
+        ..PLAIN
+    },
+    // and so does the next one, by which it was to be filled in
+    Row {
+        lines: "read 0 1\n",
+        calls: &[147, 148],
+        status: 1,
+        output: b"created\nrefused 2 TooManyMissing 2 1\n",
+        ..PLAIN
+    },
+    // the first write of the second member fails
+    Row {
+        lines: "write 0 1 7\nread 0 1\n",
+        calls: &[56],
+        status: 1,
+        output: b"refused 9 SlotFault 1\nrefused 28 NotRunning\nrefused 28 NotRunning\n",
+        ..PLAIN
+    },
+    // the superblocks of the first two members can't be read again
+    Row {
+        lines: "stop\nassemble\nassemble\n",
+        calls: &[150, 151],
+        status: 1,
+        output: b"created\nstopped\nrefused 24 MembersMissing 2 1\nrefused 24 MembersMissing 2 1\n",
+        ..PLAIN
+    },
+    // that of the first member can't, so that its role is missing from the opening on, until it is rebuilt on a spare
+    Row {
+        lines: "stop\nassemble\nadd 3\nwait\nfail 1\nread 0 1\n",
+        calls: &[150],
+        output: b"created\nstopped\nassembled level 5 disks 3 chunk 8 size 40 layout left-symmetric visible 80 left 0\nadded 3\nwaited left 0\nfailed 1\nread 0 1: zero x1\n",
+        ..PLAIN
+    },
+    Row {
+        lines: "# nothing\n\n",
+        output: b"created\n",
+        ..PLAIN
+    },
+];
+
+// Scripts without that `create`.
+const COMING_AND_GOING: [Row; 20] = [
+    // a dirty array is found with its resync to do, one step for each of five stripes and one for its end
+    Row {
+        create: false,
+        lines: "create 6ba7b810-9dad-11d1-80b4-00c04fd430c8 level=5 disks=3 chunk=8 size=40 offset=16\nwrite 0 1 7\nflush\nwrite 0 1 7\nhalt\nassemble\nread 0 1\n",
+        output: b"created\nwrote 0 1\nflushed\nwrote 0 1\nhalted\nassembled level 5 disks 3 chunk 8 size 40 layout left-symmetric visible 80 left 6\nread 0 1: seed 7 x1\n",
+        ..PLAIN
+    },
+    Row {
+        create: false,
+        lines: "create 6ba7b810-9dad-11d1-80b4-00c04fd430c8 level=6 disks=5 chunk=8 size=48 offset=16 layout=right-asymmetric\nwrite 143 1 2\nstop\nassemble 6ba7b810-9dad-11d1-80b4-00c04fd430c8\nread 142 2\n",
+        output: b"created\nwrote 143 1\nstopped\nassembled level 6 disks 5 chunk 8 size 48 layout right-asymmetric visible 144 left 0\nread 142 2: zero x1 seed 2 x1\n",
+        ..PLAIN
+    },
+    // the fourth slot holds the array already
+    Row {
+        create: false,
+        lines: "create 6ba7b810-9dad-11d1-80b4-00c04fd430c8 level=5 disks=4 chunk=8 size=40 offset=16\nstop\ncreate 6ba7b810-9dad-11d1-80b4-00c04fd430c8 level=5 disks=3 chunk=8 size=40 offset=16\n",
+        status: 1,
+        output: b"created\nstopped\nrefused 31 UuidInUse 3\n",
+        ..PLAIN
+    },
+    Row {
+        create: false,
+        lines: "create 6ba7b810-9dad-11d1-80b4-00c04fd430c8 level=5 disks=3 chunk=8 size=40 offset=16\ncreate 6ba7b810-9dad-11d1-80b4-00c04fd430c8 level=5 disks=3 chunk=8 size=40 offset=16\nassemble\n",
+        status: 1,
+        output: b"created\nrefused 29 Running\nrefused 29 Running\n",
+        ..PLAIN
+    },
+    Row {
+        create: false,
+        lines: "create 6ba7b810-9dad-11d1-80b4-00c04fd430c8 level=5 disks=8 chunk=8 size=40\ncreate 6ba7b810-9dad-11d1-80b4-00c04fd430c8 level=5 disks=3 chunk=16 size=40\n",
+        status: 1,
+        output: b"refused 30 NoSuchSlot 7\nrefused 14 SizeNotMultiple 40 16\n",
+        ..PLAIN
+    },
+    Row {
+        create: false,
+        lines: "create 6ba7b810-9dad-11d1-80b4-00c04fd430c8 level=5 disks=3 chunk=8 size=56 offset=16\n",
+        status: 1,
+        output: b"refused 7 SlotTooSmall 64 72\n",
+        ..PLAIN
+    },
+    // one role is failed after another, one more than the level can do without
+    Row {
+        create: false,
+        lines: "create 6ba7b810-9dad-11d1-80b4-00c04fd430c8 level=6 disks=5 chunk=8 size=16 offset=16\nwrite 0 1 4\nfail 1\nfail 2\nread 0 1\nfail 3\nread 0 1\nfail 9\n",
+        status: 1,
+        output: b"created\nwrote 0 1\nfailed 1\nfailed 2\nread 0 1: seed 4 x1\nfailed 3\nrefused 2 TooManyMissing 3 2\nrefused 5 NoSuchRole 9\n",
+        ..PLAIN
+    },
+    // an array that lacks a member is found where it is clean, and refused where it is dirty
+    Row {
+        create: false,
+        lines: "create 6ba7b810-9dad-11d1-80b4-00c04fd430c8 level=5 disks=3 chunk=8 size=40 offset=16\nwrite 0 1 7\nfail 0\nhalt\nassemble\n",
+        status: 1,
+        output: b"created\nwrote 0 1\nfailed 0\nhalted\nrefused 25 DirtyDegraded 0\n",
+        ..PLAIN
+    },
+    Row {
+        create: false,
+        lines: "create 6ba7b810-9dad-11d1-80b4-00c04fd430c8 level=5 disks=3 chunk=8 size=40 offset=16\nwrite 0 1 7\nfail 0\nflush\nhalt\nassemble\nread 0 1\n",
+        output: b"created\nwrote 0 1\nfailed 0\nflushed\nhalted\nassembled level 5 disks 3 chunk 8 size 40 layout left-symmetric visible 80 left 0\nread 0 1: seed 7 x1\n",
+        ..PLAIN
+    },
+    // it is found dirty where the missing role has parity alone
+    Row {
+        create: false,
+        lines: "create 6ba7b810-9dad-11d1-80b4-00c04fd430c8 level=5 disks=3 chunk=8 size=40 offset=16 layout=parity-last\nfail 2\nwrite 0 1 7\nflush\nwrite 0 1 7\nhalt\nassemble\nread 0 1\n",
+        output: b"created\nfailed 2\nwrote 0 1\nflushed\nwrote 0 1\nhalted\nassembled level 5 disks 3 chunk 8 size 40 layout parity-last visible 80 left 6\nread 0 1: seed 7 x1\n",
+        ..PLAIN
+    },
+    // the resync is done by one wait
+    Row {
+        create: false,
+        lines: "create 6ba7b810-9dad-11d1-80b4-00c04fd430c8 level=5 disks=3 chunk=8 size=40 offset=16\nwrite 0 1 7\nflush\nwrite 0 1 7\nhalt\nassemble\nwait\nread 0 1\n",
+        output: b"created\nwrote 0 1\nflushed\nwrote 0 1\nhalted\nassembled level 5 disks 3 chunk 8 size 40 layout left-symmetric visible 80 left 6\nwaited left 0\nread 0 1: seed 7 x1\n",
+        ..PLAIN
+    },
+    // a role is missing before its resync
+    Row {
+        create: false,
+        lines: "create 6ba7b810-9dad-11d1-80b4-00c04fd430c8 level=5 disks=3 chunk=8 size=40 offset=16\nwrite 0 1 7\nhalt\nassemble\nfail 0\nread 0 1\nread 8 1\nwrite 0 1 5\nstep 1\n",
+        status: 1,
+        output: b"created\nwrote 0 1\nhalted\nassembled level 5 disks 3 chunk 8 size 40 layout left-symmetric visible 80 left 6\nfailed 0\nrefused 3 NotResynced 0\nread 8 1: zero x1\nrefused 3 NotResynced 0\nstepped 0 left 6 refused 3 NotResynced 0\n",
+        ..PLAIN
+    },
+    // a wait with nothing to do isn't refused
+    Row {
+        create: false,
+        lines: "create 6ba7b810-9dad-11d1-80b4-00c04fd430c8 level=5 disks=3 chunk=8 size=40 offset=16\nstep 1\nwait\n",
+        status: 1,
+        output: b"created\nrefused 19 Nothing\nwaited left 0\n",
+        ..PLAIN
+    },
+    Row {
+        create: false,
+        lines: "create 6ba7b810-9dad-11d1-80b4-00c04fd430c8 level=5 disks=3 chunk=8 size=40 offset=16\nwait\n",
+        output: b"created\nwaited left 0\n",
+        ..PLAIN
+    },
+    // steps are counted, and a wait ends where one is refused
+    Row {
+        create: false,
+        lines: "create 6ba7b810-9dad-11d1-80b4-00c04fd430c8 level=5 disks=3 chunk=8 size=40 offset=16\nwrite 0 1 7\nhalt\nassemble\nstep 2\nfail 1\nwait\nstop\nwait\nstep 1\n",
+        status: 1,
+        output: b"created\nwrote 0 1\nhalted\nassembled level 5 disks 3 chunk 8 size 40 layout left-symmetric visible 80 left 6\nstepped 2 left 4\nfailed 1\nwaited left 4 refused 3 NotResynced 1\nstopped\nrefused 28 NotRunning\nrefused 28 NotRunning\n",
+        ..PLAIN
+    },
+    // a role is rebuilt on a spare, in one step that gives it, one for each of five stripes and one for its end, and the list stands
+    // without another one
+    Row {
+        create: false,
+        lines: "create 6ba7b810-9dad-11d1-80b4-00c04fd430c8 level=5 disks=3 chunk=8 size=40 offset=16\nadd 3\nwrite 0 16 4\nfail 1\nstep 7\nfail 2\nread 0 16\nstep 1\n",
+        status: 1,
+        output: b"created\nadded 3\nwrote 0 16\nfailed 1\nstepped 7 left 0\nfailed 2\nread 0 16: seed 4 x16\nrefused 19 Nothing\n",
+        ..PLAIN
+    },
+    // so it does on the slot that had it, and behind an opening
+    Row {
+        create: false,
+        lines: "create 6ba7b810-9dad-11d1-80b4-00c04fd430c8 level=5 disks=3 chunk=8 size=40 offset=16\nwrite 0 16 4\nfail 1\nadd 1\nwait\nstop\nassemble\nfail 0\nread 0 16\n",
+        output: b"created\nwrote 0 16\nfailed 1\nadded 1\nwaited left 0\nstopped\nassembled level 5 disks 3 chunk 8 size 40 layout left-symmetric visible 80 left 0\nfailed 0\nread 0 16: seed 4 x16\n",
+        ..PLAIN
+    },
+    // a slot that is a spare, holds a role or is the backup isn't added, nor one that is too short or that isn't there
+    Row {
+        create: false,
+        lines: "create 6ba7b810-9dad-11d1-80b4-00c04fd430c8 level=5 disks=3 chunk=8 size=40 offset=16\nadd 3\nadd 3\nadd 0\nadd 7\nadd 6\nadd 8\nread 0 1\n",
+        status: 1,
+        output: b"created\nadded 3\nrefused 6 SlotTaken 3\nrefused 6 SlotTaken 0\nrefused 6 SlotTaken 7\nrefused 7 SlotTooSmall 48 56\nrefused 30 NoSuchSlot 8\nread 0 1: zero x1\n",
+        ..PLAIN
+    },
+    // none is added where too many roles are missing, or where no array runs
+    Row {
+        create: false,
+        lines: "create 6ba7b810-9dad-11d1-80b4-00c04fd430c8 level=5 disks=3 chunk=8 size=40 offset=16\nfail 0\nfail 1\nadd 3\nhalt\nadd 3\n",
+        status: 1,
+        output: b"created\nfailed 0\nfailed 1\nrefused 2 TooManyMissing 2 1\nhalted\nrefused 28 NotRunning\n",
+        ..PLAIN
+    },
+    Row {
+        create: false,
+        lines: "assemble\nread 0 1\nstop\n",
+        status: 1,
+        output: b"refused 20 NoSuperblock\nrefused 28 NotRunning\nrefused 28 NotRunning\n",
+        ..PLAIN
+    },
+];
+
+const ENDING: [Row; 7] = [
+    Row {
+        words: &["run"],
+        status: 2,
+        ..PLAIN
+    },
+    Row {
+        words: &[],
+        status: 2,
+        ..PLAIN
+    },
+    Row {
+        create: false,
+        ..PLAIN
+    },
+    Row {
+        create: false,
+        lines: "read 0 1\n",
+        status: 1,
+        output: b"refused 28 NotRunning\n",
+        ..PLAIN
+    },
+    Row {
+        lines: "\nread 0 129\n",
+        status: 3,
+        bad_line: 3,
+        ..PLAIN
+    },
+    Row {
+        lines: "read 0 1\n",
+        pulls: &[0],
+        status: 4,
+        ..PLAIN
+    },
+    Row {
+        lines: "write 0 1 7\nread 0 2\n",
+        pushes: &[1],
+        status: 5,
+        output: b"created\n",
+        ..PLAIN
+    },
+];
+
+#[test]
+fn runs_of_scripts(rt: HostRuntime) -> Result<(), Fail> {
+    compare(&rt, rt.alloc(), &ANSWERED)?;
+    compare(&rt, rt.alloc(), &COMING_AND_GOING)?;
+    compare(&rt, rt.alloc(), &ENDING)
+}

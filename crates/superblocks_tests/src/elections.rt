@@ -1,0 +1,215 @@
+//! Elections over superblocks that real md wrote, and over ones made for each refusal.
+
+use crate::banks::{bank_of, said_of};
+use md_base::{Fault, Refusal, Role};
+use mdadm_images::{DEGRADED, DEGRADED_MEMBERS, GROWN, GROWN_MEMBERS, members_of, reshaping};
+use sb1::Sb;
+use std::alloc::Global;
+use std::process::Abort;
+use std::test::Fail;
+
+/// The event count, the roles and the lost slots, or the refusal.
+type Answer = Result<(u64, [Role; 5], u32), Refusal>;
+
+// Whether an election is answered so; where there are four roles, the fifth is `Missing`. There are no spares.
+fn answers(
+    rt: &impl Abort,
+    alloc: Global,
+    superblocks: &[Sb],
+    sectors: u64,
+    failing: &[u64],
+    wanted: &Answer,
+) -> Result<bool, Fail> {
+    let mut bank = bank_of(rt, alloc, superblocks, sectors, 0, failing)?;
+    match (said_of(rt, alloc, &mut bank), wanted) {
+        (Ok(members), Ok((events, roles, lost))) => {
+            let count = members.roles.len();
+            Ok(
+                members.newest.events == *events
+                    && count <= 5
+                    && members.roles.as_slice() == &roles[..count]
+                    && members.spares.len() == 0
+                    && members.lost == *lost,
+            )
+        }
+        (Err(Fault::Refused(refusal)), Err(other)) => Ok(refusal == *other),
+        _ => Ok(false),
+    }
+}
+
+const A: Role = Role::Whole(0);
+
+const B: Role = Role::Whole(1);
+
+const C: Role = Role::Whole(2);
+
+const D: Role = Role::Whole(3);
+
+const E: Role = Role::Whole(4);
+
+const NONE: Role = Role::Missing;
+
+// The calls that fail, and the answer; each slot is read by one call, in slot order.
+const OF_GROWN: [(&[u64], Answer); 4] = [
+    (&[], Ok((42, [A, B, C, D, E], 0))),
+    (&[1], Ok((42, [A, NONE, C, D, E], 2))),
+    (&[1, 3], Err(Refusal::MembersMissing(2, 1))),
+    (&[0, 1, 2, 3, 4], Err(Refusal::NoSuperblock)),
+];
+
+// The member that fell behind says of itself that it holds role 2, and that the array is dirty.
+fn fallen_behind(rt: &impl Abort, alloc: Global) -> Result<Vec<Sb>, Fail> {
+    let mut members = members_of(alloc, &DEGRADED, &DEGRADED_MEMBERS)?;
+    assert!(rt; members.len() == 4);
+    let mut entries = members[2].dev_roles;
+    entries[2] = 2;
+    members[2] = Sb {
+        events: 14,
+        resync_offset: 0,
+        dev_roles: entries,
+        ..members[2]
+    };
+    Ok(members)
+}
+
+/// What a member of an array in a reshape says, beside what they all say.
+#[derive(Clone, Copy)]
+struct Said {
+    number: u32,
+    features: u32,
+    size: u64,
+    position: u64,
+    offset: u64,
+    events: u64,
+    resync: u64,
+    entry: u16,
+}
+
+const PLAIN: Said = Said {
+    number: 0,
+    features: 4,
+    size: 128,
+    position: 64,
+    offset: 16,
+    events: 9,
+    resync: u64::MAX,
+    entry: 0xfffe,
+};
+
+fn superblock(said: &Said) -> Sb {
+    let plain = reshaping();
+    let mut roles = plain.dev_roles;
+    roles[3] = said.entry;
+    Sb {
+        dev_number: said.number,
+        feature_map: said.features,
+        size: said.size,
+        reshape_position: said.position,
+        data_offset: said.offset,
+        events: said.events,
+        resync_offset: said.resync,
+        dev_roles: roles,
+        ..plain
+    }
+}
+
+const SECOND: Said = Said { number: 1, ..PLAIN };
+
+const RECOVERING: Said = Said {
+    position: 72,
+    resync: 0,
+    features: 6,
+    ..PLAIN
+};
+
+const ENTERED: Said = Said { entry: 1, ..PLAIN };
+
+const UNEVEN: Said = Said {
+    size: 124,
+    ..ENTERED
+};
+
+// Two superblocks, each in a slot of 144 sectors, and what is answered.
+const OF_TWO: [(Said, Said, Answer); 10] = [
+    // each refusal of the roles where those before it don't come
+    (PLAIN, SECOND, Ok((9, [A, B, NONE, NONE, NONE], 0))),
+    (
+        Said {
+            position: 72,
+            ..PLAIN
+        },
+        SECOND,
+        Err(Refusal::PositionNotOnUnit(72, 16)),
+    ),
+    (
+        Said {
+            position: 72,
+            resync: 0,
+            ..PLAIN
+        },
+        SECOND,
+        Err(Refusal::DirtyDegraded(2)),
+    ),
+    (RECOVERING, SECOND, Err(Refusal::MembersMissing(2, 1))),
+    (RECOVERING, PLAIN, Err(Refusal::TwoHolders(0))),
+    // each refusal of the slots, with two slots of one number
+    (ENTERED, PLAIN, Err(Refusal::BadField(262))),
+    (
+        ENTERED,
+        Said {
+            offset: 17,
+            ..PLAIN
+        },
+        Err(Refusal::BadField(128)),
+    ),
+    (
+        UNEVEN,
+        Said {
+            offset: 17,
+            ..PLAIN
+        },
+        Err(Refusal::BadField(80)),
+    ),
+    (
+        UNEVEN,
+        Said {
+            offset: 17,
+            features: 8,
+            ..PLAIN
+        },
+        Err(Refusal::Unsupported(8)),
+    ),
+    (
+        UNEVEN,
+        Said {
+            offset: 17,
+            features: 8,
+            events: 7,
+            ..PLAIN
+        },
+        Err(Refusal::BadField(80)),
+    ),
+];
+
+#[test]
+fn elections_of_arrays(rt: HostRuntime) -> Result<(), Fail> {
+    let alloc = rt.alloc();
+    let grown = members_of(alloc, &GROWN, &GROWN_MEMBERS)?;
+    for (failing, wanted) in &OF_GROWN {
+        assert!(rt;
+            answers(&rt, alloc, &grown, 448, *failing, wanted)?,
+            "{wanted:?}"
+        );
+    }
+    let behind = fallen_behind(&rt, alloc)?;
+    let wanted = Ok((18, [A, B, NONE, D, NONE], 0));
+    assert!(rt; answers(&rt, alloc, &behind, 288, &[], &wanted)?);
+    for (first, second, wanted) in &OF_TWO {
+        let superblocks = [superblock(first), superblock(second)];
+        assert!(rt;
+            answers(&rt, alloc, &superblocks, 144, &[], wanted)?,
+            "{wanted:?}"
+        );
+    }
+    Ok(())
+}
