@@ -3,10 +3,10 @@
 ghost use Rattle.std.specs.Prelude.{◌≡◌, ◌≤◌, ◌++◌, ◌^◌, ◌<◌, ◌-◌, ℕ, take, drop, length, bit_and, OnOk, IfSome};
 ghost use Rattle.views.specs.Numbers.{device_uuid, spare_sb, free_number};
 
-use views::Work;
 use sb1::{Features, Sb};
 use superblocks::says::entry_of;
 use uuid::Uuid;
+use views::Work;
 
 // The bits of the feature map that an array's superblocks share.
 const SHARED_BITS: u32 = Features::RESHAPE_ACTIVE.0 | Features::RESHAPE_BACKWARDS.0;
