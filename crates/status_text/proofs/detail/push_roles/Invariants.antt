@@ -1,0 +1,10 @@
+use Rattle.std.proofs.Common.{◌≡◌, ◌≤◌, ◌++◌, drop, vec_capacity}
+use Rattle.status_text.specs.Texts.{role_lines}
+use Rattle.status_text.proofs.detail.push_roles.Given as goal
+
+-- what is written so far, with the lines of the roles that are left, is the whole
+abbrev pub invariant-loop-role : goal.invariant-loop-role
+invariant-loop-role l = record {
+  whole : l.text.items ++ role_lines l.role (drop l.role l.roles) ≡ l.fn.text.items ++ role_lines 0 l.roles;
+  room : vec_capacity l.fn.text ≤ vec_capacity l.text;
+}

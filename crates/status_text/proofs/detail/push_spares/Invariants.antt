@@ -1,0 +1,10 @@
+use Rattle.std.proofs.Common.{◌≡◌, ◌≤◌, ◌++◌, drop, vec_capacity}
+use Rattle.status_text.specs.Texts.{spare_lines}
+use Rattle.status_text.proofs.detail.push_spares.Given as goal
+
+-- what is written so far, with the lines of the spares that are left, is the whole
+abbrev pub invariant-loop-slot : goal.invariant-loop-slot
+invariant-loop-slot l = record {
+  whole : l.text.items ++ spare_lines (drop l.slot-index l.slots) ≡ l.fn.text.items ++ spare_lines l.slots;
+  room : vec_capacity l.fn.text ≤ vec_capacity l.text;
+}

@@ -1,0 +1,11 @@
+//! The texts that tell of a whole array, `detail` and `mdstat`, and of a slot's superblock, `examine`.
+#![tactic(auto)]
+
+mod detail;
+mod examine;
+mod mdstat;
+mod words;
+
+pub use detail::push_detail;
+pub use examine::push_examined;
+pub use mdstat::push_mdstat;
