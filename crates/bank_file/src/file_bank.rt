@@ -56,8 +56,9 @@ impl FileBank {
             if place == u32::MAX {
                 return Err(FileFault::CannotOpen(place));
             }
-            let image = Image::open(rt, path.as_str(), &images)
-                .map_err(|_| FileFault::CannotOpen(place))?;
+            let image = Image::open(rt, path.as_str(), &images).map_err(|_| FileFault::CannotOpen(
+                place,
+            ))?;
             images.push_reserved(image);
         }
         Ok(FileBank { images })
