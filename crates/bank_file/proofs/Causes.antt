@@ -44,21 +44,21 @@ one_counted counts slot before after result known is counted = record {
 -- ---- images as the code has them
 
 -- after a call on one image, which keeps its length
-pub image_given : (images : List Image) (slot : ℕ) (old new : Image) → old ≡ get_or images slot old → new.sectors ≡ old.sectors → given_of (slots_of (set images slot new)) ≡ given_of (slots_of images)
-image_given images slot old new is same =
-    let kept : map (λ (image : Image). image.sectors) (set images slot new) ≡ map (λ (image : Image). image.sectors) images
-    = map-set_same (λ (image : Image). image.sectors) images slot new old (same ∙ ap (λ (image : Image). image.sectors) is) in
+pub image_given : {D : Type 0} (images : List (Image D)) (slot : ℕ) (old new : Image D) → old ≡ get_or images slot old → new.sectors ≡ old.sectors → given_of (slots_of (set images slot new)) ≡ given_of (slots_of images)
+image_given {D} images slot old new is same =
+    let kept : map (λ (image : Image D). image.sectors) (set images slot new) ≡ map (λ (image : Image D). image.sectors) images
+    = map-set_same (λ (image : Image D). image.sectors) images slot new old (same ∙ ap (λ (image : Image D). image.sectors) is) in
     ap (λ (l : List ℕ). let given : Given = record { slots = length l; sectors = slice_index l; start = λ s k. [] } in given) kept
 
-pub image_cause : {T E : Type 0} (images : List Image) (slots : Slots) (slot : ℕ) (old new : Image) (result : Result T E) → slots_of images ≡ slots → slot < length slots.sectors
+pub image_cause : {D T E : Type 0} (images : List (Image D)) (slots : Slots) (slot : ℕ) (old new : Image D) (result : Result T E) → slots_of images ≡ slots → slot < length slots.sectors
     → old ≡ get_or images slot old → IsCounted old.faults new.faults result
-    → HasCause slot (slice_index slots.faults) (slice_index (map (λ (image : Image). image.faults) (set images slot new))) result
-image_cause {T} {E} images slots slot old new result seen known is counted =
-    rw (sym (ap (λ (s : Slots). s.faults) seen)) (rw (map-set (λ (image : Image). image.faults) images slot new)
-    (one_counted (map (λ (image : Image). image.faults) images) slot old.faults new.faults result (omega (arith, in_images, length-map images (λ (image : Image). image.faults))) here counted))
+    → HasCause slot (slice_index slots.faults) (slice_index (map (λ (image : Image D). image.faults) (set images slot new))) result
+image_cause {D} {T} {E} images slots slot old new result seen known is counted =
+    rw (sym (ap (λ (s : Slots). s.faults) seen)) (rw (map-set (λ (image : Image D). image.faults) images slot new)
+    (one_counted (map (λ (image : Image D). image.faults) images) slot old.faults new.faults result (omega (arith, in_images, length-map images (λ (image : Image D). image.faults))) here counted))
   where
     in_images : slot < length images
-    in_images = let as_long = ap (λ (s : Slots). length s.sectors) seen in omega (arith, known, as_long, length-map images (λ (image : Image). image.sectors))
+    in_images = let as_long = ap (λ (s : Slots). length s.sectors) seen in omega (arith, known, as_long, length-map images (λ (image : Image D). image.sectors))
 
-    here : get_or (map (λ (image : Image). image.faults) images) slot 0 ≡ old.faults
-    here = get_or-map (λ (image : Image). image.faults) images slot old 0 in_images ∙ ap (λ (image : Image). image.faults) (sym is)
+    here : get_or (map (λ (image : Image D). image.faults) images) slot 0 ≡ old.faults
+    here = get_or-map (λ (image : Image D). image.faults) images slot old 0 in_images ∙ ap (λ (image : Image D). image.faults) (sym is)

@@ -9,7 +9,7 @@ pub record Slots : Type 0 where
   pub faults : List ℕ
 
 -- those of open files
-abbrev pub slots_of : List Image → Slots
+abbrev pub slots_of : {D : Type 0} → List (Image D) → Slots
 slots_of images = record { sectors = map (λ image. image.sectors) images; faults = map (λ image. image.faults) images }
 
 -- what never changes; of the contents nothing is told

@@ -4,9 +4,11 @@ ghost use Rattle.bank_file.specs.Images.{given_of};
 ghost use Rattle.bank_file.specs.declared.file_bank.FileFault.TheVariants.{CannotOpen};
 
 use crate::image::Image;
+use crate::image_file::ImageFile;
 use bank::{Bank, BankFault};
 use std::alloc::Global;
 use std::fs::{File, Files};
+use std::io;
 use std::marker::Model;
 use thiserror::Error;
 
@@ -24,7 +26,7 @@ pub enum FileFault {
 /// A bank whose slots are image files. It tells nothing of what they hold.
 #[derive(Drop)]
 pub struct FileBank {
-    images: Vec<Image>,
+    images: Vec<Image<ImageFile>>,
 }
 
 impl Model for FileBank {
@@ -36,6 +38,23 @@ impl Model for FileBank {
     ghost view = { λ bank. slots_of bank.images.items };
 
     ghost invariant = { λ bank. length bank.images.items < 2 ^ 32 };
+}
+
+// Opens and locks an existing file that is none of these.
+fn open_apart<R: Files<File = File>>(
+    rt: &R,
+    path: &str,
+    images: &[Image<ImageFile>],
+) -> io::Result<Image<ImageFile>>
+    ensures { IfOk result (λ image. image.faults ≡ 0) }
+{
+    let file = ImageFile::open(rt, path)?;
+    if images.iter().any(|image| image.device.is_same(&file)) {
+        return Err(io::ErrorKind::ResourceBusy.into());
+    }
+    file.lock()?;
+    let bytes = file.length;
+    Ok(Image::new(file, bytes))
 }
 
 impl FileBank {
@@ -56,7 +75,7 @@ impl FileBank {
             if place == u32::MAX {
                 return Err(FileFault::CannotOpen(place));
             }
-            let image = Image::open(rt, path.as_str(), &images).map_err(|_| FileFault::CannotOpen(
+            let image = open_apart(rt, path.as_str(), &images).map_err(|_| FileFault::CannotOpen(
                 place,
             ))?;
             images.push_reserved(image);

@@ -1,120 +1,85 @@
-// An image file, open and locked.
-ghost use Rattle.std.specs.Prelude.{◌≡◌, ◌*◌, ◌+◌, ◌/◌, ◌<◌, ◌≤◌, ◌^◌, length, IfOk};
+// A file in sectors, whose failures are counted.
+ghost use Rattle.std.specs.Prelude.{◌≡◌, ◌*◌, ◌+◌, ◌/◌, ◌<◌, ◌≤◌, ◌^◌, ℕ, length, OnOk, IsErr};
+ghost use Rattle.bank_file.specs.Bytes.{AreBytes, IsPut, AreSame};
 ghost use Rattle.bank_file.specs.Counted.{IsCounted};
 
+use crate::device::{Device, read_whole, write_whole};
 use bank::BankFault;
-use std::fs::{File, Files, Metadata, OpenOptions, TryLockError};
-use std::io;
-use std::os::fd::AsRawFd;
-use std::os::unix::fs::{FileExt, MetadataExt};
 
-/// An image file, its length in sectors, and how often it has failed.
+/// An image, its length in sectors, and how often it has failed.
 #[derive(Drop)]
-pub struct Image {
-    file: File,
-    device: u64,
-    inode: u64,
+pub struct Image<D> {
+    pub device: D,
     pub sectors: u64,
     pub faults: u64,
     ghost short: { sectors < 2 ^ 55 },
 }
 
-// The whole sectors of so many bytes.
-fn whole_sectors(bytes: u64) -> u64
-    ensures { result ≡ bytes / 512 }
-{
-    bytes / 512
-}
-
-// Where a sector begins, in bytes.
-fn offset_of(sector: u64) -> u64
-    requires { sector < 2 ^ 55 }
-    ensures { result ≡ 512 * sector }
-{
-    512 * sector
-}
-
-// Locks the file against other openings, where its file system knows locks.
-fn lock(file: &File) -> io::Result<()> {
-    match file.try_lock() {
-        Err(TryLockError::WouldBlock) => Err(io::ErrorKind::WouldBlock.into()),
-        Err(TryLockError::Error(_)) | Ok(()) => Ok(()),
-    }
-}
-
-// The same file under a number that isn't a standard stream's. So nothing that is printed lands in an image where a
-// stream was closed.
-fn above_streams(file: File) -> io::Result<File> {
-    if file.as_raw_fd() > 2 {
-        return Ok(file);
-    }
-    file.try_clone()
-}
-
-impl Image {
-    /// Opens and locks an existing file that is none of these.
-    pub fn open<R: Files<File = File>>(rt: &R, path: &str, others: &[Image]) -> io::Result<Image>
-        ensures { IfOk result (λ image. image.faults ≡ 0) }
+impl<D> Image<D> {
+    /// The whole sectors of a device of so many bytes.
+    pub fn new(device: D, bytes: u64) -> Image<D>
+        ensures device { result.device ≡ device }
+        ensures sectors { result.sectors ≡ bytes / 512 }
+        ensures faults { result.faults ≡ 0 }
     {
-        let opened = OpenOptions::new().read(true).write(true).open(rt, path)?;
-        let file = above_streams(opened)?;
-        let found = file.metadata()?;
-        if others.iter().any(|image| image.is_same_file(&found)) {
-            return Err(io::ErrorKind::ResourceBusy.into());
-        }
-        lock(&file)?;
-        Ok(Image {
-            file,
-            device: found.dev(),
-            inode: found.ino(),
-            sectors: whole_sectors(found.len()),
+        Image {
+            device,
+            sectors: bytes / 512,
             faults: 0,
-        })
-    }
-
-    fn is_same_file(&self, found: &Metadata) -> bool {
-        self.device == found.dev() && self.inode == found.ino()
+        }
     }
 
     // Counts a failure.
     fn fail(&mut self) -> Result<(), BankFault>
+        ensures err { IsErr result }
         ensures counted { IsCounted self.old.faults self.new.faults result }
         ensures sectors { self.new.sectors ≡ self.old.sectors }
+        ensures device { self.new.device ≡ self.old.device }
     {
         self.faults = self.faults.saturating_add(1);
         Err(BankFault::Failed)
     }
+}
 
-    /// Reads the sectors from `at` on, in one call of the system where that moves all of them.
+impl<D: Device> Image<D> {
+    /// Reads the sectors from `at` on.
     pub fn read(&mut self, at: u64, into: &mut [u8]) -> Result<(), BankFault>
-        requires { at + length into.old / 512 ≤ self.old.sectors }
+        requires whole { 512 * (length into.old / 512) ≡ length into.old }
+        requires within { at + length into.old / 512 ≤ self.old.sectors }
+        ensures ok { OnOk result (D.tells → AreBytes (D.bytes self.old.device) (512 * at) (length into.old) into.new) }
+        ensures same { D.tells → AreSame (D.bytes self.old.device) (D.bytes self.new.device) }
         ensures counted { IsCounted self.old.faults self.new.faults result }
         ensures sectors { self.new.sectors ≡ self.old.sectors }
     {
-        if self.faults == 0 && self.file.read_exact_at(into, offset_of(at)).is_ok() {
+        if self.faults == 0 && read_whole(&mut self.device, into, 512 * at).is_ok() {
             return Ok(());
         }
         self.fail()
     }
 
-    /// Writes the sectors from `at` on, in the same way.
+    /// Writes the sectors from `at` on. After an `Err` the first of their bytes are written.
     pub fn write(&mut self, at: u64, from: &[u8]) -> Result<(), BankFault>
-        requires { at + length from.now / 512 ≤ self.old.sectors }
+        requires whole { 512 * (length from.now / 512) ≡ length from.now }
+        requires within { at + length from.now / 512 ≤ self.old.sectors }
+        ensures some { D.tells → (count : ℕ) × (count ≤ length from.now) × IsPut (D.bytes self.old.device) (D.bytes self.new.device) (512 * at) count from.now }
+        ensures all { OnOk result (D.tells → IsPut (D.bytes self.old.device) (D.bytes self.new.device) (512 * at) (length from.now) from.now) }
         ensures counted { IsCounted self.old.faults self.new.faults result }
         ensures sectors { self.new.sectors ≡ self.old.sectors }
     {
-        if self.faults == 0 && self.file.write_all_at(from, offset_of(at)).is_ok() {
+        if self.faults == 0 && write_whole(&mut self.device, from, 512 * at).is_ok() {
             return Ok(());
         }
         self.fail()
     }
 
-    /// Waits until the disk has what was written. The length is never changed, so the data alone are synced.
+    /// Makes what was written safe.
     pub fn flush(&mut self) -> Result<(), BankFault>
+        ensures synced { OnOk result (D.tells → AreSame (D.bytes self.new.device) (D.synced self.new.device)) }
+        ensures same { D.tells → AreSame (D.bytes self.old.device) (D.bytes self.new.device) }
         ensures counted { IsCounted self.old.faults self.new.faults result }
         ensures sectors { self.new.sectors ≡ self.old.sectors }
     {
-        if self.faults == 0 && self.file.sync_data().is_ok() {
+        if self.faults == 0 && self.device.sync().is_ok() {
             return Ok(());
         }
         self.fail()

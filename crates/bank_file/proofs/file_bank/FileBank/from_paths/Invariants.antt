@@ -1,4 +1,4 @@
-use Rattle.std.proofs.Common.{◌≡◌, ◌+◌, ◌<◌, ◌^◌, ℕ, length, replicate, vec_len, vec_capacity, map}
+use Rattle.std.proofs.Common.{◌≡◌, ◌<◌, ◌^◌, length, replicate, vec_len, vec_capacity}
 use Rattle.bank_file.specs.Images.{slots_of}
 use Rattle.bank_file.proofs.file_bank.FileBank.from_paths.Given as goal
 
