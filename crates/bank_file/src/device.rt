@@ -2,6 +2,7 @@
 ghost use Rattle.std.specs.Prelude.{◌≡◌, ◌+◌, ◌<◌, ◌≤◌, ◌^◌, ℕ, length, IfOk, OnOk, OnErr};
 ghost use Rattle.bank_file.specs.Bytes.{AreBytes, IsPut, AreSame};
 
+use bank::BankFault;
 use std::io;
 
 /// A file, as an image needs it. What it holds is told only where the type says so.
@@ -34,7 +35,7 @@ pub trait Device {
 }
 
 /// Reads the whole buffer. What a signal interrupts is tried again.
-pub fn read_whole<D: Device>(device: &mut D, into: &mut [u8], offset: u64) -> io::Result<()>
+pub fn read_whole<D: Device>(device: &mut D, into: &mut [u8], offset: u64) -> Result<(), BankFault>
     requires { offset + length into.old < 2 ^ 64 }
     ensures ok { OnOk result (D.tells → AreBytes (D.bytes device.old) offset (length into.old) into.new) }
     ensures same { D.tells → AreSame (D.bytes device.old) (D.bytes device.new) }
@@ -45,20 +46,20 @@ pub fn read_whole<D: Device>(device: &mut D, into: &mut [u8], offset: u64) -> io
             return Ok(());
         }
         match device.read_some(&mut into[done..], offset + done as u64) {
-            Ok(0) => return Err(io::ErrorKind::UnexpectedEof.into()),
+            Ok(0) => return Err(BankFault::Failed),
             Ok(count) => done += count,
             Err(error) => {
                 if error.kind() != io::ErrorKind::Interrupted {
-                    return Err(error);
+                    return Err(BankFault::Failed);
                 }
             }
         }
     }
-    Err(io::ErrorKind::Other.into())
+    Err(BankFault::Failed)
 }
 
 /// Writes the whole buffer in the same way. After an `Err` the first of its bytes are written.
-pub fn write_whole<D: Device>(device: &mut D, from: &[u8], offset: u64) -> io::Result<()>
+pub fn write_whole<D: Device>(device: &mut D, from: &[u8], offset: u64) -> Result<(), BankFault>
     requires { offset + length from.now < 2 ^ 64 }
     ensures some { D.tells → (count : ℕ) × (count ≤ length from.now) × IsPut (D.bytes device.old) (D.bytes device.new) offset count from.now }
     ensures all { OnOk result (D.tells → IsPut (D.bytes device.old) (D.bytes device.new) offset (length from.now) from.now) }
@@ -69,14 +70,14 @@ pub fn write_whole<D: Device>(device: &mut D, from: &[u8], offset: u64) -> io::R
             return Ok(());
         }
         match device.write_some(&from[done..], offset + done as u64) {
-            Ok(0) => return Err(io::ErrorKind::WriteZero.into()),
+            Ok(0) => return Err(BankFault::Failed),
             Ok(count) => done += count,
             Err(error) => {
                 if error.kind() != io::ErrorKind::Interrupted {
-                    return Err(error);
+                    return Err(BankFault::Failed);
                 }
             }
         }
     }
-    Err(io::ErrorKind::Other.into())
+    Err(BankFault::Failed)
 }

@@ -75,10 +75,10 @@ impl FileBank {
             if place == u32::MAX {
                 return Err(FileFault::CannotOpen(place));
             }
-            let image = open_apart(rt, path.as_str(), &images).map_err(|_| FileFault::CannotOpen(
-                place,
-            ))?;
-            images.push_reserved(image);
+            match open_apart(rt, path.as_str(), &images) {
+                Ok(image) => images.push_reserved(image),
+                Err(_) => return Err(FileFault::CannotOpen(place)),
+            }
         }
         Ok(FileBank { images })
     }

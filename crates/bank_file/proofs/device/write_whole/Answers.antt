@@ -1,5 +1,5 @@
 use Rattle.std.proofs.Common.{length, drop, ◌-◌, arith}
-use Rattle.std.proofs.lemmas.List.{length-take, length-drop}
+use Rattle.std.proofs.lemmas.List.{length-take}
 use Rattle.bank_file.proofs.Moves.{put_more, put_same}
 use Rattle.bank_file.proofs.device.write_whole.Goals as goal
 use Rattle.bank_file.proofs.device.write_whole.Goals.{in-Ok, in-Err+else-ne}
