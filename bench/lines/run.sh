@@ -8,7 +8,7 @@
 set -euo pipefail
 here=$(cd "$(dirname "$0")" && pwd)
 program=${PROGRAM:-$here/../../crates/mdgrow/out/mdgrow}
-[ -x "$program" ] || { echo "no program at $program: build it by ./mdgrow" >&2; exit 1; }
+[ -x "$program" ] || { echo "no program at $program: build it by ./mdgrow prove" >&2; exit 1; }
 work=$(mktemp -d)
 trap 'rm -rf "$work"' EXIT
 

@@ -1,0 +1,7 @@
+use Rattle.std.proofs.Common.{◌≡◌, ◌≤◌, length}
+use Rattle.bank_file.specs.Bytes.{AreBytes, AreSame}
+use Rattle.bank_file.proofs.device.read_whole.Given as goal
+
+abbrev pub invariant-loop-turn : goal.invariant-loop-turn
+invariant-loop-turn g l = (l.done ≤ length l.into) × (length l.into ≡ length l.fn.into) × (g.D.Device.tells → AreBytes (g.D.Device.bytes l.fn.device) l.offset l.done l.into)
+    × (g.D.Device.tells → AreSame (g.D.Device.bytes l.fn.device) (g.D.Device.bytes l.device))

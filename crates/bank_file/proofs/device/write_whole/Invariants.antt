@@ -1,0 +1,6 @@
+use Rattle.std.proofs.Common.{◌≤◌, length}
+use Rattle.bank_file.specs.Bytes.{IsPut}
+use Rattle.bank_file.proofs.device.write_whole.Given as goal
+
+abbrev pub invariant-loop-turn : goal.invariant-loop-turn
+invariant-loop-turn g l = (l.done ≤ length l.from) × (g.D.Device.tells → IsPut (g.D.Device.bytes l.fn.device) (g.D.Device.bytes l.device) l.offset l.done l.from)

@@ -1,0 +1,15 @@
+-- Bytes at offsets, read and written.
+use Rattle.std.specs.Prelude.{◌≡◌, ◌⊎◌, ◌+◌, ◌<◌, ◌≤◌, ℕ, List, slice_index}
+
+-- the first bytes of a buffer, so many, are those from the offset on
+abbrev pub AreBytes : (ℕ → ℕ) → ℕ → ℕ → List ℕ → Type 0
+AreBytes bytes offset count buffer = (i : ℕ) → i < count → slice_index buffer i ≡ bytes (offset + i)
+
+-- The first bytes of a buffer, so many, were put at the offset, and all other bytes are as before.
+pub record IsPut (before after : ℕ → ℕ) (offset count : ℕ) (buffer : List ℕ) : Type 0 where
+  pub inside : (i : ℕ) → i < count → after (offset + i) ≡ slice_index buffer i
+  pub outside : (i : ℕ) → (i < offset) ⊎ (offset + count ≤ i) → after i ≡ before i
+
+-- no byte changed
+abbrev pub AreSame : (ℕ → ℕ) → (ℕ → ℕ) → Type 0
+AreSame before after = (i : ℕ) → after i ≡ before i
