@@ -3,7 +3,7 @@
 
 use crate::arrays::{SHAPE, SPEC, bank_of, made, opened, put};
 use array::CreateSpec;
-use assemble::refusal_of_create;
+use assemble::{Opened, refusal_of_create};
 use bank::{Bank, MemoryBank, Op};
 use md_base::{Fault, Refusal, Role, Shape};
 use mdadm_images::{
@@ -17,6 +17,23 @@ use std::test::Fail;
 /// The roles, the spares, the slots that are given and those that are lost; or the refusal.
 type Answer = Result<(&'static [Role], &'static [u32], u32, u32), Refusal>;
 
+fn says(opened: &Opened, wanted: &Answer) -> bool {
+    let Ok((roles, spares, given, lost)) = wanted else {
+        return false;
+    };
+    opened.members.roles.as_slice() == *roles
+        && opened.members.spares.as_slice() == *spares
+        && opened.given == *given
+        && opened.members.lost == *lost
+}
+
+fn is_refused(refusal: Refusal, wanted: &Answer) -> bool {
+    match wanted {
+        Ok(_) => false,
+        Err(other) => refusal == *other,
+    }
+}
+
 // Whether an opening answers so.
 fn opens(
     rt: &impl Abort,
@@ -25,15 +42,10 @@ fn opens(
     backup: Option<u32>,
     wanted: &Answer,
 ) -> bool {
-    match (opened(rt, alloc, bank, backup), wanted) {
-        (Ok(opened), Ok((roles, spares, given, lost))) => {
-            opened.members.roles.as_slice() == *roles
-                && opened.members.spares.as_slice() == *spares
-                && opened.given == *given
-                && opened.members.lost == *lost
-        }
-        (Err(Fault::Refused(refusal)), Err(other)) => refusal == *other,
-        _ => false,
+    match opened(rt, alloc, bank, backup) {
+        Ok(opened) => says(&opened, wanted),
+        Err(Fault::Refused(refusal)) => is_refused(refusal, wanted),
+        Err(_) => false,
     }
 }
 
@@ -319,7 +331,8 @@ fn compare_faults(rt: &impl Abort, alloc: Global, faults: &[(u64, u32)]) -> Resu
 
 #[test]
 fn arrays_that_are_made(rt: HostRuntime) -> Result<(), Fail> {
-    compare_homeless(&rt, rt.alloc(), &HOMELESS)?;
+    let homeless = HOMELESS;
+    compare_homeless(&rt, rt.alloc(), &homeless)?;
     compare_made(&rt, rt.alloc())?;
     compare_faults(&rt, rt.alloc(), &FAULTS)
 }

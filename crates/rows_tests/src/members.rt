@@ -72,6 +72,11 @@ pub fn fill_sector(number: u64, sector: &mut [u8]) {
     }
 }
 
+// How many members may be missing.
+pub fn tolerated(shape: &Shape) -> u32 {
+    if shape.level == 6 { 2 } else { 1 }
+}
+
 // How many sectors the list has.
 pub fn list_length(shape: &Shape) -> u64
     ensures some { 100 < result }

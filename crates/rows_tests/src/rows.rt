@@ -8,10 +8,11 @@ ghost use Rattle.row_io.specs.Rows.{reading_of, IsRow};
 ghost use Rattle.row_io.specs.Writes.{AreApart};
 
 use crate::checks::{fits, shape_of};
-use crate::members::{ROWS, bank_of, fill_sector, list_length, members_of, next, slot_of, stored};
+use crate::members::{
+    ROWS, bank_of, fill_sector, list_length, members_of, next, slot_of, stored, tolerated,
+};
 use bank::{Bank, MemoryBank};
 use layout::{place, row_of};
-use list_io::tolerance;
 use md_base::{Place, Shape};
 use row_io::{read_row, write_row};
 use std::alloc::Global;
@@ -27,7 +28,11 @@ fn fits_row<B: Bank>(bank: &B, members: &Members, shape: &Shape, row: u64) -> bo
     ensures row { IsTrue result → IsRow (B.given bank.now) (reading_of members.now) shape.now row }
     ensures apart { IsTrue result → AreApart (reading_of members.now) }
 {
-    fits(bank, members, shape) && row < members.newest.size
+    let size = members.newest.size;
+    if row >= size {
+        return false;
+    }
+    fits(bank, members, shape)
 }
 
 // Sets a role's sector of a row.
@@ -130,7 +135,7 @@ fn try_members(
 fn try_layout(rt: &impl Abort, alloc: Global, level: u32, layout: u32) -> Result<(), Fail> {
     let shape = shape_of(rt, level, layout);
     for missing in 0..32u32 {
-        if missing.count_ones() <= tolerance(&shape) {
+        if missing.count_ones() <= tolerated(&shape) {
             for recovered in [None, Some(13)] {
                 let mut bank = bank_of(alloc, &[])?;
                 let mut members = members_of(alloc, missing, recovered)?;
@@ -153,7 +158,7 @@ fn try_failures(rt: &impl Abort, alloc: Global, shape: &Shape) -> Result<(), Fai
         let mut bank = bank_of(alloc, &[first, second])?;
         let mut members = members_of(alloc, 0, None)?;
         try_members(rt, &mut bank, &mut members, shape, first);
-        assert!(rt; members.lost.count_ones() == tolerance(shape), "{first}");
+        assert!(rt; members.lost.count_ones() == tolerated(shape), "{first}");
     }
     Ok(())
 }

@@ -7,11 +7,32 @@ use sb1::Sb;
 use std::alloc::Global;
 use std::process::Abort;
 use std::test::Fail;
+use superblocks::Members;
 
 /// The event count, the roles and the lost slots, or the refusal.
 type Answer = Result<(u64, [Role; 5], u32), Refusal>;
 
-// Whether an election is answered so; where there are four roles, the fifth is `Missing`. There are no spares.
+// Whether the members say this; where there are four roles, the fifth is `Missing`. There are no spares.
+fn says(members: &Members, wanted: &Answer) -> bool {
+    let Ok((events, roles, lost)) = wanted else {
+        return false;
+    };
+    let count = members.roles.len();
+    members.newest.events == *events
+        && count <= 5
+        && members.roles.as_slice() == &roles[..count]
+        && members.spares.len() == 0
+        && members.lost == *lost
+}
+
+fn is_refused(refusal: Refusal, wanted: &Answer) -> bool {
+    match wanted {
+        Ok(_) => false,
+        Err(other) => refusal == *other,
+    }
+}
+
+// Whether an election is answered so.
 fn answers(
     rt: &impl Abort,
     alloc: Global,
@@ -21,19 +42,10 @@ fn answers(
     wanted: &Answer,
 ) -> Result<bool, Fail> {
     let mut bank = bank_of(rt, alloc, superblocks, sectors, 0, failing)?;
-    match (said_of(rt, alloc, &mut bank), wanted) {
-        (Ok(members), Ok((events, roles, lost))) => {
-            let count = members.roles.len();
-            Ok(
-                members.newest.events == *events
-                    && count <= 5
-                    && members.roles.as_slice() == &roles[..count]
-                    && members.spares.len() == 0
-                    && members.lost == *lost,
-            )
-        }
-        (Err(Fault::Refused(refusal)), Err(other)) => Ok(refusal == *other),
-        _ => Ok(false),
+    match said_of(rt, alloc, &mut bank) {
+        Ok(members) => Ok(says(&members, wanted)),
+        Err(Fault::Refused(refusal)) => Ok(is_refused(refusal, wanted)),
+        Err(_) => Ok(false),
     }
 }
 

@@ -31,6 +31,7 @@ type Said = (u64, u64, [Role; 4], u32);
 /// An update: the role entries and the clean mark of five devices, the event count and the clean mark of the first, what
 /// slot 4 gets, what is said before the update and after it, and the slots in the order in which they are written, each
 /// with what is said where it is lost then.
+#[derive(Clone, Copy)]
 struct Case {
     entries: [u16; 5],
     mark: u64,
@@ -264,12 +265,18 @@ fn try_failing(rt: &impl Abort, alloc: Global, case: &Case, number: u64) -> Resu
 }
 
 // Each call of the update, of at most 12, is to fail, and then none.
+fn try_case(rt: &impl Abort, alloc: Global, case: &Case) -> Result<(), Fail> {
+    for number in 0..13u64 {
+        try_failing(rt, alloc, case, number)?;
+    }
+    Ok(())
+}
+
 #[test]
 fn updates_that_are_stopped(rt: HostRuntime) -> Result<(), Fail> {
-    for case in &CASES {
-        for number in 0..13u64 {
-            try_failing(&rt, rt.alloc(), case, number)?;
-        }
+    let cases = CASES;
+    for case in &cases {
+        try_case(&rt, rt.alloc(), case)?;
     }
     Ok(())
 }
