@@ -1,0 +1,5 @@
+//! Tests of the backup slot's calls.
+#![tactic(auto)]
+
+#[cfg(test)]
+mod tests;
