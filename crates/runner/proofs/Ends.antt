@@ -31,7 +31,12 @@ use Rattle.runner.specs.Runs.{status_for, stop_of, IsHalted, AreLinesPerformed, 
 use Rattle.runner.specs.Sessions.{counted, IsCourse, IsCourseBehind, taken_whole, IsTaken, IsPerformed, IsShownTo}
 use Rattle.runner.specs.Shown.{report_text, has_refusal}
 use Rattle.runner.specs.States.{running_history, histories_in, course_in, RunsOwn, IsLossSince, AreLossesFrom, IsCallNamed, IsFoundUntold}
+use Rattle.runner.specs.Ended.{AreRising}
+use Rattle.runner.specs.Written.{AreWritesPlaced, IsWritten}
+use Rattle.views.specs.Moving.{Grows}
 use Rattle.runner.proofs.AskLaws.{one, with_reply}
+use Rattle.runner.proofs.Legal.{grows_longer}
+use Rattle.runner.proofs.Writing.{placed-end, quiet-between}
 use Rattle.runner.proofs.Growth.{IsWider, replies_stay, replies_front, shown_stays, courses_stay, course_stays, called_named, called_stays}
 use Rattle.runner.proofs.Losses.{losses-halted, losses-whole, losses-kept, losses-last, losses_add}
 use Rattle.runner.proofs.Turns.{now_are, turn_ended, grown_kept, get_last}
@@ -143,8 +148,17 @@ module _ {B bank_tells : Type 0} {given : Given} {backup : Option ℕ} {tape : L
       )
       by_first (l ∷ ls) (inr untold) = inr (by_line l.line untold)
 
-  pub end_performed : (session.stopped ≡ None → length session.replies.items ≡ length lines) → AreLinesPerformed (setting_of bank_tells given first_tape tape backup start now) lines (stop_of status) epochs session.replies.items
-  end_performed all = record {
+  -- the writes, once the array is halted
+  end_written : bank_tells → length first_tape ≤ length tape → IsWritten (setting_of bank_tells given tape tape backup now now) (histories_in session.state) (histories_of epochs) (λ slot. ⊥)
+      → AreWritesPlaced (setting_of bank_tells given first_tape tape backup start now) (histories_of epochs) (stop_of status) lines session.replies.items
+  end_written t longer written =
+      subst (λ (o : Option Stop). AreWritesPlaced (setting_of bank_tells given first_tape tape backup start now) (histories_of epochs) o lines session.replies.items) (sym is_stop)
+      (placed-end (setting_of bank_tells given first_tape tape backup start now) (setting_of bank_tells given tape tape backup now now) (histories_in session.state) (histories_of epochs) session.stopped lines session.replies.items longer written (performed.written t))
+
+  pub end_performed : (session.stopped ≡ None → length session.replies.items ≡ length lines) → Grows bank_tells first_tape tape
+      → (bank_tells → IsWritten (setting_of bank_tells given tape tape backup now now) (histories_in session.state) (histories_of epochs) (λ slot. ⊥)) → (bank_tells → AreRising (length tape) (histories_of epochs))
+      → AreLinesPerformed (setting_of bank_tells given first_tape tape backup start now) lines (stop_of status) epochs session.replies.items
+  end_performed all grows written rising = record {
     few = performed.few;
     all = λ going. all (sym is_stop ∙ going);
     replies = replies_stay (setting_of bank_tells given first_tape tape backup start now) (setting_of bank_tells given first_tape tape backup start now) same_setting (histories_in session.state) (histories_of epochs) (at_rest 0) (take (length session.replies.items) lines) session.replies.items
@@ -154,6 +168,8 @@ module _ {B bank_tells : Type 0} {given : Given} {backup : Option ℕ} {tape : L
     halted = ended.halted;
     script = ended.script;
     ends = performed.ends;
+    written = λ t. end_written t (grows_longer grows t) (written t);
+    quiet = λ t. quiet-between (setting_of bank_tells given first_tape tape backup start now) (stop_of status) lines session.replies.items (length tape) epochs (rising t) (end_written t (grows_longer grows t) (written t));
   }
 
   end_setting : IsWider (setting_of bank_tells given tape tape backup now now) (setting_of bank_tells given first_tape tape backup start now)

@@ -103,6 +103,14 @@ former_grown {before = before} {after = after} given backup a b epochs grows tol
 pub former_same : (given : Given) (tape : List Operation) (backup : Option ℕ) (mark : ℕ) (olds news : List Epoch) → news ≡ olds → AreFormer given tape backup mark olds → AreFormer given tape backup mark news
 former_same given tape backup mark olds news same was = subst (λ (l : List Epoch). AreFormer given tape backup mark l) (sym same) was
 
+-- none did
+pub former_none : (given : Given) (tape : List Operation) (backup : Option ℕ) (mark : ℕ) (epochs : List Epoch) → epochs ≡ [] → AreFormer given tape backup mark epochs
+former_none given tape backup mark epochs empty = subst (λ (l : List Epoch). AreFormer given tape backup mark l) (sym empty) (record {
+  legal = All-nil (λ e. IsLegalEpoch given tape backup e);
+  safe = All-nil (λ e. IsSafeEpoch given tape backup e);
+  rising = tt;
+})
+
 -- no array ran, and none does
 pub idle_grown : {tells : Type 0} {before after : List Operation} (given : Given) (backup : Option ℕ) (olds news : List Epoch) → news ≡ olds → Grows tells before after
     → (tells → AreFormer given before backup (length before) olds) → tells → AreFormer given after backup (length after) news

@@ -13,3 +13,4 @@ pub mod Texts
 pub mod Turns
 pub mod Waits
 pub mod Worlds
+pub mod Writing

@@ -30,7 +30,9 @@ use Rattle.runner.specs.Shown.{reply_text, report_text, has_refusal}
 use Rattle.runner.specs.States.{histories_in, course_in, RunsOwn, IsByScript, AreOfScript, AreLossesFrom, AreGrown, EndsBetween, IsNextCourse, IsCourseOrNext}
 use Rattle.runner.specs.Sessions.{counted, IsEndNow, IsUnreplied, IsReplyMore, IsStep, IsCourse, taken_whole, IsTaken, IsStopCause, IsCourseBehind, IsPerformed, IsShownTo}
 use Rattle.runner.proofs.Growth.{IsWider, answer_wider, replies_stay, replies_more, course_more, courses_stay, shown_stays, text_more, refusal_more}
+use Rattle.runner.specs.Written.{AreWritesPlaced}
 use Rattle.runner.proofs.Losses.{losses_add}
+use Rattle.runner.proofs.Writing.{placed-none, placed-reply, placed-short}
 
 -- ---- where the replies were made
 
@@ -88,6 +90,9 @@ module _ {B bank_tells : Type 0} {given : Given} {backup : Option ℕ} {first_ta
       → (report_text (histories_in new.state) lines old.replies.items ≡ report_text (histories_in old.state) lines old.replies.items)
       × (has_refusal (histories_in new.state) lines old.replies.items ≡ has_refusal (histories_in old.state) lines old.replies.items)
   shown_still grown = shown_stays (setting_of bank_tells given first_tape mid_tape backup start mid) (histories_in old.state) (histories_in new.state) (at_rest 0) (length old.replies.items) lines old.replies.items grown performed.replies
+
+  written_before : bank_tells → AreWritesPlaced (setting_of bank_tells given first_tape mid_tape backup start mid) (histories_in old.state) None lines old.replies.items
+  written_before t = subst (λ (o : Option Stop). AreWritesPlaced (setting_of bank_tells given first_tape mid_tape backup start mid) (histories_in old.state) o lines old.replies.items) going (performed.written t)
 
   module _ (is : IsReplyMore (setting_of bank_tells given mid_tape tape backup mid now) old new numbered) where
     reply : LineReply
@@ -151,6 +156,9 @@ module _ {B bank_tells : Type 0} {given : Given} {backup : Option ℕ} {first_ta
       losses = losses_add (setting_of bank_tells given first_tape mid_tape backup start mid) (setting_of bank_tells given mid_tape tape backup mid now) (setting_of bank_tells given first_tape tape backup start now) wider_was wider_step (histories_in old.state) (histories_in new.state) is.replied.turn.grown performed.losses is.replied.turn.losses;
       ends = ends_new;
       refused = refused_new;
+      written = λ t. subst (λ (rs : List LineReply). AreWritesPlaced (setting_of bank_tells given first_tape tape backup start now) (histories_in new.state) new.stopped lines rs) (sym is.more)
+          (placed-reply given backup first_tape mid_tape tape start mid now (histories_in old.state) (histories_in new.state) lines old.replies.items nothing numbered t (grew.more t) lt here (performed.ends t) (written_before t) new.stopped is.made.reply is.replied.at_end
+          (is.replied.written t));
     }
 
     text_new : report_text (histories_in new.state) lines new.replies.items ≡ report_text (histories_in old.state) lines old.replies.items ++ reply_text (histories_in new.state) numbered.line is.made.reply
@@ -168,6 +176,9 @@ module _ {B bank_tells : Type 0} {given : Given} {backup : Option ℕ} {first_ta
     losses = losses_add (setting_of bank_tells given first_tape mid_tape backup start mid) (setting_of bank_tells given mid_tape tape backup mid now) (setting_of bank_tells given first_tape tape backup start now) wider_was wider_step (histories_in old.state) (histories_in new.state) none.grown performed.losses none.losses;
     ends = λ t. subst (λ (rs : List LineReply). AreInOrder (length first_tape) (length tape) rs) (sym same) (order_later (length first_tape) (length mid_tape) (length tape) old.replies.items (grows_longer grew t) (performed.ends t));
     refused = refused ∙ performed.refused ∙ sym ((shown_still none.grown).1) ∙ ap (λ (rs : List LineReply). has_refusal (histories_in new.state) lines rs) (sym same);
+    written = λ t. subst (λ (rs : List LineReply). AreWritesPlaced (setting_of bank_tells given first_tape tape backup start now) (histories_in new.state) new.stopped lines rs) (sym same)
+        (subst (λ (o : Option Stop). AreWritesPlaced (setting_of bank_tells given first_tape tape backup start now) (histories_in new.state) o lines old.replies.items) (sym stop)
+        (placed-short given backup first_tape mid_tape tape start mid now (histories_in old.state) (histories_in new.state) lines old.replies.items nothing numbered t (grew.more t) lt here (performed.ends t) (written_before t) (none.written t)));
   }
     where
       first_behind : drop (length old.replies.items) lines ≡ numbered ∷ drop (suc (length old.replies.items)) lines
@@ -260,6 +271,18 @@ performed_none {B = B} {bank_tells = bank_tells} {given = given} {backup = backu
   losses = subst (λ (s : State B). AreLossesFrom (setting_of bank_tells given tape tape backup start start) [] (histories_in s)) (sym idle) (subst (λ (l : List Epoch). AreLossesFrom (setting_of bank_tells given tape tape backup start start) [] (histories_of l)) (sym empty) tt);
   ends = λ t. subst (λ (rs : List LineReply). AreInOrder (length tape) (length tape) rs) (sym none) (omega arith);
   refused = refused ∙ ap (λ (rs : List LineReply). has_refusal (histories_in session.state) lines rs) (sym none);
+  written = λ t. placed-none (setting_of bank_tells given tape tape backup start start) (histories_in session.state) session.stopped lines session.replies.items (ap (λ (s : State B). histories_in s) idle ∙ ap histories_of empty) (omega arith);
+}
+
+-- and nothing was shown
+pub shown_none : {B : Type 0} (tells : Type 0) (lines : List Numbered) (session : Session B) (taken : List ℕ) (faults : ℕ) → session.replies.items ≡ [] → session.shown ≡ 0 → session.stopped ≡ None → IsShownTo tells lines session taken taken faults faults
+shown_none tells lines session taken faults none shown going = record {
+  taken = λ t. subst (λ (o : Option Stop). IsTaken o taken taken (report_text (histories_in session.state) lines session.replies.items)) (sym going)
+      (subst (λ (rs : List LineReply). taken ≡ taken ++ report_text (histories_in session.state) lines rs) (sym none) (sym (append-nil taken)));
+  shown = subst (λ (o : Option Stop). session.shown ≡ counted (length (report_text (histories_in session.state) lines (taken_whole o session.replies.items)))) (sym going)
+      (subst (λ (rs : List LineReply). session.shown ≡ counted (length (report_text (histories_in session.state) lines rs))) (sym none) shown);
+  cause = subst (λ (o : Option Stop). IsStopCause o faults faults) (sym going) tt;
+  never_falls = omega arith;
 }
 
 -- a line that went on has one reply more

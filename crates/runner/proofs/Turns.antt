@@ -52,11 +52,17 @@ use Rattle.runner.specs.declared.states.State.TheVariants.{Idle, Running}
 use Rattle.runner.specs.Asked.{script_who, IsAskedAt, IsAsked, IsStillWaiting, IsWaited}
 use Rattle.runner.specs.Histories.{History, history_of, histories_of, entry_at, is_end}
 use Rattle.runner.specs.Making.{Setting, held_at, history_world, MissingAtFirst, IsStoredNew, IsStoredAs}
-use Rattle.runner.specs.Replies.{Course, at_rest, begun, with_calls, course_behind, course_after, steps_at_once, IsRepliedAt, IsAnsweredInside, IsRefusedOutside, spec_of}
+use Rattle.runner.specs.Replies.{Course, at_rest, begun, with_calls, IsEnd, course_behind, course_after, steps_at_once, IsRepliedAt, IsAnsweredInside, IsRefusedOutside, spec_of}
 use Rattle.superblocks.specs.Reading.{shape_of}
 use Rattle.script.specs.Seeds.{seeded}
-use Rattle.runner.specs.Sessions.{IsUnreplied}
+use Rattle.script.specs.declared.lines.Numbered.{Numbered}
+use Rattle.script.specs.declared.reply.Lane.TheVariants.{Script as InScript}
+use Rattle.runner.specs.declared.report.LineReply.{LineReply}
+use Rattle.runner.specs.Sessions.{IsEndNow, IsReplied, IsUnreplied}
 use Rattle.runner.specs.States.{histories_in, course_in, IsNamed, EndsBetween, IsLossSince, AreLossesFrom, running_history, course_with, answer_at, IsGrown, AreGrown, AreLossesSince, IsTurn, IsNoTurn, IsTurnOrNone, RunsOwn, IsOwnEntry, AreByScript, IsByScript, AreOfScript}
+use Rattle.runner.specs.Written.{MayWrite, HasWritten, IsWritten, IsWrittenBy}
+use Rattle.runner.specs.Shown.{is_refusal}
+use Rattle.runner.proofs.Writing.{written-untold}
 use Rattle.runner.proofs.AskLaws.{one, with_reply, entry_there, replied_at}
 use Rattle.runner.proofs.Called.{HasCalled, called_none, called_once, called_own, called_grown, number_more}
 use Rattle.runner.proofs.Growth.{answer_named, answer_called}
@@ -502,10 +508,36 @@ module _ {B : Type 0} {what : Answered} {r : Result Answered NoMemory} (setting 
   turn_named = answer_named setting (histories_in new) (course_in old) line (length setting.tape) what turn.answer
 
   -- memory was short for its text
-  pub turn_unreplied : IsUnreplied setting old new line
-  turn_unreplied = record {
+  pub turn_unreplied : (setting.tells → IsWritten setting (histories_in old) (histories_in new) (MayWrite setting.given setting.backup line)) → IsUnreplied setting old new line
+  turn_unreplied written = record {
     own = turn.own;
     losses = turn.losses;
     grown = turn.grown;
     course = inr (inl (what, answer_called setting (histories_in new) (course_in old) line (length setting.tape) what turn.answer, turn.course));
+    written = written;
   }
+
+-- it is shown in a reply
+pub turn_replied : {B : Type 0} {what : Answered} {r : Result Answered NoMemory} (setting : Setting) (old new : State B) (numbered : Numbered) (reply : LineReply) (refused : Bool) → IsTurnOrNone setting old new numbered.line r → r ≡ Ok what → reply.what ≡ what
+    → reply.line ≡ numbered.number → reply.lane ≡ InScript → IsEnd (histories_in new) reply what → IsEndNow setting.tells (length setting.tape) reply what → refused ≡ is_refusal (histories_in new) numbered.line what
+    → (setting.tells → IsWrittenBy setting (histories_in old) (histories_in new) numbered.line r) → IsReplied setting old new numbered reply refused
+turn_replied setting old new numbered reply refused answered is told line lane end now refusal written = record {
+  turn = subst (λ (w : Answered). IsTurn setting old new numbered.line w) (sym told) (subst (λ (r : Result Answered NoMemory). IsTurnOrNone setting old new numbered.line r) is answered);
+  line = line;
+  lane = lane;
+  end = subst (λ (w : Answered). IsEnd (histories_in new) reply w) (sym told) end;
+  at_end = subst (λ (w : Answered). IsEndNow setting.tells (length setting.tape) reply w) (sym told) now;
+  refusal = refusal ∙ ap (λ (w : Answered). is_refusal (histories_in new) numbered.line w) (sym told);
+  written = λ t. subst (λ (w : Answered). IsWritten setting (histories_in old) (histories_in new) (HasWritten setting.given setting.backup numbered.line w)) (sym told)
+      (subst (λ (r : Result Answered NoMemory). IsWrittenBy setting (histories_in old) (histories_in new) numbered.line r) is (written t));
+}
+
+-- a reply that is not kept
+pub unreplied_of : {B : Type 0} (setting : Setting) (old new : State B) (numbered : Numbered) (reply : LineReply) (refused : Bool) → IsReplied setting old new numbered reply refused → IsUnreplied setting old new numbered.line
+unreplied_of setting old new numbered reply refused was = record {
+  own = was.turn.own;
+  losses = was.turn.losses;
+  grown = was.turn.grown;
+  course = inr (inl (reply.what, answer_called setting (histories_in new) (course_in old) numbered.line (length setting.tape) reply.what was.turn.answer, was.turn.course));
+  written = λ t. written-untold setting (histories_in old) (histories_in new) numbered.line reply.what (was.written t);
+}

@@ -11,3 +11,4 @@ pub mod Shown
 pub mod Source
 pub mod States
 pub mod Words
+pub mod Written

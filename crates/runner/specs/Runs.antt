@@ -20,6 +20,7 @@ use Rattle.runner.specs.Sessions.{IsCourse, counted, taken_whole, IsTaken}
 use Rattle.runner.specs.Shown.{report_text, has_refusal}
 use Rattle.runner.specs.Source.{IsTextOf}
 use Rattle.runner.specs.States.{histories_in, bank_in, course_in, AreOfScript, AreGrown, IsLossSince, AreLossesFrom}
+use Rattle.runner.specs.Written.{AreWritesPlaced, AreQuiet}
 
 -- The statuses: 0 done, 1 done with refusals, 2 bad words, 3 a bad line, 4 the source failed, 5 the sink failed, 6 memory was short.
 abbrev pub status_for : Option Stop → Bool → ℕ
@@ -52,6 +53,8 @@ pub record AreLinesPerformed (setting : Setting) (asked : List Numbered) (stoppe
   pub halted : AreHalted course (histories_of epochs)
   pub script : AreOfScript (histories_of epochs)
   pub ends : setting.tells → AreInOrder setting.began (length setting.tape) lines
+  pub written : setting.tells → AreWritesPlaced setting (histories_of epochs) stopped asked lines
+  pub quiet : setting.tells → AreQuiet setting stopped asked lines epochs
 
 -- 0 where no reply is a refusal, 1 where one is
 abbrev pub AreTold : ℕ → Bool → Type 0

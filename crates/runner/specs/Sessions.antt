@@ -18,6 +18,7 @@ use Rattle.runner.specs.Making.{Setting}
 use Rattle.runner.specs.Replies.{Course, at_rest, course_of, IsEnd, AreReplies, AreInOrder}
 use Rattle.runner.specs.Shown.{reply_text, report_text, is_refusal, has_refusal}
 use Rattle.runner.specs.States.{histories_in, course_in, RunsOwn, AreLossesFrom, AreGrown, IsNextCourse, IsCourseOrNext, IsTurn}
+use Rattle.runner.specs.Written.{MayWrite, HasWritten, AreWritesPlaced, IsWritten}
 
 -- so many bytes, as far as a u64 can count
 abbrev pub counted : ℕ → ℕ
@@ -36,6 +37,7 @@ pub record IsReplied {B : Type 0} (setting : Setting) (old new : State B) (numbe
   pub end : IsEnd (histories_in new) reply reply.what
   pub at_end : IsEndNow setting.tells (length setting.tape) reply reply.what
   pub refusal : refused ≡ is_refusal (histories_in new) numbered.line reply.what
+  pub written : setting.tells → IsWritten setting (histories_in old) (histories_in new) (HasWritten setting.given setting.backup numbered.line reply.what)
 
 -- no reply was made, for want of memory: the line was not performed, or it was the last one
 pub record IsUnreplied {B : Type 0} (setting : Setting) (old new : State B) (line : Line) : Type 0 where
@@ -43,6 +45,7 @@ pub record IsUnreplied {B : Type 0} (setting : Setting) (old new : State B) (lin
   pub losses : AreLossesFrom setting (histories_in old) (histories_in new)
   pub grown : AreGrown (histories_in old) (histories_in new)
   pub course : IsCourseOrNext (histories_in new) (course_in old) line (course_in new)
+  pub written : setting.tells → IsWritten setting (histories_in old) (histories_in new) (MayWrite setting.given setting.backup line)
 
 abbrev pub IsRepliedOrNot : {B : Type 0} → Setting → State B → State B → Numbered → List ℕ → Result Made NoMemory → Type 0
 IsRepliedOrNot setting old new numbered text (Ok made) = IsReplied setting old new numbered made.reply made.refused × (text ≡ reply_text (histories_in new) numbered.line made.reply)
@@ -120,6 +123,7 @@ pub record IsPerformed {B : Type 0} (setting : Setting) (lines : List Numbered) 
   pub losses : AreLossesFrom setting [] (histories_in session.state)
   pub ends : setting.tells → AreInOrder setting.began (length setting.tape) session.replies.items
   pub refused : session.refused ≡ has_refusal (histories_in session.state) lines session.replies.items
+  pub written : setting.tells → AreWritesPlaced setting (histories_in session.state) session.stopped lines session.replies.items
 
 -- their text went to the sink
 pub record IsShownTo {B : Type 0} (tells : Type 0) (lines : List Numbered) (session : Session B) (old new : List ℕ) (old_faults new_faults : ℕ) : Type 0 where

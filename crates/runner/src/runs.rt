@@ -7,7 +7,7 @@ ghost use Rattle.views.specs.Moving.{Grows};
 ghost use Rattle.text_io.specs.Causes.{HasRisen};
 ghost use Rattle.script.specs.Script.{script_of, is_within_limits};
 ghost use Rattle.runner.specs.Pace.{AnswersSteps, asked_by};
-ghost use Rattle.runner.specs.Ended.{IsRunKept, AreLegal, AreRight, AreFormer};
+ghost use Rattle.runner.specs.Ended.{IsRunKept, AreLegal, AreRight, AreRising, AreFormer};
 ghost use Rattle.runner.specs.Histories.{history_of, histories_of};
 ghost use Rattle.runner.specs.Kept.{AreKept};
 ghost use Rattle.runner.specs.Making.{setting_of};
@@ -15,7 +15,8 @@ ghost use Rattle.runner.specs.Runs.{mark_behind, status_for, stop_of, slots_for,
 ghost use Rattle.runner.specs.Sessions.{counted, taken_whole, IsTaken};
 ghost use Rattle.runner.specs.Shown.{report_text, has_refusal};
 ghost use Rattle.runner.specs.Source.{IsTextOf};
-ghost use Rattle.runner.specs.States.{bank_in, RunsOwn, IsFitBank};
+ghost use Rattle.runner.specs.States.{histories_in, bank_in, RunsOwn, IsFitBank};
+ghost use Rattle.runner.specs.Written.{IsWritten};
 ghost use Rattle.runner.specs.Words.{command_in};
 
 use crate::asks::script_call;
@@ -67,6 +68,7 @@ fn halt<B: Bank>(state: State<B>, backup: Option<u32>) -> (B, Vec<Epoch>)
     requires former { IsRunKept B.tells (B.given (bank_in state)) (B.tape (bank_in state)) backup state }
     ensures ended { IsEnded (setting_of B.tells (B.given (bank_in state)) (B.tape result.0) (B.tape result.0) backup (B.faults_of result.0) (B.faults_of result.0)) state result.0 result.1.items }
     ensures former { B.tells → AreFormer (B.given (bank_in state)) (B.tape result.0) backup (length (B.tape result.0)) result.1.items }
+    ensures written { B.tells → IsWritten (setting_of B.tells (B.given (bank_in state)) (B.tape result.0) (B.tape result.0) backup (B.faults_of result.0) (B.faults_of result.0)) (histories_in state) (histories_of result.1.items) (λ slot. ⊥) }
 {
     let _ = backup;
     match state {
@@ -119,6 +121,8 @@ fn end_run<B: Bank>(state: State<B>, backup: Option<u32>) -> (B, Vec<Epoch>)
     ensures right { B.tells → AreRight (B.given (bank_in state)) (B.tape result.0) backup result.1.items }
     ensures kept { B.tells → AreKept (B.given (bank_in state)) (B.tape result.0) backup result.1.items }
     ensures marks { B.tells → AreEndedAt (length (B.tape result.0)) result.1.items }
+    ensures written { B.tells → IsWritten (setting_of B.tells (B.given (bank_in state)) (B.tape result.0) (B.tape result.0) backup (B.faults_of result.0) (B.faults_of result.0)) (histories_in state) (histories_of result.1.items) (λ slot. ⊥) }
+    ensures rising { B.tells → AreRising (length (B.tape result.0)) (histories_of result.1.items) }
 {
     let (bank, mut epochs) = halt(state, backup);
     let ops = bank.ops();
@@ -204,7 +208,7 @@ fn run_script<B: Bank, S: Source, K: Sink>(
     ensures write_fault { result.status ≡ 5 → HasRisen (K.faults_of out.old) (K.faults_of out.new) }
     ensures performed { IsAfterLines result.status → IsScriptPerformed S.tells (S.left script.old) (S.left script.new) (setting_of B.tells (B.given bank) (B.tape bank) (B.tape result.bank) (Some 7) (B.faults_of bank) (B.faults_of result.bank)) (sunk_of K.tells (K.taken out.old) (K.taken out.new) result.shown) result.status result.epochs.items result.lines.items }
     ensures short { result.status ≡ 6 → IsScriptPerformed S.tells (S.left script.old) (S.left script.new) (setting_of B.tells (B.given bank) (B.tape bank) (B.tape result.bank) (Some 7) (B.faults_of bank) (B.faults_of result.bank)) (sunk_of K.tells (K.taken out.old) (K.taken out.new) result.shown) result.status result.epochs.items result.lines.items
-        ⊎ IsNothing (sunk_of K.tells (K.taken out.old) (K.taken out.new) result.shown) result.epochs.items result.lines.items }
+        ⊎ (IsNothing (sunk_of K.tells (K.taken out.old) (K.taken out.new) result.shown) result.epochs.items result.lines.items × (result.bank ≡ bank)) }
     ensures nothing { IsBeforeLines result.status → IsNothing (sunk_of K.tells (K.taken out.old) (K.taken out.new) result.shown) result.epochs.items result.lines.items }
     ensures untouched { IsBeforeLines result.status → result.bank ≡ bank }
     ensures legal { B.tells → AreLegal (B.given bank) (B.tape result.bank) (Some 7) result.epochs.items }
@@ -259,7 +263,7 @@ pub fn run<
     ensures write_fault { result.status ≡ 5 → HasRisen (K.faults_of out.old) (K.faults_of out.new) }
     ensures performed { IsAfterLines result.status → IsScriptPerformed S.tells (S.left script.old) (S.left script.new) (setting_of B.tells (B.given bank) (B.tape bank) (B.tape result.bank) (Some 7) (B.faults_of bank) (B.faults_of result.bank)) (sunk_of K.tells (K.taken out.old) (K.taken out.new) result.shown) result.status result.epochs.items result.lines.items }
     ensures short { result.status ≡ 6 → IsScriptPerformed S.tells (S.left script.old) (S.left script.new) (setting_of B.tells (B.given bank) (B.tape bank) (B.tape result.bank) (Some 7) (B.faults_of bank) (B.faults_of result.bank)) (sunk_of K.tells (K.taken out.old) (K.taken out.new) result.shown) result.status result.epochs.items result.lines.items
-        ⊎ IsNothing (sunk_of K.tells (K.taken out.old) (K.taken out.new) result.shown) result.epochs.items result.lines.items }
+        ⊎ (IsNothing (sunk_of K.tells (K.taken out.old) (K.taken out.new) result.shown) result.epochs.items result.lines.items × (result.bank ≡ bank)) }
     ensures nothing { IsBeforeLines result.status → IsNothing (sunk_of K.tells (K.taken out.old) (K.taken out.new) result.shown) result.epochs.items result.lines.items }
     ensures untouched { IsBeforeLines result.status → result.bank ≡ bank }
     ensures legal { B.tells → AreLegal (B.given bank) (B.tape result.bank) (Some 7) result.epochs.items }

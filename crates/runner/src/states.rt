@@ -11,6 +11,7 @@ ghost use Rattle.runner.specs.Ended.{IsRunKept};
 ghost use Rattle.runner.specs.Histories.{entry_at};
 ghost use Rattle.runner.specs.Making.{setting_of};
 ghost use Rattle.runner.specs.States.{answer_at, histories_in, bank_in, RunsOwn, IsFitBank, IsTurnOrNone, IsNamed};
+ghost use Rattle.runner.specs.Written.{IsWrittenBy};
 ghost use Rattle.runner.specs.declared.report.Answered.TheVariants.{Inside as AnsweredInside, Outside as AnsweredOutside};
 ghost use Rattle.runner.specs.declared.report.Outside.TheVariants.{Refused as IsRefused};
 ghost use Rattle.runner.specs.declared.states.State.TheVariants.{Idle as IsIdle, Running as IsRunning};
@@ -86,6 +87,7 @@ fn stop_array<B: Bank>(
     requires own { RunsOwn (IsRunning array epochs) }
     requires former { IsRunKept B.tells (B.given array.bank) (B.tape array.bank) backup (IsRunning array epochs) }
     ensures answered { IsTurnOrNone (setting_of B.tells (B.given array.bank) (B.tape array.bank) (B.tape (bank_in result.0)) backup (B.faults_of array.bank) (B.faults_of (bank_in result.0))) (IsRunning array epochs) result.0 AsksStop result.1 }
+    ensures written { B.tells → IsWrittenBy (setting_of B.tells (B.given array.bank) (B.tape array.bank) (B.tape (bank_in result.0)) backup (B.faults_of array.bank) (B.faults_of (bank_in result.0))) (histories_in (IsRunning array epochs)) (histories_in result.0) AsksStop result.1 }
     ensures former { IsRunKept B.tells (B.given array.bank) (B.tape (bank_in result.0)) backup result.0 }
     ensures never_falls { NeverFalls (B.faults_of array.bank) (B.faults_of (bank_in result.0)) }
     ensures grows { Grows B.tells (B.tape array.bank) (B.tape (bank_in result.0)) }
@@ -121,6 +123,7 @@ fn halt_array<B: Bank>(
     requires own { RunsOwn (IsRunning array epochs) }
     requires former { IsRunKept B.tells (B.given array.bank) (B.tape array.bank) backup (IsRunning array epochs) }
     ensures answered { IsTurnOrNone (setting_of B.tells (B.given array.bank) (B.tape array.bank) (B.tape (bank_in result.0)) backup (B.faults_of array.bank) (B.faults_of (bank_in result.0))) (IsRunning array epochs) result.0 AsksHalt result.1 }
+    ensures written { B.tells → IsWrittenBy (setting_of B.tells (B.given array.bank) (B.tape array.bank) (B.tape (bank_in result.0)) backup (B.faults_of array.bank) (B.faults_of (bank_in result.0))) (histories_in (IsRunning array epochs)) (histories_in result.0) AsksHalt result.1 }
     ensures former { IsRunKept B.tells (B.given array.bank) (B.tape (bank_in result.0)) backup result.0 }
     ensures bank { bank_in result.0 ≡ array.bank }
 {
@@ -144,6 +147,7 @@ fn answer_running<B: Bank>(
     requires own { RunsOwn (IsRunning array epochs) }
     requires former { IsRunKept B.tells (B.given array.bank) (B.tape array.bank) backup (IsRunning array epochs) }
     ensures answered { IsTurnOrNone (setting_of B.tells (B.given array.bank) (B.tape array.bank) (B.tape (bank_in result.0)) backup (B.faults_of array.bank) (B.faults_of (bank_in result.0))) (IsRunning array epochs) result.0 line result.1 }
+    ensures written { B.tells → IsWrittenBy (setting_of B.tells (B.given array.bank) (B.tape array.bank) (B.tape (bank_in result.0)) backup (B.faults_of array.bank) (B.faults_of (bank_in result.0))) (histories_in (IsRunning array epochs)) (histories_in result.0) line result.1 }
     ensures former { IsRunKept B.tells (B.given array.bank) (B.tape (bank_in result.0)) backup result.0 }
     ensures never_falls { NeverFalls (B.faults_of array.bank) (B.faults_of (bank_in result.0)) }
     ensures grows { Grows B.tells (B.tape array.bank) (B.tape (bank_in result.0)) }
@@ -210,6 +214,7 @@ fn create_array<B: Bank>(
     requires own { RunsOwn (IsIdle bank epochs) }
     requires former { IsRunKept B.tells (B.given bank) (B.tape bank) backup (IsIdle bank epochs) }
     ensures answered { IsTurnOrNone (setting_of B.tells (B.given bank) (B.tape bank) (B.tape (bank_in result.0)) backup (B.faults_of bank) (B.faults_of (bank_in result.0))) (IsIdle bank epochs) result.0 (AsksCreate line) result.1 }
+    ensures written { B.tells → IsWrittenBy (setting_of B.tells (B.given bank) (B.tape bank) (B.tape (bank_in result.0)) backup (B.faults_of bank) (B.faults_of (bank_in result.0))) (histories_in (IsIdle bank epochs)) (histories_in result.0) (AsksCreate line) result.1 }
     ensures former { IsRunKept B.tells (B.given bank) (B.tape (bank_in result.0)) backup result.0 }
     ensures never_falls { NeverFalls (B.faults_of bank) (B.faults_of (bank_in result.0)) }
     ensures grows { Grows B.tells (B.tape bank) (B.tape (bank_in result.0)) }
@@ -253,6 +258,7 @@ fn assemble_array<B: Bank>(
     requires own { RunsOwn (IsIdle bank epochs) }
     requires former { IsRunKept B.tells (B.given bank) (B.tape bank) backup (IsIdle bank epochs) }
     ensures answered { IsTurnOrNone (setting_of B.tells (B.given bank) (B.tape bank) (B.tape (bank_in result.0)) backup (B.faults_of bank) (B.faults_of (bank_in result.0))) (IsIdle bank epochs) result.0 (AsksAssemble uuid) result.1 }
+    ensures written { B.tells → IsWrittenBy (setting_of B.tells (B.given bank) (B.tape bank) (B.tape (bank_in result.0)) backup (B.faults_of bank) (B.faults_of (bank_in result.0))) (histories_in (IsIdle bank epochs)) (histories_in result.0) (AsksAssemble uuid) result.1 }
     ensures former { IsRunKept B.tells (B.given bank) (B.tape (bank_in result.0)) backup result.0 }
     ensures never_falls { NeverFalls (B.faults_of bank) (B.faults_of (bank_in result.0)) }
     ensures grows { Grows B.tells (B.tape bank) (B.tape (bank_in result.0)) }
@@ -295,6 +301,7 @@ fn answer_idle<B: Bank>(
     requires own { RunsOwn (IsIdle bank epochs) }
     requires former { IsRunKept B.tells (B.given bank) (B.tape bank) backup (IsIdle bank epochs) }
     ensures answered { IsTurnOrNone (setting_of B.tells (B.given bank) (B.tape bank) (B.tape (bank_in result.0)) backup (B.faults_of bank) (B.faults_of (bank_in result.0))) (IsIdle bank epochs) result.0 line result.1 }
+    ensures written { B.tells → IsWrittenBy (setting_of B.tells (B.given bank) (B.tape bank) (B.tape (bank_in result.0)) backup (B.faults_of bank) (B.faults_of (bank_in result.0))) (histories_in (IsIdle bank epochs)) (histories_in result.0) line result.1 }
     ensures former { IsRunKept B.tells (B.given bank) (B.tape (bank_in result.0)) backup result.0 }
     ensures never_falls { NeverFalls (B.faults_of bank) (B.faults_of (bank_in result.0)) }
     ensures grows { Grows B.tells (B.tape bank) (B.tape (bank_in result.0)) }
@@ -327,6 +334,7 @@ pub fn answer<B: Bank>(
     requires own { RunsOwn state }
     requires former { IsRunKept B.tells (B.given (bank_in state)) (B.tape (bank_in state)) backup state }
     ensures answered { IsTurnOrNone (setting_of B.tells (B.given (bank_in state)) (B.tape (bank_in state)) (B.tape (bank_in result.0)) backup (B.faults_of (bank_in state)) (B.faults_of (bank_in result.0))) state result.0 line result.1 }
+    ensures written { B.tells → IsWrittenBy (setting_of B.tells (B.given (bank_in state)) (B.tape (bank_in state)) (B.tape (bank_in result.0)) backup (B.faults_of (bank_in state)) (B.faults_of (bank_in result.0))) (histories_in state) (histories_in result.0) line result.1 }
     ensures former { IsRunKept B.tells (B.given (bank_in state)) (B.tape (bank_in result.0)) backup result.0 }
     ensures never_falls { NeverFalls (B.faults_of (bank_in state)) (B.faults_of (bank_in result.0)) }
     ensures grows { Grows B.tells (B.tape (bank_in state)) (B.tape (bank_in result.0)) }

@@ -1,9 +1,12 @@
-use Rattle.std.proofs.Common.{ℕ, length, subst}
+use Rattle.std.proofs.Common.{ℕ, List, length, sym, subst}
 use Rattle.runner.specs.Runs.{AreEndedAt}
-use Rattle.runner.specs.States.{bank_in}
+use Rattle.runner.specs.States.{histories_in, bank_in}
 use Rattle.runner.proofs.Legal.{all_right, ended_to}
 use Rattle.runner.proofs.Marks.{ended_kept, former_kept}
 use Rattle.runner.proofs.Reopening.{all_kept}
+use Rattle.runner.specs.Histories.{History}
+use Rattle.runner.specs.Making.{setting_of}
+use Rattle.runner.specs.Written.{IsWritten}
 use Rattle.runner.proofs.runs.end_run.Goals as goal
 
 pub returns-clause-ended : goal.returns-clause-ended
@@ -31,3 +34,14 @@ returns-clause-kept g c told =
 
 pub returns-clause-marks : goal.returns-clause-marks
 returns-clause-marks g c told = subst (λ (n : ℕ). AreEndedAt n c.end_epochs.new.epochs.items) (c.ops-ops.ensures told) c.end_epochs.ensures.ended
+
+pub returns-clause-written : goal.returns-clause-written
+returns-clause-written g c told =
+    let bank = c.halt-bank.result.0 in
+    subst (λ (l : List History). IsWritten (setting_of g.B.Bank.tells (g.B.Bank.given (bank_in c.args.state)) (g.B.Bank.tape bank) (g.B.Bank.tape bank) c.args.backup (g.B.Bank.faults_of bank) (g.B.Bank.faults_of bank)) (histories_in c.args.state) l (λ slot. ⊥)) (sym c.end_epochs.ensures.same)
+    (c.halt-bank.ensures.written told)
+
+pub returns-clause-rising : goal.returns-clause-rising
+returns-clause-rising g c told =
+    let tape = g.B.Bank.tape c.halt-bank.result.0 in
+    (former_kept (g.B.Bank.given (bank_in c.args.state)) tape c.args.backup (length tape) c.halt-bank.result.1.items c.end_epochs.new.epochs.items c.end_epochs.ensures.same (c.halt-bank.ensures.former told)).rising

@@ -1,9 +1,9 @@
-use Rattle.std.proofs.Common.{rules, ◌≡◌, ◌-◌, [], ◌∷◌, ◌++◌, length, sym, subst, arith}
+use Rattle.std.proofs.Common.{rules, ◌≡◌, ◌-◌, [], ◌∷◌, ◌++◌, length, refl, sym, ap, subst, arith}
 use Rattle.flat_history.specs.declared.events.Epoch.{Epoch}
 use Rattle.views.specs.Whole.{list_size}
 use Rattle.views.specs.Placed.{places_of}
 use Rattle.runner.specs.Ended.{IsRunKept, AreFormer}
-use Rattle.runner.specs.States.{bank_in, RunsOwn}
+use Rattle.runner.specs.States.{histories_in, bank_in, RunsOwn}
 use Rattle.runner.proofs.Legal.{former_halted}
 use Rattle.runner.specs.Making.{setting_of}
 use Rattle.runner.specs.Runs.{IsEnded}
@@ -11,6 +11,10 @@ use Rattle.runner.specs.declared.states.State.{State}
 use Rattle.runner.specs.declared.states.State.TheVariants.{Running}
 use Rattle.runner.proofs.AskLaws.{asked_halt, halt_grew}
 use Rattle.runner.proofs.Ends.{ended_idle, ended_running}
+use Rattle.flat_history.specs.declared.events.Event.TheVariants.{Halted}
+use Rattle.runner.specs.Histories.{histories_of}
+use Rattle.runner.specs.Written.{IsWritten}
+use Rattle.runner.proofs.Writing.{entered_end, written_idle, written_ended}
 use Rattle.runner.proofs.runs.halt.Goals as goal
 
 pub returns-in-Idle-clause-ended : goal.returns-in-Idle-clause-ended
@@ -47,3 +51,27 @@ returns-in-Running-clause-former g c =
     subst (λ (s : State g.row.B.Denot). g.B.Bank.tells → AreFormer (g.B.Bank.given (bank_in s)) (g.B.Bank.tape c.halt-bank.result.0) c.args.backup (length (g.B.Bank.tape c.halt-bank.result.0)) c.push_reserved.new.self.items) (sym c.in-Running.is)
     (former_halted g.B.Bank.tells (λ (b : g.row.B.Denot). g.B.Bank.given b) (λ (b : g.row.B.Denot). g.B.Bank.tape b) c.args.backup array c.halt-bank.result.0 epoch c.in-Running.epochs.items c.push_reserved.new.self.items items did.bank did.uuid did.given did.first
     did.ends did.legal did.last did.right former)
+
+pub returns-in-Idle-clause-written : goal.returns-in-Idle-clause-written
+returns-in-Idle-clause-written g c told =
+    let bank = c.in-Idle.bank in
+    subst (λ (s : State g.row.B.Denot). IsWritten (setting_of g.B.Bank.tells (g.B.Bank.given (bank_in s)) (g.B.Bank.tape bank) (g.B.Bank.tape bank) c.args.backup (g.B.Bank.faults_of bank) (g.B.Bank.faults_of bank)) (histories_in s) (histories_of c.in-Idle.epochs.items) (λ slot. ⊥)) (sym c.in-Idle.is)
+    (written_idle (setting_of g.B.Bank.tells (g.B.Bank.given bank) (g.B.Bank.tape bank) (g.B.Bank.tape bank) c.args.backup (g.B.Bank.faults_of bank) (g.B.Bank.faults_of bank)) c.in-Idle.epochs.items c.in-Idle.epochs.items (λ slot. ⊥) refl (omega arith))
+
+pub returns-in-Running-clause-written : goal.returns-in-Running-clause-written
+returns-in-Running-clause-written g c told =
+    let array = c.in-Running.array in
+    let epoch : Epoch = c.halt-bank.result.1 in
+    let did = c.halt-bank.ensures in
+    let own = subst (λ (s : State g.row.B.Denot). RunsOwn s) c.in-Running.is c.requires.own in
+    let room = own.room in
+    let items : c.push_reserved.new.self.items ≡ c.in-Running.epochs.items ++ epoch ∷ [] = search rules in
+    let former = subst (λ (s : State g.row.B.Denot). IsRunKept g.B.Bank.tells (g.B.Bank.given (bank_in s)) (g.B.Bank.tape (bank_in s)) c.args.backup s) c.in-Running.is c.requires.former in
+    let bank = c.halt-bank.result.0 in
+    let setting = setting_of g.B.Bank.tells (g.B.Bank.given array.bank) (g.B.Bank.tape bank) (g.B.Bank.tape bank) c.args.backup (g.B.Bank.faults_of bank) (g.B.Bank.faults_of bank) in
+    let same = ap (λ (b : g.row.B.Denot). length (g.B.Bank.tape b)) did.bank in
+    let begun = former.begun told in
+    let was = former.ended told in
+    let end = entered_end epoch.first c.script_call-who.result Halted did.entered told in
+    subst (λ (s : State g.row.B.Denot). IsWritten (setting_of g.B.Bank.tells (g.B.Bank.given (bank_in s)) (g.B.Bank.tape bank) (g.B.Bank.tape bank) c.args.backup (g.B.Bank.faults_of bank) (g.B.Bank.faults_of bank)) (histories_in s) (histories_of c.push_reserved.new.self.items) (λ slot. ⊥)) (sym c.in-Running.is)
+    (written_ended setting array bank epoch c.in-Running.epochs c.push_reserved.new.self (λ slot. ⊥) items did.first (omega (arith, begun, same)) (omega arith) (omega (arith, was, same)) (omega (arith, end, same)))

@@ -6,6 +6,9 @@ use Rattle.runner.specs.Kept.{AreKept}
 use Rattle.runner.specs.Making.{setting_of}
 use Rattle.runner.specs.Runs.{IsEnded}
 use Rattle.runner.specs.Sessions.{IsPerformed}
+use Rattle.runner.specs.Histories.{histories_of}
+use Rattle.runner.specs.States.{histories_in}
+use Rattle.runner.specs.Written.{IsWritten}
 use Rattle.runner.proofs.Ends.{end_status, end_performed, end_losses, end_taken, end_shown}
 use Rattle.runner.proofs.runs.run_lines.Goals as goal
 
@@ -24,6 +27,9 @@ returns-clause-performed g c =
     let performed = subst (λ (b : g.row.B.Denot). IsPerformed (setting_of g.B.Bank.tells (g.B.Bank.given c.args.bank) (g.B.Bank.tape c.args.bank) (g.B.Bank.tape b) c.args.backup (g.B.Bank.faults_of c.args.bank) (g.B.Bank.faults_of b)) c.args.lines.now c.perform-state.result) (sym ended.same_bank) did.performed in
     let falls = subst (λ (b : g.row.B.Denot). NeverFalls (g.B.Bank.faults_of c.args.bank) (g.B.Bank.faults_of b)) (sym ended.same_bank) did.never_falls in
     end_performed (g.B.Bank.tape c.args.bank) c.end_run-bank.result.1.items c.status_of.result falls performed ended c.status_of.ensures did.all
+    (subst (λ (b : g.row.B.Denot). Grows g.B.Bank.tells (g.B.Bank.tape c.args.bank) (g.B.Bank.tape b)) (sym ended.same_bank) did.grows)
+    (subst (λ (known : Given). g.B.Bank.tells → IsWritten (setting_of g.B.Bank.tells known (g.B.Bank.tape c.end_run-bank.result.0) (g.B.Bank.tape c.end_run-bank.result.0) c.args.backup (g.B.Bank.faults_of c.end_run-bank.result.0) (g.B.Bank.faults_of c.end_run-bank.result.0)) (histories_in c.perform-state.result.state) (histories_of c.end_run-bank.result.1.items) (λ slot. ⊥)) c.perform-state.ensures.given c.end_run-bank.ensures.written)
+    c.end_run-bank.ensures.rising
 
 pub returns-clause-taken : goal.returns-clause-taken
 returns-clause-taken g c =

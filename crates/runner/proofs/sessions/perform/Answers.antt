@@ -1,4 +1,4 @@
-use Rattle.std.proofs.Common.{rules, ◌≡◌, ◌+◌, ℕ, [], None, refl, sym, ◌∙◌, ap, subst, arith}
+use Rattle.std.proofs.Common.{rules, ◌≡◌, ◌+◌, ℕ, false, List, [], length, None, refl, sym, ◌∙◌, ap, subst, arith}
 use Rattle.std.proofs.Math.ListN.{get_or}
 use Rattle.bank.specs.Given.{Given}
 use Rattle.script.specs.declared.lines.Numbered.{Numbered}
@@ -7,8 +7,12 @@ use Rattle.runner.specs.Ended.{IsRunKept}
 use Rattle.runner.specs.Making.{setting_of}
 use Rattle.runner.specs.States.{bank_in}
 use Rattle.runner.specs.Sessions.{IsStep}
-use Rattle.runner.proofs.Causes.{grows-then}
-use Rattle.runner.proofs.Steps.{step, one_reply}
+use Rattle.runner.specs.declared.report.LineReply.{LineReply}
+use Rattle.runner.specs.declared.sessions.Session.{Session}
+use Rattle.runner.specs.declared.states.State.TheVariants.{Idle}
+use Rattle.runner.proofs.Causes.{grows-none, grows-then}
+use Rattle.runner.proofs.Legal.{former_none}
+use Rattle.runner.proofs.Steps.{performed_none, shown_none, step, one_reply}
 use Rattle.runner.proofs.sessions.perform.Goals as goal
 
 -- what stands past the end of the lines
@@ -32,6 +36,20 @@ returns-then-is_some-clause-shown g c =
     let each = subst (λ (given : Given). IsStep g.K.Sink.tells (setting_of g.B.Bank.tells given (g.B.Bank.tape (bank_in c.loop-i.session.state)) (g.B.Bank.tape (bank_in c.perform_line-session.result.state)) c.args.backup (g.B.Bank.faults_of (bank_in c.loop-i.session.state)) (g.B.Bank.faults_of (bank_in c.perform_line-session.result.state))) c.loop-i.session c.perform_line-session.result line (g.K.Sink.taken c.loop-i.out) (g.K.Sink.taken c.perform_line-session.new.out) c.perform_line-session.result.stopped) was.given did.step in
     (step c.perform_line-session.result nothing line was.never_falls did.never_falls was.grows did.grows was.going was.performed (omega (arith, was.count, c.loop-i-test.true)) (ap (λ (k : ℕ). get_or c.args.lines.now k nothing) was.count)
     (g.K.Sink.taken c.perform_line-session.new.out) (g.K.Sink.faults_of c.perform_line-session.new.out) was.shown c.perform_line-session.result.stopped refl each did.cause did.sink_never_falls).1
+
+pub loop-i-init : goal.loop-i-init
+loop-i-init g c =
+    let session : Session g.row.B.Denot = record { state = Idle c.args.bank c.new.result; replies = c.new-2.result; buffer = c.new-3.result; shown = 0; refused = false; stopped = None } in
+    record {
+      going = refl;
+      count = ap (λ (l : List LineReply). length l) c.new-2.ensures.items;
+      performed = performed_none c.args.lines.now session c.args.bank c.new.result refl c.new.ensures.items c.new-2.ensures.items refl refl;
+      shown = shown_none g.K.Sink.tells c.args.lines.now session (g.K.Sink.taken c.args.out.now) (g.K.Sink.faults_of c.args.out.now) c.new-2.ensures.items refl refl;
+      former = λ t. former_none (g.B.Bank.given c.args.bank) (g.B.Bank.tape c.args.bank) c.args.backup (length (g.B.Bank.tape c.args.bank)) c.new.result.items c.new.ensures.items;
+      never_falls = λ s. omega arith;
+      grows = grows-none (g.B.Bank.tape c.args.bank);
+      given = refl;
+    }
 
 pub loop-i-preserved : goal.loop-i-preserved
 loop-i-preserved g c =

@@ -1,4 +1,4 @@
-use Rattle.std.proofs.Common.{take, ◌+◌, ◌≡◌, ℕ, [], ◌++◌, ◌∷◌, length, List, Bool, Result, inl, refl, ◌∙◌, ap, subst}
+use Rattle.std.proofs.Common.{take, ◌+◌, ◌≡◌, ℕ, [], ◌++◌, ◌∷◌, length, List, Bool, Result, inl, refl, ◌∙◌, ap, subst, arith}
 use Rattle.std.specs.Prelude.{if◌then◌else◌}
 use Rattle.md_base.specs.declared.answers.NoMemory.{NoMemory}
 use Rattle.runner.specs.declared.report.LineReply.{LineReply}
@@ -9,7 +9,9 @@ use Rattle.runner.specs.States.{histories_in, bank_in}
 use Rattle.runner.specs.Sessions.{counted, IsRepliedOrNot}
 use Rattle.runner.proofs.Causes.{grows-none}
 use Rattle.runner.proofs.Losses.{losses-kept}
-use Rattle.runner.proofs.Turns.{grown_kept}
+use Rattle.runner.proofs.Turns.{grown_kept, unreplied_of}
+use Rattle.runner.specs.Written.{MayWrite}
+use Rattle.runner.proofs.Writing.{written-nothing}
 use Rattle.runner.proofs.sessions.perform_line.Goals as goal
 
 pub returns-then-is_err-clause-step : goal.returns-then-is_err-clause-step
@@ -17,8 +19,21 @@ returns-then-is_err-clause-step g c =
     let state = c.args.session.state in
     let faults = g.B.Bank.faults_of (bank_in state) in
     record {
-      none = record { own = c.requires.own; losses = losses-kept (setting_of g.B.Bank.tells (g.B.Bank.given (bank_in state)) (g.B.Bank.tape (bank_in state)) (g.B.Bank.tape (bank_in state)) c.args.backup faults faults) (histories_in state); grown = grown_kept (histories_in state); course = inl refl };
+      none = record { own = c.requires.own; losses = losses-kept (setting_of g.B.Bank.tells (g.B.Bank.given (bank_in state)) (g.B.Bank.tape (bank_in state)) (g.B.Bank.tape (bank_in state)) c.args.backup faults faults) (histories_in state); grown = grown_kept (histories_in state); course = inl refl; written = λ t. written-nothing (setting_of g.B.Bank.tells (g.B.Bank.given (bank_in state)) (g.B.Bank.tape (bank_in state)) (g.B.Bank.tape (bank_in state)) c.args.backup faults faults) (histories_in state) (MayWrite (g.B.Bank.given (bank_in state)) c.args.backup c.args.numbered.line) (omega arith) };
       same = c.reserve.ensures.items;
+      refused = refl;
+      taken = refl;
+      shown = refl;
+    }
+
+pub returns-then-is_err-2-clause-step : goal.returns-then-is_err-2-clause-step
+returns-then-is_err-2-clause-step g c =
+    let setting = setting_of g.B.Bank.tells (g.B.Bank.given (bank_in c.args.session.state)) (g.B.Bank.tape (bank_in c.args.session.state)) (g.B.Bank.tape (bank_in c.reply_to-state.result.0)) c.args.backup (g.B.Bank.faults_of (bank_in c.args.session.state)) (g.B.Bank.faults_of (bank_in c.reply_to-state.result.0)) in
+    let made : Made = c.in-Ok.made in
+    let replied = subst (λ (r : Result Made NoMemory). IsRepliedOrNot setting c.args.session.state c.reply_to-state.result.0 c.args.numbered c.reply_to-state.new.text.items r) c.in-Ok.is c.reply_to-state.ensures.replied in
+    record {
+      none = unreplied_of setting c.args.session.state c.reply_to-state.result.0 c.args.numbered made.reply made.refused replied.0;
+      same = c.push.ensures.items ∙ ap (λ (b : Bool). if b then c.reserve.new.self.items ++ made.reply ∷ [] else c.reserve.new.self.items) c.if-is_err-2.ensures.negation ∙ c.reserve.ensures.items;
       refused = refl;
       taken = refl;
       shown = refl;

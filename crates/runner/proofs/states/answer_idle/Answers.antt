@@ -8,6 +8,8 @@ use Rattle.runner.specs.States.{IsTurn}
 use Rattle.runner.specs.declared.report.Answered.{Answered}
 use Rattle.runner.specs.declared.states.State.TheVariants.{Idle as IsIdle}
 use Rattle.runner.proofs.Turns.{turn_idle}
+use Rattle.runner.specs.Written.{HasWritten}
+use Rattle.runner.proofs.Writing.{written_idle}
 use Rattle.runner.proofs.states.answer_idle.Goals as goal
 
 pub returns-in-Read-clause-answered : goal.returns-in-Read-clause-answered
@@ -72,3 +74,48 @@ returns-in-Halt-clause-answered g c =
     subst (λ (what : Answered). IsTurn setting (IsIdle c.args.bank c.args.epochs) (IsIdle c.args.bank c.args.epochs) c.args.line what) (sym c.refused-in-Halt.ensures)
     (turn_idle setting c.args.bank c.args.epochs c.args.epochs refl c.requires.own c.args.bank c.args.line NotRunning (λ t. omega arith)
     (subst (λ (l : Line). IsRefusedOutside setting false (length (g.B.Bank.tape c.args.bank)) l NotRunning) (sym c.in-Halt.is) refl))
+
+pub returns-in-Read-clause-written : goal.returns-in-Read-clause-written
+returns-in-Read-clause-written g c told =
+    let setting = setting_of g.B.Bank.tells (g.B.Bank.given c.args.bank) (g.B.Bank.tape c.args.bank) (g.B.Bank.tape c.args.bank) c.args.backup (g.B.Bank.faults_of c.args.bank) (g.B.Bank.faults_of c.args.bank) in
+    written_idle setting c.args.epochs.items c.args.epochs.items (HasWritten (g.B.Bank.given c.args.bank) c.args.backup c.args.line _) refl (omega arith)
+
+pub returns-in-Write-clause-written : goal.returns-in-Write-clause-written
+returns-in-Write-clause-written g c told =
+    let setting = setting_of g.B.Bank.tells (g.B.Bank.given c.args.bank) (g.B.Bank.tape c.args.bank) (g.B.Bank.tape c.args.bank) c.args.backup (g.B.Bank.faults_of c.args.bank) (g.B.Bank.faults_of c.args.bank) in
+    written_idle setting c.args.epochs.items c.args.epochs.items (HasWritten (g.B.Bank.given c.args.bank) c.args.backup c.args.line _) refl (omega arith)
+
+pub returns-in-Flush-clause-written : goal.returns-in-Flush-clause-written
+returns-in-Flush-clause-written g c told =
+    let setting = setting_of g.B.Bank.tells (g.B.Bank.given c.args.bank) (g.B.Bank.tape c.args.bank) (g.B.Bank.tape c.args.bank) c.args.backup (g.B.Bank.faults_of c.args.bank) (g.B.Bank.faults_of c.args.bank) in
+    written_idle setting c.args.epochs.items c.args.epochs.items (HasWritten (g.B.Bank.given c.args.bank) c.args.backup c.args.line _) refl (omega arith)
+
+pub returns-in-Fail-clause-written : goal.returns-in-Fail-clause-written
+returns-in-Fail-clause-written g c told =
+    let setting = setting_of g.B.Bank.tells (g.B.Bank.given c.args.bank) (g.B.Bank.tape c.args.bank) (g.B.Bank.tape c.args.bank) c.args.backup (g.B.Bank.faults_of c.args.bank) (g.B.Bank.faults_of c.args.bank) in
+    written_idle setting c.args.epochs.items c.args.epochs.items (HasWritten (g.B.Bank.given c.args.bank) c.args.backup c.args.line _) refl (omega arith)
+
+pub returns-in-Add-clause-written : goal.returns-in-Add-clause-written
+returns-in-Add-clause-written g c told =
+    let setting = setting_of g.B.Bank.tells (g.B.Bank.given c.args.bank) (g.B.Bank.tape c.args.bank) (g.B.Bank.tape c.args.bank) c.args.backup (g.B.Bank.faults_of c.args.bank) (g.B.Bank.faults_of c.args.bank) in
+    written_idle setting c.args.epochs.items c.args.epochs.items (HasWritten (g.B.Bank.given c.args.bank) c.args.backup c.args.line _) refl (omega arith)
+
+pub returns-in-Step-clause-written : goal.returns-in-Step-clause-written
+returns-in-Step-clause-written g c told =
+    let setting = setting_of g.B.Bank.tells (g.B.Bank.given c.args.bank) (g.B.Bank.tape c.args.bank) (g.B.Bank.tape c.args.bank) c.args.backup (g.B.Bank.faults_of c.args.bank) (g.B.Bank.faults_of c.args.bank) in
+    written_idle setting c.args.epochs.items c.args.epochs.items (HasWritten (g.B.Bank.given c.args.bank) c.args.backup c.args.line _) refl (omega arith)
+
+pub returns-in-Wait-clause-written : goal.returns-in-Wait-clause-written
+returns-in-Wait-clause-written g c told =
+    let setting = setting_of g.B.Bank.tells (g.B.Bank.given c.args.bank) (g.B.Bank.tape c.args.bank) (g.B.Bank.tape c.args.bank) c.args.backup (g.B.Bank.faults_of c.args.bank) (g.B.Bank.faults_of c.args.bank) in
+    written_idle setting c.args.epochs.items c.args.epochs.items (HasWritten (g.B.Bank.given c.args.bank) c.args.backup c.args.line _) refl (omega arith)
+
+pub returns-in-Stop-clause-written : goal.returns-in-Stop-clause-written
+returns-in-Stop-clause-written g c told =
+    let setting = setting_of g.B.Bank.tells (g.B.Bank.given c.args.bank) (g.B.Bank.tape c.args.bank) (g.B.Bank.tape c.args.bank) c.args.backup (g.B.Bank.faults_of c.args.bank) (g.B.Bank.faults_of c.args.bank) in
+    written_idle setting c.args.epochs.items c.args.epochs.items (HasWritten (g.B.Bank.given c.args.bank) c.args.backup c.args.line _) refl (omega arith)
+
+pub returns-in-Halt-clause-written : goal.returns-in-Halt-clause-written
+returns-in-Halt-clause-written g c told =
+    let setting = setting_of g.B.Bank.tells (g.B.Bank.given c.args.bank) (g.B.Bank.tape c.args.bank) (g.B.Bank.tape c.args.bank) c.args.backup (g.B.Bank.faults_of c.args.bank) (g.B.Bank.faults_of c.args.bank) in
+    written_idle setting c.args.epochs.items c.args.epochs.items (HasWritten (g.B.Bank.given c.args.bank) c.args.backup c.args.line _) refl (omega arith)

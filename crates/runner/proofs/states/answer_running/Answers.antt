@@ -6,7 +6,7 @@ use Rattle.script.specs.declared.lines.Line.TheVariants.{Read, Write, Flush, Fai
 use Rattle.md_base.specs.declared.answers.Refusal.TheVariants.{Running as RefusedRunning}
 use Rattle.runner.specs.Making.{setting_of}
 use Rattle.runner.specs.Replies.{IsRefusedOutside}
-use Rattle.runner.specs.States.{running_history, bank_in, IsTurnOrNone, IsTurn}
+use Rattle.runner.specs.States.{running_history, histories_in, bank_in, IsTurnOrNone, IsTurn}
 use Rattle.runner.specs.declared.report.Answered.{Answered}
 use Rattle.runner.specs.declared.states.State.{State}
 use Rattle.runner.specs.declared.states.State.TheVariants.{Running as IsRunning}
@@ -15,6 +15,8 @@ use Rattle.std.proofs.Common.{arith}
 use Rattle.runner.proofs.Legal.{grows_longer, going_grown, going_asked}
 use Rattle.runner.proofs.Losses.{later-of, losses-of, losses-given, held-later, on-lost, on-added, on-given}
 use Rattle.runner.proofs.Turns.{turn_of_ask, turn_of_wait, turn_refused, going_read, going_write, going_flush, going_fail, going_add, going_steps}
+use Rattle.runner.specs.Written.{HasWritten}
+use Rattle.runner.proofs.Writing.{written-nothing, written_going}
 use Rattle.runner.proofs.states.answer_running.Goals as goal
 
 pub returns-in-Read-clause-answered : goal.returns-in-Read-clause-answered
@@ -209,3 +211,57 @@ returns-in-Fail-clause-never_falls g c =
 pub returns-in-Add-clause-never_falls : goal.returns-in-Add-clause-never_falls
 returns-in-Add-clause-never_falls g c =
     subst (λ (s : State g.row.B.Denot). NeverFalls (g.B.Bank.faults_of c.args.array.bank) (g.B.Bank.faults_of (bank_in s))) (sym c.goes_on-in-Add.ensures.state) c.ask_add-place.ensures.never_falls
+
+pub returns-in-Read-clause-written : goal.returns-in-Read-clause-written
+returns-in-Read-clause-written g c =
+    let did = c.ask_read-place.ensures in
+    written_going g.B.Bank.tells (g.B.Bank.given c.args.array.bank) (λ (b : g.row.B.Denot). g.B.Bank.tape b) c.args.backup (λ (b : g.row.B.Denot). g.B.Bank.faults_of b) c.args.array c.ask_read-place.new.array c.args.epochs c.goes_on.result.0 c.args.line c.goes_on.result.1
+    c.goes_on.ensures.state did.same.first did.grows c.requires.former (returns-in-Read-clause-former g c)
+
+pub returns-in-Write-clause-written : goal.returns-in-Write-clause-written
+returns-in-Write-clause-written g c =
+    let did = c.ask_write-place.ensures in
+    written_going g.B.Bank.tells (g.B.Bank.given c.args.array.bank) (λ (b : g.row.B.Denot). g.B.Bank.tape b) c.args.backup (λ (b : g.row.B.Denot). g.B.Bank.faults_of b) c.args.array c.ask_write-place.new.array c.args.epochs c.goes_on-in-Write.result.0 c.args.line c.goes_on-in-Write.result.1
+    c.goes_on-in-Write.ensures.state did.same.first did.grows c.requires.former (returns-in-Write-clause-former g c)
+
+pub returns-in-Flush-clause-written : goal.returns-in-Flush-clause-written
+returns-in-Flush-clause-written g c =
+    let did = c.ask_flush-place.ensures in
+    written_going g.B.Bank.tells (g.B.Bank.given c.args.array.bank) (λ (b : g.row.B.Denot). g.B.Bank.tape b) c.args.backup (λ (b : g.row.B.Denot). g.B.Bank.faults_of b) c.args.array c.ask_flush-place.new.array c.args.epochs c.goes_on-in-Flush.result.0 c.args.line c.goes_on-in-Flush.result.1
+    c.goes_on-in-Flush.ensures.state did.same.first did.grows c.requires.former (returns-in-Flush-clause-former g c)
+
+pub returns-in-Fail-clause-written : goal.returns-in-Fail-clause-written
+returns-in-Fail-clause-written g c =
+    let did = c.ask_fail-place.ensures in
+    written_going g.B.Bank.tells (g.B.Bank.given c.args.array.bank) (λ (b : g.row.B.Denot). g.B.Bank.tape b) c.args.backup (λ (b : g.row.B.Denot). g.B.Bank.faults_of b) c.args.array c.ask_fail-place.new.array c.args.epochs c.goes_on-in-Fail.result.0 c.args.line c.goes_on-in-Fail.result.1
+    c.goes_on-in-Fail.ensures.state did.same.first did.grows c.requires.former (returns-in-Fail-clause-former g c)
+
+pub returns-in-Add-clause-written : goal.returns-in-Add-clause-written
+returns-in-Add-clause-written g c =
+    let did = c.ask_add-place.ensures in
+    written_going g.B.Bank.tells (g.B.Bank.given c.args.array.bank) (λ (b : g.row.B.Denot). g.B.Bank.tape b) c.args.backup (λ (b : g.row.B.Denot). g.B.Bank.faults_of b) c.args.array c.ask_add-place.new.array c.args.epochs c.goes_on-in-Add.result.0 c.args.line c.goes_on-in-Add.result.1
+    c.goes_on-in-Add.ensures.state did.same.first did.grows c.requires.former (returns-in-Add-clause-former g c)
+
+pub returns-in-Step-clause-written : goal.returns-in-Step-clause-written
+returns-in-Step-clause-written g c =
+    let did = c.ask_steps-place.ensures in
+    written_going g.B.Bank.tells (g.B.Bank.given c.args.array.bank) (λ (b : g.row.B.Denot). g.B.Bank.tape b) c.args.backup (λ (b : g.row.B.Denot). g.B.Bank.faults_of b) c.args.array c.ask_steps-place.new.array c.args.epochs c.goes_on-in-Step.result.0 c.args.line c.goes_on-in-Step.result.1
+    c.goes_on-in-Step.ensures.state did.went.same.first did.went.grows c.requires.former (returns-in-Step-clause-former g c)
+
+pub returns-in-Wait-clause-written : goal.returns-in-Wait-clause-written
+returns-in-Wait-clause-written g c =
+    let did = c.ask_wait-place.ensures in
+    written_going g.B.Bank.tells (g.B.Bank.given c.args.array.bank) (λ (b : g.row.B.Denot). g.B.Bank.tape b) c.args.backup (λ (b : g.row.B.Denot). g.B.Bank.faults_of b) c.args.array c.ask_wait-place.new.array c.args.epochs c.goes_on-in-Wait.result.0 c.args.line c.goes_on-in-Wait.result.1
+    c.goes_on-in-Wait.ensures.state did.went.same.first did.went.grows c.requires.former (returns-in-Wait-clause-former g c)
+
+pub returns-in-Create-clause-written : goal.returns-in-Create-clause-written
+returns-in-Create-clause-written g c told =
+    let array = c.args.array in
+    let setting = setting_of g.B.Bank.tells (g.B.Bank.given array.bank) (g.B.Bank.tape array.bank) (g.B.Bank.tape array.bank) c.args.backup (g.B.Bank.faults_of array.bank) (g.B.Bank.faults_of array.bank) in
+    written-nothing setting (histories_in (IsRunning array c.args.epochs)) (HasWritten (g.B.Bank.given array.bank) c.args.backup c.args.line _) (omega arith)
+
+pub returns-in-Assemble-clause-written : goal.returns-in-Assemble-clause-written
+returns-in-Assemble-clause-written g c told =
+    let array = c.args.array in
+    let setting = setting_of g.B.Bank.tells (g.B.Bank.given array.bank) (g.B.Bank.tape array.bank) (g.B.Bank.tape array.bank) c.args.backup (g.B.Bank.faults_of array.bank) (g.B.Bank.faults_of array.bank) in
+    written-nothing setting (histories_in (IsRunning array c.args.epochs)) (HasWritten (g.B.Bank.given array.bank) c.args.backup c.args.line _) (omega arith)

@@ -1,4 +1,4 @@
-use Rattle.std.proofs.Common.{rules, refl, List, ℕ, [], ◌∷◌, length, sym, ap, subst, arith, ◌∙◌}
+use Rattle.std.proofs.Common.{rules, refl, List, ℕ, [], ◌∷◌, ◌++◌, length, sym, ap, subst, arith, ◌∙◌}
 use Rattle.std.specs.Prelude.{IsTrue}
 use Rattle.bank.specs.Given.{NeverFalls}
 use Rattle.bank.specs.Tape.{contents}
@@ -29,6 +29,9 @@ use Rattle.runner.specs.Making.{world_at, AreHeldSince}
 use Rattle.runner.proofs.Found.{opened_accepted, opened_held}
 use Rattle.runner.proofs.Losses.{held-later}
 use Rattle.runner.proofs.Turns.{opening_end, turn_found, turn_idle, no_turn_idle, no_turn_found}
+use Rattle.runner.specs.Histories.{histories_of}
+use Rattle.runner.specs.Written.{MayWrite, HasWritten, IsWritten}
+use Rattle.runner.proofs.Writing.{written_idle, idle_flushes, opened_flushes}
 use Rattle.runner.proofs.states.assemble_array.Goals as goal
 
 pub assemble-requires-clause-backup : goal.assemble-requires-clause-backup
@@ -136,3 +139,46 @@ returns-in-Ok-status-clause-never_falls g c =
 pub returns-in-Err-status-clause-never_falls : goal.returns-in-Err-status-clause-never_falls
 returns-in-Err-status-clause-never_falls g c =
     subst (λ (b : g.row.B.Denot). NeverFalls (g.B.Bank.faults_of c.args.bank) (g.B.Bank.faults_of b)) (sym c.in-Err-status.ensures.bank) c.in-Ok.ensures.counts.never_falls
+
+pub returns-then-not-has_room-clause-written : goal.returns-then-not-has_room-clause-written
+returns-then-not-has_room-clause-written g c told =
+    let setting = setting_of g.B.Bank.tells (g.B.Bank.given c.args.bank) (g.B.Bank.tape c.args.bank) (g.B.Bank.tape c.args.bank) c.args.backup (g.B.Bank.faults_of c.args.bank) (g.B.Bank.faults_of c.args.bank) in
+    written_idle setting c.args.epochs.items c.has_room.new.epochs.items (MayWrite (g.B.Bank.given c.args.bank) c.args.backup (AsksAssemble c.args.uuid)) c.has_room.ensures.same (omega arith)
+
+pub returns-in-Ok-status-clause-written : goal.returns-in-Ok-status-clause-written
+returns-in-Ok-status-clause-written g c told =
+    let found = c.in-Ok.array in
+    let did = c.in-Ok.ensures in
+    let array = c.status.new.self in
+    let shown = c.in-Ok-status.ensures in
+    let given = g.B.Bank.given c.args.bank in
+    let what = AnsweredOutside (Assembled c.next_epoch-epoch.result c.in-Ok-status.status) in
+    let setting = setting_of g.B.Bank.tells given (g.B.Bank.tape c.args.bank) (g.B.Bank.tape found.bank) c.args.backup (g.B.Bank.faults_of c.args.bank) (g.B.Bank.faults_of found.bank) in
+    subst (λ (b : g.row.B.Denot). IsWritten (setting_of g.B.Bank.tells given (g.B.Bank.tape c.args.bank) (g.B.Bank.tape b) c.args.backup (g.B.Bank.faults_of c.args.bank) (g.B.Bank.faults_of b)) (histories_of c.args.epochs.items) (histories_of c.has_room.new.epochs.items ++ running_history array ∷ []) (HasWritten given c.args.backup (AsksAssemble c.args.uuid) what)) (sym shown.bank)
+    (opened_flushes setting (g.B.Bank.tape c.args.bank) refl c.args.epochs.items c.has_room.new.epochs.items c.has_room.ensures.same (running_history array) (HasWritten given c.args.backup (AsksAssemble c.args.uuid) what)
+    (shown.same.first ∙ did.assembled.begun.first told) (subst (λ (b : g.row.B.Denot). IsEndOf g.B.Bank.tells array.first array.entries (g.B.Bank.tape b)) shown.bank shown.ended told) (did.tape told))
+
+pub returns-in-Err-status-clause-written : goal.returns-in-Err-status-clause-written
+returns-in-Err-status-clause-written g c told =
+    let found = c.in-Ok.array in
+    let did = c.in-Ok.ensures in
+    let begun = did.assembled.begun in
+    let given = g.B.Bank.given c.args.bank in
+    let May = MayWrite given c.args.backup (AsksAssemble c.args.uuid) in
+    subst (λ (a : Parts g.row.B.Denot). IsWritten (setting_of g.B.Bank.tells given (g.B.Bank.tape c.args.bank) (g.B.Bank.tape a.bank) c.args.backup (g.B.Bank.faults_of c.args.bank) (g.B.Bank.faults_of a.bank)) (histories_of c.args.epochs.items) (histories_of c.has_room.new.epochs.items ++ running_history a ∷ []) May) (sym c.in-Err-status.ensures.unchanged)
+    (opened_flushes (setting_of g.B.Bank.tells given (g.B.Bank.tape c.args.bank) (g.B.Bank.tape found.bank) c.args.backup (g.B.Bank.faults_of c.args.bank) (g.B.Bank.faults_of found.bank)) (g.B.Bank.tape c.args.bank) refl c.args.epochs.items c.has_room.new.epochs.items c.has_room.ensures.same (running_history found) May
+    (begun.first told) (ap (λ (l : List Entry). last_end_from found.first l) begun.entries ∙ opening_end found.first (found_losses (reading_of found.members)) ∙ begun.first told) (did.tape told))
+
+pub returns-in-Refused-clause-written : goal.returns-in-Refused-clause-written
+returns-in-Refused-clause-written g c told =
+    let left = c.in-Err.left.0 in
+    let given = g.B.Bank.given c.args.bank in
+    idle_flushes (setting_of g.B.Bank.tells given (g.B.Bank.tape c.args.bank) (g.B.Bank.tape left) c.args.backup (g.B.Bank.faults_of c.args.bank) (g.B.Bank.faults_of left)) (g.B.Bank.tape c.args.bank) refl c.args.epochs.items c.has_room.new.epochs.items c.has_room.ensures.same
+    (HasWritten given c.args.backup (AsksAssemble c.args.uuid) _) (c.in-Err.ensures.left_tape told)
+
+pub returns-in-NoMemory-clause-written : goal.returns-in-NoMemory-clause-written
+returns-in-NoMemory-clause-written g c told =
+    let left = c.in-Err.left.0 in
+    let given = g.B.Bank.given c.args.bank in
+    idle_flushes (setting_of g.B.Bank.tells given (g.B.Bank.tape c.args.bank) (g.B.Bank.tape left) c.args.backup (g.B.Bank.faults_of c.args.bank) (g.B.Bank.faults_of left)) (g.B.Bank.tape c.args.bank) refl c.args.epochs.items c.has_room.new.epochs.items c.has_room.ensures.same
+    (MayWrite given c.args.backup (AsksAssemble c.args.uuid)) (c.in-Err.ensures.left_tape told)

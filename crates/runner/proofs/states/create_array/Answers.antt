@@ -1,4 +1,4 @@
-use Rattle.std.proofs.Common.{rules, List, Some, length, sym, ap, subst, ◌∙◌}
+use Rattle.std.proofs.Common.{rules, List, Some, length, refl, sym, ap, subst, arith, ◌∙◌}
 use Rattle.std.specs.Prelude.{IsTrue}
 use Rattle.bank.specs.Tape.{contents}
 use Rattle.md_base.specs.declared.answers.Fault.{Fault}
@@ -16,6 +16,15 @@ use Rattle.runner.proofs.Causes.{below-grows, below-present, grows-none, create-
 use Rattle.runner.proofs.Legal.{grows_longer, idle_grown, going_begun}
 use Rattle.runner.proofs.Found.{opened_accepted, opened_held}
 use Rattle.runner.proofs.Turns.{turn_created, turn_idle, no_turn_idle}
+use Rattle.runner.specs.declared.report.Answered.TheVariants.{Outside as IsOutside}
+use Rattle.runner.specs.declared.report.Outside.TheVariants.{Created, Refused}
+use Rattle.md_base.specs.declared.answers.Refusal.{Refusal}
+use Rattle.md_base.specs.declared.answers.Refusal.TheVariants.{UuidInUse}
+use Rattle.md_base.specs.declared.answers.Fault.TheVariants.{Refused as IsRefusedWith}
+use Rattle.runner.specs.Histories.{histories_of}
+use Rattle.runner.specs.States.{running_history}
+use Rattle.runner.specs.Written.{MayWrite, HasWritten, IsWritten}
+use Rattle.runner.proofs.Writing.{written_idle, opened_below, create_refused, create_short}
 use Rattle.runner.proofs.states.create_array.Goals as goal
 
 pub returns-then-not-has_room-clause-answered : goal.returns-then-not-has_room-clause-answered
@@ -79,3 +88,42 @@ returns-in-NoMemory-clause-grows g c = below-grows c.in-Err.ensures.left_tape
 
 pub returns-then-not-has_room-clause-grows : goal.returns-then-not-has_room-clause-grows
 returns-then-not-has_room-clause-grows g c = grows-none (g.B.Bank.tape c.args.bank)
+
+pub returns-then-not-has_room-clause-written : goal.returns-then-not-has_room-clause-written
+returns-then-not-has_room-clause-written g c told =
+    let setting = setting_of g.B.Bank.tells (g.B.Bank.given c.args.bank) (g.B.Bank.tape c.args.bank) (g.B.Bank.tape c.args.bank) c.args.backup (g.B.Bank.faults_of c.args.bank) (g.B.Bank.faults_of c.args.bank) in
+    written_idle setting c.args.epochs.items c.has_room.new.epochs.items (MayWrite (g.B.Bank.given c.args.bank) c.args.backup (AsksCreate c.args.line)) c.has_room.ensures.same (omega arith)
+
+pub returns-in-Ok-clause-written : goal.returns-in-Ok-clause-written
+returns-in-Ok-clause-written g c told =
+    let did = c.in-Ok.ensures in
+    let begun = did.created.begun in
+    let setting = setting_of g.B.Bank.tells (g.B.Bank.given c.args.bank) (g.B.Bank.tape c.args.bank) (g.B.Bank.tape c.in-Ok.array.bank) c.args.backup (g.B.Bank.faults_of c.args.bank) (g.B.Bank.faults_of c.in-Ok.array.bank) in
+    opened_below setting (g.B.Bank.tape c.args.bank) refl c.args.epochs.items c.has_room.new.epochs.items c.has_room.ensures.same (running_history c.in-Ok.array) (HasWritten (g.B.Bank.given c.args.bank) c.args.backup (AsksCreate c.args.line) (IsOutside Created))
+    c.args.line.shape.disks (begun.first told) (ap (λ (l : List Entry). last_end_from c.in-Ok.array.first l) did.created.quiet ∙ begun.first told) (did.tape told) (λ slot lt. (did.unrefused, lt))
+
+pub returns-in-Refused-clause-written : goal.returns-in-Refused-clause-written
+returns-in-Refused-clause-written g c told =
+    let left = c.in-Err.left.0 in
+    let did = c.in-Err.ensures in
+    let given = g.B.Bank.given c.args.bank in
+    let setting = setting_of g.B.Bank.tells given (g.B.Bank.tape c.args.bank) (g.B.Bank.tape left) c.args.backup (g.B.Bank.faults_of c.args.bank) (g.B.Bank.faults_of left) in
+    let start = given.start in
+    let was = contents start (g.B.Bank.tape c.args.bank) (length (g.B.Bank.tape c.args.bank)) in
+    subst (λ (what : Answered). IsWritten setting (histories_of c.args.epochs.items) (histories_of c.has_room.new.epochs.items) (HasWritten given c.args.backup (AsksCreate c.args.line) what)) (sym c.refused.ensures)
+    (create_refused setting (g.B.Bank.tape c.args.bank) refl c.args.epochs.items c.has_room.new.epochs.items c.has_room.ensures.same was (g.B.Bank.faults_of c.args.bank) (g.B.Bank.faults_of left) c.args.line (did.left_tape told)
+    (λ refusal is. let same = ap (λ (b : g.row.B.Denot). length (g.B.Bank.tape b)) (did.untouched refusal is) in omega (arith, same)) c.in-Refused.refusal
+    (λ slot is. did.unwritten slot (c.in-Refused.is ∙ ap (λ (r : Refusal). IsRefusedWith r) is) told)
+    (subst (λ (f : Fault). HasCreateCause g.B.Bank.tells given was c.args.backup (spec_of c.args.line) (g.B.Bank.faults_of c.args.bank) (g.B.Bank.faults_of left) f) c.in-Refused.is did.refused))
+
+pub returns-in-NoMemory-clause-written : goal.returns-in-NoMemory-clause-written
+returns-in-NoMemory-clause-written g c told =
+    let left = c.in-Err.left.0 in
+    let did = c.in-Err.ensures in
+    let given = g.B.Bank.given c.args.bank in
+    let setting = setting_of g.B.Bank.tells given (g.B.Bank.tape c.args.bank) (g.B.Bank.tape left) c.args.backup (g.B.Bank.faults_of c.args.bank) (g.B.Bank.faults_of left) in
+    let start = given.start in
+    let was = contents start (g.B.Bank.tape c.args.bank) (length (g.B.Bank.tape c.args.bank)) in
+    create_short setting (g.B.Bank.tape c.args.bank) refl c.args.epochs.items c.has_room.new.epochs.items c.has_room.ensures.same was (g.B.Bank.faults_of c.args.bank) (g.B.Bank.faults_of left) c.args.line (did.left_tape told)
+    (λ refusal is. let same = ap (λ (b : g.row.B.Denot). length (g.B.Bank.tape b)) (did.untouched refusal is) in omega (arith, same))
+    (subst (λ (f : Fault). HasCreateCause g.B.Bank.tells given was c.args.backup (spec_of c.args.line) (g.B.Bank.faults_of c.args.bank) (g.B.Bank.faults_of left) f) c.in-NoMemory.is did.refused)

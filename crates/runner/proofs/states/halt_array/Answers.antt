@@ -13,6 +13,11 @@ use Rattle.runner.proofs.AskLaws.{asked_halt, halt_grew}
 use Rattle.runner.proofs.Legal.{former_halted}
 use Rattle.runner.proofs.Losses.{losses-halted}
 use Rattle.runner.proofs.Turns.{turn_ended}
+use Rattle.flat_history.specs.declared.events.Event.TheVariants.{Halted}
+use Rattle.runner.specs.Written.{HasWritten, IsWritten}
+use Rattle.runner.specs.States.{histories_in}
+use Rattle.runner.specs.declared.states.State.TheVariants.{Idle, Running}
+use Rattle.runner.proofs.Writing.{entered_end, written_ended}
 use Rattle.runner.proofs.states.halt_array.Goals as goal
 
 pub returns-clause-answered : goal.returns-clause-answered
@@ -40,3 +45,17 @@ returns-clause-former g c =
     let items : c.push_reserved.new.self.items ≡ c.args.epochs.items ++ epoch ∷ [] = search rules in
     former_halted g.B.Bank.tells (λ (b : g.row.B.Denot). g.B.Bank.given b) (λ (b : g.row.B.Denot). g.B.Bank.tape b) c.args.backup array c.halt-bank.result.0 epoch c.args.epochs.items c.push_reserved.new.self.items items did.bank did.uuid did.given did.first
     did.ends did.legal did.last did.right c.requires.former
+
+pub returns-clause-written : goal.returns-clause-written
+returns-clause-written g c told =
+    let array = c.args.array in
+    let epoch : Epoch = c.halt-bank.result.1 in
+    let did = c.halt-bank.ensures in
+    let room = c.requires.own.room in
+    let items : c.push_reserved.new.self.items ≡ c.args.epochs.items ++ epoch ∷ [] = search rules in
+    let bank = c.halt-bank.result.0 in
+    let setting = setting_of g.B.Bank.tells (g.B.Bank.given array.bank) (g.B.Bank.tape array.bank) (g.B.Bank.tape bank) c.args.backup (g.B.Bank.faults_of array.bank) (g.B.Bank.faults_of bank) in
+    let same = ap (λ (b : g.row.B.Denot). length (g.B.Bank.tape b)) did.bank in
+    let end = entered_end epoch.first c.script_call-who.result Halted did.entered told in
+    written_ended setting array bank epoch c.args.epochs c.push_reserved.new.self (HasWritten (g.B.Bank.given array.bank) c.args.backup AsksHalt _) items did.first (c.requires.former.begun told) (omega (arith, same))
+    (c.requires.former.ended told) (omega (arith, end, same))

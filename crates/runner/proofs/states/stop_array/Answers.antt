@@ -1,4 +1,4 @@
-use Rattle.std.proofs.Common.{rules, ◌≡◌, ◌-◌, [], ◌∷◌, ◌++◌, ℕ, Option, length, sym, ap, subst, arith}
+use Rattle.std.proofs.Common.{rules, ◌≡◌, ◌-◌, [], ◌∷◌, ◌++◌, ℕ, Option, Ok, Err, length, refl, sym, ap, subst, arith}
 use Rattle.md_base.specs.declared.answers.Fault.{Fault}
 use Rattle.flat_history.specs.declared.events.Epoch.{Epoch}
 use Rattle.flat_history.specs.declared.events.Event.{Event}
@@ -22,6 +22,8 @@ use Rattle.runner.specs.Ended.{IfFilledRight}
 use Rattle.runner.proofs.Legal.{grows_longer, going_grown, former_more, legal_epoch}
 use Rattle.runner.proofs.Losses.{later-of, losses-of, held-later, on-lost}
 use Rattle.runner.proofs.Turns.{turn_ended, turn_asked, no_turn, at_the_end}
+use Rattle.runner.specs.Written.{HasWritten}
+use Rattle.runner.proofs.Writing.{written_ended, written_going}
 use Rattle.runner.proofs.states.stop_array.Goals as goal
 
 pub overflow_sub-len : goal.overflow_sub-len
@@ -96,3 +98,26 @@ pub returns-in-Refused-clause-former : goal.returns-in-Refused-clause-former
 returns-in-Refused-clause-former g c =
     let did = c.in-Err.ensures in
     going_grown (g.B.Bank.given c.args.array.bank) c.args.backup c.args.array c.in-Err.left.0 c.args.epochs.items did.left_grows (later-of did.left_same did.left_losses) did.left_same.backup (on-lost c.in-Err.left.0.entries did.left_held did.left_spares) did.left_ended c.requires.former
+
+pub returns-in-Ok-clause-written : goal.returns-in-Ok-clause-written
+returns-in-Ok-clause-written g c told =
+    let array = c.args.array in
+    let epoch : Epoch = c.in-Ok.ended.1 in
+    let did = c.in-Ok.ensures in
+    let room = c.requires.own.room in
+    let items : c.push_reserved.new.self.items ≡ c.args.epochs.items ++ epoch ∷ [] = search rules in
+    let setting = setting_of g.B.Bank.tells (g.B.Bank.given array.bank) (g.B.Bank.tape array.bank) (g.B.Bank.tape c.in-Ok.ended.0) c.args.backup (g.B.Bank.faults_of array.bank) (g.B.Bank.faults_of c.in-Ok.ended.0) in
+    written_ended setting array c.in-Ok.ended.0 epoch c.args.epochs c.push_reserved.new.self (HasWritten (g.B.Bank.given array.bank) c.args.backup AsksStop _) items did.first (c.requires.former.begun told) (grows_longer did.grows told)
+    (c.requires.former.ended told) (did.ended told)
+
+pub returns-in-NoMemory-clause-written : goal.returns-in-NoMemory-clause-written
+returns-in-NoMemory-clause-written g c =
+    let did = c.in-Err.ensures in
+    written_going g.B.Bank.tells (g.B.Bank.given c.args.array.bank) (λ (b : g.row.B.Denot). g.B.Bank.tape b) c.args.backup (λ (b : g.row.B.Denot). g.B.Bank.faults_of b) c.args.array c.in-Err.left.0 c.args.epochs (IsRunning c.in-Err.left.0 c.args.epochs) AsksStop (Err _)
+    refl did.left_same.first did.left_grows c.requires.former (returns-in-NoMemory-clause-former g c)
+
+pub returns-in-Refused-clause-written : goal.returns-in-Refused-clause-written
+returns-in-Refused-clause-written g c =
+    let did = c.in-Err.ensures in
+    written_going g.B.Bank.tells (g.B.Bank.given c.args.array.bank) (λ (b : g.row.B.Denot). g.B.Bank.tape b) c.args.backup (λ (b : g.row.B.Denot). g.B.Bank.faults_of b) c.args.array c.in-Err.left.0 c.args.epochs (IsRunning c.in-Err.left.0 c.args.epochs) AsksStop (Ok _)
+    refl did.left_same.first did.left_grows c.requires.former (returns-in-Refused-clause-former g c)
