@@ -1,5 +1,5 @@
 -- Bytes at offsets, read and written.
-use Rattle.std.specs.Prelude.{◌≡◌, ◌⊎◌, ◌+◌, ◌<◌, ◌≤◌, ℕ, List, slice_index}
+use Rattle.std.specs.Prelude.{◌≡◌, ◌⊎◌, ◌+◌, ◌<◌, ◌≤◌, ℕ, List, slice_index, Result, Ok, Err}
 
 -- the first bytes of a buffer, so many, are those from the offset on
 abbrev pub AreBytes : (ℕ → ℕ) → ℕ → ℕ → List ℕ → Type 0
@@ -13,3 +13,8 @@ pub record IsPut (before after : ℕ → ℕ) (offset count : ℕ) (buffer : Lis
 -- no byte changed
 abbrev pub AreSame : (ℕ → ℕ) → (ℕ → ℕ) → Type 0
 AreSame before after = (i : ℕ) → after i ≡ before i
+
+-- A call moved a byte, or stumbled, which is counted.
+abbrev pub HasMoved : {E : Type 0} → Result ℕ E → ℕ → ℕ → Type 0
+HasMoved (Ok count) before after = (before ≤ after) × (before + 1 ≤ after + count)
+HasMoved (Err e) before after = before < after

@@ -1,5 +1,5 @@
 // A file in sectors, whose failures are counted.
-ghost use Rattle.std.specs.Prelude.{◌≡◌, ◌*◌, ◌+◌, ◌/◌, ◌<◌, ◌≤◌, ◌^◌, ℕ, length, OnOk, IsErr};
+ghost use Rattle.std.specs.Prelude.{◌≡◌, ◌⊎◌, ◌*◌, ◌+◌, ◌/◌, ◌<◌, ◌≤◌, ◌^◌, ℕ, length, OnOk, OnErr, IsErr};
 ghost use Rattle.bank_file.specs.Bytes.{AreBytes, IsPut, AreSame};
 ghost use Rattle.bank_file.specs.Counted.{IsCounted};
 
@@ -48,6 +48,7 @@ impl<D: Device> Image<D> {
         requires within { at + length into.old / 512 ≤ self.old.sectors }
         ensures ok { OnOk result (D.tells → AreBytes (D.bytes self.old.device) (512 * at) (length into.old) into.new) }
         ensures same { D.tells → AreSame (D.bytes self.old.device) (D.bytes self.new.device) }
+        ensures failed { OnErr result (D.tells → (0 < self.old.faults) ⊎ (D.stumbles self.old.device < D.stumbles self.new.device)) }
         ensures counted { IsCounted self.old.faults self.new.faults result }
         ensures sectors { self.new.sectors ≡ self.old.sectors }
     {
@@ -63,6 +64,7 @@ impl<D: Device> Image<D> {
         requires within { at + length from.now / 512 ≤ self.old.sectors }
         ensures some { D.tells → (count : ℕ) × (count ≤ length from.now) × IsPut (D.bytes self.old.device) (D.bytes self.new.device) (512 * at) count from.now }
         ensures all { OnOk result (D.tells → IsPut (D.bytes self.old.device) (D.bytes self.new.device) (512 * at) (length from.now) from.now) }
+        ensures failed { OnErr result (D.tells → (0 < self.old.faults) ⊎ (D.stumbles self.old.device < D.stumbles self.new.device)) }
         ensures counted { IsCounted self.old.faults self.new.faults result }
         ensures sectors { self.new.sectors ≡ self.old.sectors }
     {
@@ -76,6 +78,7 @@ impl<D: Device> Image<D> {
     pub fn flush(&mut self) -> Result<(), BankFault>
         ensures synced { OnOk result (D.tells → AreSame (D.bytes self.new.device) (D.synced self.new.device)) }
         ensures same { D.tells → AreSame (D.bytes self.old.device) (D.bytes self.new.device) }
+        ensures failed { OnErr result (D.tells → (0 < self.old.faults) ⊎ (D.stumbles self.old.device < D.stumbles self.new.device)) }
         ensures counted { IsCounted self.old.faults self.new.faults result }
         ensures sectors { self.new.sectors ≡ self.old.sectors }
     {

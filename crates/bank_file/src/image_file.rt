@@ -61,6 +61,8 @@ impl Device for ImageFile {
 
     ghost synced = { λ file offset. 0 };
 
+    ghost stumbles = { λ file. 0 };
+
     fn read_some(&mut self, into: &mut [u8], offset: u64) -> io::Result<usize> {
         self.file.read_at(into, offset)
     }

@@ -1,3 +1,5 @@
+ghost use Rattle.std.specs.Prelude.{◌≡◌};
+
 use bank::Bank;
 use bank_file::{FileBank, FileFault};
 use std::fs;
@@ -35,6 +37,13 @@ fn faults(rt: &impl Abort, bank: &FileBank, slot: u32) -> u64 {
     bank.faults(slot)
 }
 
+// A value that another thread may take.
+fn sent<T: Send>(value: T) -> T
+    ensures { result ≡ value }
+{
+    value
+}
+
 // Makes the folder anew, with a file of so many sevens at each of these names.
 fn make_files(rt: &HostRuntime, folder: &str, files: &[(&str, usize)]) -> Result<(), Fail> {
     let _ = fs::remove_dir_all(rt, folder);
@@ -58,7 +67,7 @@ fn open(rt: &HostRuntime, names: &[&str]) -> Result<Result<FileBank, FileFault>,
 fn sectors_stand_at_their_place(rt: HostRuntime) -> Result<(), Fail> {
     let (first, second) = ("bank_file_place/0", "bank_file_place/1");
     make_files(&rt, "bank_file_place", &[(first, 2148), (second, 512)])?;
-    let mut bank = open(&rt, &[first, second])??;
+    let mut bank = sent(open(&rt, &[first, second])??);
     assert!(rt; bank.slots() == 2);
     assert!(rt; bank.len(0) == 4 && bank.len(1) == 1);
     let mut two = [1u8; 1024];
