@@ -8,7 +8,9 @@ ghost use Rattle.row_io.specs.Rows.{reading_of, IsRow};
 ghost use Rattle.row_io.specs.Writes.{AreApart};
 
 use crate::checks::{fits, shape_of};
-use crate::members::{ROWS, bank_of, fill_sector, list_length, members_of, next, slot_of, stored, tolerated};
+use crate::members::{
+    ROWS, bank_of, fill_sector, list_length, members_of, next, slot_of, stored, tolerated,
+};
 use bank::{Bank, MemoryBank};
 use layout::{place, row_of};
 use md_base::{Place, Shape};
