@@ -1,6 +1,7 @@
 pub mod AskLaws
 pub mod Called
 pub mod Causes
+pub mod Ending
 pub mod Ends
 pub mod Found
 pub mod Growth

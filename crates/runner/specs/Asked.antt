@@ -7,6 +7,7 @@ use Rattle.flat_history.specs.declared.events.Entry.{Entry}
 use Rattle.flat_history.specs.declared.events.Event.{Event}
 use Rattle.flat_history.specs.Flat.{next_number}
 use Rattle.flat_history.specs.OneShape.{IsOfCall}
+use Rattle.array_kept.specs.Calls.{StandsInside}
 use Rattle.script.specs.declared.lines.Line.{Line}
 use Rattle.script.specs.declared.lines.Line.TheVariants.{Step}
 use Rattle.runner.specs.Replies.{FitsLine, leaves_more, steps_at_once}
@@ -21,6 +22,7 @@ pub record IsAskedAt (size : ℕ) (line : Line) (old new : List Entry) (place : 
   pub event : Event
   pub end : ℕ
   pub own : All (λ e. IsOfCall (script_who old) e) inner
+  pub inside : All (λ e. StandsInside e.event) inner
   pub is : new ≡ old ++ (inner ++ record { caller = 0; number = next_number 0 old; end = end; event = event } ∷ [])
   pub fits : FitsLine size (old ++ inner) (record { caller = 0; number = next_number 0 old; end = end; event = event }) line
   pub at_end : place + 1 ≡ length new

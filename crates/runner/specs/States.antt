@@ -18,7 +18,7 @@ use Rattle.runner.specs.declared.report.Answered.{Answered}
 use Rattle.runner.specs.declared.report.Answered.TheVariants.{Inside, Outside}
 use Rattle.runner.specs.declared.states.State.{State}
 use Rattle.runner.specs.declared.states.State.TheVariants.{Idle, Running}
-use Rattle.runner.specs.Histories.{History, histories_of, entry_at}
+use Rattle.runner.specs.Histories.{History, histories_of, entry_at, AreGoing, EndsOnce}
 use Rattle.runner.specs.Making.{Setting, history_world, MayHaveHeld, MissingAtFirst}
 use Rattle.runner.specs.Replies.{Course, at_rest, begun, course_after, IsAnswer}
 
@@ -61,14 +61,20 @@ AreByScript number entries = All (λ e. IsOwnEntry number e) entries
 abbrev pub IsByScript : History → Type 0
 IsByScript history = AreByScript (next_number 0 history.entries) history.entries
 
--- no history holds a call of another than the script, but for that of its opening
-abbrev pub AreOfScript : List History → Type 0
-AreOfScript histories = All (λ history. IsByScript history) histories
+-- it is, and no entry stands behind one that ends it
+pub record IsOfScript (history : History) : Type 0 where
+  pub script : IsByScript history
+  pub once : EndsOnce history.entries
 
--- the histories are of the script alone, and there is room for that of the array that runs
+-- No history holds a call of another than the script, but for that of its opening, nor an entry behind one that ends it.
+abbrev pub AreOfScript : List History → Type 0
+AreOfScript histories = All IsOfScript histories
+
+-- the histories are of the script alone, and that of the array that runs is not ended, and there is room for it
 pub record IsOwn (before : List History) (running : History) (count capacity : ℕ) : Type 0 where
   pub former : AreOfScript before
   pub script : IsByScript running
+  pub going : AreGoing running.entries
   pub room : count < capacity
   pub few : count < 2 ^ 32
 
