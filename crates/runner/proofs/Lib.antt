@@ -11,6 +11,7 @@ pub mod Marks
 pub mod Reopening
 pub mod Steps
 pub mod Texts
+pub mod Told
 pub mod Turns
 pub mod Waits
 pub mod Worlds

@@ -1,11 +1,13 @@
 -- The bank of a run with or without an array on it, and what a line does to it.
-use Rattle.std.specs.Prelude.{◌≡◌, ◌⊎◌, ℕ, ◌+◌, ◌<◌, ◌≤◌, ◌^◌, ◌++◌, true, List, [], ◌∷◌, length, vec_capacity, Option, MatchOption, Result, Ok, Err, IsSome, IsFalse, ⊤}
+use Rattle.std.specs.Prelude.{◌≡◌, ◌⊎◌, ℕ, ◌+◌, ◌<◌, ◌≤◌, ◌^◌, ◌++◌, true, List, [], ◌∷◌, length, vec_capacity, Option, MatchOption, Result, Ok, Err, IfSome, IsSome, IsFalse, ⊤}
 use Rattle.std.specs.List.{All}
 use Rattle.md_base.specs.declared.answers.NoMemory.{NoMemory}
+use Rattle.md_base.specs.declared.answers.Refusal.{Refusal}
+use Rattle.md_base.specs.declared.answers.Refusal.TheVariants.{BackupFault, SlotFault}
 use Rattle.bank.specs.Given.{Given, IsFaulted}
 use Rattle.flat_history.specs.declared.events.Entry.{Entry}
 use Rattle.flat_history.specs.declared.events.Event.{Event}
-use Rattle.flat_history.specs.declared.events.Event.TheVariants.{Lost, SpareLost}
+use Rattle.flat_history.specs.declared.events.Event.TheVariants.{Lost, SpareLost, Stepped, Refused}
 use Rattle.flat_history.specs.declared.events.LostCause.{LostCause}
 use Rattle.flat_history.specs.declared.events.LostCause.TheVariants.{Absent, Recovering, Command, Fault}
 use Rattle.flat_history.specs.Flat.{rest_of_call, next_number}
@@ -110,13 +112,22 @@ IsRoleLossSince setting history role Command = setting.tells → (slot : ℕ) ×
 IsRoleLossSince setting history role Absent = setting.tells → MissingAtFirst (history_world setting history) role
 IsRoleLossSince setting history role Recovering = setting.tells → MissingAtFirst (history_world setting history) role
 
--- an event that tells a loss has its cause; a spare is told lost only where it has failed since
+-- a refusal for a slot that failed stands only where that slot has failed since, and one for the backup only where the backup has
+abbrev pub IsRefusalSince : Setting → Refusal → Type 0
+IsRefusalSince setting (SlotFault slot) = IsFaulted slot setting.before setting.now
+IsRefusalSince setting BackupFault = MatchOption setting.backup ⊥ (λ slot. IsFaulted slot setting.before setting.now)
+IsRefusalSince setting refusal = ⊤
+
+-- An event that tells a loss or a refusal has its cause, also where the refusal ended some steps; a spare is told lost only where it has
+-- failed since.
 abbrev pub IsLossSince : Setting → History → Event → Type 0
 IsLossSince setting history (Lost role cause) = IsRoleLossSince setting history role cause
 IsLossSince setting history (SpareLost slot) = IsFaulted slot setting.before setting.now
+IsLossSince setting history (Stepped done left ended) = IfSome ended (IsRefusalSince setting)
+IsLossSince setting history (Refused refusal) = IsRefusalSince setting refusal
 IsLossSince setting history event = ⊤
 
--- more entries stand behind the old ones, and each loss that they tell has its cause
+-- more entries stand behind the old ones, and each loss and refusal that they tell has its cause
 pub record AreLossesSince (setting : Setting) (old : List Entry) (new : History) : Type 0 where
   pub more : List Entry
   pub grown : new.entries ≡ old ++ more
