@@ -35,7 +35,7 @@ use Rattle.flat_history.specs.OneShape.{OneShapeAnswers}
 use Rattle.flat_history.specs.Plain.{entries_of}
 use Rattle.call_entries.specs.Losing.{losses_of}
 use Rattle.call_entries.proofs.CallLaws.{AreLossEvents, losses-are, torn-losses}
-use Rattle.array_kept.proofs.ReplyLaws.{replied}
+use Rattle.array_kept.proofs.ReplyLaws.{inside-losses, none-inside, replied}
 use Rattle.views.proofs.LiveLeft.{some-held}
 use Rattle.views.proofs.Judged.{least-found, both-parts}
 
@@ -235,16 +235,16 @@ second-half sb second sector same are = record { long = are.long; bytes = are.by
 pub added_reply : (size : ℕ) (who : Who) (old new : List Entry) (end slot roles spares : ℕ) → new ≡ old ++ entries_of who end (losses_of roles spares ++ Added slot ∷ [])
     → who.number ≡ next_number who.caller old → IsReplied size (AsksAdd slot) who old new (Added slot)
 added_reply size who old new end slot roles spares is number =
-    replied size (AsksAdd slot) who old new end (losses_of roles spares) (Added slot) is number (λ call. refl) (torn-losses (AsksAdd slot) who end (losses_of roles spares) (losses-are roles spares))
+    replied size (AsksAdd slot) who old new end (losses_of roles spares) (Added slot) is number (λ call. refl) (inside-losses who end (losses_of roles spares) (losses-are roles spares)) (torn-losses (AsksAdd slot) who end (losses_of roles spares) (losses-are roles spares))
 
 pub faulted_reply : (size : ℕ) (who : Who) (old new : List Entry) (end slot : ℕ) (xs : List Event) → AreLossEvents xs → new ≡ old ++ entries_of who end (xs ++ Refused (SlotFault slot) ∷ [])
     → who.number ≡ next_number who.caller old → IsReplied size (AsksAdd slot) who old new (Refused (SlotFault slot))
 faulted_reply size who old new end slot xs are is number =
-    replied size (AsksAdd slot) who old new end xs (Refused (SlotFault slot)) is number (λ call. refl) (torn-losses (AsksAdd slot) who end xs are)
+    replied size (AsksAdd slot) who old new end xs (Refused (SlotFault slot)) is number (λ call. refl) (inside-losses who end xs are) (torn-losses (AsksAdd slot) who end xs are)
 
 pub unadded_reply : (given : Given) (backup : Option ℕ) (m : Members) (size : ℕ) (who : Who) (old new : List Entry) (end slot : ℕ) (refusal : Refusal) → IsUnaddable given backup slot m refusal
     → new ≡ old ++ entries_of who end (Refused refusal ∷ []) → who.number ≡ next_number who.caller old → IsReplied size (AsksAdd slot) who old new (Refused refusal)
-unadded_reply given backup m size who old new end slot refusal why is number = replied size (AsksAdd slot) who old new end [] (Refused refusal) is number (λ call. fits call refusal why) tt
+unadded_reply given backup m size who old new end slot refusal why is number = replied size (AsksAdd slot) who old new end [] (Refused refusal) is number (λ call. fits call refusal why) none-inside tt
   where
     fits : (call : List Entry) (refusal : Refusal) → IsUnaddable given backup slot m refusal → OneShapeAnswers size (old ++ entries_of who end []) call (AsksAdd slot) (Refused refusal)
     fits call (NoSuchSlot asked) w = w.0

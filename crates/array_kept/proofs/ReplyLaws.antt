@@ -2,18 +2,20 @@
 use Rattle.std.proofs.Common.{◌≡◌, inl, inr, ℕ, ◌+◌, ◌<◌, ◌≤◌, ◌==◌, ◌&&◌, Bool, true, false, cond, nat_lt, Option, Some, None, Result, Ok, Err, List, [], ◌∷◌, ◌++◌, length, unwrap_or, refl, sym, ◌∙◌, ap, subst, arith}
 use Rattle.std.proofs.lemmas.Bool.Decides.{nat_tests}
 use Rattle.std.proofs.lemmas.List.{reverse-append}
+use Rattle.std.proofs.lemmas.List.Elements.{All-nil, All-cons, All-push}
+use Rattle.std.specs.List.{All}
 use Rattle.std.specs.Prelude.{fold, reverse, MatchBool}
 use Rattle.md_base.specs.Sectors.{Sector}
 use Rattle.md_base.specs.declared.answers.Who.{Who}
 use Rattle.md_base.specs.declared.answers.Refusal.{Refusal}
-use Rattle.md_base.specs.declared.answers.Fault.{Fault}
+use Rattle.md_base.specs.declared.answers.Fault.{Fault as AnyFault}
 use Rattle.md_base.specs.declared.answers.Fault.TheVariants.{Refused as IsRefusedWith, NoMemory}
 use Rattle.md_base.specs.declared.answers.Refusal.TheVariants.{PastEnd, NoSuchRole}
 use Rattle.superblocks.specs.declared.members.Members.{Members}
 use Rattle.flat_history.specs.declared.events.Entry.{Entry}
 use Rattle.flat_history.specs.declared.events.Event.{Event}
-use Rattle.flat_history.specs.declared.events.Event.TheVariants.{Torn, Flushed, Lost, Failed, Refused}
-use Rattle.flat_history.specs.declared.events.LostCause.TheVariants.{Command}
+use Rattle.flat_history.specs.declared.events.Event.TheVariants.{Torn, Flushed, Lost, SpareLost, Failed, Refused}
+use Rattle.flat_history.specs.declared.events.LostCause.TheVariants.{Command, Fault}
 use Rattle.flat_history.specs.declared.events.Request.{Request}
 use Rattle.flat_history.specs.declared.events.Request.TheVariants.{Read as AsksRead, Write as AsksWrite, Flush as AsksFlush, Fail as AsksFail}
 use Rattle.flat_history.specs.Flat.{is_same_call, rest_of_call, last_of, next_number, visible_of, length_of, limit_of, length_after, limit_after}
@@ -24,10 +26,10 @@ use Rattle.flat_history.specs.Plain.{entries_of}
 use Rattle.flat_history.specs.OneShape.{OneShapeAnswers}
 use Rattle.call_entries.specs.Losing.{losses_of, failure_events}
 use Rattle.views.specs.Lacking.{AreTooMany, IsUnread, IsUnwritten}
-use Rattle.array_kept.specs.Calls.{IsReplied, IsRefusedFor, IsSettled, IsCausedBy, IsAnswered}
+use Rattle.array_kept.specs.Calls.{StandsInside, IsReplied, IsRefusedFor, IsSettled, IsCausedBy, IsAnswered}
 use Rattle.call_entries.proofs.PlainLaws.{one, begins}
 use Rattle.call_entries.proofs.LosingLaws.{entries-both}
-use Rattle.call_entries.proofs.CallLaws.{losses-are, length-losses, limit-losses, torn-losses, torn-both, torn-reverse}
+use Rattle.call_entries.proofs.CallLaws.{AreLossEvents, losses-are, length-losses, limit-losses, torn-losses, torn-both, torn-reverse}
 use Rattle.array_kept.proofs.NowLaws.{visible-is, length-more, limit-more}
 
 -- ---- what stands before a call
@@ -78,12 +80,23 @@ torn_before request e (z ∷ zs) tail none torn = by (is_same_call e z) (torn_be
 
 -- ---- a reply
 
+-- losses may stand before it
+pub inside-losses : (who : Who) (end : ℕ) (xs : List Event) → AreLossEvents xs → All (λ e. StandsInside e.event) (entries_of who end xs)
+inside-losses who end [] are = All-nil (λ e. StandsInside e.event)
+inside-losses who end (Lost role Fault ∷ xs) are = All-cons (λ e. StandsInside e.event) (one who end (Lost role Fault)) (entries_of who end xs) tt (inside-losses who end xs are)
+inside-losses who end (SpareLost slot ∷ xs) are = All-cons (λ e. StandsInside e.event) (one who end (SpareLost slot)) (entries_of who end xs) tt (inside-losses who end xs are)
+inside-losses who end (event ∷ xs) are = absurd are
+
+pub none-inside : All (λ (e : Entry). StandsInside e.event) []
+none-inside = All-nil (λ (e : Entry). StandsInside e.event)
+
 pub replied : (size : ℕ) (request : Request) (who : Who) (old new : List Entry) (end : ℕ) (inner : List Event) (event : Event)
     → new ≡ old ++ entries_of who end (inner ++ event ∷ []) → who.number ≡ next_number who.caller old → ((call : List Entry) → OneShapeAnswers size (old ++ entries_of who end inner) call request event)
-    → AreTornOf request (entries_of who end inner) → IsReplied size request who old new event
-replied size request who old new end inner event is number answers torn = record {
+    → All (λ e. StandsInside e.event) (entries_of who end inner) → AreTornOf request (entries_of who end inner) → IsReplied size request who old new event
+replied size request who old new end inner event is number answers inside torn = record {
   inner = inner;
   end = end;
+  inside = inside;
   is = is;
   fits = record {
     answers = answers _;
@@ -170,9 +183,9 @@ module _ (size : ℕ) (old : List Entry) (sized : length_of size old ≡ size) (
       → (why members refusal → IsOfMissing refusal) → IsRefusedFor size to why members members refusal → new ≡ old ++ entries_of who end (Refused refusal ∷ []) → who.number ≡ next_number who.caller old
       → IsReplied size request who old new (Refused refusal)
   refused_reply request who to why new end members (PastEnd told) kind of w is number =
-      replied size request who old new end [] (Refused (PastEnd told)) is number (kind.past size told (old ++ []) (seen [] (λ n. refl) refl) w.1) tt
+      replied size request who old new end [] (Refused (PastEnd told)) is number (kind.past size told (old ++ []) (seen [] (λ n. refl) refl) w.1) none-inside tt
   refused_reply request who to why new end members refusal kind of w is number =
-      replied size request who old new end [] (Refused refusal) is number (kind.missing size refusal (old ++ []) (seen [] (λ n. refl) refl) w.0 (of w.1)) tt
+      replied size request who old new end [] (Refused refusal) is number (kind.missing size refusal (old ++ []) (seen [] (λ n. refl) refl) w.0 (of w.1)) none-inside tt
 
   -- a refusal behind losses
   pub lost_reply : (request : Request) (who : Who) (to : ℕ) (new : List Entry) (end roles spares : ℕ) (refusal : Refusal) → IsRefusable request to → to ≤ size → IsOfMissing refusal
@@ -181,7 +194,7 @@ module _ (size : ℕ) (old : List Entry) (sized : length_of size old ≡ size) (
   lost_reply request who to new end roles spares refusal kind within of is number =
       replied size request who old new end (losses_of roles spares) (Refused refusal) is number
       (kind.missing size refusal (old ++ entries_of who end (losses_of roles spares)) (seen-losses who end roles spares) within of)
-      (torn-losses request who end (losses_of roles spares) (losses-are roles spares))
+      (inside-losses who end (losses_of roles spares) (losses-are roles spares)) (torn-losses request who end (losses_of roles spares) (losses-are roles spares))
 
   pub torn_reply : (who : Who) (at : ℕ) (body : List Sector) (new : List Entry) (end roles spares : ℕ) (refusal : Refusal) → at + length body ≤ size → IsOfMissing refusal
       → new ≡ old ++ entries_of who end ((losses_of roles spares ++ Torn at body ∷ []) ++ Refused refusal ∷ []) → who.number ≡ next_number who.caller old
@@ -191,6 +204,8 @@ module _ (size : ℕ) (old : List Entry) (sized : length_of size old ≡ size) (
       ((write_kind at body).missing size refusal (old ++ entries_of who end (losses_of roles spares ++ Torn at body ∷ []))
       (seen (entries_of who end (losses_of roles spares ++ Torn at body ∷ [])) (λ n. length-losses who end (losses_of roles spares) (Torn at body ∷ []) (losses-are roles spares) n)
       (limit-losses who end (losses_of roles spares) (Torn at body ∷ []) (losses-are roles spares) None)) within of)
+      (subst (λ (l : List Entry). All (λ e. StandsInside e.event) l) (sym (entries-both who end (losses_of roles spares) (Torn at body ∷ [])))
+      (All-push (λ e. StandsInside e.event) (entries_of who end (losses_of roles spares)) (one who end (Torn at body)) (inside-losses who end (losses_of roles spares) (losses-are roles spares)) tt))
       (subst (λ (l : List Entry). AreTornOf (AsksWrite at body) l) (sym (entries-both who end (losses_of roles spares) (Torn at body ∷ [])))
       (torn-both (AsksWrite at body) (entries_of who end (losses_of roles spares)) (one who end (Torn at body) ∷ [])
       (torn-losses (AsksWrite at body) who end (losses_of roles spares) (losses-are roles spares)) ((refl, refl), tt)))
@@ -208,13 +223,14 @@ flush-refused : (size visible : ℕ) (m m' : Members) (before : List Entry) (ref
 flush-refused size visible m m' before (PastEnd told) why call = absurd (omega (arith, why.1))
 flush-refused size visible m m' before refusal why call = subst (λ (r : Refusal). OneShapeAnswers size before call AsksFlush (Refused r)) (sym why.1.told) tt
 
-pub flush_answer : {T : Type 0} (size visible : ℕ) (who : Who) (old new : List Entry) (m m' : Members) (result : Result T Fault) → who.number ≡ next_number who.caller old → IsSettled who old new Flushed result
+pub flush_answer : {T : Type 0} (size visible : ℕ) (who : Who) (old new : List Entry) (m m' : Members) (result : Result T AnyFault) → who.number ≡ next_number who.caller old → IsSettled who old new Flushed result
     → IsCausedBy visible 0 AreTooMany m m' result → IsAnswered size AsksFlush who old new Flushed result
 flush_answer size visible who old new m m' (Ok x) number settled caused =
-    replied size AsksFlush who old new settled.end (losses_of settled.roles settled.spares) Flushed settled.is number (λ call. tt) (torn-losses AsksFlush who settled.end (losses_of settled.roles settled.spares) (losses-are settled.roles settled.spares))
+    replied size AsksFlush who old new settled.end (losses_of settled.roles settled.spares) Flushed settled.is number (λ call. tt) (inside-losses who settled.end (losses_of settled.roles settled.spares) (losses-are settled.roles settled.spares)) (torn-losses AsksFlush who settled.end (losses_of settled.roles settled.spares) (losses-are settled.roles settled.spares))
 flush_answer size visible who old new m m' (Err (IsRefusedWith refusal)) number settled caused =
     replied size AsksFlush who old new settled.end (losses_of settled.roles settled.spares) (Refused refusal) settled.is number
     (flush-refused size visible m m' (old ++ entries_of who settled.end (losses_of settled.roles settled.spares)) refusal caused)
+    (inside-losses who settled.end (losses_of settled.roles settled.spares) (losses-are settled.roles settled.spares))
     (torn-losses AsksFlush who settled.end (losses_of settled.roles settled.spares) (losses-are settled.roles settled.spares))
 flush_answer size visible who old new m m' (Err NoMemory) number settled caused = settled
 
@@ -224,8 +240,9 @@ pub fail_reply : (size : ℕ) (who : Who) (old new : List Entry) (end role roles
     → who.number ≡ next_number who.caller old → IsReplied size (AsksFail role) who old new (Failed role)
 fail_reply size who old new end role roles spares is number =
     replied size (AsksFail role) who old new end (Lost role Command ∷ losses_of roles spares) (Failed role) is number (λ call. refl)
+    (All-cons (λ e. StandsInside e.event) (one who end (Lost role Command)) (entries_of who end (losses_of roles spares)) tt (inside-losses who end (losses_of roles spares) (losses-are roles spares)))
     (tt, torn-losses (AsksFail role) who end (losses_of roles spares) (losses-are roles spares))
 
 pub no_role_reply : (size : ℕ) (who : Who) (old new : List Entry) (end role : ℕ) → new ≡ old ++ entries_of who end (Refused (NoSuchRole role) ∷ []) → who.number ≡ next_number who.caller old
     → IsReplied size (AsksFail role) who old new (Refused (NoSuchRole role))
-no_role_reply size who old new end role is number = replied size (AsksFail role) who old new end [] (Refused (NoSuchRole role)) is number (λ call. refl) tt
+no_role_reply size who old new end role is number = replied size (AsksFail role) who old new end [] (Refused (NoSuchRole role)) is number (λ call. refl) none-inside tt

@@ -18,7 +18,7 @@ use Rattle.superblocks.specs.Reads.{has_spare}
 use Rattle.row_io.specs.Rows.{reading_of, present, is_missing}
 use Rattle.flat_history.specs.declared.events.Entry.{Entry}
 use Rattle.flat_history.specs.declared.events.Event.{Event}
-use Rattle.flat_history.specs.declared.events.Event.TheVariants.{Torn, Flushed, Lost, SpareLost, Stepped, Stopped, Refused}
+use Rattle.flat_history.specs.declared.events.Event.TheVariants.{Torn, Flushed, Lost, SpareLost, Rebuilt, Step, Stepped, Stopped, Refused}
 use Rattle.flat_history.specs.declared.events.LostCause.{LostCause}
 use Rattle.flat_history.specs.declared.events.LostCause.TheVariants.{Command, Fault as ByFault}
 use Rattle.flat_history.specs.declared.events.Request.{Request}
@@ -29,7 +29,7 @@ use Rattle.flat_history.specs.Flat.{last_of, values_of}
 use Rattle.flat_history.specs.Fits.{is_lost_event}
 use Rattle.flat_history.specs.Legal.{disturbs}
 use Rattle.flat_history.specs.Plain.{entries_of}
-use Rattle.flat_history.specs.OneShape.{is_gone_now, OneShapeFits}
+use Rattle.flat_history.specs.OneShape.{is_gone_now, EndsIdleSteps, OneShapeFits}
 use Rattle.views.specs.Placed.{is_vacant}
 use Rattle.call_entries.specs.Losing.{losses_of}
 use Rattle.views.specs.Lacking.{lacking, DoesWithout, AreTooMany}
@@ -48,10 +48,21 @@ pub record IsEntered (tells : Type 0) (tape : List Operation) (who : Who) (old n
   pub at_end : tells → end ≡ length tape
   pub is : new ≡ old ++ entries_of who end events
 
+-- what may stand in a call before its reply: a loss, a torn write, a step, and what refused one
+abbrev pub StandsInside : Event → Type 0
+StandsInside (Torn at body) = ⊤
+StandsInside (Lost role cause) = ⊤
+StandsInside (SpareLost slot) = ⊤
+StandsInside (Rebuilt role) = ⊤
+StandsInside (Step kind left) = ⊤
+StandsInside (Refused refusal) = EndsIdleSteps refusal
+StandsInside event = ⊥
+
 -- A call was answered by this event, which fits its request and stands behind the other entries of the call.
 pub record IsReplied (size : ℕ) (request : Request) (who : Who) (old new : List Entry) (event : Event) : Type 0 where
   pub inner : List Event
   pub end : ℕ
+  pub inside : All (λ e. StandsInside e.event) (entries_of who end inner)
   pub is : new ≡ old ++ entries_of who end (inner ++ event ∷ [])
   pub fits : OneShapeFits size (old ++ entries_of who end inner) (record { caller = who.caller; number = who.number; end = end; event = event }) request
 

@@ -24,6 +24,8 @@ use Rattle.superblocks.specs.Reads.{has_spare}
 use Rattle.bank.specs.Given.{Given}
 use Rattle.views.specs.Parts.{Parts}
 use Rattle.call_entries.specs.Losing.{losses_of}
+use Rattle.call_entries.proofs.CallLaws.{losses-are}
+use Rattle.array_kept.proofs.ReplyLaws.{inside-losses, none-inside}
 use Rattle.flat_history.specs.declared.events.Request.{Request}
 use Rattle.flat_history.specs.declared.events.Request.TheVariants.{Add as AsksAdd}
 use Rattle.flat_history.specs.Flat.{rest_of_call, next_number}
@@ -79,6 +81,7 @@ asked_at {size = size} {request = request} {old = old} {new = new} {event = even
       event = event;
       end = now.end;
       own = own_call (script_who old) now.end now.inner;
+      inside = now.inside;
       is = last_alone old (script_who old) now.end now.inner event now.is;
       fits = fits (old ++ entries_of (script_who old) now.end now.inner) (one (script_who old) now.end event) now.fits;
       at_end = at_end;
@@ -87,6 +90,20 @@ asked_at {size = size} {request = request} {old = old} {new = new} {event = even
 get-last : (xs : List Entry) (e : Entry) → slice_get (xs ++ e ∷ []) (length xs) ≡ Some e
 get-last [] e = refl
 get-last (x ∷ xs) e = get-last xs e
+
+-- the reply of a call tells its event
+pub replied_entry : {size : ℕ} {request : Request} {who : Who} {old new : List Entry} {event : Event} (place : ℕ) → IsReplied size request who old new event → place + 1 ≡ length new → (x : Entry) → slice_get new place ≡ Some x → x.event ≡ event
+replied_entry {who = who} {old = old} {new = new} {event = event} place was at_end x there =
+    let e = one who was.end event in
+    let before : List Entry = old ++ entries_of who was.end was.inner in
+    let whole : new ≡ before ++ e ∷ [] = last_alone old who was.end was.inner event was.is ∙ sym (append_assoc old (entries_of who was.end was.inner) (e ∷ [])) in
+    let long = ap (λ (l : List Entry). length l) whole ∙ length-append before (e ∷ []) in
+    let at : place ≡ length before = omega (arith, at_end, long) in
+    let is : slice_get new place ≡ Some e = ap (λ (l : List Entry). slice_get l place) whole ∙ ap (λ (n : ℕ). slice_get (before ++ e ∷ []) n) at ∙ get-last before e in
+    ap (λ (y : Entry). y.event) (some_same (sym there ∙ is))
+  where
+    some_same : {a b : Entry} → Some a ≡ Some b → a ≡ b
+    some_same same = cc
 
 -- the entry of the reply
 pub entry_there : {size : ℕ} {line : Line} {old new : List Entry} {place : ℕ} (asked : IsAskedAt size line old new place) → slice_get new place ≡ Some (one (script_who old) asked.end asked.event)
@@ -186,7 +203,7 @@ seeded_count bytes seed at count is = sym (length-sectors_of bytes) ∙ ap (λ (
 pub asked_halt : {tells : Type 0} {tape : List Operation} {old new : List Entry} (size place : ℕ) (who : Who) → who ≡ script_who old → IsEntered tells tape who old new (Halted ∷ []) → place + 1 ≡ length new → (asked : IsAskedAt size Halt old new place) × (asked.event ≡ Halted) × (tells → asked.end ≡ length tape)
 asked_halt {tells = tells} {tape = tape} {old = old} {new = new} size place who script was at_end =
     let now = subst (λ (w : Who). IsEntered tells tape w old new (Halted ∷ [])) script was in
-    (record { inner = []; event = Halted; end = now.end; own = All-nil (λ e. IsOfCall (script_who old) e); is = now.is; fits = tt; at_end = at_end }, refl, now.at_end)
+    (record { inner = []; event = Halted; end = now.end; own = All-nil (λ e. IsOfCall (script_who old) e); inside = none-inside; is = now.is; fits = tt; at_end = at_end }, refl, now.at_end)
 
 pub asked_stop : {old new : List Entry} (size place : ℕ) (who : Who) → who ≡ script_who old → IsBehind who old new Stopped → place + 1 ≡ length new → (asked : IsAskedAt size Stop old new place) × (asked.event ≡ Stopped)
 asked_stop {old = old} {new = new} size place who script was at_end =
@@ -196,6 +213,7 @@ asked_stop {old = old} {new = new} size place who script was at_end =
         event = Stopped;
         end = now.end;
         own = own_call (script_who old) now.end (losses_of now.roles now.spares);
+        inside = inside-losses (script_who old) now.end (losses_of now.roles now.spares) (losses-are now.roles now.spares);
         is = last_alone old (script_who old) now.end (losses_of now.roles now.spares) Stopped now.is;
         fits = tt;
         at_end = at_end;
@@ -216,6 +234,7 @@ asked_unstopped {old = old} {new = new} size place visible before after who refu
         event = Refused refusal;
         end = now.end;
         own = own_call (script_who old) now.end (losses_of now.roles now.spares);
+        inside = inside-losses (script_who old) now.end (losses_of now.roles now.spares) (losses-are now.roles now.spares);
         is = last_alone old (script_who old) now.end (losses_of now.roles now.spares) (Refused refusal) now.is;
         fits = fits_refused visible before after refusal why;
         at_end = at_end;

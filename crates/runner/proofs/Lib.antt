@@ -1,6 +1,7 @@
 pub mod AskLaws
 pub mod Called
 pub mod Causes
+pub mod Ending
 pub mod Ends
 pub mod Found
 pub mod Growth
@@ -10,6 +11,7 @@ pub mod Marks
 pub mod Reopening
 pub mod Steps
 pub mod Texts
+pub mod Told
 pub mod Turns
 pub mod Waits
 pub mod Worlds

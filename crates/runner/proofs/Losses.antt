@@ -1,16 +1,18 @@
 -- What the histories of a run tell of losses.
-use Rattle.std.proofs.Common.{◌≡◌, ◌⊎◌, inl, inr, ℕ, zero, suc, ◌<◌, ◌||◌, not, Bool, true, Option, List, [], ◌∷◌, ◌++◌, refl, sym, ◌∙◌, ap, subst, arith, append_assoc, append-nil}
+use Rattle.std.proofs.Common.{◌≡◌, ◌⊎◌, inl, inr, ℕ, zero, suc, ◌<◌, ◌||◌, not, Bool, true, Option, Some, None, List, [], ◌∷◌, ◌++◌, refl, sym, ◌∙◌, ap, subst, arith, append_assoc, append-nil}
 use Rattle.std.proofs.lemmas.List.Folds.{list_any-append}
 use Rattle.std.proofs.lemmas.List.Elements.{All-nil, All-cons, All-append, All-weaker}
-use Rattle.std.specs.Prelude.{IsTrue}
+use Rattle.std.specs.Prelude.{slice_index_or, MatchOption, IsTrue}
 use Rattle.std.specs.List.{All, list_any}
-use Rattle.bank.specs.Given.{Given}
+use Rattle.bank.specs.Given.{Given, IsFaulted}
+use Rattle.md_base.specs.declared.answers.Refusal.{Refusal}
+use Rattle.md_base.specs.declared.answers.Refusal.TheVariants.{BackupFault, SlotFault}
 use Rattle.bank.specs.declared.bank.Operation.{Operation}
 use Rattle.md_base.specs.declared.answers.Who.{Who}
 use Rattle.superblocks.specs.declared.members.Members.{Members}
 use Rattle.flat_history.specs.declared.events.Entry.{Entry}
 use Rattle.flat_history.specs.declared.events.Event.{Event}
-use Rattle.flat_history.specs.declared.events.Event.TheVariants.{Lost, SpareLost, Halted}
+use Rattle.flat_history.specs.declared.events.Event.TheVariants.{Lost, SpareLost, Stepped, Halted, Refused}
 use Rattle.flat_history.specs.declared.events.LostCause.{LostCause}
 use Rattle.flat_history.specs.declared.events.LostCause.TheVariants.{Absent, Recovering, Command, Fault}
 use Rattle.flat_history.specs.Plain.{entries_of}
@@ -28,11 +30,12 @@ use Rattle.views.specs.Placed.{AreStillHeld}
 use Rattle.views.specs.Moving.{Grows}
 use Rattle.runner.specs.Histories.{History}
 use Rattle.runner.specs.Making.{Setting, world_at, history_world, HeldAtFirst, MissingAtFirst, SpareAtFirst, is_added, IsSpareSince, MayHaveHeld, AreHeldSince}
-use Rattle.runner.specs.States.{running_history, IsRoleLossSince, IsLossSince, AreLossesSince, AreLossesFrom, AreGrown}
+use Rattle.runner.specs.States.{running_history, IsRoleLossSince, IsRefusalSince, IsLossSince, AreLossesSince, AreLossesFrom, AreGrown}
 use Rattle.views.specs.Parts.{Parts}
 use Rattle.runner.proofs.AskLaws.{one, entries_of-append}
 use Rattle.runner.proofs.Causes.{faulted-wider}
 use Rattle.runner.proofs.Growth.{IsWider, world_stays}
+use Rattle.runner.proofs.Told.{IsRefusalTold, HasTold, told_more}
 use Rattle.runner.proofs.Worlds.{held-longer, missing-longer, spare-longer}
 
 -- ---- what may have held a role since the opening
@@ -152,9 +155,21 @@ role-wider was now wider old new later role Command held = λ t. let is = held (
 role-wider was now wider old new later role Absent missing = λ t. missing-wider was now wider old new later t role (missing (wider.told t))
 role-wider was now wider old new later role Recovering missing = λ t. missing-wider was now wider old new later t role (missing (wider.told t))
 
+refusal-wider : (was now : Setting) → IsWider was now → (refusal : Refusal) → IsRefusalSince was refusal → IsRefusalSince now refusal
+refusal-wider was now wider (SlotFault slot) failed = faulted-wider slot wider.early wider.between wider.late failed
+refusal-wider was now wider BackupFault failed = subst (λ (b : Option ℕ). MatchOption b ⊥ (λ slot. IsFaulted slot now.before now.now)) (sym wider.backup) (by_backup was.backup failed)
+  where
+    by_backup : (b : Option ℕ) → MatchOption b ⊥ (λ slot. IsFaulted slot was.before was.now) → MatchOption b ⊥ (λ slot. IsFaulted slot now.before now.now)
+    by_backup None failed = absurd failed
+    by_backup (Some slot) failed = faulted-wider slot wider.early wider.between wider.late failed
+refusal-wider was now wider refusal failed = tt
+
 loss-wider : (was now : Setting) → IsWider was now → (old new : History) → IsHistoryLater old new → (event : Event) → IsLossSince was old event → IsLossSince now new event
 loss-wider was now wider old new later (Lost role cause) loss = role-wider was now wider old new later role cause loss
 loss-wider was now wider old new later (SpareLost slot) loss = faulted-wider slot wider.early wider.between wider.late loss
+loss-wider was now wider old new later (Stepped done left None) loss = tt
+loss-wider was now wider old new later (Stepped done left (Some refusal)) loss = refusal-wider was now wider refusal loss
+loss-wider was now wider old new later (Refused refusal) loss = refusal-wider was now wider refusal loss
 loss-wider was now wider old new later event loss = tt
 
 failed-wider : (was now : Setting) → IsWider was now → (old new : History) → IsHistoryLater old new → (entries : List Entry) → All (λ e. IsLossSince was old e.event) entries → All (λ e. IsLossSince now new e.event) entries
@@ -170,27 +185,25 @@ module _ (setting : Setting) (history : History) (Had : ℕ → ℕ → Type 0) 
   role-since role Absent loss = absurd loss
   role-since role Recovering loss = absurd loss
 
-  loss-since : (event : Event) → IsLossBy Had setting.before setting.now event → IsLossSince setting history event
-  loss-since (Lost role cause) loss = role-since role cause loss
-  loss-since (SpareLost slot) failed = failed
-  loss-since event loss = tt
+  loss-since : (event : Event) → IsLossBy Had setting.before setting.now event → IsRefusalTold setting event → IsLossSince setting history event
+  loss-since (Lost role cause) loss told = role-since role cause loss
+  loss-since (SpareLost slot) failed told = failed
+  loss-since (Stepped done left ended) loss told = told
+  loss-since (Refused refusal) loss told = told
+  loss-since event loss told = tt
 
-  losses-since : {old : List Entry} → AreLossesBy Had setting.before setting.now old history.entries → AreLossesSince setting old history
-  losses-since was = record {
-    more = was.more;
-    grown = was.grown;
-    failed = All-weaker (λ e. IsLossBy Had setting.before setting.now e.event) (λ e. IsLossSince setting history e.event) (λ e loss. loss-since e.event loss) was.more was.failed;
-  }
+  losses-since : {old : List Entry} → AreLossesBy Had setting.before setting.now old history.entries → HasTold setting old history.entries → AreLossesSince setting old history
+  losses-since was told = record { more = was.more; grown = was.grown; failed = λ k d lt. loss-since (slice_index_or was.more k d).event (was.failed k d lt) (told_more told was.more was.grown k d lt) }
 
 -- the losses of a call of an array, by which roles are only lost
 pub losses-of : {members : Members} {old : List Entry} (setting : Setting) (new : History) → (setting.tells → AreHeldSince (history_world setting new) new.entries members) → AreLossesOf members setting.before setting.now old new.entries
-    → AreLossesSince setting old new
-losses-of {members = members} setting new since was = losses-since setting new (Held members) (λ t role slot had. (since t).roles role slot had) was
+    → HasTold setting old new.entries → AreLossesSince setting old new
+losses-of {members = members} setting new since was told = losses-since setting new (Held members) (λ t role slot had. (since t).roles role slot had) was told
 
 -- and by which they may be given to spares
 pub losses-given : {members : Members} {old : List Entry} (setting : Setting) (new : History) → (setting.tells → AreHeldSince (history_world setting new) new.entries members) → AreLossesBy (MayHold members) setting.before setting.now old new.entries
-    → AreLossesSince setting old new
-losses-given {members = members} setting new since was = losses-since setting new (MayHold members) (λ t role slot had. may-held (history_world setting new) new.entries members (since t) role slot had) was
+    → HasTold setting old new.entries → AreLossesSince setting old new
+losses-given {members = members} setting new since was told = losses-since setting new (MayHold members) (λ t role slot had. may-held (history_world setting new) new.entries members (since t) role slot had) was told
 
 pub losses-none : (setting : Setting) (history : History) → AreLossesSince setting history.entries history
 losses-none setting history = record { more = []; grown = sym (append-nil history.entries); failed = All-nil (λ e. IsLossSince setting history e.event) }

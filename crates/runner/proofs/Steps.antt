@@ -27,7 +27,7 @@ use Rattle.runner.specs.Making.{Setting, setting_of}
 use Rattle.runner.proofs.Legal.{grows_longer}
 use Rattle.runner.specs.Replies.{Course, at_rest, course_after, course_of, IsAnswer, IsEnd, IsReplyTo, AreReplies, AreInOrder}
 use Rattle.runner.specs.Shown.{reply_text, report_text, has_refusal}
-use Rattle.runner.specs.States.{histories_in, course_in, RunsOwn, IsByScript, AreOfScript, AreLossesFrom, AreGrown, EndsBetween, IsNextCourse, IsCourseOrNext}
+use Rattle.runner.specs.States.{histories_in, course_in, RunsOwn, IsOfScript, AreOfScript, AreLossesFrom, AreGrown, EndsBetween, IsNextCourse, IsCourseOrNext}
 use Rattle.runner.specs.Sessions.{counted, IsEndNow, IsUnreplied, IsReplyMore, IsStep, IsCourse, taken_whole, IsTaken, IsStopCause, IsCourseBehind, IsPerformed, IsShownTo}
 use Rattle.runner.proofs.Growth.{IsWider, answer_wider, replies_stay, replies_more, course_more, courses_stay, shown_stays, text_more, refusal_more}
 use Rattle.runner.specs.Written.{AreWritesPlaced}
@@ -263,7 +263,7 @@ module _ {B bank_tells : Type 0} {given : Given} {backup : Option ℕ} {first_ta
 pub performed_none : {B bank_tells : Type 0} {given : Given} {backup : Option ℕ} {tape : List Operation} {start : ℕ → ℕ} (lines : List Numbered) (session : Session B) (bank : B) (epochs : Vec Epoch) → session.state ≡ Idle bank epochs → epochs.items ≡ []
     → session.replies.items ≡ [] → session.refused ≡ false → session.stopped ≡ None → IsPerformed (setting_of bank_tells given tape tape backup start start) lines session
 performed_none {B = B} {bank_tells = bank_tells} {given = given} {backup = backup} {tape = tape} {start = start} lines session bank epochs idle empty none refused going = record {
-  own = subst (λ (s : State B). RunsOwn s) (sym idle) (subst (λ (l : List Epoch). AreOfScript (histories_of l)) (sym empty) (All-nil IsByScript));
+  own = subst (λ (s : State B). RunsOwn s) (sym idle) (subst (λ (l : List Epoch). AreOfScript (histories_of l)) (sym empty) (All-nil IsOfScript));
   few = omega (arith, ap (λ (l : List LineReply). length l) none);
   replies = subst (λ (rs : List LineReply). AreReplies (setting_of bank_tells given tape tape backup start start) (histories_in session.state) (at_rest 0) (take (length rs) lines) rs) (sym none) tt;
   course = subst (λ (o : Option Stop). IsCourse o (histories_in session.state) (drop (length session.replies.items) lines) (course_of (histories_in session.state) (at_rest 0) (take (length session.replies.items) lines) session.replies.items) (course_in session.state)) (sym going)

@@ -2,8 +2,8 @@
 use Rattle.std.proofs.Common.{◌≡◌, ℕ, ◌+◌, ◌*◌, ◌^◌, ◌<◌, fold, Bool, true, false, Option, Some, None, List, [], ◌∷◌, ◌++◌, length, length-append, refl, sym, ◌∙◌, ap, subst, arith, append-nil, Result, Ok, Err, ◌⊎◌, inl, inr, ◌≤◌}
 use Rattle.std.proofs.lemmas.List.Sums.{fold-append}
 use Rattle.std.proofs.lemmas.List.{map-append, length-map}
-use Rattle.std.proofs.lemmas.List.Elements.{All-nil, All-cons, All-append}
-use Rattle.std.specs.Prelude.{slice_get, if◌then◌else◌, vec_capacity, MatchOption, IfOk, IfSome}
+use Rattle.std.proofs.lemmas.List.Elements.{All-nil, All-cons, All-append, All-push}
+use Rattle.std.specs.Prelude.{slice_get, if◌then◌else◌, vec_capacity, MatchOption, IfOk, IfSome, IsFalse}
 use Rattle.std.specs.Global.{Vec}
 use Rattle.std.specs.List.{All}
 use Rattle.std.specs.Option.{option_and_then, option_map_or}
@@ -50,7 +50,7 @@ use Rattle.runner.specs.declared.report.Answered.TheVariants.{Inside, Outside as
 use Rattle.runner.specs.declared.states.State.{State}
 use Rattle.runner.specs.declared.states.State.TheVariants.{Idle, Running}
 use Rattle.runner.specs.Asked.{script_who, IsAskedAt, IsAsked, IsStillWaiting, IsWaited}
-use Rattle.runner.specs.Histories.{History, history_of, histories_of, entry_at, is_end}
+use Rattle.runner.specs.Histories.{History, history_of, histories_of, entry_at, is_end, AreGoing}
 use Rattle.runner.specs.Making.{Setting, held_at, history_world, MissingAtFirst, IsStoredNew, IsStoredAs}
 use Rattle.runner.specs.Replies.{Course, at_rest, begun, with_calls, IsEnd, course_behind, course_after, steps_at_once, IsRepliedAt, IsAnsweredInside, IsRefusedOutside, spec_of}
 use Rattle.superblocks.specs.Reading.{shape_of}
@@ -59,11 +59,12 @@ use Rattle.script.specs.declared.lines.Numbered.{Numbered}
 use Rattle.script.specs.declared.reply.Lane.TheVariants.{Script as InScript}
 use Rattle.runner.specs.declared.report.LineReply.{LineReply}
 use Rattle.runner.specs.Sessions.{IsEndNow, IsReplied, IsUnreplied}
-use Rattle.runner.specs.States.{histories_in, course_in, IsNamed, EndsBetween, IsLossSince, AreLossesFrom, running_history, course_with, answer_at, IsGrown, AreGrown, AreLossesSince, IsTurn, IsNoTurn, IsTurnOrNone, RunsOwn, IsOwnEntry, AreByScript, IsByScript, AreOfScript}
+use Rattle.runner.specs.States.{histories_in, course_in, IsNamed, EndsBetween, IsLossSince, AreLossesFrom, running_history, course_with, answer_at, IsGrown, AreGrown, AreLossesSince, IsTurn, IsNoTurn, IsTurnOrNone, RunsOwn, IsOwnEntry, AreByScript, IsByScript, IsOfScript, AreOfScript}
 use Rattle.runner.specs.Written.{MayWrite, HasWritten, IsWritten, IsWrittenBy}
 use Rattle.runner.specs.Shown.{is_refusal}
 use Rattle.runner.proofs.Writing.{written-untold}
 use Rattle.runner.proofs.AskLaws.{one, with_reply, entry_there, replied_at}
+use Rattle.runner.proofs.Ending.{gone_once, ended_once}
 use Rattle.runner.proofs.Called.{HasCalled, called_none, called_once, called_own, called_grown, number_more}
 use Rattle.runner.proofs.Growth.{answer_named, answer_called}
 use Rattle.runner.proofs.Waits.{size_same, waiting_called, waited_called, last_waited, waited_reply}
@@ -182,6 +183,11 @@ going_add {size = size} {old = old} slot asked = goes_add size (old ++ asked.inn
 pub going_steps : {size place : ℕ} {old new : List Entry} (most : ℕ) (asked : IsAskedAt size (Step most) old new place) → is_end asked.event ≡ false
 going_steps {size = size} {old = old} most asked = goes_steps size (old ++ asked.inner) (call_of asked) most asked.event asked.fits.answers
 
+-- a wait ends none
+gone_waiting : (size : ℕ) (old new : List Entry) (earlier : List ℕ) → IsStillWaiting size old earlier new → AreGoing old → AreGoing new
+gone_waiting size old new [] same was = subst (λ (l : List Entry). AreGoing l) (sym same) was
+gone_waiting size old new (first ∷ others) (mid, one, more, rest) was = gone_waiting size mid new others rest (gone_once one (going_steps steps_at_once one) was)
+
 -- ---- the array that runs was called
 
 -- between where the run stood and where it stands
@@ -214,8 +220,8 @@ module _ {B : Type 0} (setting : Setting) (old new : Parts B) (epochs : Vec Epoc
   same_size = size_same old.members new.members shape rows
 
   -- it was called, and goes on
-  called_own_still : HasCalled old.entries new.entries → RunsOwn (Running new epochs)
-  called_own_still called = record { former = own.former; script = called_own called own.script; room = own.room; few = own.few }
+  called_own_still : HasCalled old.entries new.entries → AreGoing new.entries → RunsOwn (Running new epochs)
+  called_own_still called going = record { former = own.former; script = called_own called own.script; going = going; room = own.room; few = own.few }
 
   called_grown_still : HasCalled old.entries new.entries → AreGrown (hs ++ running_history old ∷ []) (hs ++ running_history new ∷ [])
   called_grown_still called = grown_last hs (running_history old) (running_history new) (called_grown (running_history old) (running_history new) called uuid given first own.script)
@@ -231,11 +237,11 @@ module _ {B : Type 0} (setting : Setting) (old new : Parts B) (epochs : Vec Epoc
       ∙ ap (λ (b : Bool). if b then at_rest (k + 1) else with_calls (next_number 0 mid + 1) (course_with k old)) goes)
 
   -- it answered
-  pub turn_called : {last : Line} {mid : List Entry} (line : Line) (place : ℕ) (asked : IsAskedAt (list_size (places_of old.members)) last mid new.entries place) → HasCalled old.entries new.entries
+  pub turn_called : {last : Line} {mid : List Entry} (line : Line) (place : ℕ) (asked : IsAskedAt (list_size (places_of old.members)) last mid new.entries place) → HasCalled old.entries new.entries → AreGoing new.entries
       → IsRepliedAt (list_size (places_of old.members)) new.entries place (next_number 0 old.entries) line → (setting.tells → EndsWithin setting asked.end) → is_end asked.event ≡ false
       → IsTurn setting (Running old epochs) (Running new epochs) line (Inside k place)
-  turn_called line place asked called replied ended goes = record {
-    own = called_own_still called;
+  turn_called line place asked called going replied ended goes = record {
+    own = called_own_still called going;
     losses = losses-last setting hs (running_history old) (running_history new) lost;
     grown = called_grown_still called;
     ends = λ t. subst (λ (n : ℕ). EndsBetween setting.began (length setting.tape) (hs ++ running_history new ∷ []) (Inside n place)) len
@@ -247,12 +253,12 @@ module _ {B : Type 0} (setting : Setting) (old new : Parts B) (epochs : Vec Epoc
 
   pub turn_asked : (line : Line) (place : ℕ) (asked : IsAskedAt (list_size (places_of old.members)) line old.entries new.entries place) → (setting.tells → EndsWithin setting asked.end) → is_end asked.event ≡ false
       → IsTurn setting (Running old epochs) (Running new epochs) line (Inside k place)
-  turn_asked line place asked ended goes = turn_called line place asked (called_once asked) (replied_at line asked) ended goes
+  turn_asked line place asked ended goes = turn_called line place asked (called_once asked) (gone_once asked goes own.going) (replied_at line asked) ended goes
 
   -- memory was short for it
   pub no_turn : (line : Line) → new.entries ≡ old.entries → IsNoTurn setting (Running old epochs) (Running new epochs) line
   no_turn line same = record {
-    own = called_own_still (called_none same);
+    own = called_own_still (called_none same) (subst (λ (l : List Entry). AreGoing l) (sym same) own.going);
     losses = losses-last setting hs (running_history old) (running_history new) lost;
     grown = called_grown_still (called_none same);
     course = inl (course_same same);
@@ -276,7 +282,7 @@ module _ {B : Type 0} (setting : Setting) (old new : Parts B) (epochs : Vec Epoc
           → IsNoTurn setting (Running old epochs) (Running new epochs) Wait
       by_last (inl same) = no_turn Wait same
       by_last (inr (mid, place, asked, le)) = record {
-        own = called_own_still (waiting_called (list_size (places_of old.members)) old.entries new.entries earlier was);
+        own = called_own_still (waiting_called (list_size (places_of old.members)) old.entries new.entries earlier was) (gone_waiting (list_size (places_of old.members)) old.entries new.entries earlier was own.going);
         losses = losses-last setting hs (running_history old) (running_history new) lost;
         grown = called_grown_still (waiting_called (list_size (places_of old.members)) old.entries new.entries earlier was);
         course = inr (inl (
@@ -290,7 +296,8 @@ module _ {B : Type 0} (setting : Setting) (old new : Parts B) (epochs : Vec Epoc
   pub turn_of_wait : (r : Result ℕ NoMemory) → (setting.tells → setting.began ≤ length setting.tape) → IsEndOf setting.tells new.first new.entries setting.tape
       → IsWaited (list_size (places_of old.members)) old.entries new.entries r → IsTurnOrNone setting (Running old epochs) (Running new epochs) Wait (answer_at k r)
   turn_of_wait (Ok place) longer ended was =
-      turn_called Wait place was.asked (waited_called was) (waited_reply own.script was) (λ t. at_the_end setting was.between new.entries was.asked new.first t (longer t) ended) (going_steps steps_at_once was.asked)
+      turn_called Wait place was.asked (waited_called was)
+      (gone_once was.asked (going_steps steps_at_once was.asked) (gone_waiting (list_size (places_of old.members)) old.entries was.between was.earlier was.waiting own.going)) (waited_reply own.script was) (λ t. at_the_end setting was.between new.entries was.asked new.first t (longer t) ended) (going_steps steps_at_once was.asked)
   turn_of_wait (Err fault) longer ended (earlier, was) = no_turn_waiting earlier was
 
 -- it was not called, and goes on
@@ -330,7 +337,7 @@ module _ {B : Type 0} (setting : Setting) (old : Parts B) (epoch : Epoch) (bank 
       let now = history_of epoch in
       let called = called_once asked in
       record {
-        own = subst (λ (l : List History). AreOfScript l) (sym now_are) (All-append IsByScript before (now ∷ []) own.former (All-cons IsByScript now [] (called_own called own.script) (All-nil IsByScript)));
+        own = subst (λ (l : List History). AreOfScript l) (sym now_are) (All-push IsOfScript before now own.former (record { script = called_own called own.script; once = ended_once asked own.going }));
         losses = subst (λ (l : List History). AreLossesFrom setting (before ++ running_history old ∷ []) l) (sym now_are) (losses-last setting before (running_history old) now lost);
         grown = subst (λ (l : List History). AreGrown (before ++ running_history old ∷ []) l) (sym now_are)
             (grown_last before (running_history old) now (called_grown (running_history old) now called uuid given first own.script));
@@ -372,10 +379,11 @@ module _ {B : Type 0} (setting : Setting) (bank : B) (olds epochs : Vec Epoch) (
 
   -- an array was opened
   module _ (array : Parts B) (room : length epochs.items < vec_capacity epochs) (few : length epochs.items < 2 ^ 32) (longer : setting.tells → setting.began ≤ length setting.tape) where
-    opened_own : IsByScript (running_history array) → RunsOwn (Running array epochs)
-    opened_own script = record {
+    opened_own : IsByScript (running_history array) → AreGoing array.entries → RunsOwn (Running array epochs)
+    opened_own script going = record {
       former = subst (λ (l : List Epoch). AreOfScript (histories_of l)) (sym same) own;
       script = script;
+      going = going;
       room = room;
       few = few;
     }
@@ -403,7 +411,7 @@ module _ {B : Type 0} (setting : Setting) (bank : B) (olds epochs : Vec Epoch) (
         → (setting.tells → used_slot (scope_of setting.given setting.backup array.given line.uuid) (held_at setting (length setting.tape)) line.shape.disks ≡ None)
         → IsTurn setting (Idle bank olds) (Running array epochs) (Create line) (IsOutside Created)
     turn_created line unrefused made free = record {
-      own = opened_own (no_entries made.quiet);
+      own = opened_own (no_entries made.quiet) (subst (λ (l : List Entry). AreGoing l) (sym made.quiet) (All-nil (λ e. IsFalse (is_end e.event))));
       losses = opened_losses (losses-same setting [] (running_history array) made.quiet);
       grown = opened_grown;
       ends = longer;
@@ -445,6 +453,9 @@ module _ {B : Type 0} (setting : Setting) (bank : B) (olds epochs : Vec Epoch) (
       losses_own : (number : ℕ) → AreByScript number (entries_of opener array.first losses)
       losses_own number = each-absent (λ e. IsOwnEntry number e) opener array.first (reading_of found.members) (shape_of found.members.newest).disks (λ role lt missing. (inr (refl, refl, tt), inr (refl, refl, tt)))
 
+      losses_go : AreGoing (entries_of opener array.first losses)
+      losses_go = each-absent (λ e. IsFalse (is_end e.event)) opener array.first (reading_of found.members) (shape_of found.members.newest).disks (λ role lt missing. (refl, refl))
+
       found_lost : (more : List Entry) → All (λ e. IsLossSince setting (running_history array) e.event) more → array.entries ≡ entries_of opener array.first losses ++ more → AreLossesSince setting [] (running_history array)
       found_lost more others entries = losses-found setting (running_history array) (reading_of found.members) array.first more
           (λ role lt missing t. subst (λ (w : World). MissingAtFirst w role) (same_world t) (opened_missing setting.given setting.tape setting.backup asked found is.begun is.opened t role lt missing)) others entries
@@ -457,7 +468,8 @@ module _ {B : Type 0} (setting : Setting) (bank : B) (olds epochs : Vec Epoch) (
           → IsTurn setting (Idle bank olds) (Running array epochs) (Assemble asked) (IsOutside (Assembled (length epochs.items) status))
       turn_found status told entered members = record {
         own = opened_own (subst (λ (l : List Entry). AreByScript (next_number 0 l) l) (sym entries) (subst (λ (n : ℕ). AreByScript n (entries_of opener array.first losses ++ first_entry ∷ [])) (sym one_call)
-            (All-append (λ e. IsOwnEntry 1 e) (entries_of opener array.first losses) (first_entry ∷ []) (losses_own 1) (All-cons (λ e. IsOwnEntry 1 e) first_entry [] (inl (refl, omega arith)) (All-nil (λ e. IsOwnEntry 1 e))))));
+            (All-append (λ e. IsOwnEntry 1 e) (entries_of opener array.first losses) (first_entry ∷ []) (losses_own 1) (All-cons (λ e. IsOwnEntry 1 e) first_entry [] (inl (refl, omega arith)) (All-nil (λ e. IsOwnEntry 1 e))))))
+            (subst (λ (l : List Entry). AreGoing l) (sym entries) (All-push (λ e. IsFalse (is_end e.event)) (entries_of opener array.first losses) first_entry losses_go refl));
         losses = opened_losses (found_lost (first_entry ∷ []) (All-cons (λ e. IsLossSince setting (running_history array) e.event) first_entry [] tt (All-nil (λ e. IsLossSince setting (running_history array) e.event))) entries);
         grown = opened_grown;
         ends = longer;
@@ -491,7 +503,8 @@ module _ {B : Type 0} (setting : Setting) (bank : B) (olds epochs : Vec Epoch) (
       -- memory was short for its status
       pub no_turn_found : array.entries ≡ found.entries → IsNoTurn setting (Idle bank olds) (Running array epochs) (Assemble asked)
       no_turn_found kept = record {
-        own = opened_own (subst (λ (l : List Entry). AreByScript (next_number 0 array.entries) l) (sym (kept ∙ found_entries)) (losses_own (next_number 0 array.entries)));
+        own = opened_own (subst (λ (l : List Entry). AreByScript (next_number 0 array.entries) l) (sym (kept ∙ found_entries)) (losses_own (next_number 0 array.entries)))
+            (subst (λ (l : List Entry). AreGoing l) (sym (kept ∙ found_entries)) losses_go);
         losses = opened_losses (found_lost [] (All-nil (λ e. IsLossSince setting (running_history array) e.event)) (kept ∙ found_entries ∙ sym (append-nil (entries_of opener array.first losses))));
         grown = opened_grown;
         course = inr (inr (refl, (list_size (places_of array.members), opened_course 0 (list_size (places_of array.members)) (ap (λ (l : List Entry). next_number 0 l) kept ∙ found_number) refl)));

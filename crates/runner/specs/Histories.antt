@@ -1,5 +1,6 @@
 -- The histories of a run's arrays, in the order in which these were opened.
-use Rattle.std.specs.Prelude.{ℕ, Bool, true, false, List, map, slice_get, Option}
+use Rattle.std.specs.Prelude.{◌≡◌, ℕ, Bool, true, false, List, [], ◌∷◌, map, slice_get, Option, IsTrue, IsFalse, ⊤}
+use Rattle.std.specs.List.{All}
 use Rattle.std.specs.Option.{option_and_then}
 use Rattle.flat_history.specs.declared.events.Entry.{Entry}
 use Rattle.flat_history.specs.declared.events.Epoch.{Epoch}
@@ -28,3 +29,12 @@ abbrev pub is_end : Event → Bool
 is_end Stopped = true
 is_end Halted = true
 is_end event = false
+
+-- none of these entries ends its epoch
+abbrev pub AreGoing : List Entry → Type 0
+AreGoing entries = All (λ e. IsFalse (is_end e.event)) entries
+
+-- none stands behind one that does
+abbrev pub EndsOnce : List Entry → Type 0
+EndsOnce [] = ⊤
+EndsOnce (e ∷ entries) = (IsTrue (is_end e.event) → entries ≡ []) × EndsOnce entries

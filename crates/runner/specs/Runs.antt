@@ -91,7 +91,7 @@ pub record IsScriptBad (tells : Type 0) (old new : List ℕ) (line : ℕ) : Type
   pub read : IsTextOf tells old new text
   pub bad : script_of text ≡ Err line
 
--- each loss that is told has its cause
+-- each loss and each refusal that is told has its cause
 abbrev pub AreLossesFailed : Setting → List Epoch → Type 0
 AreLossesFailed setting epochs = All (λ epoch. All (λ e. IsLossSince setting (history_of epoch) e.event) epoch.entries.items) epochs
 

@@ -1,11 +1,13 @@
 -- The bank of a run with or without an array on it, and what a line does to it.
-use Rattle.std.specs.Prelude.{◌≡◌, ◌⊎◌, ℕ, ◌+◌, ◌<◌, ◌≤◌, ◌^◌, ◌++◌, true, List, [], ◌∷◌, length, vec_capacity, Option, MatchOption, Result, Ok, Err, IsSome, IsFalse, ⊤}
+use Rattle.std.specs.Prelude.{◌≡◌, ◌⊎◌, ℕ, ◌+◌, ◌<◌, ◌≤◌, ◌^◌, ◌++◌, true, List, [], ◌∷◌, length, vec_capacity, Option, MatchOption, Result, Ok, Err, IfSome, IsSome, IsFalse, ⊤}
 use Rattle.std.specs.List.{All}
 use Rattle.md_base.specs.declared.answers.NoMemory.{NoMemory}
+use Rattle.md_base.specs.declared.answers.Refusal.{Refusal}
+use Rattle.md_base.specs.declared.answers.Refusal.TheVariants.{BackupFault, SlotFault}
 use Rattle.bank.specs.Given.{Given, IsFaulted}
 use Rattle.flat_history.specs.declared.events.Entry.{Entry}
 use Rattle.flat_history.specs.declared.events.Event.{Event}
-use Rattle.flat_history.specs.declared.events.Event.TheVariants.{Lost, SpareLost}
+use Rattle.flat_history.specs.declared.events.Event.TheVariants.{Lost, SpareLost, Stepped, Refused}
 use Rattle.flat_history.specs.declared.events.LostCause.{LostCause}
 use Rattle.flat_history.specs.declared.events.LostCause.TheVariants.{Absent, Recovering, Command, Fault}
 use Rattle.flat_history.specs.Flat.{rest_of_call, next_number}
@@ -18,7 +20,7 @@ use Rattle.runner.specs.declared.report.Answered.{Answered}
 use Rattle.runner.specs.declared.report.Answered.TheVariants.{Inside, Outside}
 use Rattle.runner.specs.declared.states.State.{State}
 use Rattle.runner.specs.declared.states.State.TheVariants.{Idle, Running}
-use Rattle.runner.specs.Histories.{History, histories_of, entry_at}
+use Rattle.runner.specs.Histories.{History, histories_of, entry_at, AreGoing, EndsOnce}
 use Rattle.runner.specs.Making.{Setting, history_world, MayHaveHeld, MissingAtFirst}
 use Rattle.runner.specs.Replies.{Course, at_rest, begun, course_after, IsAnswer}
 
@@ -61,14 +63,20 @@ AreByScript number entries = All (λ e. IsOwnEntry number e) entries
 abbrev pub IsByScript : History → Type 0
 IsByScript history = AreByScript (next_number 0 history.entries) history.entries
 
--- no history holds a call of another than the script, but for that of its opening
-abbrev pub AreOfScript : List History → Type 0
-AreOfScript histories = All (λ history. IsByScript history) histories
+-- it is, and no entry stands behind one that ends it
+pub record IsOfScript (history : History) : Type 0 where
+  pub script : IsByScript history
+  pub once : EndsOnce history.entries
 
--- the histories are of the script alone, and there is room for that of the array that runs
+-- No history holds a call of another than the script, but for that of its opening, nor an entry behind one that ends it.
+abbrev pub AreOfScript : List History → Type 0
+AreOfScript histories = All IsOfScript histories
+
+-- the histories are of the script alone, and that of the array that runs is not ended, and there is room for it
 pub record IsOwn (before : List History) (running : History) (count capacity : ℕ) : Type 0 where
   pub former : AreOfScript before
   pub script : IsByScript running
+  pub going : AreGoing running.entries
   pub room : count < capacity
   pub few : count < 2 ^ 32
 
@@ -104,13 +112,22 @@ IsRoleLossSince setting history role Command = setting.tells → (slot : ℕ) ×
 IsRoleLossSince setting history role Absent = setting.tells → MissingAtFirst (history_world setting history) role
 IsRoleLossSince setting history role Recovering = setting.tells → MissingAtFirst (history_world setting history) role
 
--- an event that tells a loss has its cause; a spare is told lost only where it has failed since
+-- a refusal for a slot that failed stands only where that slot has failed since, and one for the backup only where the backup has
+abbrev pub IsRefusalSince : Setting → Refusal → Type 0
+IsRefusalSince setting (SlotFault slot) = IsFaulted slot setting.before setting.now
+IsRefusalSince setting BackupFault = MatchOption setting.backup ⊥ (λ slot. IsFaulted slot setting.before setting.now)
+IsRefusalSince setting refusal = ⊤
+
+-- An event that tells a loss or a refusal has its cause, also where the refusal ended some steps; a spare is told lost only where it has
+-- failed since.
 abbrev pub IsLossSince : Setting → History → Event → Type 0
 IsLossSince setting history (Lost role cause) = IsRoleLossSince setting history role cause
 IsLossSince setting history (SpareLost slot) = IsFaulted slot setting.before setting.now
+IsLossSince setting history (Stepped done left ended) = IfSome ended (IsRefusalSince setting)
+IsLossSince setting history (Refused refusal) = IsRefusalSince setting refusal
 IsLossSince setting history event = ⊤
 
--- more entries stand behind the old ones, and each loss that they tell has its cause
+-- more entries stand behind the old ones, and each loss and refusal that they tell has its cause
 pub record AreLossesSince (setting : Setting) (old : List Entry) (new : History) : Type 0 where
   pub more : List Entry
   pub grown : new.entries ≡ old ++ more

@@ -12,7 +12,7 @@ ghost use Rattle.array_kept.specs.Calls.{IsSameArray, AreSparesFewer, AreLossesO
 ghost use Rattle.views.specs.Moving.{Grows};
 ghost use Rattle.shared_array.specs.Steps.{HasGoneOn};
 ghost use Rattle.runner.specs.Making.{is_added};
-ghost use Rattle.runner.specs.Asked.{IsAsked, IsWaited, script_who};
+ghost use Rattle.runner.specs.Asked.{IsAsked, IsFaultTold, IsWaited, script_who};
 ghost use Rattle.runner.specs.Replies.{leaves_more_at};
 ghost use Rattle.script.specs.declared.lines.Line.TheVariants.{Read as ReadLine, Write as WriteLine, Flush as FlushLine, Fail as FailLine, Add as AddLine, Step as StepLine};
 
@@ -165,6 +165,7 @@ pub fn ask_fail<B: Bank>(array: &mut Array<B>, role: u32) -> Result<u64, NoMemor
 /// Makes a slot a spare. Ok is the place of the reply entry.
 pub fn ask_add<B: Bank>(array: &mut Array<B>, slot: u32) -> Result<u64, NoMemory>
     ensures asked { IsAsked (list_size (places_of array.old.members)) (AddLine slot) array.old.entries array.new.entries result }
+    ensures faulted { IfOk result (λ place. IsFaultTold (B.faults_of array.old.bank) (B.faults_of array.new.bank) array.new.entries place) }
     ensures ended { IfOk result (λ place. IsEndOf B.tells array.new.first array.new.entries (B.tape array.new.bank)) }
     ensures unchanged { IfErr result (λ none. array.new ≡ array.old) }
     ensures grows { Grows B.tells (B.tape array.old.bank) (B.tape array.new.bank) }

@@ -26,7 +26,7 @@ use Rattle.views.specs.declared.work.Work.{Work}
 use Rattle.call_entries.specs.Losing.{losses_of}
 use Rattle.views.specs.Parts.{Parts}
 use Rattle.views.specs.Status.{left_of}
-use Rattle.array_kept.specs.Calls.{IsEntered, IsBehind, IsRoleLost, IsRebuildStepped, IsSettled}
+use Rattle.array_kept.specs.Calls.{StandsInside, IsEntered, IsBehind, IsRoleLost, IsRebuildStepped, IsSettled}
 use Rattle.call_entries.proofs.PlainLaws.{one, last-snoc}
 use Rattle.call_entries.proofs.LosingLaws.{entries-both}
 use Rattle.call_entries.proofs.CallLaws.{AreLossEvents, losses-are, all-losses}
@@ -49,6 +49,13 @@ own-behind : (who : Who) (end roles spares : ℕ) (events : List Event) → All 
     → All (λ e. IsOfCall who e × GoesOnBehind e.event) (entries_of who end (losses_of roles spares ++ events))
 own-behind who end roles spares events go =
     own-entries who end (losses_of roles spares ++ events) (all-losses GoesOnBehind who end roles spares events (λ role has. tt) (λ slot has. tt) go)
+
+-- losses may stand inside a call, and so may what stands behind them
+inside-behind : (who : Who) (end roles spares : ℕ) (events : List Event) → All (λ e. StandsInside e.event) (entries_of who end events) → All (λ e. StandsInside e.event) (entries_of who end (losses_of roles spares ++ events))
+inside-behind who end roles spares events rest = all-losses StandsInside who end roles spares events (λ role has. tt) (λ slot has. tt) rest
+
+one-inside : (who : Who) (end : ℕ) (event : Event) → StandsInside event → All (λ e. StandsInside e.event) (one who end event ∷ [])
+one-inside who end event is = All-cons (λ e. StandsInside e.event) (one who end event) [] is (All-nil (λ e. StandsInside e.event))
 
 one-goes : (who : Who) (end : ℕ) (event : Event) → GoesOnBehind event → All (λ e. GoesOnBehind e.event) (one who end event ∷ [])
 one-goes who end event goes = All-cons (λ e. GoesOnBehind e.event) (one who end event) [] goes (All-nil (λ e. GoesOnBehind e.event))
@@ -98,15 +105,17 @@ pub record IsStepMore (who : Who) (old new : List Entry) : Type 0 where
   pub inner : List Entry
   pub is : new ≡ old ++ inner
   pub own : All (λ e. IsOfCall who e × GoesOnBehind e.event) inner
+  pub inside : All (λ e. StandsInside e.event) inner
   pub most : count_by (λ e. is_step_event e.event) inner ≤ 1
   pub least : 1 ≤ count_by (λ e. is_step_event e.event) inner + count_by (λ e. is_lost_event e.event) inner
 
 more-behind : (who : Who) (old new : List Entry) (events : List Event) (roles spares end : ℕ) → new ≡ old ++ entries_of who end (losses_of roles spares ++ events)
-    → All (λ e. GoesOnBehind e.event) (entries_of who end events) → count_by (λ e. is_step_event e.event) (entries_of who end events) ≡ 1 → IsStepMore who old new
-more-behind who old new events roles spares end is go one_step = record {
+    → All (λ e. GoesOnBehind e.event) (entries_of who end events) → All (λ e. StandsInside e.event) (entries_of who end events) → count_by (λ e. is_step_event e.event) (entries_of who end events) ≡ 1 → IsStepMore who old new
+more-behind who old new events roles spares end is go inside one_step = record {
   inner = entries_of who end (losses_of roles spares ++ events);
   is = is;
   own = own-behind who end roles spares events go;
+  inside = inside-behind who end roles spares events inside;
   most = let counted = count-behind who end roles spares events 1 one_step in omega (arith, counted);
   least = let counted = count-behind who end roles spares events 1 one_step in omega (arith, counted);
 }
@@ -119,6 +128,7 @@ more-lost who old new role was =
       inner = entries_of who was.end (losses_of was.roles was.spares ++ []);
       is = was.is ∙ ap (λ (l : List Event). old ++ entries_of who was.end l) (sym (append-nil (losses_of was.roles was.spares)));
       own = own-behind who was.end was.roles was.spares [] (All-nil (λ e. GoesOnBehind e.event));
+      inside = inside-behind who was.end was.roles was.spares [] (All-nil (λ e. StandsInside e.event));
       most = omega (arith, counted);
       least = omega (arith, lost);
     }
@@ -127,6 +137,11 @@ rebuild-goes : (who : Who) (end : ℕ) (kind : StepKind) (role left : ℕ) → A
 rebuild-goes who end RebuildEnded role left =
     All-cons (λ e. GoesOnBehind e.event) (one who end (Step RebuildEnded left)) (one who end (Rebuilt role) ∷ []) tt (one-goes who end (Rebuilt role) tt)
 rebuild-goes who end kind role left = one-goes who end (Step kind left) tt
+
+rebuild-inside : (who : Who) (end : ℕ) (kind : StepKind) (role left : ℕ) → All (λ e. StandsInside e.event) (entries_of who end (rebuild_events kind role left))
+rebuild-inside who end RebuildEnded role left =
+    All-cons (λ e. StandsInside e.event) (one who end (Step RebuildEnded left)) (one who end (Rebuilt role) ∷ []) tt (one-inside who end (Rebuilt role) tt)
+rebuild-inside who end kind role left = one-inside who end (Step kind left) tt
 
 rebuild-one : (who : Who) (end : ℕ) (kind : StepKind) (role left : ℕ) → count_by (λ e. is_step_event e.event) (entries_of who end (rebuild_events kind role left)) ≡ 1
 rebuild-one who end RebuildEnded role left = refl
@@ -139,14 +154,15 @@ step-more {T = T} who old new work members members' left x = by work.resync
     rebuilt : IsRebuildStepped {T = T} who old new members' (rebuilt_role members) (rebuild_events (rebuild_kind work members) (rebuilt_role members) left) (Ok x) → IsStepMore who old new
     rebuilt (inl done) =
         more-behind who old new (rebuild_events (rebuild_kind work members) (rebuilt_role members) left) done.0 done.1 done.2 done.3
-        (rebuild-goes who done.2 (rebuild_kind work members) (rebuilt_role members) left) (rebuild-one who done.2 (rebuild_kind work members) (rebuilt_role members) left)
+        (rebuild-goes who done.2 (rebuild_kind work members) (rebuilt_role members) left) (rebuild-inside who done.2 (rebuild_kind work members) (rebuilt_role members) left) (rebuild-one who done.2 (rebuild_kind work members) (rebuilt_role members) left)
     rebuilt (inr ended) = more-lost who old new (rebuilt_role members) ended.0
 
     by : (o : Option ℕ) → MatchOption o (IsRebuildStepped {T = T} who old new members' (rebuilt_role members) (rebuild_events (rebuild_kind work members) (rebuilt_role members) left) (Ok x))
         (λ mended. IsSettled {T = T} who old new (Step (resync.next_kind work.resync members) left) (Ok x)) → IsStepMore who old new
     by None was = rebuilt was
     by (Some mended) was =
-        more-behind who old new (Step (resync.next_kind work.resync members) left ∷ []) was.roles was.spares was.end was.is (one-goes who was.end (Step (resync.next_kind work.resync members) left) tt) refl
+        more-behind who old new (Step (resync.next_kind work.resync members) left ∷ []) was.roles was.spares was.end was.is (one-goes who was.end (Step (resync.next_kind work.resync members) left) tt)
+        (one-inside who was.end (Step (resync.next_kind work.resync members) left) tt) refl
 
 -- and one that was refused
 pub step-refused : (T : Type 0) (who : Who) (old new : List Entry) (work : Work) (members members' : Members) (left : ℕ) (refusal : Refusal)
@@ -168,7 +184,7 @@ refused-step T who old new work members members' left refusal was = by work.resy
 -- ---- the steps of a call
 
 pub steps-none : (who : Who) (old : List Entry) → AreStepsOf who old old 0 None
-steps-none who old = record { inner = []; is = sym (append-nil old); own = All-nil (λ e. IsOfCall who e × GoesOnBehind e.event); counted = omega arith; not_more = omega arith; last = tt }
+steps-none who old = record { inner = []; is = sym (append-nil old); own = All-nil (λ e. IsOfCall who e × GoesOnBehind e.event); counted = omega arith; not_more = omega arith; last = tt; inside = λ ends. All-nil (λ e. StandsInside e.event) }
 
 -- one more of them was done
 pub steps-more : {old mid new : List Entry} {who : Who} {done : ℕ} → AreStepsOf who old mid done None → IsStepMore who mid new → AreStepsOf who old new (done + 1) None
@@ -182,6 +198,7 @@ steps-more {old = old} {who = who} so was =
       counted = omega (arith, so.counted, was.most, steps);
       not_more = omega (arith, so.not_more, was.least, steps, lost);
       last = tt;
+      inside = λ ends. All-append (λ e. StandsInside e.event) so.inner was.inner (so.inside tt) was.inside;
     }
 
 -- the last entry of a call that was refused
@@ -206,6 +223,7 @@ steps-refused {old = old} {mid = mid} {new = new} {who = who} refusal so was =
       counted = omega (arith, so.counted, none, steps);
       not_more = omega (arith, so.not_more, steps, lost);
       last = last-behind who mid new refusal was;
+      inside = λ ends. All-append (λ e. StandsInside e.event) so.inner entered (so.inside tt) (inside-behind who was.end was.roles was.spares (Refused refusal ∷ []) (one-inside who was.end (Refused refusal) ends));
     }
 
 -- ---- what they tell of losses

@@ -29,7 +29,7 @@ use Rattle.flat_history.specs.Plain.{entries_of}
 use Rattle.flat_history.specs.OneShape.{GoesOnBehind, IsOfCall, EndsIdleSteps, DidOneShapeSteps}
 use Rattle.views.specs.Lacking.{IsUnwritten}
 use Rattle.views.specs.Parts.{Parts}
-use Rattle.array_kept.specs.Calls.{IsEntered, IsReplied, IsAnswered, TellNoRoleLoss}
+use Rattle.array_kept.specs.Calls.{StandsInside, IsEntered, IsReplied, IsAnswered, TellNoRoleLoss}
 use Rattle.call_entries.proofs.PlainLaws.{one}
 use Rattle.call_entries.proofs.LosingLaws.{entries-both}
 use Rattle.call_entries.proofs.CallLaws.{torn-reverse}
@@ -105,6 +105,7 @@ answered-nothing {who = who} {old = old} size most same number was = record {
   inner = [];
   end = was.end;
   own = All-nil (IsOfCall who);
+  inside = All-nil (λ e. StandsInside e.event);
   is = was.is ∙ ap (λ (l : List Entry). l ++ one who was.end (Refused Nothing) ∷ []) same;
   fits = record {
     answers = tt;
@@ -178,6 +179,7 @@ answered-stepped {who = who} {old = old} {begun = begun} {mid = mid} {done = don
   inner = so.inner;
   end = was.end;
   own = own;
+  inside = so.inside (all-ended members ended caused);
   is = was.is ∙ ap (λ (l : List Entry). l ++ one who was.end (Stepped done left ended) ∷ []) (so.is ∙ ap (λ (l : List Entry). l ++ so.inner) same) ∙ append_assoc old so.inner (one who was.end (Stepped done left ended) ∷ []);
   fits = record {
     answers = (
@@ -211,6 +213,7 @@ answered-by {who = who} {old = old} {event = event} was = record {
   inner = entries_of who was.end was.inner;
   end = was.end;
   own = own-entries who was.end was.inner;
+  inside = was.inside;
   is = was.is ∙ ap (λ (l : List Entry). old ++ l) (entries-both who was.end was.inner (event ∷ []));
   fits = was.fits;
 }

@@ -18,13 +18,13 @@ use Rattle.flat_history.specs.declared.events.StepKind.TheVariants.{ResyncEnded,
 use Rattle.flat_history.specs.declared.events.Request.{Request}
 use Rattle.flat_history.specs.Flat.{last_of}
 use Rattle.flat_history.specs.Fits.{is_step_event, is_lost_event}
-use Rattle.flat_history.specs.OneShape.{GoesOnBehind, IsOfCall, OneShapeFits}
+use Rattle.flat_history.specs.OneShape.{EndsIdleSteps, GoesOnBehind, IsOfCall, OneShapeFits}
 use Rattle.views.specs.declared.work.Work.{Work}
 use Rattle.views.specs.Status.{left_of}
 use Rattle.views.specs.Parts.{Parts}
 use Rattle.views.specs.Moving.{Grows}
 use Rattle.views.specs.Lacking.{HaveRolesFailed, AreTooMany, IsUnwritten}
-use Rattle.array_kept.specs.Calls.{AreHeldOrSpare, AreLossesBy, AreValuesKept, TellNoLoss, IsSettled, IsRebuildStepped, IsSameArray, world_for}
+use Rattle.array_kept.specs.Calls.{StandsInside, AreHeldOrSpare, AreLossesBy, AreValuesKept, TellNoLoss, IsSettled, IsRebuildStepped, IsSameArray, world_for}
 use Rattle.views.specs.Rebuilding.{Held, MayHold}
 use Rattle.resync.specs.Steps.{is_at_end, IsUnmended}
 use Rattle.resync.specs.Steps as resync
@@ -81,6 +81,7 @@ pub record AreStepsOf (who : Who) (old new : List Entry) (done : ℕ) (ended : O
   pub counted : count_by (λ e. is_step_event e.event) inner ≤ done
   pub not_more : done ≤ count_by (λ e. is_step_event e.event) inner + count_by (λ e. is_lost_event e.event) inner
   pub last : IfSome ended (λ refusal. MatchOption (last_of new) ⊥ (λ e. e.event ≡ Refused refusal))
+  pub inside : IfSome ended EndsIdleSteps → All (λ e. StandsInside e.event) inner
 
 -- What steps leave of an array over its bank: the list stays, slots are lost only where they fail, roles are given to spares alone, and each
 -- loss is told.
@@ -101,6 +102,7 @@ pub record IsAnsweredBy (size : ℕ) (request : Request) (who : Who) (old new : 
   pub inner : List Entry
   pub end : ℕ
   pub own : All (IsOfCall who) inner
+  pub inside : All (λ e. StandsInside e.event) inner
   pub is : new ≡ old ++ (inner ++ record { caller = who.caller; number = who.number; end = end; event = event } ∷ [])
   pub fits : OneShapeFits size (old ++ inner) (record { caller = who.caller; number = who.number; end = end; event = event }) request
 

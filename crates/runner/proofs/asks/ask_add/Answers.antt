@@ -7,6 +7,7 @@ use Rattle.views.specs.Whole.{list_size}
 use Rattle.views.specs.Placed.{places_of}
 use Rattle.script.specs.declared.lines.Line.TheVariants.{Add as AddLine}
 use Rattle.runner.proofs.AskLaws.{on_no_memory, grew, asked_at, answered_reply, answered_none, spares_told, spares_short}
+use Rattle.runner.proofs.Told.{fault_told, answered_add}
 use Rattle.runner.proofs.asks.ask_add.Goals as goal
 
 pub returns-then-wants_memory-clause-asked : goal.returns-then-wants_memory-clause-asked
@@ -38,3 +39,10 @@ returns-clause-spares g c =
     spares_told (list_size (places_of c.args.array.now.members)) c.args.slot c.script_call-who.result (g.B.Bank.given c.args.array.now.bank) c.args.array.now.backup c.args.array.now.entries c.add-answer.new.self.entries c.args.array.now.members c.add-answer.new.self.members
     (g.B.Bank.faults_of c.args.array.now.bank) (g.B.Bank.faults_of c.add-answer.new.self.bank) c.add-answer.result
     c.add-answer.ensures.answered c.add-answer.ensures.caused (c.wants_memory.ensures.no c.if-wants_memory.false) c.add-answer.ensures.spares
+
+pub returns-clause-faulted : goal.returns-clause-faulted
+returns-clause-faulted g c =
+    let size = list_size (places_of c.args.array.now.members) in
+    let was = answered_add size c.args.slot c.script_call-who.result (g.B.Bank.given c.args.array.now.bank) c.args.array.now.backup c.args.array.now.entries c.add-answer.new.self.entries c.args.array.now.members c.add-answer.new.self.members
+    (g.B.Bank.faults_of c.args.array.now.bank) (g.B.Bank.faults_of c.add-answer.new.self.bank) c.add-answer.result c.add-answer.ensures.answered c.add-answer.ensures.caused (c.wants_memory.ensures.no c.if-wants_memory.false) in
+    fault_told c.last_place.result (g.B.Bank.faults_of c.args.array.now.bank) (g.B.Bank.faults_of c.add-answer.new.self.bank) was.1 c.last_place.ensures was.2

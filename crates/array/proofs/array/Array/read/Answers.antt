@@ -22,7 +22,7 @@ use Rattle.views.proofs.LackingLaws.{lost-since, does-without}
 use Rattle.array_kept.proofs.ReadyLaws.{ready, scope-same, list-same}
 use Rattle.array_kept.proofs.DegradedLaws.{refused-here, kept-refused, unread-here}
 use Rattle.array_kept.proofs.LossLaws.{losses-behind, ended-behind}
-use Rattle.array_kept.proofs.ReplyLaws.{refused_reply, lost_reply, replied, read_kind, unread-of, refused-for}
+use Rattle.array_kept.proofs.ReplyLaws.{refused_reply, lost_reply, inside-losses, replied, read_kind, unread-of, refused-for}
 use Rattle.array_kept.proofs.ReadLaws.{kept-unread, kept-read, fetched, some-of}
 use Rattle.call_entries.proofs.CallLaws.{losses-are, torn-losses}
 use Rattle.array.proofs.array.Array.read.Goals as goal
@@ -226,7 +226,7 @@ returns-clause-answered g c =
     end (losses_of roles spares) (Read c.args.at (sectors_of into))
     (c.enter_behind-2.ensures.items ∙ ap (λ (l : List Entry). l ++ entries_of c.args.who end (losses_of roles spares ++ Read c.args.at c.from_bytes-body.result ∷ [])) c.make_room.ensures.items
     ∙ ap (λ (b : List Sector). a.epoch.entries.items ++ entries_of c.args.who end (losses_of roles spares ++ Read c.args.at b ∷ [])) (c.from_bytes-body.ensures ∙ ap (λ (l : List ℕ). sectors_of l) (sym copied)))
-    number (λ call. (refl, count)) (torn-losses (AsksRead c.args.at (length c.args.into.now / 512)) c.args.who end (losses_of roles spares) (losses-are roles spares)))
+    number (λ call. (refl, count)) (inside-losses c.args.who end (losses_of roles spares) (losses-are roles spares)) (torn-losses (AsksRead c.args.at (length c.args.into.now / 512)) c.args.who end (losses_of roles spares) (losses-are roles spares)))
 
 pub returns-clause-holds : goal.returns-clause-holds
 returns-clause-holds g c = λ t fills i lt.

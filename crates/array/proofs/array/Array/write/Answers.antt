@@ -19,7 +19,7 @@ use Rattle.views.proofs.LackingLaws.{lost-since, does-without}
 use Rattle.array_kept.proofs.ReadyLaws.{ready, scope-same, list-same}
 use Rattle.array_kept.proofs.DegradedLaws.{refused-here, kept-refused, pending-of, unwritten-here}
 use Rattle.array_kept.proofs.LossLaws.{losses-behind, losses-failure, ended-behind, ended-failure, torn-told}
-use Rattle.array_kept.proofs.ReplyLaws.{refused_reply, failed_reply, replied, write_kind, unwritten-of, refused-for}
+use Rattle.array_kept.proofs.ReplyLaws.{refused_reply, failed_reply, inside-losses, replied, write_kind, unwritten-of, refused-for}
 use Rattle.array_kept.proofs.ReadLaws.{some-of}
 use Rattle.array_kept.proofs.WriteLaws.{kept-unwritten, kept-wrote}
 use Rattle.views.proofs.MemberLaws.{list-few}
@@ -231,7 +231,7 @@ returns-clause-answered g c =
     end (losses_of roles spares) (Wrote c.args.at body)
     (c.enter_behind.ensures.items ∙ ap (λ (l : List Entry). l ++ entries_of c.args.who end (losses_of roles spares ++ Wrote c.args.at c.in-Ok.body ∷ [])) c.make_room.ensures.items
     ∙ ap (λ (b : List Sector). a.epoch.entries.items ++ entries_of c.args.who end (losses_of roles spares ++ Wrote c.args.at b ∷ [])) c.in-Ok.ensures)
-    number (λ call. (refl, refl)) (torn-losses (AsksWrite c.args.at body) c.args.who end (losses_of roles spares) (losses-are roles spares)))
+    number (λ call. (refl, refl)) (inside-losses c.args.who end (losses_of roles spares) (losses-are roles spares)) (torn-losses (AsksWrite c.args.at body) c.args.who end (losses_of roles spares) (losses-are roles spares)))
 
 pub returns-clause-caused : goal.returns-clause-caused
 returns-clause-caused g c = rw (← c.self.view_is) c.in_default.ensures
