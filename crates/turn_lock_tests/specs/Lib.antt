@@ -1,0 +1,4 @@
+pub mod Tallies
+pub mod TallyLaws
+pub mod Lanes
+pub mod Gates
