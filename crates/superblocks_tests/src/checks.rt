@@ -88,12 +88,18 @@ fn may_get(give: Give, is_live: bool) -> bool
     }
 }
 
+// No slot past the last gets anything.
+fn know_the_end(gives: &[Give; 32])
+    ensures { (s : ℕ) → 32 ≤ s → give_of gives.now s ≡ Same }
+{}
+
 // Whether that holds of each slot.
 pub fn may_give(members: &Members, change: &Change) -> bool
     requires { length members.now.roles ≤ 16 }
     ensures gives { IsTrue result → (s : ℕ) → s < 32 → IsRoleGive (give_of change.now.gives s) }
     ensures alone { IsTrue result → AreGivesOfLive members.now change.now }
 {
+    know_the_end(&change.gives);
     for slot in 0..32u32 {
         if !may_get(change.gives[slot as usize], is_live(members, slot)) {
             return false;

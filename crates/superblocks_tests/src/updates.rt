@@ -39,7 +39,7 @@ struct Case {
     give: Give,
     former: Said,
     planned: Said,
-    turns: &'static [(u32, Said)],
+    turns: [Option<(u32, Said)>; 6],
 }
 
 const A: Role = Role::Whole(0);
@@ -63,12 +63,13 @@ const CASES: [Case; 3] = [
         give: Give::Same,
         former: (7, CLEAN, [D, C, B, A], 16),
         planned: (8, DIRTY, [D, C, B, A], 16),
-        turns: &[
-            (0, (9, DIRTY, [D, C, B, NONE], 16)),
-            (1, (9, DIRTY, [D, C, NONE, A], 16)),
-            (2, (9, DIRTY, [D, NONE, B, A], 16)),
-            (3, (9, DIRTY, [NONE, C, B, A], 16)),
-            (4, (9, DIRTY, [D, C, B, A], 0)),
+        turns: [
+            Some((0, (9, DIRTY, [D, C, B, NONE], 16))),
+            Some((1, (9, DIRTY, [D, C, NONE, A], 16))),
+            Some((2, (9, DIRTY, [D, NONE, B, A], 16))),
+            Some((3, (9, DIRTY, [NONE, C, B, A], 16))),
+            Some((4, (9, DIRTY, [D, C, B, A], 0))),
+            None,
         ],
     },
     // slot 0 is one event behind, and says that the array is clean; where it is lost in catching up, the update names it
@@ -79,13 +80,13 @@ const CASES: [Case; 3] = [
         give: Give::Same,
         former: (7, DIRTY, [D, C, B, A], 16),
         planned: (8, CLEAN, [D, C, B, A], 16),
-        turns: &[
-            (0, (8, CLEAN, [D, C, B, NONE], 16)),
-            (0, (9, CLEAN, [D, C, B, NONE], 16)),
-            (1, (9, CLEAN, [D, C, NONE, A], 16)),
-            (2, (9, CLEAN, [D, NONE, B, A], 16)),
-            (3, (9, CLEAN, [NONE, C, B, A], 16)),
-            (4, (9, CLEAN, [D, C, B, A], 0)),
+        turns: [
+            Some((0, (8, CLEAN, [D, C, B, NONE], 16))),
+            Some((0, (9, CLEAN, [D, C, B, NONE], 16))),
+            Some((1, (9, CLEAN, [D, C, NONE, A], 16))),
+            Some((2, (9, CLEAN, [D, NONE, B, A], 16))),
+            Some((3, (9, CLEAN, [NONE, C, B, A], 16))),
+            Some((4, (9, CLEAN, [D, C, B, A], 0))),
         ],
     },
     // role 3 is missing, and slots 3 and 4 are spares; slot 4 is written first
@@ -99,12 +100,13 @@ const CASES: [Case; 3] = [
         },
         former: (7, CLEAN, [C, B, A, NONE], 24),
         planned: (8, CLEAN, [C, B, A, NEW], 8),
-        turns: &[
-            (4, (9, CLEAN, [C, B, A, NONE], 8)),
-            (0, (9, CLEAN, [C, B, NONE, NEW], 8)),
-            (1, (9, CLEAN, [C, NONE, A, NEW], 8)),
-            (2, (9, CLEAN, [NONE, B, A, NEW], 8)),
-            (3, (9, CLEAN, [C, B, A, NEW], 0)),
+        turns: [
+            Some((4, (9, CLEAN, [C, B, A, NONE], 8))),
+            Some((0, (9, CLEAN, [C, B, NONE, NEW], 8))),
+            Some((1, (9, CLEAN, [C, NONE, A, NEW], 8))),
+            Some((2, (9, CLEAN, [NONE, B, A, NEW], 8))),
+            Some((3, (9, CLEAN, [C, B, A, NEW], 0))),
+            None,
         ],
     },
 ];
@@ -185,10 +187,12 @@ fn walk(
 // Which slot is lost where this call of the update fails, and what is said at its end.
 fn last_said(rt: &impl Abort, case: &Case, number: u64) -> (u32, Said) {
     let turn = number / 2;
-    if turn >= case.turns.len() as u64 {
+    if turn >= 6 {
         return (0, case.planned);
     }
-    let (slot, said) = case.turns[turn as usize];
+    let Some((slot, said)) = case.turns[turn as usize] else {
+        return (0, case.planned);
+    };
     assert!(rt; slot < 5);
     (with(0, slot), said)
 }
@@ -265,9 +269,11 @@ fn try_failing(rt: &impl Abort, alloc: Global, case: &Case, number: u64) -> Resu
 }
 
 // Each call of the update, of at most 12, is to fail, and then none.
-fn try_case(rt: &impl Abort, alloc: Global, case: &Case) -> Result<(), Fail> {
-    for number in 0..13u64 {
-        try_failing(rt, alloc, case, number)?;
+fn try_cases(rt: &impl Abort, alloc: Global, cases: &[Case]) -> Result<(), Fail> {
+    for case in cases {
+        for number in 0..13u64 {
+            try_failing(rt, alloc, case, number)?;
+        }
     }
     Ok(())
 }
@@ -275,8 +281,5 @@ fn try_case(rt: &impl Abort, alloc: Global, case: &Case) -> Result<(), Fail> {
 #[test]
 fn updates_that_are_stopped(rt: HostRuntime) -> Result<(), Fail> {
     let cases = CASES;
-    for case in &cases {
-        try_case(&rt, rt.alloc(), case)?;
-    }
-    Ok(())
+    try_cases(&rt, rt.alloc(), &cases)
 }

@@ -1,6 +1,5 @@
-use Rattle.std.proofs.Common.{◌≡◌, ◌≤◌, ◌||◌, ◌∙◌, ℕ, Bool, true, false, length, inl, inr, refl, sym, subst, arith, rules}
+use Rattle.std.proofs.Common.{◌≡◌, ◌||◌, ◌∙◌, ℕ, Bool, true, false, inl, inr, refl, sym, subst, arith}
 use Rattle.std.proofs.lemmas.Bool.{cases_eq, cases_lt}
-use Rattle.std.proofs.lemmas.List.{get_or_past}
 use Rattle.superblocks.specs.declared.change.Give.TheVariants.{Same}
 use Rattle.superblocks.specs.Update.{IsRoleGive, give_of, is_live, is_added}
 use Rattle.superblocks_tests.proofs.checks.may_give.Goals as goal
@@ -31,8 +30,7 @@ pub returns-clause-alone : goal.returns-clause-alone
 returns-clause-alone c = λ _ slot out.
     let change = c.args.change.now in
     let members = c.args.members.now in
-    let long : length change.gives ≡ 32 = search rules in
     elim (cases_lt slot 32) [
       | inl low ↦ c.loop-slot.invariant.alone slot (omega (arith, low, c.loop-slot-test.false)) (left_false (is_live members.roles members.spares slot) (is_added change.added slot) out)
-      | inr high ↦ get_or_past change.gives slot Same (omega (arith, high, long))
+      | inr high ↦ c.know_the_end.ensures slot high
     ]
