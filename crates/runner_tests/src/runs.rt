@@ -74,13 +74,6 @@ fn steps(_turn: u64, left: u64) -> u64
     if left < 16 { 1 } else { 16 }
 }
 
-fn steps(_turn: u64, left: u64) -> u64
-    ensures low { 1 ≤ result }
-    ensures high { result ≤ 64 }
-{
-    if left < 16 { 1 } else { 16 }
-}
-
 // The report of a run, and what its sink took.
 fn ran<R: Threads + Wait + Sync>(
     rt: &R,
