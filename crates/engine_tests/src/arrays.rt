@@ -51,6 +51,14 @@ pub fn put(rt: &impl Abort, bank: &mut MemoryBank, slot: u32, sb: &Sb) {
     assert!(rt; bank.write(slot, 8, &sectors).is_ok());
 }
 
+/// Stores these superblocks in the first slots.
+pub fn put_all(rt: &impl Abort, bank: &mut MemoryBank, superblocks: &[Sb]) {
+    assert!(rt; superblocks.len() <= 32);
+    for slot in 0..superblocks.len() as u32 {
+        put(rt, bank, slot, &superblocks[slot as usize]);
+    }
+}
+
 pub fn opened(
     rt: &impl Abort,
     alloc: Global,

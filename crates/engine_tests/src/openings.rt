@@ -1,7 +1,7 @@
 //! Openings of arrays that real md wrote, of a reshape and of arrays that are made, against values that were worked out by
 //! hand. The device's uuid was computed by Python.
 
-use crate::arrays::{SHAPE, SPEC, bank_of, made, opened, put};
+use crate::arrays::{SHAPE, SPEC, bank_of, made, opened, put_all};
 use array::CreateSpec;
 use assemble::{Opened, refusal_of_create};
 use bank::{Bank, MemoryBank, Op};
@@ -62,9 +62,7 @@ fn compare(
 ) -> Result<(), Fail> {
     for (lengths, failing, backup, wanted, ops) in openings {
         let mut bank = bank_of(alloc, lengths, 64, failing)?;
-        for slot in 0..superblocks.len() {
-            put(rt, &mut bank, slot as u32, &superblocks[slot]);
-        }
+        put_all(rt, &mut bank, superblocks);
         assert!(rt; opens(rt, alloc, &mut bank, *backup, wanted), "{wanted:?}");
         assert!(rt; bank.ops() == *ops, "{wanted:?}");
     }
@@ -151,9 +149,7 @@ const OF_RESHAPE: [Opening; 4] = [
 // Each slot is flushed once, in order.
 fn compare_flushes(rt: &impl Abort, alloc: Global, superblocks: &[Sb]) -> Result<(), Fail> {
     let mut bank = bank_of(alloc, &[288; 4], 64, &[])?;
-    for slot in 0..superblocks.len() {
-        put(rt, &mut bank, slot as u32, &superblocks[slot]);
-    }
+    put_all(rt, &mut bank, superblocks);
     assert!(rt; opened(rt, alloc, &mut bank, None).is_ok());
     assert!(rt; bank.ops() == 12);
     assert!(rt; bank.op(8) == Op::Flush { slot: 0 } && bank.op(11) == Op::Flush { slot: 3 });

@@ -1,6 +1,8 @@
 //! Arrays that run: made or found, written, read and to be resynced; and those in which a role is being rebuilt, or can be.
 
-use crate::arrays::{SHAPE, SPEC, bank_of, created, found, made, next_call, put, read, write};
+use crate::arrays::{
+    SHAPE, SPEC, bank_of, created, found, made, next_call, put, put_all, read, write,
+};
 use array::Array;
 use bank::{Bank, MemoryBank};
 use flat_history::{Event, LostCause};
@@ -185,9 +187,7 @@ fn compare_bitmap(rt: &impl Abort, alloc: Global) -> Result<(), Fail> {
 fn compare_spare(rt: &impl Abort, alloc: Global) -> Result<(), Fail> {
     let spare = members_of(alloc, &SPARE, &SPARE_MEMBERS)?;
     let mut bank = bank_of(alloc, &[288; 6], 64, &[6])?;
-    for slot in 0..spare.len() {
-        put(rt, &mut bank, slot as u32, &spare[slot]);
-    }
+    put_all(rt, &mut bank, spare.as_slice());
     let mut array = match found(rt, alloc, bank, Some(5), None) {
         Ok(array) => array,
         Err(_) => return Err(Fail::from("not found")),
