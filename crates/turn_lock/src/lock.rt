@@ -13,7 +13,7 @@ use std::alloc::Global;
 use std::marker::Brand;
 use std::sync::Wait;
 
-/// A value that several callers share.
+/// A value that several callers share, one at a time.
 #[derive(Drop)]
 pub struct Lock<T: Served<Q, A>, Q, A> {
     table: Table<Option<T>, View<T, Q>, Origin<T>, Law<A>, Global>,
@@ -220,7 +220,8 @@ impl<T: Served<Q, A> + Drop, Q, A> Lock<T, Q, A> {
         (Pass { caller, seat }, reply)
     }
 
-    /// Takes the turn, has the request answered, and ends the turn. It may wait.
+    /// Takes the turn, has the request answered, and ends the turn. It may wait. Where memory is short for the answer, the value
+    /// is left as it was.
     pub fn call<R: Wait>(&self, rt: &R, pass: Pass<T, Q>, request: Q) -> (Pass<T, Q>, A)
         requires lock { pass.seat.table_id ≡ self.now.table.shared.table_id }
         requires askable { T.ways.IsAskable pass.caller request }
@@ -230,7 +231,7 @@ impl<T: Served<Q, A> + Drop, Q, A> Lock<T, Q, A> {
         self.call_as::<Brand, R>(rt, pass, request)
     }
 
-    /// Both have then seen what either had seen. It never waits.
+    /// Both have then seen what either had seen, and stay what they were else. It never waits and takes no memory.
     pub fn meet(&self, first: Pass<T, Q>, second: Pass<T, Q>) -> (Pass<T, Q>, Pass<T, Q>)
         requires locks { (first.seat.table_id ≡ self.now.table.shared.table_id) × (second.seat.table_id ≡ self.now.table.shared.table_id) }
         ensures first { (result.0.seat.table_id ≡ first.seat.table_id) × (result.0.caller ≡ first.caller) × (result.0.seat.me.0.hands ≡ first.seat.me.0.hands) }

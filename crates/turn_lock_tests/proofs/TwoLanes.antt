@@ -1,8 +1,8 @@
 -- What two lanes know of the end, from what they knew at the start.
-use Rattle.std.proofs.Common.{◌≡◌, ◌≢◌, ℕ, Bool, eqb, if◌then◌else◌, List, [], ◌∷◌, ◌++◌, refl, sym, ap, ◌∙◌, subst, arith, eq-eqb, ne_eqb}
+use Rattle.std.proofs.Common.{◌≡◌, ◌≢◌, ℕ, Bool, eqb, if◌then◌else◌, List, [], ◌∷◌, ◌++◌, refl, sym, ap, ◌∙◌, subst, eq-eqb, ne_eqb}
 use Rattle.turn_lock.specs.declared.call.Call.{Call}
 use Rattle.turn_lock.specs.declared.lock.Pass.{Pass}
-use Rattle.turn_lock.specs.Turns.{mine_of, resting, fresh}
+use Rattle.turn_lock.specs.Turns.{mine_of}
 use Rattle.turn_lock.specs.Passes.{LockId, AreNew, calls_by, Ended}
 use Rattle.turn_lock_tests.specs.declared.entry.Entry.{Entry}
 use Rattle.turn_lock_tests.specs.declared.entry.Request.{Request}

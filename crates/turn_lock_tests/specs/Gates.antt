@@ -1,5 +1,5 @@
 -- A gate, as a lock sees it: its history is its count of turns.
-use Rattle.std.proofs.Common.{◌≡◌, ◌≢◌, ℕ, ◌+◌, ◌<◌, ◌≤◌, Bool, true, false, List, [], arith, refl}
+use Rattle.std.proofs.Common.{◌≡◌, ℕ, ◌+◌, ◌≤◌, Bool, true, false, arith}
 use Rattle.std.specs.Prelude.{⊤}
 use Rattle.turn_lock.specs.Ways.{Ways, IsLawful}
 use Rattle.turn_lock_tests.specs.declared.gate.Turn.{Turn}

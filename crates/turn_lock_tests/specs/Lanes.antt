@@ -1,5 +1,5 @@
 -- The calls of a lane, by its requests and their replies.
-use Rattle.std.specs.Prelude.{◌≡◌, ℕ, List, [], ◌∷◌, length, ⊤}
+use Rattle.std.specs.Prelude.{List, [], ◌∷◌, ⊤}
 use Rattle.turn_lock.specs.declared.call.Call.{Call}
 use Rattle.turn_lock_tests.specs.declared.entry.Request.{Request}
 use Rattle.turn_lock_tests.specs.declared.entry.Reply.{Reply}

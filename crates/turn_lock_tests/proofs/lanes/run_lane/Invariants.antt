@@ -1,5 +1,5 @@
-use Rattle.std.proofs.Common.{◌≡◌, ◌≤◌, ◌++◌, ◌-◌, length, take}
-use Rattle.std.specs.Prelude.{vec_len, vec_capacity}
+use Rattle.std.proofs.Common.{◌≡◌, ◌≤◌, ◌++◌, ◌-◌, length}
+use Rattle.std.specs.Prelude.{vec_capacity}
 use Rattle.turn_lock.specs.Turns.{mine_of}
 use Rattle.turn_lock_tests.specs.Lanes.{calls_made, AreDone}
 use Rattle.turn_lock_tests.proofs.lanes.run_lane.Given as goal
