@@ -1,0 +1,169 @@
+-- Changes that are fit.
+use Rattle.std.proofs.Common.{◌≡◌, ◌⊎◌, inl, inr, ℕ, ◌+◌, ◌<◌, ◌==◌, ◌||◌, ◌&&◌, Bool, true, false, not, nat_lt, List, get_or, Option, Some, None, refl, sym, ◌∙◌, ap, subst, arith}
+use Rattle.std.specs.List.{list_any}
+use Rattle.md_base.specs.Shapes.{has_slot}
+use Rattle.md_base.specs.declared.status.Role.TheVariants.{Missing}
+use Rattle.sb1.specs.declared.sb.Sb.{Sb}
+use Rattle.superblocks.specs.declared.change.Give.{Give}
+use Rattle.superblocks.specs.declared.change.Give.TheVariants.{Same}
+use Rattle.superblocks.specs.declared.change.Give.TheVariants as give
+use Rattle.superblocks.specs.declared.change.Change.{Change}
+use Rattle.superblocks.specs.declared.members.Members.{Members}
+use Rattle.superblocks.specs.Reading.{Scope, is_fresh, is_recovering, entry_of, lies_within, role_count, holder}
+use Rattle.superblocks.specs.Reads.{spare_in, has_spare}
+use Rattle.superblocks.specs.Update.{give_of, own_in, is_held_by, is_live, is_added, planned_role, is_planned_spare}
+use Rattle.superblocks.specs.Outcome.{is_in_update, AreGivesOfLive}
+use Rattle.superblocks.specs.Held.{known_of}
+use Rattle.superblocks.specs.Plans.{KeepsRecovery}
+use Rattle.superblocks.proofs.ReadLists.{spares-at}
+use Rattle.superblocks.proofs.SaidLists.{role-holder}
+use Rattle.superblocks.proofs.SaidSlots.{below-length, listed, roles-count}
+use Rattle.row_io.specs.Rows.{members_without}
+use Rattle.update_laws.specs.Changing.{AreFieldsGood, IsFitUpdate}
+use Rattle.update_laws.specs.Kinds.{IsTaking, TakingIsFit}
+use Rattle.update_laws.proofs.Kept.{without-less}
+use Rattle.update_laws.proofs.PlannedRoles.{count-planned}
+use Rattle.update_laws.specs.Plans.{Disk}
+use Rattle.views.specs.Held.{IsHeldBy}
+use Rattle.views.proofs.Spent.{any-holder}
+
+-- ---- tests
+
+flip : (b : Bool) → not b ≡ true → b ≡ false
+flip true e = absurd (cc)
+flip false e = refl
+
+or-first : (a b : Bool) → a ≡ true → (a || b) ≡ true
+or-first true b e = refl
+or-first false b e = absurd (cc)
+
+or-second : (a b : Bool) → b ≡ true → (a || b) ≡ true
+or-second true b e = refl
+or-second false b e = e
+
+or-rest : (a b : Bool) → (a || b) ≡ true → b ≡ false → a ≡ true
+or-rest true b e none = refl
+or-rest false b e none = absurd (cc)
+
+-- ---- what the known superblocks say
+
+module _ (scope : Scope) (former : Members) (gone : ℕ) (d : Disk) (held : IsHeldBy scope former d) where
+  abbrev Old : Members
+  Old = members_without gone former
+
+  -- the roles that are held are among those that the array has
+  role-under : (role s : ℕ) → holder (get_or Old.roles role Missing) ≡ Some s → role < role_count former.newest
+  role-under role s is =
+      let below = below-length Old.roles role s is in
+      let long = (without-less former gone).roles in
+      let count = roles-count scope held.known former held.said in
+      omega (arith, below, long, count)
+
+  -- a spare doesn't recover
+  spare-whole : (s : ℕ) (sb : Sb) → has_spare former.spares s ≡ true → own_in former.own s ≡ Some sb → is_recovering sb ≡ false
+  spare-whole s sb is own = of (get_or (known_of scope held.known former.own) s None) refl
+      (let here : s ≡ 0 + s = omega arith in sym (ap (λ (l : List ℕ). has_spare l s) held.said.spares ∙ spares-at former.newest scope.sizes.sectors 0 s s (known_of scope held.known former.own) here) ∙ is)
+    where
+      of : (found : Option Sb) → get_or (known_of scope held.known former.own) s None ≡ found → spare_in former.newest (scope.sizes.sectors s) found ≡ true → is_recovering sb ≡ false
+      of None e it = absurd (cc)
+      of (Some other) e it =
+          let there = (listed scope held.known former.own s other e).1 in
+          let same : other ≡ sb = (let both : ◌≡◌ {A = Option Sb} (Some other) (Some sb) = sym there ∙ own in cc) in
+          ap is_recovering (sym same) ∙ flip (is_recovering other) (parts (is_fresh former.newest other) (not (is_recovering other)) (nat_lt other.dev_number 128) (entry_of former.newest other.dev_number == 0xffff) (lies_within former.newest (scope.sizes.sectors s) other) it)
+        where
+          parts : (a b c d e : Bool) → (a && b && c && d && e) ≡ true → b ≡ true
+          parts true true c d e h = refl
+          parts true false c d e h = absurd (cc)
+          parts false b c d e h = absurd (cc)
+
+  holder-role : (s role : ℕ) (g : Give) → g ≡ Same → planned_role Old.roles g s ≡ Some role → holder (get_or Old.roles role Missing) ≡ Some s
+  holder-role s role g same is = role-holder s Old.roles role (sym (ap (λ (g : Give). planned_role Old.roles g s) same) ∙ is)
+
+  -- ---- spares that get roles
+
+  module _ (change : Change) (t : IsTaking Old change) (fields : AreFieldsGood Old change) where
+    abbrev IsGivenNow : ℕ → ℕ → Type 0
+    IsGivenNow s role = (recovery : Option ℕ) × (give_of change.gives s ≡ give.Role role recovery) × (role < role_count change.shared) × ((t : ℕ) → has_slot Old.lost t ≡ false → holder (get_or Old.roles role Missing) ≡ Some t → ⊥)
+
+    -- a slot that gets a role held it, or it is given
+    role-of : (s role : ℕ) → planned_role Old.roles (give_of change.gives s) s ≡ Some role → (holder (get_or Old.roles role Missing) ≡ Some s) ⊎ IsGivenNow s role
+    role-of s role is = elim (t.each s) [
+      | inl same ↦ inl (holder-role s role (give_of change.gives s) same is)
+      | inr (inl (other, recovery, gets, spare, below, vacant)) ↦
+          let same : other ≡ role = (let both : ◌≡◌ {A = Option ℕ} (Some other) (Some role) = sym (ap (λ (g : Give). planned_role Old.roles g s) gets) ∙ is in cc) in
+          inr (subst (IsGivenNow s) same (recovery, gets, below, vacant))
+      | inr (inr (other, offset, gets, holds)) ↦
+          let same : other ≡ role = (let both : ◌≡◌ {A = Option ℕ} (Some other) (Some role) = sym (ap (λ (g : Give). planned_role Old.roles g s) gets) ∙ is in cc) in
+          inl (subst (λ (r : ℕ). holder (get_or Old.roles r Missing) ≡ Some s) same holds)
+    ]
+
+    in-it : (s : ℕ) → is_live Old.roles Old.spares s ≡ true → is_in_update Old change s ≡ true
+    in-it s live = or-first (is_live Old.roles Old.spares s) (is_added change.added s) live
+
+    no-spare : (s role : ℕ) (recovery : Option ℕ) → give_of change.gives s ≡ give.Role role recovery → is_planned_spare former.spares change.added (give_of change.gives s) s ≡ true → ⊥
+    no-spare s role recovery gets so = absurd (let none = sym (ap (λ (g : Give). is_planned_spare former.spares change.added g s) gets) ∙ so in cc)
+
+    taking-fit : IsFitUpdate Old change
+    taking-fit = record {
+      none = t.none;
+      gives = λ s isnt. elim (t.each s) [
+        | inl same ↦ same
+        | inr (inl (role, recovery, gets, spare, below, vacant)) ↦ absurd (
+            let live = in-it s (or-second (list_any (is_held_by s) Old.roles) (has_spare former.spares s) spare) in
+            let both = sym isnt ∙ live in cc
+            )
+        | inr (inr (role, offset, gets, holds)) ↦ absurd (
+            let live = in-it s (or-first (list_any (is_held_by s) Old.roles) (has_spare former.spares s) (any-holder s Old.roles role holds)) in
+            let both = sym isnt ∙ live in cc
+            )
+      ];
+      below = λ s role kept is. elim (role-of s role is) [
+        | inl holds ↦ (let under = role-under role s holds in let count = t.count in let plan = count-planned Old change in omega (arith, under, count, plan))
+        | inr (recovery, gets, below, vacant) ↦ (let plan = count-planned Old change in omega (arith, below, plan))
+      ];
+      one_holder = λ s u role kept kept' is is'. elim (role-of s role is) [
+        | inl holds ↦ elim (role-of u role is') [
+          | inl holds' ↦ (let both : ◌≡◌ {A = Option ℕ} (Some s) (Some u) = sym holds ∙ holds' in cc)
+          | inr (recovery', gets', below', vacant') ↦ absurd (vacant' s kept holds)
+        ]
+        | inr (recovery, gets, below, vacant) ↦ elim (role-of u role is') [
+          | inl holds' ↦ absurd (vacant u kept' holds')
+          | inr (recovery', gets', below', vacant') ↦ t.apart s u role recovery recovery' gets gets'
+        ]
+      ];
+      size = t.size;
+      fields = fields;
+      devices = λ s sb kept own. elim (t.each s) [
+        | inl same ↦ subst (λ (g : Give). KeepsRecovery g sb) (sym same) tt
+        | inr (inl (role, recovery, gets, spare, below, vacant)) ↦ subst (λ (g : Give). KeepsRecovery g sb) (sym gets) (kept-recovery role recovery sb (spare-whole s sb spare own))
+        | inr (inr (role, offset, gets, holds)) ↦ subst (λ (g : Give). KeepsRecovery g sb) (sym gets) tt
+      ];
+      one = λ s u kept kept' first first'. t.one s u first first';
+      spares = λ s sb kept own none so. elim (t.each s) [
+        | inl same ↦ absurd (
+            let was = or-rest (has_spare former.spares s) (is_added change.added s) (sym (ap (λ (g : Give). is_planned_spare former.spares change.added g s) same) ∙ so) (ap (λ (o : Option (ℕ × Sb)). is_added o s) t.none) in
+            let both = sym none ∙ was in cc
+            )
+        | inr (inl (role, recovery, gets, spare, below, vacant)) ↦ absurd (no-spare s role recovery gets so)
+        | inr (inr (role, offset, gets, holds)) ↦ absurd (no-spare s role (Some offset) gets so)
+      ];
+    }
+      where
+        kept-recovery : (role : ℕ) (recovery : Option ℕ) (sb : Sb) → is_recovering sb ≡ false → KeepsRecovery (give.Role role recovery) sb
+        kept-recovery role None sb whole = whole
+        kept-recovery role (Some offset) sb whole = tt
+
+pub taking-is-fit : TakingIsFit
+taking-is-fit scope former old change d since taking fields =
+    subst (λ (o : Members). IsTaking o change → AreFieldsGood o change → IsFitUpdate o change) (sym since.since) (λ t good. taking-fit scope former since.gone d since.held change t good) taking fields
+
+-- such a change gives to live slots alone
+pub taking-live : (old : Members) (change : Change) → IsTaking old change → AreGivesOfLive old change
+taking-live old change t s isnt = elim (t.each s) [
+  | inl same ↦ same
+  | inr (inl (role, recovery, gets, spare, below, vacant)) ↦ absurd (let live = in-it (or-second (list_any (is_held_by s) old.roles) (has_spare old.spares s) spare) in let both = sym isnt ∙ live in cc)
+  | inr (inr (role, offset, gets, holds)) ↦ absurd (let live = in-it (or-first (list_any (is_held_by s) old.roles) (has_spare old.spares s) (any-holder s old.roles role holds)) in let both = sym isnt ∙ live in cc)
+]
+  where
+    in-it : is_live old.roles old.spares s ≡ true → is_in_update old change s ≡ true
+    in-it live = or-first (is_live old.roles old.spares s) (is_added change.added s) live

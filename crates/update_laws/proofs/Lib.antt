@@ -1,0 +1,16 @@
+pub mod Live
+pub mod UpdateViews
+pub mod PlansLose
+pub mod LessViews
+pub mod PlannedRoles
+pub mod Started
+pub mod ChangeViews
+pub mod ChangeSafe
+pub mod CalledLaws
+pub mod Fields
+pub mod Kept
+pub mod FitKinds
+pub mod KeptSafe
+pub mod GivenPlan
+pub mod GivenSafe
+pub mod MadeSafe

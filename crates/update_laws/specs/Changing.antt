@@ -1,0 +1,106 @@
+-- What any update of the superblocks keeps of an array, whichever slots are lost in it.
+use Rattle.std.specs.Prelude.{◌≡◌, ◌⊎◌, ℕ, ◌^◌, ◌<◌, true, false, List, [], None, Some, ⊤, find}
+use Rattle.md_base.specs.Shapes.{has_slot}
+use Rattle.sb1.specs.declared.sb.Sb.{Sb}
+use Rattle.bank.specs.declared.bank.Operation.{Operation}
+use Rattle.bank.specs.Given.{Given}
+use Rattle.bank.specs.Tape.{Contents, EachMark, disk}
+use Rattle.superblocks.specs.declared.change.Change.{Change}
+use Rattle.superblocks.specs.declared.members.Members.{Members}
+use Rattle.superblocks.specs.Reading.{Scope, is_recovering, role_count}
+use Rattle.superblocks.specs.Verdict.{judged_fields}
+use Rattle.superblocks.specs.Reads.{has_spare}
+use Rattle.superblocks.specs.Update.{give_of, own_in, is_recovery, planned_role, is_planned_spare}
+use Rattle.superblocks.specs.Updating.{IsUpdate, IsWrittenBy, AreNamed, IsLater, IsSomeLeft, RisesByOperations, planned_newest}
+use Rattle.superblocks.specs.Outcome.{live_set, is_left, AreLive, AreStored, AreGivesOfLive, planned_roles, planned_spares}
+use Rattle.superblocks.specs.Plans.{KeepsRecovery}
+use Rattle.superblocks.specs.Rounds.{round_at}
+use Rattle.superblocks.specs.Losing.{IsInTurns, ArePastTurns}
+use Rattle.superblocks.specs.Crash.{IsWithin}
+use Rattle.views.specs.Whole.{AreDrawnSuperblocks}
+use Rattle.views.specs.Safety.{HasLiveSlot, HasMarkRoom, HasRoomLeft}
+use Rattle.views.specs.Views.{Ledger, IsViewRight, IsSeenRight}
+use Rattle.views.specs.Steady.{IsSteady, IsSafeNow, IsNamedNow, AreGoneTold}
+use Rattle.update_laws.specs.Plans.{Disk, planned_view, HasOneHolder}
+
+-- ---- an update
+
+-- What an update of the superblocks says of itself, where no slot is added: the clauses of its contract.
+pub record IsChanged (tells : Type 0) (given : Given) (change : Change) (old new : Members) (before after : List Operation) : Type 0 where
+  pub update : IsUpdate tells (live_set old change) old.lost new.lost (IsWrittenBy old.newest change old.own) given.start before after
+  pub named : IsSomeLeft (live_set old change) new.lost → AreNamed old change old.lost new.lost new.newest
+  pub newest : IsLater (planned_newest change.shared old.newest) new.newest
+  pub turns : EachMark tells given.start before after (IsInTurns old change old.lost (live_set old change) new.lost new.newest.events (disk given.start before))
+  pub turned : tells → ArePastTurns old change old.lost (live_set old change) (disk given.start before) (round_at new.newest new.lost given.start after)
+  pub rise : RisesByOperations tells (live_set old change) new.lost old.newest.events new.newest.events before after
+  pub own : AreStored new.newest change.gives (is_left (live_set old change) new.lost) old.own new.own
+  pub roles : new.roles ≡ planned_roles old change new.lost
+  pub spares : new.spares ≡ planned_spares old change new.lost
+  pub alive : AreLive given new
+  pub stay : IsWithin old.lost new.lost
+  pub live : (s : ℕ) → has_slot new.lost s ≡ true → has_slot old.lost s ≡ false → has_slot (live_set old change) s ≡ true
+
+-- no field of the array is refused by what is planned, at any event count
+abbrev pub AreFieldsGood : Members → Change → Type 0
+AreFieldsGood old change = (events : ℕ) → events < 2 ^ 62 → find (λ f. f.1) (judged_fields (record (planned_newest change.shared old.newest) { events = events }) []) ≡ None
+
+-- What a kind of update owes of its change, of the members as they are: it adds no slot and gives to live ones alone; of the slots that aren't lost
+-- no role has two holders or is past the last one, none gets a role whole that still recovers, one at most gets a recovery offset, and one
+-- that becomes a spare doesn't recover. The size stays, and no field of what is planned is refused.
+pub record IsFitUpdate (old : Members) (change : Change) : Type 0 where
+  pub none : change.added ≡ None
+  pub gives : AreGivesOfLive old change
+  pub below : (s role : ℕ) → has_slot old.lost s ≡ false → planned_role old.roles (give_of change.gives s) s ≡ Some role → role < role_count (planned_newest change.shared old.newest)
+  pub one_holder : HasOneHolder old change old.lost
+  pub size : change.shared.size ≡ old.newest.size
+  pub fields : AreFieldsGood old change
+  pub devices : (s : ℕ) (sb : Sb) → has_slot old.lost s ≡ false → own_in old.own s ≡ Some sb → KeepsRecovery (give_of change.gives s) sb
+  pub one : (s t : ℕ) → has_slot old.lost s ≡ false → has_slot old.lost t ≡ false → is_recovery (give_of change.gives s) ≡ true → is_recovery (give_of change.gives t) ≡ true → s ≡ t
+  pub spares : (s : ℕ) (sb : Sb) → has_slot old.lost s ≡ false → own_in old.own s ≡ Some sb → has_spare old.spares s ≡ false → is_planned_spare old.spares change.added (give_of change.gives s) s ≡ true
+      → (is_recovering sb ≡ false) × (planned_role old.roles (give_of change.gives s) s ≡ None)
+
+-- What is asked of an update: its change is fit, the view that it plans is right, by a ledger that may be another one, and of a list of another
+-- length; what is missing at its end is told there, and so is each device number.
+pub record IsPlannedSafe (sound : Type 0) (given : Given) (size : ℕ) (told more : Ledger) (change : Change) (old new : Members) (d : Disk) : Type 0 where
+  pub fit : IsFitUpdate old change
+  pub right : IsViewRight sound given size more (planned_view old change old.lost) d
+  pub gone : AreGoneTold more (planned_view old change new.lost)
+  pub carried : (number : ℕ) → told.carried number ≡ true → more.carried number ≡ true
+
+-- ---- what it leaves
+
+-- whatever superblocks are drawn, the image is read as a view that is right by the one ledger or by the other
+abbrev pub AreEitherRight : Type 0 → Scope → Given → ℕ → ℕ → Ledger → Ledger → Disk → Type 0
+AreEitherRight sound scope given size size' told more d =
+    (c : Contents) → AreDrawnSuperblocks scope d c → IsSeenRight sound scope given size told d c ⊎ IsSeenRight sound scope given size' more d c
+
+-- no live slot is left, and each view is right by one of the two: nothing is written any more
+pub record IsSpentByEither (sound : Type 0) (scope : Scope) (given : Given) (size size' : ℕ) (told more : Ledger) (members : Members) (d : Disk) : Type 0 where
+  pub right : AreEitherRight sound scope given size size' told more d
+  pub none : HasLiveSlot members → ⊥
+
+-- At each mark each image is seen right, by what was told before it or by what is told with it; and at its end the superblocks are held, each lost slot
+-- that held a role is named in them, and the view is right by the latter, or no live slot is left.
+pub record IsSafeChange (sound : Type 0) (scope : Scope) (given : Given) (size size' : ℕ) (told more : Ledger) (members : Members) (before after : List Operation) : Type 0 where
+  pub marks : EachMark ⊤ given.start before after (AreEitherRight sound scope given size size' told more)
+  pub next : IsNamedNow sound scope given size' more members (disk given.start after) ⊎ IsSpentByEither sound scope given size size' told more members (disk given.start after)
+
+-- Any update keeps an array safe, whichever slots are lost in it.
+abbrev pub ChangeStaysSafe : (sound : Type 0) → Type 0
+ChangeStaysSafe sound = (scope : Scope) (given : Given) (size size' : ℕ) (told more : Ledger) (change : Change) (old new : Members) (before after : List Operation)
+    → IsChanged ⊤ given change old new before after → HasMarkRoom old before after → IsPlannedSafe sound given size' told more change old new (disk given.start before)
+    → IsSteady sound scope given size told old (disk given.start before) → IsSafeChange sound scope given size size' told more new before after
+
+-- Where no live slot was left before it, nothing is written, and each image is seen as before.
+abbrev pub SpentStaysSpent : (sound : Type 0) → Type 0
+SpentStaysSpent sound = (scope : Scope) (given : Given) (size size' : ℕ) (told more : Ledger) (change : Change) (old new : Members) (before after : List Operation)
+    → IsChanged ⊤ given change old new before after → change.added ≡ None → AreGivesOfLive old change → IsSpentByEither sound scope given size size' told more old (disk given.start before)
+    → IsSafeChange sound scope given size size' told more new before after
+
+-- So it is from either state. What an update owes is asked only where the superblocks are held and a live slot is left, and so is the room of the event
+-- count.
+abbrev pub SafeChangeStaysSafe : (sound : Type 0) → Type 0
+SafeChangeStaysSafe sound = (scope : Scope) (given : Given) (size size' : ℕ) (told more : Ledger) (change : Change) (old new : Members) (before after : List Operation)
+    → IsChanged ⊤ given change old new before after → change.added ≡ None → AreGivesOfLive old change → HasRoomLeft old before after
+    → (IsSteady sound scope given size told old (disk given.start before) → IsPlannedSafe sound given size' told more change old new (disk given.start before))
+    → IsSafeNow sound scope given size told old (disk given.start before) → IsSafeChange sound scope given size size' told more new before after

@@ -1,0 +1,5 @@
+pub mod Plans
+pub mod Changing
+pub mod Called
+pub mod Kinds
+pub mod Making

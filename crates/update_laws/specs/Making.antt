@@ -1,0 +1,44 @@
+-- The update that makes a recovering slot whole.
+use Rattle.std.specs.Prelude.{◌≡◌, ℕ, true, List, None, ⊤}
+use Rattle.bank.specs.declared.bank.Operation.{Operation}
+use Rattle.bank.specs.Given.{Given}
+use Rattle.bank.specs.Tape.{EachMark, disk}
+use Rattle.superblocks.specs.declared.change.Change.{Change}
+use Rattle.superblocks.specs.declared.members.Members.{Members}
+use Rattle.superblocks.specs.Reading.{Scope, role_count}
+use Rattle.superblocks.specs.Outcome.{live_set, AreGivesOfLive}
+use Rattle.superblocks.specs.Rounds.{round_at, IsInRounds, ArePast}
+use Rattle.superblocks.specs.Stages.{AreFirstKept}
+use Rattle.superblock_laws.specs.MakingWhole.{without_gives, IsMakingWhole}
+use Rattle.views.specs.Safety.{HasRoomLeft}
+use Rattle.views.specs.Views.{Ledger, IsViewRight}
+use Rattle.views.specs.Steady.{IsSteady, IsSafeNow, AreGoneTold}
+use Rattle.update_laws.specs.Plans.{Disk, planned_view}
+use Rattle.update_laws.specs.Changing.{IsChanged, AreFieldsGood, IsSafeChange}
+
+-- What such an update says of itself: what each does, and its rounds, since no slot gets a recovery offset.
+pub record IsMade (tells : Type 0) (given : Given) (change : Change) (old new : Members) (before after : List Operation) : Type 0 where
+  pub changed : IsChanged tells given change old new before after
+  pub rounds : AreFirstKept change.gives old.lost new.lost → EachMark tells given.start before after (IsInRounds old change old.lost (live_set old change) new.lost new.newest.events (disk given.start before))
+  pub past : AreFirstKept change.gives old.lost new.lost → tells → ArePast old change old.lost (live_set old change) (disk given.start before) (round_at new.newest new.lost given.start after)
+
+-- What it owes: no field of the array is refused; the members are right with what the change says of the array, the slot still recovering, by the one
+-- ledger, and as planned, the slot whole, by the other; and what either misses at the end is told.
+pub record IsMakable (sound : Type 0) (given : Given) (size size' : ℕ) (told more : Ledger) (change : Change) (slot role : ℕ) (old new : Members) (d : Disk) : Type 0 where
+  pub making : IsMakingWhole old change slot role
+  pub fields : AreFieldsGood old change
+  pub kept : change.shared.size ≡ old.newest.size
+  pub count : role_count change.shared ≡ role_count old.newest
+  pub still : IsViewRight sound given size told (planned_view old (without_gives change) old.lost) d
+  pub right : IsViewRight sound given size' more (planned_view old change old.lost) d
+  pub gone_still : AreGoneTold told (planned_view old (without_gives change) new.lost)
+  pub gone : AreGoneTold more (planned_view old change new.lost)
+  pub carried : (number : ℕ) → told.carried number ≡ true → more.carried number ≡ true
+
+-- Then it keeps the array safe, whichever slots are lost in it: each image is seen as before it or with the slot still recovering by the one ledger, and with
+-- the slot whole by the other.
+abbrev pub MakingStaysSafe : (sound : Type 0) → Type 0
+MakingStaysSafe sound = (scope : Scope) (given : Given) (size size' : ℕ) (told more : Ledger) (change : Change) (slot role : ℕ) (old new : Members) (before after : List Operation)
+    → IsMade ⊤ given change old new before after → change.added ≡ None → AreGivesOfLive old change → HasRoomLeft old before after
+    → (IsSteady sound scope given size told old (disk given.start before) → IsMakable sound given size size' told more change slot role old new (disk given.start before))
+    → IsSafeNow sound scope given size told old (disk given.start before) → IsSafeChange sound scope given size size' told more new before after
