@@ -1,14 +1,15 @@
 //! The clean mark of the superblocks.
 
-ghost use Rattle.std.specs.Prelude.{◌≡◌, ◌&&◌, ℕ, not};
+ghost use Rattle.std.specs.Prelude.{◌≡◌, ◌+◌, ◌-◌, ◌^◌, ◌&&◌, ℕ, min, not};
 ghost use Rattle.bank.specs.Given.{NeverFalls};
+ghost use Rattle.bank.specs.Tape.{disk};
 ghost use Rattle.md_base.specs.Shapes.{has_slot};
 ghost use Rattle.superblocks.specs.Reading.{is_clean};
 ghost use Rattle.superblocks.specs.Outcome.{live_set};
-ghost use Rattle.superblocks.specs.Updating.{AreLosses};
-ghost use Rattle.row_io.specs.Rows.{present};
+ghost use Rattle.superblocks.specs.Updating.{ArePlanned, AreLosses};
 ghost use Rattle.views.specs.Placed.{IsPlaced, AreUnlost, AreLess};
-ghost use Rattle.views.specs.Marking.{marking, resync_of, IsMarked, AreOthersPresent};
+ghost use Rattle.views.specs.Marking.{marking};
+ghost use Rattle.update_laws.specs.Changing.{IsChanged};
 
 use bank::Bank;
 use sb1::Sb;
@@ -33,7 +34,9 @@ fn marking(members: &Members, clean: bool) -> Change
 pub fn mark<B: Bank>(members: &mut Members, bank: &mut B, clean: bool) -> Lostness
     requires placed { IsPlaced (B.given bank.old) members.old }
     requires unlost { AreUnlost members.old }
-    ensures marked { IsMarked B.tells (B.given bank.old) clean members.old members.new (B.tape bank.old) (B.tape bank.new) }
+    ensures marked { IsChanged B.tells (B.given bank.old) (marking members.old clean) members.old members.new (B.tape bank.old) (B.tape bank.new) }
+    ensures planned { B.tells → ArePlanned members.new.newest (marking members.old clean).gives members.old.own (live_set members.old (marking members.old clean)) members.new.lost (disk (B.given bank.old).start (B.tape bank.new)) }
+    ensures events { members.new.lost ≡ members.old.lost → members.new.newest.events ≡ min (members.old.newest.events + 1) (2 ^ 64 - 1) }
     ensures clean { is_clean members.new.newest ≡ clean }
     ensures less { AreLess members.new.lost members.old members.new }
     ensures placed { IsPlaced (B.given bank.new) members.new }

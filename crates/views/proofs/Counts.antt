@@ -1,5 +1,5 @@
 -- Counts below a number.
-use Rattle.std.proofs.Common.{◌≡◌, ℕ, zero, suc, ◌+◌, ◌<◌, ◌≤◌, Bool, true, false, cond, refl, sym, arith}
+use Rattle.std.proofs.Common.{◌≡◌, ℕ, zero, suc, ◌+◌, ◌<◌, ◌≤◌, Bool, true, false, cond, refl, arith}
 use Rattle.md_base.specs.Search.{count_below}
 
 -- where each that the one counts is counted by the other, there are no more

@@ -13,12 +13,12 @@ use Rattle.bank.specs.declared.bank.Operation.{Operation}
 use Rattle.bank.specs.Tape.{disk}
 use Rattle.bank.proofs.Causes.{faulted_longer}
 use Rattle.superblocks.specs.declared.members.Members.{Members}
+use Rattle.superblocks.specs.Updating.{IsUpdate}
 use Rattle.superblocks.specs.Reading.{Reading, shape_of, role_state, holder}
 use Rattle.superblocks.specs.Reads.{has_spare}
 use Rattle.superblocks.proofs.SlotSets.{none_there}
 use Rattle.row_io.specs.Rows.{reading_of, present, is_missing, role_without}
 use Rattle.views.specs.Placed.{is_vacant, AreStillHeld, AreWhole, IsPlaced, AreLost, AreLess}
-use Rattle.views.specs.Marking.{IsMarked}
 use Rattle.views.specs.Flushing.{AreMembersFlushed}
 use Rattle.views.specs.Moving.{IsMoved, AreFailed}
 use Rattle.row_io.proofs.Losses.{state_kept}
@@ -35,7 +35,7 @@ use Rattle.list_io.specs.declared.outcome.Unavailable.TheVariants.{TooManyMissin
 use Rattle.list_io.specs.Calls.{IsAnswer}
 use Rattle.views.proofs.MovedLaws.{not-whole}
 use Rattle.views.proofs.PlacedLaws.{state-without}
-use Rattle.views.proofs.MarkedLaws.{others-present, single-kept}
+use Rattle.views.proofs.MarkedLaws.{others-updated, single-kept}
 
 -- ---- the slots that failed
 
@@ -173,11 +173,11 @@ since-missing {old = old} moved since role lt gone = elim (missing-before moved 
 
 -- ---- what was flushed
 
-pub holders-marked : {tells : Type 0} {clean : Bool} {old new : Members} {given : Given} {before after : List Operation} → IsMarked tells given clean old new before after → tells
-    → AreHoldersFlushed (reading_of old) given before → AreHoldersFlushed (reading_of old) given after
-holders-marked {old = old} {given = given} {before = before} {after = after} marked told flushed role slot k held other =
-    single-kept (present given before slot k) (disk given.start before slot k) (disk given.start after slot k) (flushed role slot k held other) ((marked.update.end told).touched.elsewhere slot k other)
-    ∙ ap (λ (v : Sector). v ∷ []) (sym (others-present marked told slot k other))
+pub holders-updated : {tells : Type 0} {live lost lost' : ℕ} {Written : ℕ → Sector → Type 0} (given : Given) (r : Reading) {before after : List Operation} → IsUpdate tells live lost lost' Written given.start before after → tells
+    → AreHoldersFlushed r given before → AreHoldersFlushed r given after
+holders-updated given r {before = before} {after = after} update told flushed role slot k held other =
+    single-kept (present given before slot k) (disk given.start before slot k) (disk given.start after slot k) (flushed role slot k held other) ((update.end told).touched.elsewhere slot k other)
+    ∙ ap (λ (v : Sector). v ∷ []) (sym (others-updated given update told slot k other))
 
 -- a stop leaves what holders had before as it is, for fewer holders too
 pub holders-fewer : (given : Given) (old new : Members) (tape : List Operation) → AreStillHeld old new → AreHoldersFlushed (reading_of old) given tape → AreHoldersFlushed (reading_of new) given tape

@@ -18,11 +18,9 @@ pub mod AddedMembers
 pub mod AddedRows
 pub mod ReadOf
 pub mod Refused
-pub mod InRounds
 pub mod Without
 pub mod Ready
 pub mod Planned
-pub mod Marked
 pub mod Since
 pub mod Carried
 pub mod Steady
@@ -32,7 +30,6 @@ pub mod WriteSafe
 pub mod FillingSafe
 pub mod ViewsKept
 pub mod MarkEnds
-pub mod MarkSafe
 pub mod LiveLeft
 pub mod MarkedSafe
 pub mod Standing

@@ -1,5 +1,5 @@
 -- What a mark leaves of an array whose roles are whole.
-use Rattle.std.proofs.Common.{◌≡◌, ◌≢◌, inl, inr, ℕ, ◌≤◌, Bool, true, false, List, [], ◌∷◌, ◌++◌, length, take, drop, take_all, refl, sym, ◌∙◌, ap, arith}
+use Rattle.std.proofs.Common.{◌≡◌, ◌≢◌, inl, inr, ℕ, ◌≤◌, true, false, List, [], ◌∷◌, ◌++◌, length, take, drop, take_all, refl, sym, ◌∙◌, ap, arith}
 use Rattle.std.proofs.lemmas.List.{take-append-drop}
 use Rattle.std.specs.Prelude.{slice_index_or}
 use Rattle.md_base.specs.Sectors.{Sector}
@@ -12,7 +12,7 @@ use Rattle.superblocks.specs.declared.members.Members.{Members}
 use Rattle.superblocks.specs.Updating.{AreLosses, IsUpdate}
 use Rattle.row_io.specs.Rows.{present}
 use Rattle.views.specs.Placed.{AreUnlost, AreLess}
-use Rattle.views.specs.Marking.{IsMarked, AreOthersPresent}
+use Rattle.views.specs.Marking.{AreOthersPresent}
 use Rattle.views.specs.Moving.{Grows, AreFailed}
 
 -- ---- the tape
@@ -47,10 +47,6 @@ others-of given before after kept s k other =
 pub others-updated : {tells : Type 0} {live lost lost' : ℕ} {Written : ℕ → Sector → Type 0} (given : Given) {before after : List Operation} → IsUpdate tells live lost lost' Written given.start before after → tells
     → AreOthersPresent (present given before) (present given after)
 others-updated given {before = before} {after = after} update told = others-of given before after (λ s k other. (update.end told).touched.elsewhere s k other)
-
-pub others-present : {tells : Type 0} {given : Given} {clean : Bool} {old new : Members} {before after : List Operation} → IsMarked tells given clean old new before after → tells
-    → AreOthersPresent (present given before) (present given after)
-others-present {given = given} marked told = others-updated given marked.update told
 
 -- ---- the members
 

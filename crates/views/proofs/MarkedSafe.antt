@@ -8,17 +8,13 @@ use Rattle.bank.specs.Tape.{EachMark, disk}
 use Rattle.superblocks.specs.declared.members.Members.{Members}
 use Rattle.superblocks.specs.Reading.{Scope, is_clean}
 use Rattle.row_io.specs.Rows.{reading_of, present, members_without}
-use Rattle.views.specs.Placed.{IsPlaced, AreUnlost, AreLess}
+use Rattle.views.specs.Placed.{IsPlaced, AreUnlost}
 use Rattle.views.specs.Lacking.{DoesWithout, AreHoldersFlushed, RowsStand}
 use Rattle.views.specs.Flushing.{OnlyFlushesAdded}
-use Rattle.views.specs.Marking.{IsMarked}
-use Rattle.views.specs.Safety.{HasLiveSlot, HasRoomLeft}
 use Rattle.views.specs.Views.{Ledger, IsSettled}
-use Rattle.views.specs.Steady.{IsSteady, IsSafeNow, IsNamedNow, IsSafeStretch, IsMarkable, AreGoneTold, IsUncleanTold, AreWritesAllowed}
+use Rattle.views.specs.Steady.{IsSteady, IsSafeNow, IsSafeStretch, IsMarkable, AreGoneTold, IsUncleanTold, AreWritesAllowed}
 use Rattle.views.proofs.MemberLaws.{less-without}
 use Rattle.views.proofs.LiveLeft.{without-left, left-steady}
-use Rattle.views.proofs.MarkSafe.{mark-keeps-safe, mark-stays-named}
-use Rattle.views.proofs.Risen.{risen-marked}
 use Rattle.views.proofs.Steady.{safe-is-seen, losing-stays-safe, flushes-stay-safe, flushed-is-settled}
 use Rattle.views.proofs.ViewsKept.{settled-less, did-without}
 
@@ -26,35 +22,6 @@ use Rattle.views.proofs.ViewsKept.{settled-less, did-without}
 
 pub told-marks : {tells : Type 0} {start : ℕ → ℕ → Sector} {old new : List Operation} {P : (ℕ → ℕ → List Sector) → Type 0} → tells → EachMark tells start old new P → EachMark ⊤ start old new P
 told-marks told marks = record { longer = λ u. marks.longer told; earlier = λ u. marks.earlier told; each = λ u. marks.each told }
-
-told-mark : {tells : Type 0} {given : Given} {clean : Bool} {old new : Members} {before after : List Operation} → tells → IsMarked tells given clean old new before after → IsMarked ⊤ given clean old new before after
-told-mark told m = record {
-  update = record { marks = told-marks told m.update.marks; end = λ u. m.update.end told };
-  planned = λ u. m.planned told;
-  named = m.named;
-  newest = m.newest;
-  events = m.events;
-  plan = m.plan;
-  stages = λ left are same. told-marks told (m.stages left are same);
-  whole = λ left are same u. m.whole left are same told;
-  rounds = told-marks told m.rounds;
-  past = λ u. m.past told;
-  rise = λ u. m.rise told;
-  stay = m.stay;
-  live = m.live;
-  own = m.own;
-  spares = m.spares;
-}
-
-module _ {tells : Type 0} (sound : Type 0) (scope : Scope) (given : Given) (size : ℕ) (told : Ledger) (clean : Bool) (old new : Members) (before after : List Operation) (tell : tells)
-    (marked : IsMarked tells given clean old new before after) (placed : IsPlaced given old) (less : AreLess new.lost old new) (room : HasRoomLeft old before after)
-    (markable : IsMarkable sound clean told old new (disk given.start before)) (safe : IsSafeNow sound scope given size told old (disk given.start before)) where
-  pub marked-safe : IsSafeStretch sound scope given size told new before after
-  marked-safe = mark-keeps-safe sound scope given size told clean old new before after (told-mark tell marked) placed less room markable safe
-
-  pub marked-named : HasLiveSlot new → IsNamedNow sound scope given size told new (disk given.start after)
-  marked-named left = mark-stays-named sound scope given size told clean old new before after
-      (record { marked = told-mark tell marked; placed = placed; less = less; room = room ((risen-marked marked less).left left) }) markable safe left
 
 -- A clean array that can do without the roles that it misses has settled rows: they were so by the members before they lost slots.
 pub clean-settled : (sound : Type 0) (scope : Scope) (given : Given) (size : ℕ) (told : Ledger) (m : Members) (d : ℕ → ℕ → List Sector) → IsPlaced given m → AreUnlost m

@@ -1,14 +1,10 @@
 -- The event count over the parts of a call: it rises by no more than there are operations, as long as a live slot is left.
-use Rattle.std.proofs.Common.{◌≡◌, ℕ, ◌≤◌, ◌||◌, Bool, true, false, List, length, inl, refl, sym, ◌∙◌, subst, arith}
+use Rattle.std.proofs.Common.{◌≡◌, ℕ, ◌≤◌, ◌||◌, Bool, true, false, List, length, refl, sym, ◌∙◌, subst, arith}
 use Rattle.md_base.specs.Shapes.{has_slot}
 use Rattle.bank.specs.declared.bank.Operation.{Operation}
-use Rattle.bank.specs.Given.{Given}
 use Rattle.superblocks.specs.declared.members.Members.{Members}
 use Rattle.row_io.specs.Rows.{members_without}
-use Rattle.views.specs.Placed.{AreLess}
-use Rattle.views.specs.Marking.{IsMarked}
 use Rattle.views.specs.Safety.{HasRoomLeft, IsRisen}
-use Rattle.views.proofs.MarkEnds.{live-either, left-in-mark}
 use Rattle.views.proofs.Without.{in-both, live-before}
 
 module _ {tells : Type 0} where
@@ -35,17 +31,6 @@ module _ {tells : Type 0} where
 
   pub risen-lost : (old new : Members) (lost : ℕ) (before after : List Operation) → new ≡ members_without lost old → (tells → length before ≤ length after) → IsRisen tells old new before after
   risen-lost old new lost before after is longer = subst (λ (m : Members). IsRisen tells old m before after) (sym is) (risen-without old lost before after longer)
-
-  -- a mark
-  pub risen-marked : {given : Given} {clean : Bool} {old new : Members} {before after : List Operation} → IsMarked tells given clean old new before after → AreLess new.lost old new → IsRisen tells old new before after
-  risen-marked {clean = clean} {old = old} {new = new} marked less = record {
-    left = λ live. let some = left-in-mark clean old new less marked.spares live in (some.0, live-either old clean false some.0 some.1, of some.0 (has_slot old.lost some.0) refl some.2);
-    events = λ told live. marked.rise told (inl (left-in-mark clean old new less marked.spares live));
-  }
-    where
-      of : (s : ℕ) (b : Bool) → has_slot old.lost s ≡ b → has_slot new.lost s ≡ false → b ≡ false
-      of s true gone kept = absurd (let stays = marked.stay s gone in let both = sym stays ∙ kept in cc)
-      of s false left kept = refl
 
 -- ---- room
 

@@ -17,7 +17,7 @@ use Rattle.views.specs.Whole.{list_size}
 use Rattle.views.specs.Placed.{places_of, IsPlaced, AreUnlost}
 use Rattle.views.specs.Lacking.{DoesWithout, AreHoldersFlushed, RowsStand}
 use Rattle.views.specs.Marking.{marking}
-use Rattle.views.specs.Rounds.{IsHeldSince, IsMarkedInRounds}
+use Rattle.views.specs.Rounds.{IsHeldSince}
 use Rattle.views.specs.Numbers.{AreCarried}
 use Rattle.views.specs.Rebuilding.{IsFilling}
 use Rattle.views.specs.Views.{Ledger, IsSettled, IsViewRight, AreViewsRight}
@@ -86,13 +86,6 @@ pub record IsMarkable (sound : Type 0) (clean : Bool) (told : Ledger) (old new :
   pub gone : (role : ℕ) → role < (shape_of new.newest).disks → is_missing (reading_of new) role ≡ true → told.gone role ≡ true
   pub unclean : clean ≡ false → told.unclean ≡ true
   pub settled : clean ≡ true → DoesWithout old → sound → IsSettled old told.values d
-
--- A mark, in which slots may be lost, keeps the array safe at each of the tape's marks and at its end.
-abbrev pub MarkStaysSafe : (sound : Type 0) → Type 0
-MarkStaysSafe sound = (scope : Scope) (given : Given) (size : ℕ) (told : Ledger) (clean : Bool) (old new : Members) (before after : List Operation)
-    → IsMarkedInRounds ⊤ given clean old new before after → IsMarkable sound clean told old new (disk given.start before)
-    → IsSafeNow sound scope given size told old (disk given.start before)
-    → IsSafeStretch sound scope given size told new before after
 
 -- the sectors of the list that may be written are allowed
 abbrev pub AreWritesAllowed : Members → (ℕ → List Sector) → (ℕ → Sector) → Type 0

@@ -3,9 +3,8 @@
 ghost use Rattle.views.specs.Held.{HeldStays};
 ghost use Rattle.views.specs.Readings.{HeldIsRead};
 ghost use Rattle.views.specs.Refusals.{RefusedForMissing};
-ghost use Rattle.views.specs.Rounds.{MarkIsRead, MarkIsHeld};
 ghost use Rattle.views.specs.Views.{ViewsAreSafe, ViewsAreSound};
-ghost use Rattle.views.specs.Steady.{SafeIsSeen, LosingStaysSafe, FlushesStaySafe, FlushedIsSettled, WritesStaySafe, FillingStaysSafe, MarkStaysSafe};
+ghost use Rattle.views.specs.Steady.{SafeIsSeen, LosingStaysSafe, FlushesStaySafe, FlushedIsSettled, WritesStaySafe, FillingStaysSafe};
 ghost use Rattle.std.specs.Prelude.{⊤};
 
 /// What is written elsewhere than in the superblocks leaves them held.
@@ -24,17 +23,6 @@ pub fn refused_for_missing()
     ensures { RefusedForMissing }
 {}
 
-/// At each mark of a clean mark's update, whichever slots are lost in it, an image is read as before it, or marked and without
-/// the slots that were lost before one of its rounds.
-pub fn mark_is_read()
-    ensures { MarkIsRead }
-{}
-
-/// At its end, where a live slot is left, the superblocks are held as the members say, and the next update may start.
-pub fn mark_is_held()
-    ensures { MarkIsHeld }
-{}
-
 /// Where each view of what a stop may leave is right, the mark is safe.
 pub fn views_are_safe()
     ensures { ViewsAreSafe }
@@ -46,8 +34,8 @@ pub fn views_are_sound()
     ensures { ViewsAreSound }
 {}
 
-/// An array that is safe stays so while slots are lost, over flushes, over rows that are written while it is dirty, over rows that
-/// are rebuilt, and over a mark; each image is read as a view that is right. The premise of what is said of parity is only carried along; here it is
+/// An array that is safe stays so while slots are lost, over flushes, over rows that are written while it is dirty, and over rows
+/// that are rebuilt; each image is read as a view that is right. The premise of what is said of parity is only carried along; here it is
 /// one that always holds.
 pub fn safety_is_kept()
     ensures seen { SafeIsSeen ⊤ }
@@ -56,5 +44,4 @@ pub fn safety_is_kept()
     ensures flushed { FlushedIsSettled }
     ensures writes { WritesStaySafe ⊤ }
     ensures filling { FillingStaysSafe ⊤ }
-    ensures mark { MarkStaysSafe ⊤ }
 {}

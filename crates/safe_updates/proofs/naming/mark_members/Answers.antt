@@ -4,16 +4,17 @@ use Rattle.md_base.specs.Shapes.{has_slot}
 use Rattle.bank.specs.Given.{Given}
 use Rattle.superblocks.specs.Outcome.{live_set}
 use Rattle.superblocks.proofs.SlotSets.{none_above}
+use Rattle.row_io.specs.Rows.{reading_of}
 use Rattle.views.specs.Placed.{IsPlaced}
 use Rattle.views.specs.Marking.{marking}
-use Rattle.views.proofs.MarkLaws.{few-planned}
+use Rattle.views.proofs.MarkLaws.{few-planned, give_of-same}
 use Rattle.views.proofs.MovedLaws.{moved-less}
 use Rattle.safe_updates.proofs.SparesLaws.{spare-left, spare-stays, free-told}
-use Rattle.views.proofs.MarkedLaws.{grows-marks, others-present, failed-marked}
-use Rattle.views.proofs.LackingLaws.{since-failed, holders-marked}
-use Rattle.views.proofs.MarkedSafe.{marked-safe, marked-named}
+use Rattle.views.proofs.MarkedLaws.{grows-marks, others-updated, failed-marked}
+use Rattle.views.proofs.LackingLaws.{since-failed, holders-updated}
 use Rattle.flat_history.specs.Sound.{OpensFit}
-use Rattle.views.proofs.Risen.{risen-marked}
+use Rattle.update_laws.proofs.ChangeSafe.{told-changed, risen-changed}
+use Rattle.update_laws.proofs.KeptSafe.{mark-safe, mark-named}
 use Rattle.safe_updates.proofs.naming.mark_members.Goals as goal
 
 pub holders-held-requires-clause-small : goal.holders-held-requires-clause-small
@@ -32,7 +33,7 @@ pub returns-clause-grows : goal.returns-clause-grows
 returns-clause-grows g c = grows-marks c.mark-lost.ensures.marked.update.marks
 
 pub returns-clause-others : goal.returns-clause-others
-returns-clause-others g c = λ told. others-present c.mark-lost.ensures.marked told
+returns-clause-others g c = λ told. others-updated (g.B.Bank.given c.args.bank.now) c.mark-lost.ensures.marked.update told
 
 pub returns-clause-failed : goal.returns-clause-failed
 returns-clause-failed g c =
@@ -67,19 +68,17 @@ returns-clause-failed g c =
     ]
 
 pub returns-clause-flushed : goal.returns-clause-flushed
-returns-clause-flushed g c = λ told flushed. holders-marked c.mark-lost.ensures.marked told flushed
+returns-clause-flushed g c = λ told flushed. holders-updated (g.B.Bank.given c.args.bank.now) (reading_of c.args.members.now) c.mark-lost.ensures.marked.update told flushed
 
 pub returns-clause-safe : goal.returns-clause-safe
 returns-clause-safe g c = λ tell world size told room markable now.
-    let did = c.mark-lost.ensures in
-    marked-safe (OpensFit world) world.scope (g.B.Bank.given c.args.bank.now) size told c.args.clean c.args.members.now c.mark-lost.new.members (g.B.Bank.tape c.args.bank.now) (g.B.Bank.tape c.mark-lost.new.bank)
-    tell did.marked c.requires.placed did.less room markable now
+    mark-safe (OpensFit world) world.scope (g.B.Bank.given c.args.bank.now) size told c.args.clean c.args.members.now c.mark-lost.new.members (g.B.Bank.tape c.args.bank.now) (g.B.Bank.tape c.mark-lost.new.bank)
+    (told-changed tell c.mark-lost.ensures.marked) room markable now
 
 pub returns-clause-named : goal.returns-clause-named
 returns-clause-named g c = λ tell world size told room markable now left.
-    let did = c.mark-lost.ensures in
-    marked-named (OpensFit world) world.scope (g.B.Bank.given c.args.bank.now) size told c.args.clean c.args.members.now c.mark-lost.new.members (g.B.Bank.tape c.args.bank.now) (g.B.Bank.tape c.mark-lost.new.bank)
-    tell did.marked c.requires.placed did.less room markable now left
+    mark-named (OpensFit world) world.scope (g.B.Bank.given c.args.bank.now) size told c.args.clean c.args.members.now c.mark-lost.new.members (g.B.Bank.tape c.args.bank.now) (g.B.Bank.tape c.mark-lost.new.bank)
+    (told-changed tell c.mark-lost.ensures.marked) room markable now left
 
 pub returns-clause-rise : goal.returns-clause-rise
-returns-clause-rise g c = risen-marked c.mark-lost.ensures.marked c.mark-lost.ensures.less
+returns-clause-rise g c = risen-changed c.mark-lost.ensures.marked refl (λ s isnt. give_of-same 32 s)

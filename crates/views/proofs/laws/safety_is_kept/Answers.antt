@@ -2,7 +2,6 @@ use Rattle.std.specs.Prelude.{⊤}
 use Rattle.views.proofs.Steady.{safe-is-seen, losing-stays-safe, flushes-stay-safe, flushed-is-settled}
 use Rattle.views.proofs.WriteSafe.{writes-stay-safe}
 use Rattle.views.proofs.FillingSafe.{filling-stays-safe}
-use Rattle.views.proofs.MarkSafe.{mark-stays-safe}
 use Rattle.views.proofs.laws.safety_is_kept.Goals as goal
 
 pub returns-clause-seen : goal.returns-clause-seen
@@ -22,6 +21,3 @@ returns-clause-writes c = writes-stay-safe ⊤
 
 pub returns-clause-filling : goal.returns-clause-filling
 returns-clause-filling c = filling-stays-safe ⊤
-
-pub returns-clause-mark : goal.returns-clause-mark
-returns-clause-mark c = mark-stays-safe ⊤
