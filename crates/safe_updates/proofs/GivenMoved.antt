@@ -1,7 +1,6 @@
 -- What an update leaves of the members that gives a role to a slot.
 use Rattle.std.proofs.Common.{◌≡◌, ◌≢◌, ◌⊎◌, inl, inr, ⊎_elim, ℕ, ◌<◌, ◌≤◌, ◌==◌, ◌||◌, ◌&&◌, Bool, true, false, not, cond, nat_lt, List, map, length, get_or, Option, Some, None, refl, sym, ◌∙◌, ap, subst, arith}
 use Rattle.std.specs.Prelude.{pos, ◌-ℤ◌}
-use Rattle.std.specs.List.{list_any}
 use Rattle.std.specs.Option.{option_map_or}
 use Rattle.std.proofs.lemmas.Bool.{cases_eq}
 use Rattle.std.proofs.lemmas.Bool.Decides.{nat_tests}
@@ -15,19 +14,18 @@ use Rattle.superblocks.specs.declared.change.Give.{Give}
 use Rattle.superblocks.specs.declared.change.Give.TheVariants.{Same}
 use Rattle.superblocks.specs.declared.change.Give.TheVariants as give
 use Rattle.superblocks.specs.declared.members.Members.{Members}
-use Rattle.superblocks.specs.Reading.{count_of, is_reshaping, is_clean, shape_of, role_count, role_state, holder, is_whole, data_offset_of}
+use Rattle.superblocks.specs.Reading.{count_of, is_reshaping, shape_of, role_count, role_state, holder, is_whole, data_offset_of}
 use Rattle.superblocks.specs.Reads.{SaysSame, has_spare}
-use Rattle.superblocks.specs.Update.{own_in, planned, give_of, is_held_by, is_live, is_planned_spare}
+use Rattle.superblocks.specs.Update.{own_in, planned, give_of, is_planned_spare}
 use Rattle.superblocks.specs.Updating.{IsLater, AreLosses, planned_newest}
 use Rattle.superblocks.specs.Outcome.{live_set, is_left, AreLive, AreStored, IsPlannedOwn, planned_roles, planned_spares}
 use Rattle.superblocks.proofs.ReadLists.{by_bool}
 use Rattle.superblocks.proofs.PlannedSb.{planned-of}
 use Rattle.superblocks.proofs.SaidSlots.{has-slots_below}
 use Rattle.row_io.specs.Rows.{reading_of, is_missing, role_without}
-use Rattle.row_io.proofs.Losses.{state_kept}
 use Rattle.views.specs.Flushing.{AreHolders}
 use Rattle.views.specs.Placed.{IsPlaced, AreUnlost, AreLess}
-use Rattle.views.specs.Marking.{marking, giving}
+use Rattle.views.specs.Marking.{giving}
 use Rattle.views.specs.Moving.{IsMoved}
 use Rattle.views.specs.Lacking.{HaveFailedSince}
 use Rattle.views.specs.Rebuilding.{AreSparesFree}
@@ -38,8 +36,7 @@ use Rattle.views.proofs.MarkEnds.{count-is}
 use Rattle.views.proofs.MovedLaws.{moved-less}
 use Rattle.views.proofs.PlacedLaws.{state-without, placed-less, less-unlost}
 use Rattle.safe_updates.proofs.SparesLaws.{free-told}
-use Rattle.views.proofs.Spent.{any-holder}
-use Rattle.views.proofs.Without.{any-holds, live-is}
+use Rattle.views.proofs.Without.{live-is}
 use Rattle.views.proofs.Gives.{holder-given, gives_of, give-here, give-other, roles-given, given-lost}
 use Rattle.safe_updates.proofs.GivenAway.{moved-away}
 use Rattle.views.proofs.GivenMembers.{offset_given, recovery-is, IsReceiver, W, givable, state-here, state-other, holder-then, offset-same, recovered-here, recovered-other, spare-then, spare-before, placed-given, unlost-given}
@@ -77,9 +74,6 @@ module _ (given : Given) (recovery : Option ℕ) (role slot : ℕ) (old new : Me
 
   pub size-same : new.newest.size ≡ old.newest.size
   size-same = ap (λ (s : Sb). s.size) did.later.same
-
-  pub clean-same : is_clean new.newest ≡ is_clean old.newest
-  clean-same = ap is_clean did.later.same
 
   -- ---- its superblocks
 
@@ -319,62 +313,6 @@ module _ (given : Given) (recovery : Option ℕ) (role slot : ℕ) (old new : Me
       by r s is false kept = inl (ap holder (state-is r) ∙ holder-without new.lost s (role_state (reading_of (W given old placed recovery role slot to)) r) is kept)
 
   -- ---- who is live
-
-  -- of the slots that weren't lost the same are live
-  pub live-same : (s : ℕ) → nat_lt s 32 ≡ true → has_slot new.lost s ≡ false → is_live new.roles new.spares s ≡ is_live old.roles old.spares s
-  live-same s below kept = same-bool (is_live new.roles new.spares s) (is_live old.roles old.spares s)
-      (λ is. elim (either (list_any (is_held_by s) new.roles) (has_spare new.spares s) is) [
-        | inl holds ↦
-            let found = any-holds s new.roles holds in
-            let was = (state_kept new.lost s (role_state (reading_of (W given old placed recovery role slot to)) found.0) (ap holder (sym (state-is found.0)) ∙ found.1)).holder in
-            ⊎_elim
-            (λ here. ap (is_live old.roles old.spares) here.1 ∙ to.live)
-            (λ other. ap (λ (b : Bool). b || has_spare old.spares s) (any-holder s old.roles found.0 other.2))
-            (holder-then given old placed recovery role slot to found.0 s was)
-        | inr spare ↦ ap (λ (b : Bool). list_any (is_held_by s) old.roles || b) (spare-kept s spare).0 ∙ or_true (list_any (is_held_by s) old.roles)
-      ])
-      (λ is. elim (cases_eq s slot) [
-        | inl same ↦ ap (λ (b : Bool). b || has_spare new.spares s) (any-holder s new.roles role
-            (ap holder (state-is role) ∙ holder-without new.lost s (role_state (reading_of (W given old placed recovery role slot to)) role)
-            (ap holder (state-here given old placed recovery role slot to) ∙ holder-given recovery slot ∙ ap (λ (n : ℕ). Some n) (sym same)) kept))
-        | inr apart ↦ elim (either (list_any (is_held_by s) old.roles) (has_spare old.spares s) is) [
-          | inl holds ↦
-              let found = any-holds s old.roles holds in
-              let other : found.0 ≢ role = (λ same. apart (to.others s (ap (λ (k : ℕ). holder (role_state (reading_of old) k)) (sym same) ∙ found.1))) in
-              ap (λ (b : Bool). b || has_spare new.spares s) (any-holder s new.roles found.0
-              (ap holder (state-is found.0) ∙ holder-without new.lost s (role_state (reading_of (W given old placed recovery role slot to)) found.0)
-              (ap holder (state-other given old placed recovery role slot to found.0 other) ∙ found.1) kept))
-          | inr spare ↦ ap (λ (b : Bool). list_any (is_held_by s) new.roles || b) (spares-other s apart ∙ (λ i. below i && (not (kept i) && (spare i || false)))) ∙ or_true (list_any (is_held_by s) new.roles)
-        ]
-      ])
-    where
-      or_true : (b : Bool) → (b || true) ≡ true
-      or_true true = refl
-      or_true false = refl
-
-      either : (a b : Bool) → (a || b) ≡ true → (a ≡ true) ⊎ (b ≡ true)
-      either true b e = inl refl
-      either false b e = inr e
-
-      same-bool : (a b : Bool) → (a ≡ true → b ≡ true) → (b ≡ true → a ≡ true) → a ≡ b
-      same-bool true b one two = sym (one refl)
-      same-bool false true one two = two refl
-      same-bool false false one two = refl
-
-  -- as a mark sees it
-  pub marked-same : (s : ℕ) → (has_slot (live_set new (marking new false)) s && not (has_slot new.lost s)) ≡ (has_slot (live_set old (marking old false)) s && not (has_slot new.lost s))
-  marked-same s = of (has_slot new.lost s) refl (nat_lt s 32) refl
-    where
-      none : (b : Bool) → (b && false) ≡ false
-      none true = refl
-      none false = refl
-
-      of : (lost : Bool) → has_slot new.lost s ≡ lost → (below : Bool) → nat_lt s 32 ≡ below
-          → (has_slot (live_set new (marking new false)) s && not lost) ≡ (has_slot (live_set old (marking old false)) s && not lost)
-      of true gone below is = none (has_slot (live_set new (marking new false)) s) ∙ sym (none (has_slot (live_set old (marking old false)) s))
-      of false kept false is = ap (λ (b : Bool). b && true) (live-is new false s ∙ ap (λ (b : Bool). b && (is_live new.roles new.spares s || false)) is
-          ∙ sym (live-is old false s ∙ ap (λ (b : Bool). b && (is_live old.roles old.spares s || false)) is))
-      of false kept true is = ap (λ (b : Bool). b && true) (live-is new false s ∙ ap (λ (b : Bool). nat_lt s 32 && (b || false)) (live-same s is kept) ∙ sym (live-is old false s))
 
   -- ---- the slots that hold a role then
 

@@ -9,12 +9,6 @@ pub mod RolesNamed
 pub mod SettledSafe
 pub mod GivenAway
 pub mod GivenMoved
-pub mod GivenReady
-pub mod GivenPlanned
-pub mod GivenRead
-pub mod GivenViews
-pub mod GivenSafe
-pub mod TakenRole
 pub mod GivingDone
 pub mod MadeWhole
 pub mod WholeFlushed

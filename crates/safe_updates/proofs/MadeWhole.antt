@@ -1,9 +1,10 @@
 -- The slot that recovers a role, which has every row of it, becomes its whole holder.
-use Rattle.std.proofs.Common.{◌≡◌, ◌≢◌, ◌⊎◌, inl, inr, ⊎_elim, ℕ, ◌+◌, ◌^◌, ◌<◌, ◌≤◌, ◌==◌, ◌||◌, ◌&&◌, Bool, true, false, not, cond, nat_lt, take, take_all, le_refl, List, [], ◌∷◌, length, get_or, Option, Some, None, refl, sym, ◌∙◌, ap, subst, arith}
+use Rattle.std.proofs.Common.{◌≡◌, ◌≢◌, ◌⊎◌, inl, inr, ⊎_elim, ℕ, ◌+◌, ◌<◌, ◌==◌, ◌||◌, ◌&&◌, Bool, true, false, not, cond, nat_lt, take, take_all, le_refl, List, [], ◌∷◌, length, get_or, Option, Some, None, refl, sym, ◌∙◌, ap, subst, arith}
 use Rattle.std.specs.Prelude.{⊤}
 use Rattle.std.specs.List.{list_any}
 use Rattle.std.proofs.lemmas.Bool.{cases_eq}
 use Rattle.std.proofs.lemmas.Bool.Decides.{nat_tests}
+use Rattle.md_base.specs.declared.places.Shape.{Shape}
 use Rattle.md_base.specs.Sectors.{Sector}
 use Rattle.md_base.specs.Shapes.{has_slot}
 use Rattle.md_base.specs.declared.status.Role.{Role}
@@ -12,26 +13,20 @@ use Rattle.layout.specs.Layout.{place}
 use Rattle.sb1.specs.declared.sb.Sb.{Sb}
 use Rattle.bank.specs.declared.bank.Operation.{Operation}
 use Rattle.bank.specs.Given.{Given}
-use Rattle.bank.specs.Tape.{Contents, IsIn, IsDrawn, disk, value_after}
+use Rattle.bank.specs.Tape.{IsIn, IsDrawn, disk, value_after}
 use Rattle.bank.proofs.Laws.{choices-present}
+use Rattle.superblocks.specs.declared.change.Change.{Change}
 use Rattle.superblocks.specs.declared.members.Members.{Members}
-use Rattle.superblocks.specs.Reading.{Scope, is_recovering, is_clean, is_whole, shape_of, role_state, rows_held, holder, data_offset_of}
+use Rattle.superblocks.specs.Reading.{Scope, is_whole, shape_of, role_count, role_state, rows_held, holder, data_offset_of}
 use Rattle.superblocks.specs.Reads.{has_spare}
-use Rattle.superblocks.specs.Update.{give_of, own_in, is_held_by, is_recovery, role_from}
-use Rattle.superblocks.specs.Updating.{IsSomeLeft}
-use Rattle.superblocks.specs.Outcome.{live_set}
-use Rattle.superblocks.specs.Held.{AreDrawn, known_of}
-use Rattle.superblocks.specs.Stages.{AreLeft, AreFirstKept}
-use Rattle.superblocks.specs.Following.{AreHeldAlone}
-use Rattle.superblocks.specs.Rounds.{round_at, IsReady}
-use Rattle.superblocks.proofs.ReadLists.{by_bool}
-use Rattle.superblocks.proofs.RoundsRead.{more-held}
+use Rattle.superblocks.specs.Update.{own_in, is_held_by}
+use Rattle.superblocks.specs.Updating.{planned_newest}
+use Rattle.superblocks.specs.Crash.{IsWithin}
+use Rattle.superblocks.specs.Held.{known_of}
+use Rattle.superblocks.proofs.ReadAlike.{shape-same}
 use Rattle.superblocks.proofs.SaidSlots.{role-said, role-known}
-use Rattle.superblocks.proofs.ValidFields.{few-events as small-events}
 use Rattle.superblock_laws.specs.MakingWhole.{without_gives, IsMakingWhole}
-use Rattle.superblock_laws.proofs.Laws.{making-reads, making-follows}
-use Rattle.superblock_laws.proofs.MadeWholeSaid.{made-said}
-use Rattle.row_io.specs.Rows.{reading_of, present, held_slot, members_without}
+use Rattle.row_io.specs.Rows.{reading_of, present, held_slot, role_without, members_without}
 use Rattle.row_io.proofs.Losses.{holder-of, state_kept, state_after}
 use Rattle.list_io.specs.Full.{full_sector}
 use Rattle.list_io.proofs.FullLaws.{places-are-full, standing-is-full}
@@ -40,24 +35,27 @@ use Rattle.views.specs.Held.{IsHeldBy}
 use Rattle.views.specs.Lacking.{DoesWithout, RowsStand}
 use Rattle.views.specs.Marking.{giving}
 use Rattle.views.specs.Rebuilding.{IsFlushedFull}
-use Rattle.views.specs.Rounds.{IsHeldSince}
-use Rattle.views.specs.Views.{Ledger, AreRowsSettled, IsSettled, IsViewRight}
+use Rattle.views.specs.Views.{Ledger, AreRowsSettled, IsViewRight}
 use Rattle.views.specs.Flushing.{AreHolders}
-use Rattle.views.specs.Steady.{AreGoneTold, AreWritesAllowed, given_back}
-use Rattle.views.proofs.MarkLaws.{Apart, role_from-found, held-holder, holder-held}
-use Rattle.views.proofs.MemberLaws.{less-without}
-use Rattle.views.proofs.Planned as resynced
+use Rattle.views.specs.Steady.{IsSteady, AreGoneTold, AreWritesAllowed, given_back}
+use Rattle.views.proofs.MarkEnds.{count-is}
+use Rattle.views.proofs.MarkLaws.{give_of-same, roles-kept, role_from-found, held-holder, holder-held}
+use Rattle.views.proofs.PlacedLaws.{state-without}
 use Rattle.views.proofs.ReadOf.{said-recovering}
-use Rattle.views.proofs.Ready.{Live, Lost, Left, first-lost, fields-at, none-judged, ready, left-is, left-known, not-gone, known-live, live-known-first, holds-first, fits-of}
 use Rattle.views.proofs.Spent.{any-holder}
-use Rattle.views.proofs.ViewsKept.{did-without, settled-less}
-use Rattle.views.proofs.Without.{live-without}
-use Rattle.views.proofs.Gives.{gives_of, give-here, give-other}
+use Rattle.views.proofs.ViewsKept.{missing-more, missing-without}
+use Rattle.views.proofs.Gives.{give-here, give-other}
 use Rattle.views.proofs.GivenMembers.{IsReceiver, W, state-here, state-other, holder-then, offset-same, rows-other, placed-given}
-use Rattle.safe_updates.proofs.GivenPlanned.{First, live-first, roles-same, few-roles}
-use Rattle.safe_updates.proofs.GivenRead.{IsGiving, SayPlanned, Reads, first-room, read-at, held-new}
-use Rattle.safe_updates.proofs.GivenSafe.{IsReadGiven, IsGivenRight}
-use Rattle.safe_updates.proofs.GivenViews.{IsRightBut, but-of, but-without}
+use Rattle.update_laws.specs.Plans.{planned_view, IsLessView}
+use Rattle.update_laws.specs.Changing.{IsChanged}
+use Rattle.update_laws.specs.Making.{IsMakable}
+use Rattle.update_laws.proofs.ChangeViews.{placed-less, planned-live}
+use Rattle.update_laws.proofs.Fields.{fields-held}
+use Rattle.update_laws.proofs.GivenPlan.{given-state, given-less, given-placed}
+use Rattle.update_laws.proofs.Kept.{kept-less}
+use Rattle.update_laws.proofs.KeptSafe.{told-plan, steady-right}
+use Rattle.update_laws.proofs.LessViews.{less-right}
+use Rattle.update_laws.proofs.PlannedRoles.{says-shared}
 
 -- the slot that recovers a role may become its holder
 pub holder-receives : (given : Given) (m : Members) (role slot : ℕ) → IsPlaced given m → AreUnlost m → role < (shape_of m.newest).disks → role_state (reading_of m) role ≡ Recovering slot → IsReceiver given m role slot
@@ -77,149 +75,6 @@ holder-receives given m role slot placed unlost below is = record {
 
     live : (list_any (is_held_by slot) m.roles || has_spare m.spares slot) ≡ true
     live = ap (λ (b : Bool). b || has_spare m.spares slot) (any-holder slot m.roles role held)
-
--- no slot gets a recovery offset
-pub none-first : (slot role : ℕ) (lost lost' : ℕ) → slot < 32 → AreFirstKept (gives_of slot role None) lost lost'
-none-first slot role lost lost' small s recovery gone = elim (cases_eq s slot) [
-  | inl same ↦ absurd (let none = sym recovery ∙ ap is_recovery (ap (give_of (gives_of slot role None)) same ∙ give-here slot role None small) in cc)
-  | inr apart ↦ absurd (let none = sym recovery ∙ ap is_recovery (give-other slot role None s apart) in cc)
-]
-
--- ---- what is read
-
-module _ (scope : Scope) (given : Given) (role slot : ℕ) (former : Members) (gone : ℕ) (new : Members) (before after : List Operation)
-    (m : IsGiving ⊤ given None role slot (members_without gone former) new before after) (placed : IsPlaced given (members_without gone former)) (to : IsReceiver given (members_without gone former) role slot)
-    (room : new.newest.events < 2 ^ 62) (held : IsHeldBy scope former (disk given.start before)) (recovers : role_state (reading_of (members_without gone former)) role ≡ Recovering slot) where
-  abbrev Old : Members
-  Old = members_without gone former
-
-  abbrev Resync : ℕ
-  Resync = former.newest.resync_offset
-
-  abbrev Disk : ℕ → ℕ → List Sector
-  Disk = disk given.start before
-
-  apart : Apart former.roles
-  apart = resynced.apart scope former gone Resync Disk held
-
-  few : (r s : ℕ) → holder (get_or former.roles r Missing) ≡ Some s → s < 32
-  few = resynced.small scope former gone Resync Disk held
-
-  soon : former.newest.events + 1 < 2 ^ 62
-  soon = first-room scope given None role slot former gone new before after m placed to room held apart few
-
-  -- the role was the slot's before slots were lost
-  was : role_state (reading_of former) role ≡ Recovering slot
-  was = sym (state_kept gone slot (role_state (reading_of former) role) (ap holder (sym (state_after former gone role) ∙ recovers))).same ∙ sym (state_after former gone role) ∙ recovers
-
-  -- its superblock says that it recovers
-  its : (has_slot held.known slot ≡ true) × (sb : Sb) × (own_in former.own slot ≡ Some sb) × (get_or (known_of scope held.known former.own) slot None ≡ Some sb)
-  its = role-known scope held.known former held.said role slot (ap holder was)
-
-  bit : is_recovering its.1 ≡ true
-  bit = said-recovering scope.sizes.sectors (known_of scope held.known former.own) former.newest role slot its.1 (sym (role-said scope held.known former held.said role) ∙ was) its.3
-
-  holds : (roles : List Role) → Apart roles → holder (get_or roles role Missing) ≡ Some slot → role_from slot 0 roles ≡ Some role
-  holds roles only is = role_from-found slot 0 roles role (holder-held slot (get_or roles role Missing) is) (λ j holds. only j role slot (held-holder slot (get_or roles j Missing) holds) is)
-      ∙ (let same : 0 + role ≡ role = omega arith in ap (λ (n : ℕ). Some n) same)
-
-  making : IsMakingWhole Old (giving Old slot role None) slot role
-  making = record {
-    sb = its.1;
-    is = its.2;
-    recovers = bit;
-    holds = holds Old.roles placed.apart (ap holder recovers);
-    gives = give-here slot role None to.room.small;
-    others = λ s other. give-other slot role None s other;
-    none = refl;
-  }
-
-  start : IsReady scope held.known (Left scope former gone Resync Disk held) Old (without_gives (giving Old slot role None)) (Live scope former gone Resync Disk held) Disk
-  start = ready scope former gone Resync Disk held soon
-
-  -- ---- the members before slots were lost
-
-  abbrev AtFirst : Members
-  AtFirst = First scope former gone Disk held None role slot given placed to apart few
-
-  making-first : IsMakingWhole AtFirst (giving former slot role None) slot role
-  making-first = record {
-    sb = its.1;
-    is = its.2;
-    recovers = bit;
-    holds = holds former.roles apart (ap holder was);
-    gives = give-here slot role None to.room.small;
-    others = λ s other. give-other slot role None s other;
-    none = refl;
-  }
-
-  live-alike : AreLeft (live_set AtFirst (giving former slot role None)) (Lost scope former gone Resync Disk held) (Left scope former gone Resync Disk held)
-  live-alike s = left-is scope former gone Resync Disk held s ∙ ⊎_elim
-      (λ is. ap (λ (b : Bool). has_slot (Live scope former gone Resync Disk held) s && not b) is
-      ∙ nothing (has_slot (Live scope former gone Resync Disk held) s) (has_slot (live_set AtFirst (giving former slot role None)) s)
-      ∙ sym (ap (λ (b : Bool). has_slot (live_set AtFirst (giving former slot role None)) s && not b) is))
-      (λ none. ap (λ (b : Bool). b && not (has_slot (Lost scope former gone Resync Disk held) s))
-      (live-without former gone false s (not-gone scope former gone Resync Disk held (Lost scope former gone Resync Disk held) (Left scope former gone Resync Disk held) (λ t lost. lost) (left-is scope former gone Resync Disk held) s none)))
-      (by_bool (has_slot (Lost scope former gone Resync Disk held) s))
-    where
-      nothing : (a b : Bool) → (a && not true) ≡ (b && not true)
-      nothing true true = refl
-      nothing true false = refl
-      nothing false true = refl
-      nothing false false = refl
-
-  start-first : IsReady scope held.known (Left scope former gone Resync Disk held) AtFirst (without_gives (giving former slot role None)) (live_set AtFirst (giving former slot role None)) Disk
-  start-first = record {
-    held = more-held scope held.known former.lost (Lost scope former gone Resync Disk held) former.newest former.own Disk (first-lost scope former gone Resync Disk held) held.updated.held;
-    are = live-alike;
-    within = live-known-first scope former gone Resync Disk held;
-    exact = λ s sb found is own mine. held.updated.exact s sb found
-        (left-known scope former gone Resync Disk held (Lost scope former gone Resync Disk held) (Left scope former gone Resync Disk held) (λ t lost. lost) (left-is scope former gone Resync Disk held) s is) own mine;
-    fits = fits-of scope former gone Resync Disk held (Lost scope former gone Resync Disk held) (Left scope former gone Resync Disk held) (λ t lost. lost) (left-is scope former gone Resync Disk held) former.roles
-        (Lost scope former gone Resync Disk held)
-        (holds-first scope former gone Resync Disk held (Lost scope former gone Resync Disk held) (Left scope former gone Resync Disk held) (λ t lost. lost) (left-is scope former gone Resync Disk held)) soon;
-    fields = λ events less. fields-at former.newest Resync events less (small-events former.newest [] held.updated.held.sound.fields) (none-judged former.newest held.updated.held.sound.fields);
-  }
-
-  said : SayPlanned scope given None role slot former gone new before after m placed to room held apart few
-  said lost left newest own are more since later named table kept =
-      made-said scope held.known (Left scope former gone Resync Disk held) (Lost scope former gone Resync Disk held) AtFirst (giving former slot role None) slot role Disk newest making-first start-first
-      (record { roles = held.said.roles; spares = held.said.spares })
-      (record {
-        named = lost;
-        known = left;
-        own = own;
-        are = live-first scope former gone Disk held None role slot given placed to apart few lost left newest own are more later named table kept;
-        more = more;
-        later = later;
-        plan = (named.0, named.1 ∙ roles-same scope former gone Disk held None role slot given placed to apart few lost left newest own are more later named table kept named.0);
-        table = table;
-        few = few-roles scope former gone Disk held None role slot given placed to apart few lost left newest own are more later named table kept;
-        kept = kept;
-      })
-      (λ s isnt is. (known-live scope former gone Resync Disk held s (since s isnt is)).0)
-
-  -- ---- all
-
-  kept-all : AreFirstKept (gives_of slot role None) Old.lost new.lost
-  kept-all = none-first slot role Old.lost new.lost to.room.small
-
-  reads : (n : ℕ) → length before ≤ n → n ≤ length after → (c : Contents) → AreDrawn (disk given.start (take n after)) c
-      → Reads scope given None role slot former gone new before after m placed to room held apart few said c
-  reads n low high c drawn = making-reads scope held.known (Left scope former gone Resync Disk held) Old (giving Old slot role None) (Lost scope former gone Resync Disk held) (Live scope former gone Resync Disk held)
-      slot role new.lost new.newest.events Disk (disk given.start (take n after)) making start room ((m.rounds kept-all).each tt n low high) c drawn
-
-  alone : IsSomeLeft (live_set Old (giving Old slot role None)) new.lost → (left : ℕ) → AreLeft (Live scope former gone Resync Disk held) new.lost left
-      → AreHeldAlone scope left new.lost new.newest new.own (disk given.start after)
-  alone some left are = making-follows scope held.known (Left scope former gone Resync Disk held) Old (giving Old slot role None) (Lost scope former gone Resync Disk held) (Live scope former gone Resync Disk held)
-      slot role Disk (round_at new.newest new.lost given.start after) making start (m.past kept-all tt) room some (m.named some) new.own m.left.own left are
-
-  pub made-read : (sound : Type 0) (size : ℕ) (since : IsHeldSince scope former (members_without gone former) (disk given.start before))
-      → IsReadGiven sound scope given size None role slot (members_without gone former) new before after placed to m former since
-  made-read sound size since = record {
-    each = λ n low high. read-at scope given None role slot former gone new before after m placed to room held apart few said n (reads n low high);
-    held = λ some. held-new scope given None role slot former gone new before after m placed to room held apart few said some (alone some);
-  }
 
 -- ---- the view in which the role is whole
 
@@ -273,22 +128,22 @@ module _ (given : Given) (m : Members) (placed : IsPlaced given m) (role slot : 
       only (inl same) = same
       only (inr none) = absurd none
 
-  module _ (sound : Type 0) (size : ℕ) (values : ℕ → List Sector) (unclean : Bool) (tape : List Operation) (list : ℕ → Sector) (premise : sound) (does : DoesWithout m) (below : role < (shape_of m.newest).disks)
-      (stands : RowsStand m (present given tape) list) (allowed : AreWritesAllowed m values list) (full : IsFlushedFull m role slot list (disk given.start tape)) where
+  module _ (sound : Type 0) (size : ℕ) (told : Ledger) (tape : List Operation) (list : ℕ → Sector) (premise : sound) (does : DoesWithout m) (below : role < (shape_of m.newest).disks)
+      (stands : RowsStand m (present given tape) list) (allowed : AreWritesAllowed m told.values list) (full : IsFlushedFull m role slot list (disk given.start tape)) where
     -- two lists as which the rows stand have the same full rows
     full-alike : (list' : ℕ → Sector) → AreRowsSettled m list' (disk given.start tape) → (row : ℕ) → row < m.newest.size → full_sector (shape_of m.newest) list row role ≡ full_sector (shape_of m.newest) list' row role
     full-alike list' settled row lt =
         sym (standing-is-full (reading_of m) (present given tape) (shape_of m.newest) list row placed.valid lt does (stands row lt) role below)
         ∙ standing-is-full (reading_of m) (present given tape) (shape_of m.newest) list' row placed.valid lt does (settled (present given tape) (present-drawn given tape) row lt) role below
 
-    pub made-right : IsRightBut sound given size values unclean m (disk given.start tape) → (is_clean m.newest ≡ true → IsSettled m values (disk given.start tape))
-        → IsRightBut sound given size values unclean (W given m placed None role slot to) (disk given.start tape)
-    made-right right settled = record {
+    pub made-right : IsViewRight sound given size told m (disk given.start tape) → AreGoneTold told (W given m placed None role slot to) → IsViewRight sound given size told (W given m placed None role slot to) (disk given.start tape)
+    made-right right gone = record {
       placed = placed-given given m placed None role slot to;
       sized = right.sized;
-      unclean_is = right.unclean_is;
+      gone = gone;
+      unclean = right.unclean;
       held = λ x s lt holds v may. ⊎_elim
-          (λ here. subst (IsIn (values x)) (sym (
+          (λ here. subst (IsIn (told.values x)) (sym (
           alone-is (disk given.start tape) list full (place (shape_of m.newest) x).row here.2 v
           (subst (λ (t : ℕ). IsIn (disk given.start tape t (data_offset_of (reading_of Whole_) t + (place (shape_of m.newest) x).row)) v) here.1 may)
           ∙ ap (λ (r : ℕ). full_sector (shape_of m.newest) list (place (shape_of m.newest) x).row r) (sym here.0)
@@ -297,7 +152,7 @@ module _ (given : Given) (m : Members) (placed : IsPlaced given m) (role slot : 
           (subst (λ (n : ℕ). IsIn (disk given.start tape s (n + (place (shape_of m.newest) x).row)) v) (offset-same given m placed None role slot to s) may))
           (held-then (place (shape_of m.newest) x).role (place (shape_of m.newest) x).row s holds);
       settled = λ clean few sure.
-          let s = settled clean in
+          let s = right.settled clean does sure in
           record { list = s.list; allowed = s.allowed; rows = rows s.list s.rows };
     }
       where
@@ -320,33 +175,40 @@ module _ (given : Given) (m : Members) (placed : IsPlaced given m) (role slot : 
                 ∙ full-alike list' settled row lt
                 ∙ ap (full_sector (shape_of m.newest) list' row) (sym it)
 
--- ---- all
+-- ---- the change
 
-module _ (sound : Type 0) (scope : Scope) (given : Given) (size : ℕ) (told : Ledger) (role slot : ℕ) (old new : Members) (before after : List Operation) (placed : IsPlaced given old) (to : IsReceiver given old role slot)
-    (m : IsGiving ⊤ given None role slot old new before after) (below : role < (shape_of old.newest).disks) (recovers : role_state (reading_of old) role ≡ Recovering slot) (premise : sound) (does : DoesWithout old)
-    (list : ℕ → Sector) (stands : RowsStand old (present given before) list) (allowed : AreWritesAllowed old told.values list) (full : IsFlushedFull old role slot list (disk given.start before)) where
-  -- the rows of a clean array were settled by the members before they lost slots
-  settled-before : (former : Members) → IsHeldSince scope former old (disk given.start before) → IsViewRight sound given size told former (disk given.start before)
-      → is_clean old.newest ≡ true → IsSettled old told.values (disk given.start before)
-  settled-before former since right =
-      subst (λ (o : Members). DoesWithout o → is_clean o.newest ≡ true → IsSettled o told.values (disk given.start before)) (sym since.since)
-      (λ few clean. settled-less given since.gone former (members_without since.gone former) right.placed (less-without former since.gone) told.values (disk given.start before)
-      (right.settled clean (did-without given since.gone former (members_without since.gone former) right.placed (less-without former since.gone) few) premise)) does
+-- the known superblocks say that the slot recovers the role
+making-of : (scope : Scope) (given : Given) (role slot : ℕ) (former : Members) (gone : ℕ) (d : ℕ → ℕ → List Sector) → IsPlaced given (members_without gone former) → slot < 32 → IsHeldBy scope former d
+    → role_state (reading_of (members_without gone former)) role ≡ Recovering slot → IsMakingWhole (members_without gone former) (giving (members_without gone former) slot role None) slot role
+making-of scope given role slot former gone d placed small held recovers = record {
+  sb = its.1;
+  is = its.2;
+  recovers = said-recovering scope.sizes.sectors (known_of scope held.known former.own) former.newest role slot its.1 (sym (role-said scope held.known former held.said role) ∙ was) its.3;
+  holds = role_from-found slot 0 (members_without gone former).roles role (holder-held slot (get_or (members_without gone former).roles role Missing) (ap holder recovers))
+      (λ j holds. placed.apart j role slot (held-holder slot (get_or (members_without gone former).roles j Missing) holds) (ap holder recovers))
+      ∙ (let same : 0 + role ≡ role = omega arith in ap (λ (n : ℕ). Some n) same);
+  gives = give-here slot role None small;
+  others = λ s other. give-other slot role None s other;
+  none = refl;
+}
+  where
+    -- the role was the slot's before slots were lost
+    was : role_state (reading_of former) role ≡ Recovering slot
+    was = sym (state_kept gone slot (role_state (reading_of former) role) (ap holder (sym (state_after former gone role) ∙ recovers))).same ∙ sym (state_after former gone role) ∙ recovers
 
-  pub made-given : IsGivenRight sound scope given size told None role slot old new before after placed to m
-  made-given = record {
-    read = λ former since room.
-        (subst (λ (o : Members). (placed : IsPlaced given o) (to : IsReceiver given o role slot) (m : IsGiving ⊤ given None role slot o new before after) (since : IsHeldSince scope former o (disk given.start before))
-        → role_state (reading_of o) role ≡ Recovering slot → IsReadGiven sound scope given size None role slot o new before after placed to m former since) (sym since.since)
-        (λ placed to m since recovers. made-read scope given role slot former _ new before after m placed to room since.held recovers sound size since))
-        placed to m since recovers;
-    right = λ former since right. made-right given old placed role slot to recovers sound size told.values told.unclean before list premise does below stands allowed full
-        (subst (λ (o : Members). IsRightBut sound given size told.values told.unclean o (disk given.start before)) (sym since.since)
-        (but-without sound given size told.values told.unclean (disk given.start before) since.gone former (but-of sound given size told former (disk given.start before) right)))
-        (settled-before former since right);
-  }
+    its : (has_slot held.known slot ≡ true) × (sb : Sb) × (own_in former.own slot ≡ Some sb) × (get_or (known_of scope held.known former.own) slot None ≡ Some sb)
+    its = role-known scope held.known former held.said role slot (ap holder was)
 
--- ---- the role isn't gone any more
+-- ---- the ledger behind it
+
+-- It tells what the other does, but for the role perhaps, which isn't missing where it is whole on the slot.
+pub record IsMoreBack (sound : Type 0) (given : Given) (size : ℕ) (told more : Ledger) (role slot : ℕ) (new : Members) : Type 0 where
+  pub right : (m : Members) (d : ℕ → ℕ → List Sector) → role_state (reading_of m) role ≡ Whole slot → IsViewRight sound given size told m d → IsViewRight sound given size more m d
+  pub gone : AreGoneTold more new
+  pub carried : (number : ℕ) → told.carried number ≡ true → more.carried number ≡ true
+
+pub back-same : (sound : Type 0) (given : Given) (size : ℕ) (told : Ledger) (role slot : ℕ) (new : Members) → AreGoneTold told new → IsMoreBack sound given size told told role slot new
+back-same sound given size told role slot new gone = record { right = λ m d whole right. right; gone = gone; carried = λ number is. is }
 
 pub back-told : (told : Ledger) (role slot : ℕ) (new : Members) → AreGoneTold told new → role_state (reading_of new) role ≡ Whole slot → AreGoneTold (given_back role told) new
 back-told told role slot new gone whole r lt missing = (λ i. gone r lt missing i && not (other i))
@@ -358,6 +220,103 @@ back-told told role slot new gone whole r lt missing = (λ i. gone r lt missing 
     other = differ r role (λ same. absurd (
         let none = ap (λ (s : Role). not (is_whole s)) (ap (role_state (reading_of new)) same ∙ whole) in let clash = sym missing ∙ none in cc
         ))
+
+pub back-given : (sound : Type 0) (given : Given) (size : ℕ) (told : Ledger) (role slot : ℕ) (new : Members) → AreGoneTold told new → role_state (reading_of new) role ≡ Whole slot
+    → IsMoreBack sound given size told (given_back role told) role slot new
+back-given sound given size told role slot new gone whole = record {
+  right = λ m d is right. record {
+    placed = right.placed;
+    sized = right.sized;
+    gone = back-told told role slot m right.gone is;
+    unclean = right.unclean;
+    held = right.held;
+    settled = right.settled;
+  };
+  gone = back-told told role slot new gone whole;
+  carried = λ number is. is;
+}
+
+-- ---- what the update owes
+
+module _ (sound : Type 0) (scope : Scope) (given : Given) (size : ℕ) (told : Ledger) (role slot : ℕ) (old new : Members) (before after : List Operation)
+    (m : IsChanged ⊤ given (giving old slot role None) old new before after) (placed : IsPlaced given old) (to : IsReceiver given old role slot) (below : role < (shape_of old.newest).disks)
+    (recovers : role_state (reading_of old) role ≡ Recovering slot) (premise : sound) (does : DoesWithout old) (list : ℕ → Sector) (stands : RowsStand old (present given before) list)
+    (allowed : AreWritesAllowed old told.values list) (full : IsFlushedFull old role slot list (disk given.start before)) (gone : AreGoneTold told new) (here : told.gone role ≡ true)
+    (steady : IsSteady sound scope given size told old (disk given.start before)) where
+  abbrev Gives : Change
+  Gives = giving old slot role None
+
+  abbrev Still : Change
+  Still = without_gives Gives
+
+  abbrev With : Members
+  With = W given old placed None role slot to
+
+  -- a role that is missing in the end is told
+  told-last : (r : ℕ) → r < (shape_of old.newest).disks → not (is_whole (role_without new.lost (role_state (reading_of With) r))) ≡ true → told.gone r ≡ true
+  told-last r lt missing = gone r (subst (λ (n : ℕ). r < n) (ap (λ (s : Shape). s.disks) (shape-same old.newest (planned_newest old.newest old.newest) (says-shared old Gives) ∙ ap shape_of (sym m.newest.same))) lt)
+      (ap (λ (s : Role). not (is_whole s)) (ap (λ (l : List Role). get_or l r Missing) m.roles ∙ given-state given old placed None role slot to new.lost r) ∙ missing)
+
+  lt-of : (lost : ℕ) (ch : Change) (r : ℕ) → ch.shared ≡ old.newest → r < (shape_of (planned_view old ch lost).newest).disks → r < (shape_of old.newest).disks
+  lt-of lost ch r same lt = subst (λ (n : ℕ). r < n) (ap (λ (s : Shape). s.disks) (sym (shape-same ch.shared (planned_view old ch lost).newest (says-shared old ch)) ∙ ap shape_of same)) lt
+
+  told-with : AreGoneTold told With
+  told-with r lt missing = told-last r lt (missing-without new.lost (role_state (reading_of With) r) missing)
+
+  -- where the slot still recovers, the role besides
+  told-still : (lost : ℕ) → IsWithin lost new.lost → (r : ℕ) → r < (shape_of old.newest).disks → not (is_whole (role_without lost (role_state (reading_of old) r))) ≡ true → told.gone r ≡ true
+  told-still lost within r lt missing = elim (cases_eq r role) [
+    | inl same ↦ ap told.gone same ∙ here
+    | inr apart ↦ told-last r lt (ap (λ (s : Role). not (is_whole (role_without new.lost s))) (state-other given old placed None role slot to r apart) ∙ missing-more lost new.lost within (role_state (reading_of old) r) missing)
+  ]
+
+  told-old : AreGoneTold told old
+  told-old r lt missing = told-still old.lost m.stay r lt (missing-without old.lost (role_state (reading_of old) r) missing)
+
+  old-right : IsViewRight sound given size told old (disk given.start before)
+  old-right = steady-right sound scope given size told old (disk given.start before) steady told-old
+
+  with-right : IsViewRight sound given size told With (disk given.start before)
+  with-right = made-right given old placed role slot to recovers sound size told before list premise does below stands allowed full old-right told-with
+
+  count-old : length old.roles ≡ role_count old.newest
+  count-old = placed.roles ∙ sym (count-is old placed.still)
+
+  still-state : (lost r : ℕ) → role_state (reading_of (planned_view old Still lost)) r ≡ role_without lost (role_state (reading_of old) r)
+  still-state lost r = ap (λ (l : List Role). get_or l r Missing) (roles-kept old.roles lost placed.apart (λ t s is. (placed.holders t s is).small) (role_count old.newest) (sym count-old)) ∙ state-without lost old.roles r
+
+  gone-still : (lost : ℕ) → IsWithin lost new.lost → AreGoneTold told (planned_view old Still lost)
+  gone-still lost within r lt missing = told-still lost within r (lt-of lost Still r refl lt) (ap (λ (s : Role). not (is_whole s)) (sym (still-state lost r)) ∙ missing)
+
+  still-less : IsLessView old (planned_view old Still old.lost)
+  still-less = kept-less old Still old.lost (λ s. give_of-same 32 s) count-old
+
+  still-right : IsViewRight sound given size told (planned_view old Still old.lost) (disk given.start before)
+  still-right = less-right sound given size told old (planned_view old Still old.lost) (disk given.start before) still-less
+      (placed-less given old (planned_view old Still old.lost) still-less (planned-live given old Still refl (λ s isnt. give_of-same 32 s) placed.live old.lost) placed) (gone-still old.lost m.stay) old-right
+
+  pub makable : (more : Ledger) → IsMoreBack sound given size told more role slot new → IsMakable sound given size size told more (giving old slot role None) slot role old new (disk given.start before)
+  makable more back = record {
+    making = subst (λ (o : Members). IsPlaced given o → role_state (reading_of o) role ≡ Recovering slot → IsMakingWhole o (giving o slot role None) slot role) (sym steady.since.since)
+        (λ placed is. making-of scope given role slot steady.former steady.since.gone (disk given.start before) placed to.room.small steady.since.held is) placed recovers;
+    fields = fields-held scope steady.former old (disk given.start before) steady.since old.newest.resync_offset Gives refl;
+    kept = refl;
+    count = refl;
+    still = still-right;
+    right = less-right sound given size more With (planned_view old Gives old.lost) (disk given.start before) (given-less given old placed None role slot to old.lost) (given-placed given old placed None role slot to old.lost)
+        (λ r lt missing. more-end r (lt-both r lt) (ap (λ (s : Role). not (is_whole s)) (given-state given old placed None role slot to new.lost r)
+        ∙ missing-more old.lost new.lost m.stay (role_state (reading_of With) r) (ap (λ (s : Role). not (is_whole s)) (sym (given-state given old placed None role slot to old.lost r)) ∙ missing)))
+        (back.right With (disk given.start before) (state-here given old placed None role slot to) with-right);
+    gone_still = gone-still new.lost (λ s is. is);
+    gone = more-end;
+    carried = back.carried;
+  }
+    where
+      more-end : AreGoneTold more (planned_view old Gives new.lost)
+      more-end = told-plan more given Gives old new before after m back.gone
+
+      lt-both : (r : ℕ) → r < (shape_of (planned_view old Gives old.lost).newest).disks → r < (shape_of (planned_view old Gives new.lost).newest).disks
+      lt-both r lt = lt
 
 -- the slot is among those that hold a role already
 pub held-already : (m : Members) (role slot held : ℕ) → AreHolders (reading_of m) held → role_state (reading_of m) role ≡ Recovering slot → (s : ℕ) → has_slot held s ≡ (has_slot held s || (slot == s))

@@ -41,9 +41,6 @@ says-itself a = record { level = refl; layout = refl; size = refl; chunksize = r
 pub later-says : (former newest : Sb) → IsLater former newest → SaysSame former newest
 later-says former newest later = subst (SaysSame former) (sym later.same) (record { level = refl; layout = refl; size = refl; chunksize = refl; raid_disks = refl; new_level = refl; reshape_position = refl; delta_disks = refl; new_layout = refl; new_chunk = refl; resync_offset = refl; reshaping = refl; backward = refl })
 
-pub less-itself : (m : Members) → IsLessView m m
-less-itself m = record { array = says-itself m.newest; roles = refl; states = λ role slot held. refl; rows = λ role. refl; offsets = λ role slot held. refl; missing = λ role is. is }
-
 -- ---- a view that loses roles is placed, if its live slots can be written
 
 pub placed-less : (given : Given) (m view : Members) → IsLessView m view → AreLive given view → IsPlaced given m → IsPlaced given view

@@ -1,23 +1,20 @@
 -- What is planned of an array whose superblocks are held has no field that is refused, where the mark alone changes.
-use Rattle.std.proofs.Common.{◌≡◌, ℕ, ◌*◌, ◌+◌, ◌^◌, ◌<◌, nat_lt, Bool, true, [], Option, Some, None, option_map, refl, sym, ◌∙◌, ap, subst, arith}
+use Rattle.std.proofs.Common.{◌≡◌, ℕ, ◌^◌, ◌<◌, nat_lt, true, [], None, refl, sym, ◌∙◌, ap, subst, arith}
 use Rattle.std.specs.Prelude.{find}
-use Rattle.std.specs.Option.{option_or}
 use Rattle.std.proofs.lemmas.Bool.Decides.{nat_tests}
-use Rattle.md_base.specs.Search.{least_below}
-use Rattle.md_base.specs.declared.answers.Refusal.{Refusal}
-use Rattle.md_base.specs.declared.answers.Refusal.TheVariants.{BadField}
 use Rattle.sb1.specs.declared.sb.Sb.{Sb}
 use Rattle.superblocks.specs.declared.change.Give.TheVariants.{Same}
 use Rattle.superblocks.specs.declared.change.Change.{Change}
 use Rattle.superblocks.specs.declared.members.Members.{Members}
 use Rattle.superblocks.specs.Reading.{Scope}
-use Rattle.superblocks.specs.Verdict.{judged_fields, bad_field, is_bad_entry}
+use Rattle.superblocks.specs.Verdict.{judged_fields}
 use Rattle.superblocks.specs.Reads.{SaysSame}
 use Rattle.superblocks.specs.Updating.{planned_newest}
 use Rattle.superblocks.proofs.ValidFields.{few-events}
 use Rattle.superblocks.proofs.ReadAlike.{fields-kept}
 use Rattle.superblocks.proofs.PlannedSb.{planned-of}
 use Rattle.views.specs.Rounds.{IsHeldSince}
+use Rattle.views.proofs.Ready.{none-judged}
 use Rattle.update_laws.specs.Plans.{Disk}
 use Rattle.update_laws.specs.Changing.{AreFieldsGood}
 
@@ -49,13 +46,6 @@ fields-at : (newest : Sb) (resync events : ℕ) → events < 2 ^ 62 → newest.e
 fields-at newest resync events less now none =
     fields-kept (record newest { resync_offset = resync }) (record (planned_newest (record newest { resync_offset = resync }) newest) { events = events }) (says-at newest resync events)
     (is-below newest.events (2 ^ 62) now ∙ sym (is-below events (2 ^ 62) less)) none
-
-none-judged : (newest : Sb) → bad_field newest [] ≡ None → find (λ f. f.1) (judged_fields newest []) ≡ None
-none-judged newest e = found_none (find (λ f. f.1) (judged_fields newest [])) (option_map (λ (index : ℕ). BadField (256 + 2 * index)) (least_below newest.max_dev (is_bad_entry newest))) e
-  where
-    found_none : (a : Option (ℕ × Bool)) (b : Option Refusal) → option_or (option_map (λ (f : ℕ × Bool). BadField f.0) a) b ≡ None → a ≡ None
-    found_none None b e = refl
-    found_none (Some x) b e = absurd (cc)
 
 pub fields-held : (scope : Scope) (former old : Members) (d : Disk) → IsHeldSince scope former old d → (resync : ℕ) (change : Change) → change.shared ≡ record old.newest { resync_offset = resync }
     → AreFieldsGood old change

@@ -12,7 +12,7 @@ use Rattle.superblocks.specs.declared.members.Members.{Members}
 use Rattle.superblocks.specs.Reading.{Scope, is_fresh, is_recovering, entry_of, lies_within, role_count, holder}
 use Rattle.superblocks.specs.Reads.{spare_in, has_spare}
 use Rattle.superblocks.specs.Update.{give_of, own_in, is_held_by, is_live, is_added, planned_role, is_planned_spare}
-use Rattle.superblocks.specs.Outcome.{is_in_update, AreGivesOfLive}
+use Rattle.superblocks.specs.Outcome.{is_in_update}
 use Rattle.superblocks.specs.Held.{known_of}
 use Rattle.superblocks.specs.Plans.{KeepsRecovery}
 use Rattle.superblocks.proofs.ReadLists.{spares-at}
@@ -156,14 +156,3 @@ module _ (scope : Scope) (former : Members) (gone : ℕ) (d : Disk) (held : IsHe
 pub taking-is-fit : TakingIsFit
 taking-is-fit scope former old change d since taking fields =
     subst (λ (o : Members). IsTaking o change → AreFieldsGood o change → IsFitUpdate o change) (sym since.since) (λ t good. taking-fit scope former since.gone d since.held change t good) taking fields
-
--- such a change gives to live slots alone
-pub taking-live : (old : Members) (change : Change) → IsTaking old change → AreGivesOfLive old change
-taking-live old change t s isnt = elim (t.each s) [
-  | inl same ↦ same
-  | inr (inl (role, recovery, gets, spare, below, vacant)) ↦ absurd (let live = in-it (or-second (list_any (is_held_by s) old.roles) (has_spare old.spares s) spare) in let both = sym isnt ∙ live in cc)
-  | inr (inr (role, offset, gets, holds)) ↦ absurd (let live = in-it (or-first (list_any (is_held_by s) old.roles) (has_spare old.spares s) (any-holder s old.roles role holds)) in let both = sym isnt ∙ live in cc)
-]
-  where
-    in-it : is_live old.roles old.spares s ≡ true → is_in_update old change s ≡ true
-    in-it live = or-first (is_live old.roles old.spares s) (is_added change.added s) live

@@ -67,11 +67,6 @@ use Rattle.update_laws.proofs.Started.{Live, Lost, Left, gone-lost, first-lost, 
 use Rattle.update_laws.proofs.ChangeViews.{placed-less, plan-less, plan-placed, plan-told, new-less, new-kept}
 use Rattle.update_laws.proofs.ChangeSafe.{either-right, some-left, from-any}
 
-left-and : (a b : Bool) → (a && not b) ≡ true → (a ≡ true) × (b ≡ false)
-left-and true true e = absurd (cc)
-left-and true false e = (refl, refl)
-left-and false b e = absurd (cc)
-
 both-of : (a b : Bool) → (a && b) ≡ true → (a ≡ true) × (b ≡ true)
 both-of true b e = (refl, e)
 both-of false b e = absurd (cc)

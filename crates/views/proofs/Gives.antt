@@ -22,7 +22,6 @@ use Rattle.row_io.specs.Rows.{role_without}
 use Rattle.views.specs.Rebuilding.{with_state}
 use Rattle.views.proofs.MarkLaws.{Apart, give_of-same, state-kept}
 use Rattle.views.proofs.PlacedLaws.{state-without}
-use Rattle.views.proofs.Without.{without-twice}
 
 -- ---- what is given
 
@@ -197,14 +196,6 @@ module _ (roles : List Role) (lost : ℕ) (apart : Apart roles) (small : (role s
       ]
 
 -- ---- without slots that were lost before
-
--- of more slots that are lost, some were before
-pub given-twice : (lost gone : ℕ) → ((s : ℕ) → has_slot gone s ≡ true → has_slot lost s ≡ true) → (roles : List Role) (role : ℕ) (state : Role)
-    → map (role_without lost) (set (map (role_without gone) roles) role state) ≡ map (role_without lost) (set roles role state)
-given-twice lost gone more roles role state =
-    map-set (role_without lost) (map (role_without gone) roles) role state
-    ∙ ap (λ (l : List Role). set l role (role_without lost state)) (without-twice lost gone more roles)
-    ∙ sym (map-set (role_without lost) roles role state)
 
 -- where the slot is lost, the roles are as if it had been given none
 pub given-lost : (lost : ℕ) (roles : List Role) (role slot : ℕ) (recovery : Option ℕ) → has_slot lost slot ≡ true → role_without lost (get_or roles role Missing) ≡ Missing

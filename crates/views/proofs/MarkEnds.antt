@@ -40,10 +40,6 @@ live-small m clean s is = below (nat_lt s 32) refl (sym (live-is m clean s) ∙ 
 pub some-or-none : (m : Members) (clean : Bool) (lost : ℕ) → IsSomeLeft (live_set m (marking m clean)) lost ⊎ (IsSomeLeft (live_set m (marking m clean)) lost → ⊥)
 some-or-none m clean lost = some-left (live_set m (marking m clean)) lost (live-small m clean)
 
--- a slot is live in either mark
-pub live-either : (m : Members) (clean other : Bool) (s : ℕ) → has_slot (live_set m (marking m clean)) s ≡ true → has_slot (live_set m (marking m other)) s ≡ true
-live-either m clean other s is = live-is m other s ∙ sym (live-is m clean s) ∙ is
-
 -- without a reshape there are as many roles as disks
 pub count-is : (m : Members) → is_reshaping m.newest ≡ false → role_count m.newest ≡ (shape_of m.newest).disks
 count-is m still =

@@ -1,6 +1,6 @@
 -- An array's places after slots were lost, and after its superblocks were marked.
-use Rattle.std.proofs.Common.{◌≡◌, ℕ, zero, suc, ◌-◌, ◌≤◌, Bool, true, false, not, cond, ◌==◌, List, [], ◌∷◌, length, get_or, refl, sym, ap, ap₂, ◌∙◌, subst, arith, Option, Some, None, map, replicate, max, unwrap_or}
-use Rattle.std.specs.Prelude.{◌^◌, pos, ◌-ℤ◌}
+use Rattle.std.proofs.Common.{◌≡◌, ℕ, zero, suc, ◌≤◌, Bool, true, false, not, cond, List, [], ◌∷◌, length, get_or, refl, sym, ap, ap₂, ◌∙◌, subst, arith, Option, Some, None, map, replicate, max, unwrap_or}
+use Rattle.std.specs.Prelude.{pos, ◌-ℤ◌}
 use Rattle.std.specs.Option.{option_map_or}
 use Rattle.std.proofs.lemmas.Bool.Decides.{nat_tests}
 use Rattle.md_base.specs.Shapes.{has_slot, is_valid_shape, is_multiple}
@@ -12,7 +12,7 @@ use Rattle.sb1.specs.Superblock.{checksum}
 use Rattle.sb1.specs.declared.sb.Sb.{Sb}
 use Rattle.superblocks.specs.declared.change.Give.TheVariants.{Same}
 use Rattle.superblocks.specs.declared.members.Members.{Members}
-use Rattle.superblocks.specs.Reading.{count_of, is_reshaping, is_clean, shape_of, role_count, role_state, holder, data_offset_of}
+use Rattle.superblocks.specs.Reading.{count_of, is_reshaping, shape_of, role_count, role_state, holder, data_offset_of}
 use Rattle.superblocks.specs.Reads.{SaysSame}
 use Rattle.superblocks.specs.Update.{own_in, planned}
 use Rattle.superblocks.specs.Updating.{IsLater, planned_newest}
@@ -183,13 +183,6 @@ module _ (old new : Members) (clean : Bool) (kept : ℕ → Bool)
 
       max-same : (n : ℕ) → max n n ≡ n
       max-same n = grind (arith, nat_tests)
-
-  pub marked-clean : is_clean new.newest ≡ clean
-  marked-clean = ap is_clean later.same ∙ by clean
-    where
-      by : (b : Bool) → (resync_of b == 2 ^ 64 - 1) ≡ b
-      by true = refl
-      by false = refl
 
   pub marked-less : (given : Given) (lost : ℕ) → IsPlaced given old → new.roles ≡ planned_roles old (marking old clean) lost → AreLess lost old new
   marked-less given lost placed roles = record {

@@ -101,14 +101,14 @@ missing-more few many more (Recovering s) missing = by (has_slot many s)
 missing-more few many more Missing missing = missing
 
 -- what is missing is so without any slots
-missing-still : (lost : ℕ) (state : Role) → not (is_whole state) ≡ true → not (is_whole (role_without lost state)) ≡ true
-missing-still lost (Whole s) missing = absurd (cc)
-missing-still lost (Recovering s) missing = by (has_slot lost s)
+pub missing-without : (lost : ℕ) (state : Role) → not (is_whole state) ≡ true → not (is_whole (role_without lost state)) ≡ true
+missing-without lost (Whole s) missing = absurd (cc)
+missing-without lost (Recovering s) missing = by (has_slot lost s)
   where
     by : (b : Bool) → not (is_whole (cond b Missing (Recovering s))) ≡ true
     by true = refl
     by false = refl
-missing-still lost Missing missing = missing
+missing-without lost Missing missing = missing
 
 module _ (given : Given) (lost : ℕ) (old m : Members) (placed : IsPlaced given old) (less : AreLess lost old m) where
   state-is : (role : ℕ) → role_state (reading_of m) role ≡ role_without lost (role_state (reading_of old) role)
@@ -135,7 +135,7 @@ module _ (given : Given) (lost : ℕ) (old m : Members) (placed : IsPlaced given
   did-without few =
       let here = subst (λ (s : Shape). missing_count (reading_of m) s ≤ tolerance s) less.shape few in
       let more = count-implied (shape_of old.newest).disks (is_missing (reading_of old)) (is_missing (reading_of m))
-      (λ role lt missing. ap (λ (s : Role). not (is_whole s)) (state-is role) ∙ missing-still lost (role_state (reading_of old) role) missing) in
+      (λ role lt missing. ap (λ (s : Role). not (is_whole s)) (state-is role) ∙ missing-without lost (role_state (reading_of old) role) missing) in
       omega (arith, here, more)
 
   rows-less : (list : ℕ → Sector) (d : Disk) → AreRowsSettled old list d → AreRowsSettled m list d

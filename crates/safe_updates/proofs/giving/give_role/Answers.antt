@@ -1,4 +1,4 @@
-use Rattle.std.proofs.Common.{◌≡◌, inl, inr, ℕ, ◌&&◌, ◌||◌, Bool, false, not, Some, sym, ◌∙◌, ap, subst, arith}
+use Rattle.std.proofs.Common.{◌≡◌, inl, inr, ℕ, ◌&&◌, ◌||◌, Bool, false, not, Some, refl, sym, ◌∙◌, ap, subst, arith}
 use Rattle.std.proofs.lemmas.Bool.{cases_eq, cases_lt}
 use Rattle.md_base.specs.Shapes.{has_slot}
 use Rattle.layout.proofs.Limits.{limited}
@@ -14,10 +14,12 @@ use Rattle.views.proofs.MarkedLaws.{grows-marks, others-of}
 use Rattle.views.proofs.Gives.{gives_of, give-here, give-other}
 use Rattle.views.proofs.GivenMembers.{IsReceiver}
 use Rattle.safe_updates.proofs.GivenMoved.{moved-given, failed-given, holders-more}
-use Rattle.safe_updates.proofs.GivenRead.{IsGiving}
-use Rattle.safe_updates.proofs.GivenSafe.{risen-given, giving-safe, told-giving}
-use Rattle.safe_updates.proofs.GivingDone.{giving-done, losses-done}
-use Rattle.safe_updates.proofs.TakenRole.{receiver-of, taken-given}
+use Rattle.safe_updates.proofs.GivingDone.{given-left, losses-done}
+use Rattle.update_laws.specs.Changing.{IsChanged}
+use Rattle.update_laws.proofs.CalledLaws.{changed-by}
+use Rattle.update_laws.proofs.ChangeSafe.{told-changed, risen-changed}
+use Rattle.update_laws.proofs.GivenPlan.{gives-live}
+use Rattle.update_laws.proofs.GivenSafe.{receiver-of, giving-stays-safe}
 use Rattle.safe_updates.proofs.giving.give_role.Given.{Over}
 use Rattle.safe_updates.proofs.giving.give_role.Goals.{After-without}
 use Rattle.safe_updates.proofs.giving.give_role.Goals as goal
@@ -48,16 +50,27 @@ module _ (g : Over) (c : After-without g) where
   to : IsReceiver (g.B.Bank.given c.args.bank.now) c.args.members.now c.args.role c.args.slot
   to = receiver-of (g.B.Bank.given c.args.bank.now) c.args.members.now c.args.role c.args.slot c.requires.placed c.requires.free c.requires.role c.requires.vacant c.requires.spare
 
-  done : IsGiving g.B.Bank.tells (g.B.Bank.given c.args.bank.now) (Some 0) c.args.role c.args.slot c.args.members.now c.update-lost.new.members (g.B.Bank.tape c.args.bank.now) (g.B.Bank.tape c.update-lost.new.bank)
+  done : IsChanged g.B.Bank.tells (g.B.Bank.given c.args.bank.now) (giving c.args.members.now c.args.slot c.args.role (Some 0)) c.args.members.now c.update-lost.new.members (g.B.Bank.tape c.args.bank.now)
+      (g.B.Bank.tape c.update-lost.new.bank)
   done =
       let did = c.update-lost.ensures in
-      giving-done g.B.Bank.tells (g.B.Bank.given c.args.bank.now) (Some 0) c.args.role c.args.slot c.args.members.now c.update-lost.new.members (g.B.Bank.tape c.args.bank.now) (g.B.Bank.tape c.update-lost.new.bank)
-      (g.B.Bank.faults_of c.args.bank.now) (g.B.Bank.faults_of c.update-lost.new.bank) c.giving-change.result c.giving-change.ensures
-      did.update did.named did.newest did.rounds did.past did.turns did.turned did.rise did.own did.roles did.spares
-      (subst (λ (b : Given). AreLive b c.update-lost.new.members) did.given did.live) did.losses
+      changed-by g.B.Bank.tells (g.B.Bank.given c.args.bank.now) c.giving-change.result (giving c.args.members.now c.args.slot c.args.role (Some 0)) c.args.members.now c.update-lost.new.members (g.B.Bank.tape c.args.bank.now)
+      (g.B.Bank.tape c.update-lost.new.bank) (g.B.Bank.faults_of c.args.bank.now) (g.B.Bank.faults_of c.update-lost.new.bank) c.giving-change.ensures refl (record {
+        update = did.update;
+        named = did.named;
+        newest = did.newest;
+        turns = did.turns;
+        turned = did.turned;
+        rise = did.rise;
+        own = did.own;
+        roles = did.roles;
+        spares = did.spares;
+        alive = subst (λ (b : Given). AreLive b c.update-lost.new.members) did.given did.live;
+        losses = did.losses;
+      })
 
 pub returns-clause-moved : goal.returns-clause-moved
-returns-clause-moved g c = moved-given (g.B.Bank.given c.args.bank.now) (Some 0) c.args.role c.args.slot c.args.members.now c.update-lost.new.members c.requires.placed (to g c) (done g c).left c.requires.unlost
+returns-clause-moved g c = moved-given (g.B.Bank.given c.args.bank.now) (Some 0) c.args.role c.args.slot c.args.members.now c.update-lost.new.members c.requires.placed (to g c) (given-left (done g c)) c.requires.unlost
 
 pub returns-clause-failed : goal.returns-clause-failed
 returns-clause-failed g c =
@@ -65,11 +78,10 @@ returns-clause-failed g c =
     let given = g.B.Bank.given c.args.bank.now in
     let before = g.B.Bank.faults_of c.args.bank.now in
     let after = g.B.Bank.faults_of c.update-lost.new.bank in
-    failed-given given (Some 0) c.args.role c.args.slot c.args.members.now c.update-lost.new.members c.requires.placed (to g c) (done g c).left c.with-held.result c.update-lost.result c.without.result before after
+    failed-given given (Some 0) c.args.role c.args.slot c.args.members.now c.update-lost.new.members c.requires.placed (to g c) (given-left (done g c)) c.with-held.result c.update-lost.result c.without.result before after
     c.requires.unlost c.requires.free
-    (holders-more given (Some 0) c.args.role c.args.slot c.args.members.now c.update-lost.new.members c.requires.placed (to g c) (done g c).left c.holders.result c.with-held.result c.holders.ensures c.with-held.ensures)
-    (losses-done g.B.Bank.tells given (Some 0) c.args.role c.args.slot c.args.members.now c.update-lost.new.members (g.B.Bank.tape c.args.bank.now) (g.B.Bank.tape c.update-lost.new.bank) before after
-    c.giving-change.result c.giving-change.ensures did.losses)
+    (holders-more given (Some 0) c.args.role c.args.slot c.args.members.now c.update-lost.new.members c.requires.placed (to g c) (given-left (done g c)) c.holders.result c.with-held.result c.holders.ensures c.with-held.ensures)
+    (losses-done (Some 0) c.args.role c.args.slot c.args.members.now c.update-lost.new.members before after c.giving-change.result c.giving-change.ensures did.losses)
     (subst (λ (ch : Change). (s : ℕ) → has_slot c.update-lost.result s ≡ (has_slot c.update-lost.new.members.lost s && not (has_slot (with_added c.args.members.now ch.added).lost s))) c.giving-change.ensures did.result)
     (λ s. elim (cases_lt s 32) [
       | inl below ↦ c.without.ensures s below
@@ -84,17 +96,9 @@ returns-clause-others g c = λ told. others-of (g.B.Bank.given c.args.bank.now) 
     (λ s k other. ((done g c).update.end told).touched.elsewhere s k other)
 
 pub returns-clause-rise : goal.returns-clause-rise
-returns-clause-rise g c = risen-given (g.B.Bank.given c.args.bank.now) (Some 0) c.args.role c.args.slot c.args.members.now c.update-lost.new.members (g.B.Bank.tape c.args.bank.now) (g.B.Bank.tape c.update-lost.new.bank)
-    c.requires.placed (to g c) (done g c)
+returns-clause-rise g c = risen-changed (done g c) refl (gives-live (g.B.Bank.given c.args.bank.now) c.args.members.now c.requires.placed (Some 0) c.args.role c.args.slot (to g c))
 
 pub returns-clause-safe : goal.returns-clause-safe
 returns-clause-safe g c = λ tell world size told room gone here unclean safe.
-    let given = g.B.Bank.given c.args.bank.now in
-    let m = c.args.members.now in
-    let n = c.update-lost.new.members in
-    let before = g.B.Bank.tape c.args.bank.now in
-    let after = g.B.Bank.tape c.update-lost.new.bank in
-    let did = told-giving tell (done g c) in
-    giving-safe (OpensFit world) world.scope given size told (Some 0) c.args.role c.args.slot m n before after c.requires.placed (to g c) did
-    (taken-given (OpensFit world) world.scope given size told c.args.role c.args.slot m n before after c.requires.placed (to g c) did c.requires.role c.requires.vacant c.requires.spare)
-    room gone here safe
+    giving-stays-safe (OpensFit world) world.scope (g.B.Bank.given c.args.bank.now) size told c.args.role c.args.slot c.args.members.now c.update-lost.new.members (g.B.Bank.tape c.args.bank.now)
+    (g.B.Bank.tape c.update-lost.new.bank) (told-changed tell (done g c)) c.requires.placed c.requires.free c.requires.role c.requires.vacant c.requires.spare room gone safe

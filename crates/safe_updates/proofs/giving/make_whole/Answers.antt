@@ -1,15 +1,17 @@
-use Rattle.std.proofs.Common.{◌≡◌, inl, inr, ℕ, ◌&&◌, ◌||◌, Bool, false, not, refl, sym, ◌∙◌, ap, subst, arith}
+use Rattle.std.proofs.Common.{◌≡◌, inl, inr, ℕ, ◌&&◌, ◌||◌, Bool, true, false, not, refl, sym, ◌∙◌, ap, subst, arith}
 use Rattle.std.specs.Prelude.{None, ⊤}
 use Rattle.std.proofs.lemmas.Bool.{cases_eq, cases_lt}
 use Rattle.md_base.specs.Shapes.{has_slot}
 use Rattle.layout.proofs.Limits.{limited}
 use Rattle.md_base.specs.Sectors.{Sector}
 use Rattle.bank.specs.Given.{Given}
-use Rattle.bank.specs.Tape.{disk}
+use Rattle.bank.specs.Tape.{EachMark, disk}
 use Rattle.superblocks.specs.declared.change.Change.{Change}
 use Rattle.superblocks.specs.Reading.{holder, shape_of}
 use Rattle.superblocks.specs.Update.{IsRoleGive, give_of}
-use Rattle.superblocks.specs.Outcome.{AreLive, AreGivesOfLive, is_in_update, with_added}
+use Rattle.superblocks.specs.Stages.{AreFirstKept}
+use Rattle.superblocks.specs.Rounds.{round_at, IsInRounds, ArePast}
+use Rattle.superblocks.specs.Outcome.{AreLive, AreGivesOfLive, is_in_update, live_set, with_added}
 use Rattle.superblocks.proofs.SlotSets.{none_above}
 use Rattle.flat_history.specs.World.{World}
 use Rattle.flat_history.specs.Sound.{OpensFit}
@@ -17,17 +19,22 @@ use Rattle.row_io.specs.Rows.{present}
 use Rattle.views.specs.Lacking.{DoesWithout, RowsStand}
 use Rattle.views.specs.Rebuilding.{IsFlushedFull}
 use Rattle.views.specs.Views.{Ledger}
-use Rattle.views.specs.Steady.{AreWritesAllowed, given_back}
+use Rattle.views.specs.Safety.{HasRoomLeft}
+use Rattle.views.specs.Steady.{IsSafeOver, AreGoneTold, AreWritesAllowed, given_back}
 use Rattle.views.proofs.LiveLeft.{holder-left}
 use Rattle.views.specs.Marking.{giving}
 use Rattle.views.proofs.MarkedLaws.{grows-marks, others-of}
 use Rattle.views.proofs.Gives.{gives_of, give-here, give-other}
 use Rattle.views.proofs.GivenMembers.{IsReceiver}
 use Rattle.safe_updates.proofs.GivenMoved.{moved-given, failed-given, holders-more}
-use Rattle.safe_updates.proofs.GivenRead.{IsGiving}
-use Rattle.safe_updates.proofs.GivenSafe.{IsGivenRight, risen-given, giving-safe, giving-last, told-giving}
-use Rattle.safe_updates.proofs.GivingDone.{giving-done, losses-done}
-use Rattle.safe_updates.proofs.MadeWhole.{holder-receives, made-given, back-told, held-already}
+use Rattle.safe_updates.proofs.GivingDone.{given-left, losses-done}
+use Rattle.safe_updates.proofs.MadeWhole.{holder-receives, held-already, IsMoreBack, back-same, back-given, makable}
+use Rattle.update_laws.specs.Changing.{IsChanged, IsSafeChange}
+use Rattle.update_laws.specs.Making.{IsMade}
+use Rattle.update_laws.proofs.CalledLaws.{changed-by}
+use Rattle.update_laws.proofs.ChangeSafe.{told-changed, told-marks, risen-changed, one-stretch, change-named}
+use Rattle.update_laws.proofs.GivenPlan.{gives-live}
+use Rattle.update_laws.proofs.MadeSafe.{making-safe}
 use Rattle.safe_updates.proofs.giving.make_whole.Given.{Over}
 use Rattle.safe_updates.proofs.giving.make_whole.Goals.{After-without}
 use Rattle.safe_updates.proofs.giving.make_whole.Goals as goal
@@ -61,16 +68,42 @@ module _ (g : Over) (c : After-without g) where
   to : IsReceiver (g.B.Bank.given c.args.bank.now) c.args.members.now c.args.role c.args.slot
   to = holder-receives (g.B.Bank.given c.args.bank.now) c.args.members.now c.args.role c.args.slot c.requires.placed c.requires.unlost c.requires.role c.requires.recovering
 
-  done : IsGiving g.B.Bank.tells (g.B.Bank.given c.args.bank.now) None c.args.role c.args.slot c.args.members.now c.update-lost.new.members (g.B.Bank.tape c.args.bank.now) (g.B.Bank.tape c.update-lost.new.bank)
+  done : IsChanged g.B.Bank.tells (g.B.Bank.given c.args.bank.now) (giving c.args.members.now c.args.slot c.args.role None) c.args.members.now c.update-lost.new.members (g.B.Bank.tape c.args.bank.now)
+      (g.B.Bank.tape c.update-lost.new.bank)
   done =
       let did = c.update-lost.ensures in
-      giving-done g.B.Bank.tells (g.B.Bank.given c.args.bank.now) None c.args.role c.args.slot c.args.members.now c.update-lost.new.members (g.B.Bank.tape c.args.bank.now) (g.B.Bank.tape c.update-lost.new.bank)
-      (g.B.Bank.faults_of c.args.bank.now) (g.B.Bank.faults_of c.update-lost.new.bank) c.giving-change.result c.giving-change.ensures
-      did.update did.named did.newest did.rounds did.past did.turns did.turned did.rise did.own did.roles did.spares
-      (subst (λ (b : Given). AreLive b c.update-lost.new.members) did.given did.live) did.losses
+      changed-by g.B.Bank.tells (g.B.Bank.given c.args.bank.now) c.giving-change.result (giving c.args.members.now c.args.slot c.args.role None) c.args.members.now c.update-lost.new.members (g.B.Bank.tape c.args.bank.now)
+      (g.B.Bank.tape c.update-lost.new.bank) (g.B.Bank.faults_of c.args.bank.now) (g.B.Bank.faults_of c.update-lost.new.bank) c.giving-change.ensures refl (record {
+        update = did.update;
+        named = did.named;
+        newest = did.newest;
+        turns = did.turns;
+        turned = did.turned;
+        rise = did.rise;
+        own = did.own;
+        roles = did.roles;
+        spares = did.spares;
+        alive = subst (λ (b : Given). AreLive b c.update-lost.new.members) did.given did.live;
+        losses = did.losses;
+      })
+
+  made : g.B.Bank.tells → IsMade ⊤ (g.B.Bank.given c.args.bank.now) (giving c.args.members.now c.args.slot c.args.role None) c.args.members.now c.update-lost.new.members (g.B.Bank.tape c.args.bank.now)
+      (g.B.Bank.tape c.update-lost.new.bank)
+  made tell =
+      let m = c.args.members.now in
+      let n = c.update-lost.new.members in
+      let start = (g.B.Bank.given c.args.bank.now).start in
+      let before = g.B.Bank.tape c.args.bank.now in
+      let after = g.B.Bank.tape c.update-lost.new.bank in
+      let did = c.update-lost.ensures in
+      let rounds = subst (λ (ch : Change). AreFirstKept ch.gives (with_added m ch.added).lost n.lost → EachMark g.B.Bank.tells start before after
+      (IsInRounds (with_added m ch.added) ch (with_added m ch.added).lost (live_set m ch) n.lost n.newest.events (disk start before))) c.giving-change.ensures did.rounds in
+      let past = subst (λ (ch : Change). AreFirstKept ch.gives (with_added m ch.added).lost n.lost → g.B.Bank.tells
+      → ArePast (with_added m ch.added) ch (with_added m ch.added).lost (live_set m ch) (disk start before) (round_at n.newest n.lost start after)) c.giving-change.ensures did.past in
+      record { changed = told-changed tell done; rounds = λ kept. told-marks tell (rounds kept); past = λ kept one. past kept tell }
 
 pub returns-clause-moved : goal.returns-clause-moved
-returns-clause-moved g c = moved-given (g.B.Bank.given c.args.bank.now) None c.args.role c.args.slot c.args.members.now c.update-lost.new.members c.requires.placed (to g c) (done g c).left c.requires.unlost
+returns-clause-moved g c = moved-given (g.B.Bank.given c.args.bank.now) None c.args.role c.args.slot c.args.members.now c.update-lost.new.members c.requires.placed (to g c) (given-left (done g c)) c.requires.unlost
 
 pub returns-clause-failed : goal.returns-clause-failed
 returns-clause-failed g c =
@@ -78,12 +111,11 @@ returns-clause-failed g c =
     let given = g.B.Bank.given c.args.bank.now in
     let before = g.B.Bank.faults_of c.args.bank.now in
     let after = g.B.Bank.faults_of c.update-lost.new.bank in
-    failed-given given None c.args.role c.args.slot c.args.members.now c.update-lost.new.members c.requires.placed (to g c) (done g c).left c.holders-held.result c.update-lost.result c.without.result before after
+    failed-given given None c.args.role c.args.slot c.args.members.now c.update-lost.new.members c.requires.placed (to g c) (given-left (done g c)) c.holders-held.result c.update-lost.result c.without.result before after
     c.requires.unlost c.requires.free
-    (holders-more given None c.args.role c.args.slot c.args.members.now c.update-lost.new.members c.requires.placed (to g c) (done g c).left c.holders-held.result c.holders-held.result c.holders-held.ensures
+    (holders-more given None c.args.role c.args.slot c.args.members.now c.update-lost.new.members c.requires.placed (to g c) (given-left (done g c)) c.holders-held.result c.holders-held.result c.holders-held.ensures
     (held-already c.args.members.now c.args.role c.args.slot c.holders-held.result c.holders-held.ensures c.requires.recovering))
-    (losses-done g.B.Bank.tells given None c.args.role c.args.slot c.args.members.now c.update-lost.new.members (g.B.Bank.tape c.args.bank.now) (g.B.Bank.tape c.update-lost.new.bank) before after
-    c.giving-change.result c.giving-change.ensures did.losses)
+    (losses-done None c.args.role c.args.slot c.args.members.now c.update-lost.new.members before after c.giving-change.result c.giving-change.ensures did.losses)
     (subst (λ (ch : Change). (s : ℕ) → has_slot c.update-lost.result s ≡ (has_slot c.update-lost.new.members.lost s && not (has_slot (with_added c.args.members.now ch.added).lost s))) c.giving-change.ensures did.result)
     (λ s. elim (cases_lt s 32) [
       | inl below ↦ c.without.ensures s below
@@ -98,31 +130,37 @@ returns-clause-others g c = λ told. others-of (g.B.Bank.given c.args.bank.now) 
     (λ s k other. ((done g c).update.end told).touched.elsewhere s k other)
 
 pub returns-clause-rise : goal.returns-clause-rise
-returns-clause-rise g c = risen-given (g.B.Bank.given c.args.bank.now) None c.args.role c.args.slot c.args.members.now c.update-lost.new.members (g.B.Bank.tape c.args.bank.now) (g.B.Bank.tape c.update-lost.new.bank)
-    c.requires.placed (to g c) (done g c)
+returns-clause-rise g c = risen-changed (done g c) refl (gives-live (g.B.Bank.given c.args.bank.now) c.args.members.now c.requires.placed None c.args.role c.args.slot (to g c))
 
--- what the update did, and that it is right
-module _ (g : Over) (c : After-without g) (tell : g.B.Bank.tells) (world : World) (size : ℕ) (told : Ledger) (premise : OpensFit world) (does : DoesWithout c.args.members.now) (list : ℕ → Sector)
+-- by the ledger, or by one in which the role isn't gone
+module _ (g : Over) (c : After-without g) (tell : g.B.Bank.tells) (world : World) (size : ℕ) (told : Ledger) (gone : AreGoneTold told c.update-lost.new.members) (here : told.gone c.args.role ≡ true)
+    (premise : OpensFit world) (does : DoesWithout c.args.members.now) (list : ℕ → Sector)
     (stands : RowsStand c.args.members.now (present (g.B.Bank.given c.args.bank.now) (g.B.Bank.tape c.args.bank.now)) list) (allowed : AreWritesAllowed c.args.members.now told.values list)
-    (full : IsFlushedFull c.args.members.now c.args.role c.args.slot list (disk (g.B.Bank.given c.args.bank.now).start (g.B.Bank.tape c.args.bank.now))) where
-  did : IsGiving ⊤ (g.B.Bank.given c.args.bank.now) None c.args.role c.args.slot c.args.members.now c.update-lost.new.members (g.B.Bank.tape c.args.bank.now) (g.B.Bank.tape c.update-lost.new.bank)
-  did = told-giving tell (done g c)
-
-  right : IsGivenRight (OpensFit world) world.scope (g.B.Bank.given c.args.bank.now) size told None c.args.role c.args.slot c.args.members.now c.update-lost.new.members (g.B.Bank.tape c.args.bank.now)
-      (g.B.Bank.tape c.update-lost.new.bank) c.requires.placed (to g c) did
-  right = made-given (OpensFit world) world.scope (g.B.Bank.given c.args.bank.now) size told c.args.role c.args.slot c.args.members.now c.update-lost.new.members (g.B.Bank.tape c.args.bank.now)
-      (g.B.Bank.tape c.update-lost.new.bank) c.requires.placed (to g c) did c.requires.role c.requires.recovering premise does list stands allowed full
+    (full : IsFlushedFull c.args.members.now c.args.role c.args.slot list (disk (g.B.Bank.given c.args.bank.now).start (g.B.Bank.tape c.args.bank.now)))
+    (room : HasRoomLeft c.args.members.now (g.B.Bank.tape c.args.bank.now) (g.B.Bank.tape c.update-lost.new.bank)) (safe : IsSafeOver world (g.B.Bank.given c.args.bank.now) size told c.args.members.now (g.B.Bank.tape c.args.bank.now)) where
+  whole-safe : (more : Ledger) → IsMoreBack (OpensFit world) (g.B.Bank.given c.args.bank.now) size told more c.args.role c.args.slot c.update-lost.new.members
+      → IsSafeChange (OpensFit world) world.scope (g.B.Bank.given c.args.bank.now) size size told more c.update-lost.new.members (g.B.Bank.tape c.args.bank.now) (g.B.Bank.tape c.update-lost.new.bank)
+  whole-safe more back =
+      let given = g.B.Bank.given c.args.bank.now in
+      let m = c.args.members.now in
+      let n = c.update-lost.new.members in
+      let before = g.B.Bank.tape c.args.bank.now in
+      let after = g.B.Bank.tape c.update-lost.new.bank in
+      making-safe (OpensFit world) world.scope given size size told more (giving m c.args.slot c.args.role None) c.args.slot c.args.role m n before after (made g c tell) refl
+      (gives-live given m c.requires.placed None c.args.role c.args.slot (to g c)) room
+      (λ steady. makable (OpensFit world) world.scope given size told c.args.role c.args.slot m n before after (told-changed tell (done g c)) c.requires.placed (to g c) c.requires.role c.requires.recovering premise does list
+      stands allowed full gone here steady more back) safe
 
 pub returns-clause-safe : goal.returns-clause-safe
 returns-clause-safe g c = λ tell world size told room gone here unclean premise does list stands allowed full safe.
-    giving-safe (OpensFit world) world.scope (g.B.Bank.given c.args.bank.now) size told None c.args.role c.args.slot c.args.members.now c.update-lost.new.members (g.B.Bank.tape c.args.bank.now)
-    (g.B.Bank.tape c.update-lost.new.bank) c.requires.placed (to g c) (did g c tell world size told premise does list stands allowed full) (right g c tell world size told premise does list stands allowed full)
-    room gone here safe
+    one-stretch (OpensFit world) world.scope (g.B.Bank.given c.args.bank.now) size told c.update-lost.new.members (g.B.Bank.tape c.args.bank.now) (g.B.Bank.tape c.update-lost.new.bank)
+    (whole-safe g c tell world size told gone here premise does list stands allowed full room safe told (back-same (OpensFit world) (g.B.Bank.given c.args.bank.now) size told c.args.role c.args.slot c.update-lost.new.members gone))
 
 pub returns-clause-given_back : goal.returns-clause-given_back
 returns-clause-given_back g c = λ whole tell world size told room gone here unclean premise does list stands allowed full safe.
+    let given = g.B.Bank.given c.args.bank.now in
+    let n = c.update-lost.new.members in
     let moved = returns-clause-moved g c in
-    giving-last (OpensFit world) world.scope (g.B.Bank.given c.args.bank.now) size told None c.args.role c.args.slot c.args.members.now c.update-lost.new.members (g.B.Bank.tape c.args.bank.now)
-    (g.B.Bank.tape c.update-lost.new.bank) c.requires.placed (to g c) (did g c tell world size told premise does list stands allowed full) (right g c tell world size told premise does list stands allowed full)
-    room gone (given_back c.args.role told) refl refl refl (back-told told c.args.role c.args.slot c.update-lost.new.members gone whole)
-    (holder-left (g.B.Bank.given c.args.bank.now) c.update-lost.new.members c.args.role c.args.slot moved.placed moved.unlost (ap holder whole)) safe
+    inl (change-named (OpensFit world) world.scope given size size told (given_back c.args.role told) n (g.B.Bank.tape c.args.bank.now) (g.B.Bank.tape c.update-lost.new.bank)
+    (whole-safe g c tell world size told gone here premise does list stands allowed full room safe (given_back c.args.role told) (back-given (OpensFit world) given size told c.args.role c.args.slot n gone whole))
+    (holder-left given n c.args.role c.args.slot moved.placed moved.unlost (ap holder whole))).steady
