@@ -6,6 +6,7 @@ pub mod AddedSaid
 pub mod AddedStarts
 pub mod AddedUpdates
 pub mod RolesNamed
+pub mod NamedAll
 pub mod SettledSafe
 pub mod GivenAway
 pub mod GivenMoved

@@ -9,10 +9,11 @@ ghost use Rattle.row_io.specs.Rows.{reading_of, present};
 ghost use Rattle.views.specs.Placed.{places_of, is_vacant, AreWhole, IsPlaced, AreUnlost};
 ghost use Rattle.views.specs.Rebuilding.{AreSparesFree};
 ghost use Rattle.views.specs.Marking.{AreOthersPresent};
+ghost use Rattle.safe_updates.specs.Named.{AreNamedMissing, AreDataKept};
 ghost use Rattle.views.specs.Moving.{Grows, IsMoved};
 ghost use Rattle.views.specs.Safety.{HasMarkRoom, HasLiveSlot, HasRoomLeft, IsRisen};
 ghost use Rattle.views.specs.Lacking.{HaveFailedSince, AreHoldersFlushed, IsNamed, AreUnnamed};
-ghost use Rattle.bank.specs.Tape.{disk};
+ghost use Rattle.bank.specs.Tape.{EachMark, disk};
 ghost use Rattle.flat_history.specs.World.{World};
 ghost use Rattle.flat_history.specs.Sound.{OpensFit};
 ghost use Rattle.views.specs.Views.{Ledger};
@@ -64,6 +65,14 @@ pub fn has_unnamed(members: &Members) -> bool
     false
 }
 
+// A superblock has 384 role entries.
+fn check_entries(newest: &Sb)
+    ensures { length newest.now.dev_roles ≡ 384 }
+{
+    let entries = newest.dev_roles;
+    let _ = entries.len();
+}
+
 /// Marks the array clean or dirty, which names the roles that no slot holds. The spares that were lost in this.
 pub fn mark_members<B: Bank>(members: &mut Members, bank: &mut B, clean: bool) -> u32
     requires slots { (B.given bank.old).slots ≤ 32 }
@@ -76,6 +85,8 @@ pub fn mark_members<B: Bank>(members: &mut Members, bank: &mut B, clean: bool) -
     ensures others { B.tells → AreOthersPresent (present (B.given bank.old) (B.tape bank.old)) (present (B.given bank.old) (B.tape bank.new)) }
     ensures flushed { B.tells → AreHoldersFlushed (reading_of members.old) (B.given bank.old) (B.tape bank.old) → AreHoldersFlushed (reading_of members.old) (B.given bank.old) (B.tape bank.new) }
     ensures clean { is_clean members.new.newest ≡ clean }
+    ensures missing { HasLiveSlot members.new → AreNamedMissing members.new }
+    ensures data { let start = (B.given bank.old).start in EachMark B.tells start (B.tape bank.old) (B.tape bank.new) (AreDataKept (disk start (B.tape bank.old))) }
     ensures rise { IsRisen B.tells members.old members.new (B.tape bank.old) (B.tape bank.new) }
     ensures safe { B.tells → (world : World) → (size : ℕ) → (told : Ledger) → HasRoomLeft members.old (B.tape bank.old) (B.tape bank.new)
         → IsMarkable (OpensFit world) clean told members.old members.new (disk (B.given bank.old).start (B.tape bank.old)) → IsSafeOver world (B.given bank.old) size told members.old (B.tape bank.old)
@@ -88,6 +99,7 @@ pub fn mark_members<B: Bank>(members: &mut Members, bank: &mut B, clean: bool) -
 {
     let held = holders(members);
     let lost = mark(members, bank, clean);
+    check_entries(&members.newest);
     without(lost, held)
 }
 
@@ -106,6 +118,8 @@ pub fn name_missing<B: Bank>(members: &mut Members, bank: &mut B) -> u32
     ensures clean { is_clean members.new.newest ≡ is_clean members.old.newest }
     ensures kept { AreWhole members.old → members.new ≡ members.old }
     ensures tape { AreWhole members.old → B.tells → B.tape bank.new ≡ B.tape bank.old }
+    ensures missing { HasLiveSlot members.new → AreNamedMissing members.new }
+    ensures data { let start = (B.given bank.old).start in EachMark B.tells start (B.tape bank.old) (B.tape bank.new) (AreDataKept (disk start (B.tape bank.old))) }
     ensures rise { IsRisen B.tells members.old members.new (B.tape bank.old) (B.tape bank.new) }
     ensures safe { B.tells → (world : World) → (size : ℕ) → (told : Ledger) → HasRoomLeft members.old (B.tape bank.old) (B.tape bank.new)
         → AreGoneTold told members.new → IsUncleanTold told members.old → IsSafeOver world (B.given bank.old) size told members.old (B.tape bank.old)
@@ -134,6 +148,7 @@ pub fn raise<B: Bank>(members: &mut Members, bank: &mut B) -> u32
     ensures grows { Grows B.tells (B.tape bank.old) (B.tape bank.new) }
     ensures others { B.tells → AreOthersPresent (present (B.given bank.old) (B.tape bank.old)) (present (B.given bank.old) (B.tape bank.new)) }
     ensures dirty { is_clean members.new.newest ≡ false }
+    ensures missing { HasLiveSlot members.new → AreNamedMissing members.new }
     ensures rise { IsRisen B.tells members.old members.new (B.tape bank.old) (B.tape bank.new) }
     ensures safe { B.tells → (world : World) → (size : ℕ) → (told : Ledger) → HasRoomLeft members.old (B.tape bank.old) (B.tape bank.new)
         → AreGoneTold told members.new → told.unclean ≡ true → IsSafeOver world (B.given bank.old) size told members.old (B.tape bank.old)

@@ -2,11 +2,14 @@ use Rattle.std.proofs.Common.{◌≡◌, ℕ, ◌<◌, ◌≤◌, Bool, true, fa
 use Rattle.std.proofs.lemmas.Bool.{cases_lt}
 use Rattle.md_base.specs.Shapes.{has_slot}
 use Rattle.bank.specs.Given.{Given}
+use Rattle.bank.specs.Tape.{disk}
+use Rattle.bank.proofs.Marks.{each_mark-map}
 use Rattle.superblocks.specs.Outcome.{live_set}
 use Rattle.superblocks.proofs.SlotSets.{none_above}
 use Rattle.row_io.specs.Rows.{reading_of}
 use Rattle.views.specs.Placed.{IsPlaced}
 use Rattle.views.specs.Marking.{marking}
+use Rattle.safe_updates.specs.Named.{AreDataKept}
 use Rattle.views.proofs.MarkLaws.{few-planned, give_of-same}
 use Rattle.views.proofs.MovedLaws.{moved-less}
 use Rattle.safe_updates.proofs.SparesLaws.{spare-left, spare-stays, free-told}
@@ -15,6 +18,8 @@ use Rattle.views.proofs.LackingLaws.{since-failed, holders-updated}
 use Rattle.flat_history.specs.Sound.{OpensFit}
 use Rattle.update_laws.proofs.ChangeSafe.{told-changed, risen-changed}
 use Rattle.update_laws.proofs.KeptSafe.{mark-safe, mark-named}
+use Rattle.views.proofs.MarkEnds.{left-in-mark}
+use Rattle.safe_updates.proofs.NamedAll.{marked-missing}
 use Rattle.safe_updates.proofs.naming.mark_members.Goals as goal
 
 pub holders-held-requires-clause-small : goal.holders-held-requires-clause-small
@@ -82,3 +87,13 @@ returns-clause-named g c = λ tell world size told room markable now left.
 
 pub returns-clause-rise : goal.returns-clause-rise
 returns-clause-rise g c = risen-changed c.mark-lost.ensures.marked refl (λ s isnt. give_of-same 32 s)
+
+pub returns-clause-missing : goal.returns-clause-missing
+returns-clause-missing g c = λ live.
+    let did = c.mark-lost.ensures in
+    marked-missing (g.B.Bank.given c.args.bank.now) c.args.clean c.args.members.now c.mark-lost.new.members c.requires.placed did.less c.check_entries.ensures
+    (did.marked.named (left-in-mark c.args.clean c.args.members.now c.mark-lost.new.members did.less did.marked.spares live))
+
+pub returns-clause-data : goal.returns-clause-data
+returns-clause-data g c =
+    each_mark-map (AreDataKept (disk (g.B.Bank.given c.args.bank.now).start (g.B.Bank.tape c.args.bank.now))) (λ told e at. at.touched.elsewhere) c.mark-lost.ensures.marked.update.marks

@@ -1,9 +1,12 @@
+use Rattle.std.proofs.Common.{inl, refl, arith}
 use Rattle.bank.specs.Tape.{disk}
+use Rattle.safe_updates.specs.Named.{AreDataKept}
 use Rattle.flat_history.specs.Sound.{OpensFit}
 use Rattle.views.proofs.LiveLeft.{left-steady}
 use Rattle.safe_updates.proofs.RolesNamed.{unnamed-named}
 use Rattle.views.proofs.MarkedSafe.{same-markable}
 use Rattle.views.proofs.SafeStretch.{safe-none}
+use Rattle.views.proofs.LackingWrites.{marks-here}
 use Rattle.safe_updates.proofs.naming.name_missing.Goals as goal
 
 pub returns-then-not-has_unnamed-clause-safe : goal.returns-then-not-has_unnamed-clause-safe
@@ -26,3 +29,11 @@ returns-clause-named g c = λ tell world size told room gone unclean now left.
     c.mark_members.ensures.named tell world size told room
     (same-markable (OpensFit world) world.scope (g.B.Bank.given c.args.bank.now) size told c.is_clean-clean.result c.args.members.now c.mark_members.new.members
     (disk (g.B.Bank.given c.args.bank.now).start (g.B.Bank.tape c.args.bank.now)) c.requires.placed c.requires.unlost c.is_clean-clean.ensures gone unclean now) now left
+
+pub returns-then-not-has_unnamed-clause-missing : goal.returns-then-not-has_unnamed-clause-missing
+returns-then-not-has_unnamed-clause-missing g c = λ live role lt vacant device below entry.
+    c.has_unnamed.ensures.none c.if-not-has_unnamed.true role lt vacant (device, omega (arith, below), entry)
+
+pub returns-then-not-has_unnamed-clause-data : goal.returns-then-not-has_unnamed-clause-data
+returns-then-not-has_unnamed-clause-data g c =
+    marks-here {P = AreDataKept (disk (g.B.Bank.given c.args.bank.now).start (g.B.Bank.tape c.args.bank.now))} g.B.Bank.tells (g.B.Bank.given c.args.bank.now).start (g.B.Bank.tape c.args.bank.now) (λ s k other. inl refl)
