@@ -22,7 +22,7 @@ use Rattle.superblocks.specs.Election.{seen_superblocks, uuid_for, reading_in, I
 use Rattle.superblocks.specs.Writing.{AreWritable}
 use Rattle.superblocks.specs.Found.{AreInSectors}
 use Rattle.superblocks.proofs.ValidFields.{valid-shapes}
-use Rattle.superblocks.proofs.Elected.{map-tabulate}
+use Rattle.election.proofs.Elected.{map-tabulate}
 use Rattle.views.specs.Lacking.{DoesWithout}
 use Rattle.flat_history.specs.Stands.{verdict, refusal_of, backup_absent, has_room, reach_of}
 use Rattle.assemble.specs.declared.opening.Opened.{Opened}

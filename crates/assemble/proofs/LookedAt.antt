@@ -17,7 +17,7 @@ use Rattle.superblocks.specs.Reading.{seen_superblock, is_backup}
 use Rattle.superblocks.specs.Election.{members_scope, seen_superblocks, OnlyMembersFail, AreLost}
 use Rattle.superblocks.specs.Writing.{AreWritable}
 use Rattle.superblocks.specs.Found.{AreInSectors}
-use Rattle.superblocks.proofs.LostSlots.{has-all_but}
+use Rattle.election.proofs.LostSlots.{has-all_but}
 use Rattle.assemble.specs.Opening.{scope_of, AreGiven, AreFlushed}
 use Rattle.views.specs.Flushing.{AreTried, OnlyFlushesAdded, OnlyItsSlotsFail}
 use Rattle.views.proofs.Flushed.{contents-added}

@@ -22,10 +22,10 @@ use Rattle.superblocks.specs.Stages.{AreLeft}
 use Rattle.superblocks.specs.Election.{reading_in}
 use Rattle.superblocks.specs.Found.{AreLikeNewest, IsInSectors, AreInSectors}
 use Rattle.superblocks.proofs.SlotSets.{has-set_of}
-use Rattle.superblocks.proofs.Accepted.{IsAccepted, is-accepted}
-use Rattle.superblocks.proofs.SaidSlots.{read-parts}
-use Rattle.superblocks.proofs.FoundHeld.{found-of, found-held, found-exact, found-said, live-seen}
-use Rattle.superblocks.proofs.StageReads.{held-reads}
+use Rattle.superblock_reads.proofs.Accepted.{IsAccepted, is-accepted}
+use Rattle.superblock_reads.proofs.SaidSlots.{read-parts}
+use Rattle.superblock_reads.proofs.FoundHeld.{found-of, found-held, found-exact, found-said, live-seen}
+use Rattle.superblock_reads.proofs.StageReads.{held-reads}
 use Rattle.flat_history.specs.Stands.{verdict, refusal_of, backup_absent}
 use Rattle.views.specs.Marking.{marking}
 use Rattle.views.specs.Held.{IsHeldBy}

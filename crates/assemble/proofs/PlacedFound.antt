@@ -23,7 +23,7 @@ use Rattle.superblocks.specs.Verdict.{members_refusal, bad_field, judged_fields,
 use Rattle.superblocks.specs.Election.{reading_in, IsElected}
 use Rattle.superblocks.specs.Update.{is_held_by, is_live}
 use Rattle.superblocks.specs.Writing.{IsMember, AreWritable}
-use Rattle.superblocks.proofs.Accepted.{IsAccepted, is-accepted}
+use Rattle.superblock_reads.proofs.Accepted.{IsAccepted, is-accepted}
 use Rattle.superblocks.proofs.ValidFields.{few-roles}
 use Rattle.row_io.specs.Rows.{reading_of}
 use Rattle.row_io.proofs.Apart.{readings-are-apart}

@@ -16,8 +16,8 @@ use bank::Bank;
 use md_base::Fault;
 use std::alloc::Global;
 use superblocks::Members;
-use superblocks::election::elect_seen;
-use superblocks::election::reads::lengths;
+use election::elect_seen;
+use election::reads::lengths;
 
 /// What an array's superblocks say, and a bit for each slot of the bank that hasn't failed in the opening.
 #[derive(Drop)]

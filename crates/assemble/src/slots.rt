@@ -13,7 +13,7 @@ use bank::Bank;
 use safe_updates::flush_slots;
 use std::alloc::{AllocError, Global};
 use superblocks::SbList;
-use superblocks::election::reads::read_superblocks;
+use election::reads::read_superblocks;
 use superblocks::sets::{contains, with};
 
 /// The superblocks that were found, whichever array's they are, and a bit for each slot of the bank: which ones failed,

@@ -12,8 +12,8 @@ use Rattle.superblocks.specs.Update.{is_held_by}
 use Rattle.superblocks.specs.Outcome.{live_set}
 use Rattle.superblocks.specs.Held.{AreHeld}
 use Rattle.superblocks.specs.Stages.{AreLeft}
-use Rattle.superblocks.proofs.StageReads.{held-reads}
-use Rattle.superblocks.proofs.RoundsRead.{more-held}
+use Rattle.superblock_reads.proofs.StageReads.{held-reads}
+use Rattle.superblock_reads.proofs.RoundsRead.{more-held}
 use Rattle.row_io.specs.Rows.{role_without, members_without}
 use Rattle.views.specs.Held.{IsHeldBy}
 use Rattle.views.specs.Lacking.{AreUnnamed}

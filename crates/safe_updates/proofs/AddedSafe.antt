@@ -40,20 +40,20 @@ use Rattle.superblocks.specs.Reads.{has_spare}
 use Rattle.superblocks.specs.Held.{IsStamped, IsSecondHalf}
 use Rattle.superblocks.specs.Stages.{AreLeft, AreKept}
 use Rattle.superblocks.specs.Rounds.{round_at}
-use Rattle.superblocks.specs.Following.{AreHeldAlone}
-use Rattle.superblocks.specs.Said.{AreSaid}
-use Rattle.superblocks.proofs.Following.{next-held}
-use Rattle.superblocks.proofs.RoundReads.{left_set, left-are}
+use Rattle.superblock_reads.specs.Following.{AreHeldAlone}
+use Rattle.superblock_reads.specs.Said.{AreSaid}
+use Rattle.superblock_reads.proofs.Following.{next-held}
+use Rattle.superblock_reads.proofs.RoundReads.{left_set, left-are}
 use Rattle.superblocks.proofs.SlotSets.{has-set_of, none_there}
-use Rattle.superblocks.proofs.StageReads.{held-reads}
+use Rattle.superblock_reads.proofs.StageReads.{held-reads}
 use Rattle.superblocks.specs.Reads.{IsReadAs}
 use Rattle.superblocks.specs.Held.{AreDrawn, said_by}
 use Rattle.superblocks.specs.Adding.{IsReadAsPlannedBut, IsReadInAdding, IsReadyToAdd}
 use Rattle.superblocks.proofs.ReadAlike.{tabulate-same}
 use Rattle.superblocks.proofs.HeldReads.{known_at}
-use Rattle.superblocks.proofs.UpTo.{rounds-parts, end-room}
-use Rattle.superblocks.proofs.AddedReads.{added-before, added-fit}
-use Rattle.superblocks.proofs.AddedRounds.{in-first-reads, rounds-read, rounds-end, wider}
+use Rattle.superblock_reads.proofs.UpTo.{rounds-parts, end-room}
+use Rattle.superblock_laws.proofs.AddedReads.{added-before, added-fit}
+use Rattle.superblock_laws.proofs.AddedRounds.{in-first-reads, rounds-read, rounds-end, wider}
 use Rattle.views.specs.Held.{IsHeldBy}
 use Rattle.views.specs.Numbers.{AreCarried}
 use Rattle.views.specs.Readings.{IsReadAmong, AreReadAmong}

@@ -33,12 +33,12 @@ use Rattle.superblocks.specs.Adding.{IsNewcomer, IsReadyToAdd}
 use Rattle.superblocks.proofs.ValidFields.{few-events}
 use Rattle.superblocks.proofs.ReadAlike.{count-same, fields-kept}
 use Rattle.superblocks.proofs.PlannedSb.{planned-of}
-use Rattle.superblocks.proofs.SaidLists.{role-holder}
-use Rattle.superblocks.proofs.SaidSlots.{role-below}
+use Rattle.superblock_reads.proofs.SaidLists.{role-holder}
+use Rattle.superblock_reads.proofs.SaidSlots.{role-below}
 use Rattle.superblocks.proofs.SlotSets.{has-set_of, none_above}
-use Rattle.superblocks.proofs.RoundReads.{left_set, left-are}
-use Rattle.superblocks.proofs.RoundsRead.{more-held}
-use Rattle.superblocks.proofs.AddingStarts.{adding-ready}
+use Rattle.superblock_reads.proofs.RoundReads.{left_set, left-are}
+use Rattle.superblock_reads.proofs.RoundsRead.{more-held}
+use Rattle.superblock_laws.proofs.AddingStarts.{adding-ready}
 use Rattle.row_io.specs.Rows.{role_without, members_without}
 use Rattle.views.specs.Held.{IsHeldBy}
 use Rattle.views.specs.Marking.{adding, marking}

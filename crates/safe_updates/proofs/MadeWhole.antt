@@ -24,7 +24,7 @@ use Rattle.superblocks.specs.Updating.{planned_newest}
 use Rattle.superblocks.specs.Crash.{IsWithin}
 use Rattle.superblocks.specs.Held.{known_of}
 use Rattle.superblocks.proofs.ReadAlike.{shape-same}
-use Rattle.superblocks.proofs.SaidSlots.{role-said, role-known}
+use Rattle.superblock_reads.proofs.SaidSlots.{role-said, role-known}
 use Rattle.superblock_laws.specs.MakingWhole.{without_gives, IsMakingWhole}
 use Rattle.row_io.specs.Rows.{reading_of, present, held_slot, role_without, members_without}
 use Rattle.row_io.proofs.Losses.{holder-of, state_kept, state_after}

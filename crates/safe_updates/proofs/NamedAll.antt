@@ -14,8 +14,8 @@ use Rattle.superblocks.specs.declared.members.Members.{Members}
 use Rattle.superblocks.specs.Reading.{entry_of, shape_of, holder}
 use Rattle.superblocks.specs.Update.{give_of, planned_role, is_planned_spare, slot_entry, entry_for, with_roles, faulty_role}
 use Rattle.superblocks.specs.Updating.{AreNamed}
-use Rattle.superblocks.proofs.PlanFits.{length-any, roles-at, entry-is}
-use Rattle.superblocks.proofs.SaidLists.{role-holder}
+use Rattle.superblock_reads.proofs.PlanFits.{length-any, roles-at, entry-is}
+use Rattle.superblock_reads.proofs.SaidLists.{role-holder}
 use Rattle.row_io.specs.Rows.{role_without}
 use Rattle.safe_updates.specs.Named.{AreNamedMissing}
 use Rattle.views.specs.Marking.{marking}

@@ -27,7 +27,8 @@ use crate::flushes::holders;
 use bank::Bank;
 use sb1::{Sb, fields_of};
 use superblocks::sets::without;
-use superblocks::{Change, Give, Members, update};
+use superblock_updates::update;
+use superblocks::{Change, Give, Members};
 
 /// The first sector of a superblock.
 const SUPERBLOCK: u64 = 8;

@@ -24,7 +24,8 @@ use crate::naming::name_missing;
 use bank::Bank;
 use row_io::lose_slot;
 use superblocks::sets::{with, without};
-use superblocks::{Change, Give, Members, update};
+use superblock_updates::update;
+use superblocks::{Change, Give, Members};
 
 // The update that makes a slot the holder of a role, which it recovers from this row on, or that is whole.
 fn giving(members: &Members, slot: u32, role: u32, recovery: Option<u64>) -> Change

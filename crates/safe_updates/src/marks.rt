@@ -13,7 +13,8 @@ ghost use Rattle.update_laws.specs.Changing.{IsChanged};
 
 use bank::Bank;
 use sb1::Sb;
-use superblocks::{Change, Give, Lostness, Members, update};
+use superblock_updates::update;
+use superblocks::{Change, Give, Lostness, Members};
 
 // The update that marks an array clean or dirty.
 fn marking(members: &Members, clean: bool) -> Change

@@ -21,13 +21,13 @@ use Rattle.superblocks.specs.Crash.{IsRoundEnd}
 use Rattle.superblocks.specs.Losing.{IsLosing, IsTakingWithout, IsLost, IsNamingAfter}
 use Rattle.superblocks.proofs.Exact.{all_same}
 use Rattle.superblocks.proofs.PlannedSb.{planned-of}
-use Rattle.superblocks.proofs.PlannedAgain.{planned-again}
-use Rattle.superblocks.proofs.PlanFits.{IsNext, length-any, idle-number, next-fits}
-use Rattle.superblocks.proofs.StageReads.{new_of, taken-held, taken-level}
-use Rattle.superblocks.proofs.RoundReads.{IsAt, left_set, left-are, and_first, and_second, planned_list, planned-in, kept-of, wider}
-use Rattle.superblocks.proofs.AddedReads.{put, put_is, put_ninth, in_put}
-use Rattle.superblocks.proofs.LosingReads.{narrow}
-use Rattle.superblocks.proofs.AfterLosing.{after-reads, after-end}
+use Rattle.superblock_reads.proofs.PlannedAgain.{planned-again}
+use Rattle.superblock_reads.proofs.PlanFits.{IsNext, length-any, idle-number, next-fits}
+use Rattle.superblock_reads.proofs.StageReads.{new_of, taken-held, taken-level}
+use Rattle.superblock_reads.proofs.RoundReads.{IsAt, left_set, left-are, and_first, and_second, planned_list, planned-in, kept-of, wider}
+use Rattle.superblock_laws.proofs.AddedReads.{put, put_is, put_ninth, in_put}
+use Rattle.superblock_laws.proofs.LosingReads.{narrow}
+use Rattle.superblock_laws.proofs.AfterLosing.{after-reads, after-end}
 use Rattle.superblock_laws.proofs.Wide as wide
 use Rattle.superblock_laws.proofs.Lost as lost
 

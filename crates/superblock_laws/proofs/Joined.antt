@@ -25,8 +25,8 @@ use Rattle.superblocks.proofs.ReadLists.{by_bool}
 use Rattle.superblocks.proofs.Exact.{alone}
 use Rattle.superblocks.proofs.SlotSets.{same_set, set_of-below, set_of-past}
 use Rattle.superblocks.proofs.UpdateReads.{some-or-all}
-use Rattle.superblocks.proofs.RoundReads.{IsAt, left_set, fit-of, naming-reads, naming-end, all-named, wider}
-use Rattle.superblocks.proofs.RoundsRead.{more-held, first-reads, first-end}
+use Rattle.superblock_reads.proofs.RoundReads.{IsAt, left_set, fit-of, naming-reads, naming-end, all-named, wider}
+use Rattle.superblock_reads.proofs.RoundsRead.{more-held, first-reads, first-end}
 use Rattle.superblock_laws.proofs.NamedTwice.{named-twice}
 use Rattle.superblock_laws.proofs.Wide as wide
 use Rattle.superblock_laws.proofs.Lost as lost

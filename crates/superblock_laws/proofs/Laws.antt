@@ -1,11 +1,11 @@
 -- The laws of a whole update, whichever slots are lost in it.
 use Rattle.std.proofs.Common.{inl, inr, sym, ◌∙◌}
 use Rattle.md_base.specs.Shapes.{has_slot}
-use Rattle.superblocks.proofs.Following.{next-held}
-use Rattle.superblocks.proofs.RoundReads.{fit-of, kept-of, named_left, and_first, and_second, wider, left_set, left-are}
-use Rattle.superblocks.proofs.RoundsRead.{before-reads}
-use Rattle.superblocks.proofs.StageReads.{held-reads}
-use Rattle.superblocks.proofs.UpTo.{turns-parts, turned-room, rounds-parts, end-room}
+use Rattle.superblock_reads.proofs.Following.{next-held}
+use Rattle.superblock_reads.proofs.RoundReads.{fit-of, kept-of, named_left, and_first, and_second, wider, left_set, left-are}
+use Rattle.superblock_reads.proofs.RoundsRead.{before-reads}
+use Rattle.superblock_reads.proofs.StageReads.{held-reads}
+use Rattle.superblock_reads.proofs.UpTo.{turns-parts, turned-room, rounds-parts, end-room}
 use Rattle.superblock_laws.specs.Turning.{UpdateTurningReads, UpdateTurningEnds, UpdateTurningMayFollow}
 use Rattle.superblock_laws.specs.MakingWhole.{UpdateMakingWholeReads, UpdateMakingWholeEnds, UpdateMakingWholeMayFollow}
 use Rattle.superblock_laws.proofs.Joined.{turn-reads, turns-read, turns-end}

@@ -1,3 +1,8 @@
+pub mod AddedReads
+pub mod AddedRounds
+pub mod AddingStarts
+pub mod LosingReads
+pub mod AfterLosing
 pub mod NamedTwice
 pub mod Wide
 pub mod Lost

@@ -19,9 +19,9 @@ use Rattle.superblocks.specs.Rounds.{Round, first_newest, IsRewriting, IsCaughtU
 use Rattle.superblocks.specs.Losing.{IsLosing, IsTakingWithout}
 use Rattle.superblocks.proofs.ReadLists.{by_bool}
 use Rattle.superblocks.proofs.PlannedSb.{planned-of}
-use Rattle.superblocks.proofs.PlanFits.{IsNext, IsPlanScope, length-any, idle-number, known-numbers}
-use Rattle.superblocks.proofs.RoundReads.{left_set, planned_list}
-use Rattle.superblocks.proofs.LosingReads.{losing-reads}
+use Rattle.superblock_reads.proofs.PlanFits.{IsNext, IsPlanScope, length-any, idle-number, known-numbers}
+use Rattle.superblock_reads.proofs.RoundReads.{left_set, planned_list}
+use Rattle.superblock_laws.proofs.LosingReads.{losing-reads}
 use Rattle.superblock_laws.proofs.Wide as wide
 
 abbrev Disk : Type 0

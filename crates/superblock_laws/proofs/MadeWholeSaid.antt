@@ -27,18 +27,18 @@ use Rattle.superblocks.specs.Plans.{KeepsRecovery, IsFitChange}
 use Rattle.superblocks.specs.Updating.{planned_newest, IsLater, AreNamed}
 use Rattle.superblocks.specs.Rounds.{IsReady}
 use Rattle.superblocks.specs.Crash.{IsWithin}
-use Rattle.superblocks.specs.Said.{AreSaid, AreSparesFit, AreSaidAsPlanned}
+use Rattle.superblock_reads.specs.Said.{AreSaid, AreSparesFit, AreSaidAsPlanned}
 use Rattle.superblocks.proofs.ReadLists.{Own, by_bool, holder-step, spare-step, spares-at}
 use Rattle.superblocks.proofs.ReadAlike.{none_below, tabulate-same}
 use Rattle.superblocks.proofs.HeldReads.{known_at}
 use Rattle.superblocks.proofs.Exact.{all_same}
 use Rattle.superblocks.proofs.PlannedSb.{planned-of, recovering-same, recovering-none}
 use Rattle.superblocks.proofs.ValidFields.{valid-shapes, few-roles}
-use Rattle.superblocks.proofs.RoundReads.{and_first, and_second}
+use Rattle.superblock_reads.proofs.RoundReads.{and_first, and_second}
 use Rattle.superblocks.proofs.SlotSets.{has-set_of}
-use Rattle.superblocks.proofs.SaidLists.{state-here, role-holder}
-use Rattle.superblocks.proofs.SaidSlots.{role-known}
-use Rattle.superblocks.proofs.Tied.{planned-said}
+use Rattle.superblock_reads.proofs.SaidLists.{state-here, role-holder}
+use Rattle.superblock_reads.proofs.SaidSlots.{role-known}
+use Rattle.superblock_reads.proofs.Tied.{planned-said}
 use Rattle.superblock_laws.specs.MakingWhole.{without_gives, IsMakingWhole, MembersMadeWholeStaySaid}
 use Rattle.superblock_laws.proofs.Wide as wide
 use Rattle.superblock_laws.proofs.WholeBefore.{roles_same}

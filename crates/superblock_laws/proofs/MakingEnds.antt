@@ -20,14 +20,14 @@ use Rattle.superblocks.specs.Held.{MayRead, IsKnown, IsOther, Shows}
 use Rattle.superblocks.specs.Stages.{AreLeft}
 use Rattle.superblocks.specs.Rounds.{Round, AreNamings, IsPastFirst, members_at, IsReady}
 use Rattle.superblocks.specs.Crash.{AreHeldAsPlanned}
-use Rattle.superblocks.specs.Following.{AreHeldAlone}
+use Rattle.superblock_reads.specs.Following.{AreHeldAlone}
 use Rattle.superblocks.proofs.ReadLists.{by_bool}
 use Rattle.superblocks.proofs.PlannedSb.{planned-of}
-use Rattle.superblocks.proofs.StageReads.{held-reads}
-use Rattle.superblocks.proofs.RoundReads.{fit-of, and_second}
-use Rattle.superblocks.proofs.RoundsRead.{rounds-end}
-use Rattle.superblocks.proofs.Following.{next-held}
-use Rattle.superblocks.proofs.AddedReads.{put, put_here, to_put}
+use Rattle.superblock_reads.proofs.StageReads.{held-reads}
+use Rattle.superblock_reads.proofs.RoundReads.{fit-of, and_second}
+use Rattle.superblock_reads.proofs.RoundsRead.{rounds-end}
+use Rattle.superblock_reads.proofs.Following.{next-held}
+use Rattle.superblock_laws.proofs.AddedReads.{put, put_here, to_put}
 use Rattle.superblock_laws.specs.MakingWhole.{without_gives, IsMakingWhole}
 use Rattle.superblock_laws.proofs.Wide as wide
 use Rattle.superblock_laws.proofs.OtherOwn.{put_round, put_in, to_ninth, namings_more}

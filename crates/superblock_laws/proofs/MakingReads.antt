@@ -17,12 +17,12 @@ use Rattle.superblocks.specs.Rounds.{Round, naming, first_newest, IsRewriting, A
 use Rattle.superblocks.proofs.ReadLists.{by_bool}
 use Rattle.superblocks.proofs.Exact.{all_same}
 use Rattle.superblocks.proofs.UpdateReads.{some-or-all}
-use Rattle.superblocks.proofs.StageReads.{new_of, taking-later}
+use Rattle.superblock_reads.proofs.StageReads.{new_of, taking-later}
 use Rattle.superblocks.specs.Crash.{IsWithin}
-use Rattle.superblocks.proofs.PlanFits.{length-any}
-use Rattle.superblocks.proofs.RoundReads.{fit-of, planned_list, naming-reads, all-named, planned-wider}
-use Rattle.superblocks.proofs.RoundsRead.{before-reads, first-reads, rounds-read, rounds-end}
-use Rattle.superblocks.proofs.AddedReads.{put, put_here, in_put}
+use Rattle.superblock_reads.proofs.PlanFits.{length-any}
+use Rattle.superblock_reads.proofs.RoundReads.{fit-of, planned_list, naming-reads, all-named, planned-wider}
+use Rattle.superblock_reads.proofs.RoundsRead.{before-reads, first-reads, rounds-read, rounds-end}
+use Rattle.superblock_laws.proofs.AddedReads.{put, put_here, in_put}
 use Rattle.superblock_laws.specs.MakingWhole.{without_gives, IsMakingWhole}
 use Rattle.superblock_laws.proofs.Wide as wide
 use Rattle.superblock_laws.proofs.OtherOwn.{put_round, drawn_put, fewer_row, rewriting_put, namings_more, namings_trace, namings_put, plan_over, stage_over, first_same, namings_over}

@@ -14,7 +14,7 @@ use Rattle.superblocks.specs.Updating.{planned_newest}
 use Rattle.superblocks.specs.Writing.{IsFirstSector, IsPlanned}
 use Rattle.superblocks.specs.Held.{AreDrawn}
 use Rattle.superblocks.specs.Rounds.{Round, naming, first_newest, IsRewriting, IsRewritten, AreNamings, members_at}
-use Rattle.superblocks.proofs.AddedReads.{put, put_here, put_slot, put_ninth, in_put}
+use Rattle.superblock_laws.proofs.AddedReads.{put, put_here, put_slot, put_ninth, in_put}
 use Rattle.superblock_laws.specs.MakingWhole.{without_gives}
 use Rattle.superblock_laws.proofs.Wide as wide
 

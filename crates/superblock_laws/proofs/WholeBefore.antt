@@ -21,10 +21,10 @@ use Rattle.superblocks.specs.Plans.{KeepsRecovery}
 use Rattle.superblocks.specs.Rounds.{Round, IsRewriting, IsCaughtUpTo, IsReady, IsReadAsPlanned}
 use Rattle.superblocks.proofs.Exact.{all_same}
 use Rattle.superblocks.proofs.PlannedSb.{planned-of, planned-new, joined_drop}
-use Rattle.superblocks.proofs.PlannedAgain.{planned-again}
+use Rattle.superblock_reads.proofs.PlannedAgain.{planned-again}
 use Rattle.superblocks.proofs.UpdateReads.{fresh_less, planned-suited}
-use Rattle.superblocks.proofs.RoundReads.{and_first}
-use Rattle.superblocks.proofs.AddedReads.{put, put_here, put_slot, in_put}
+use Rattle.superblock_reads.proofs.RoundReads.{and_first}
+use Rattle.superblock_laws.proofs.AddedReads.{put, put_here, put_slot, in_put}
 use Rattle.superblock_laws.specs.MakingWhole.{without_gives, IsMakingWhole}
 use Rattle.superblock_laws.proofs.OtherOwn.{put_round, put_other, from_ninth, to_ninth}
 

@@ -18,10 +18,10 @@ use Rattle.superblocks.specs.Plans.{IsFitChange}
 use Rattle.superblocks.specs.Rounds.{Round, first_newest, IsRewriting, IsCaughtUpTo, IsReady}
 use Rattle.superblocks.proofs.ReadLists.{by_bool}
 use Rattle.superblocks.proofs.Exact.{all_same}
-use Rattle.superblocks.proofs.PlanFits.{plan-fits}
-use Rattle.superblocks.proofs.StageReads.{caught_of, caught-held}
-use Rattle.superblocks.proofs.RoundReads.{left_set, left-are, and_first, and_second, planned_list, planned-in, kept-of}
-use Rattle.superblocks.proofs.RoundsRead.{more-held}
+use Rattle.superblock_reads.proofs.PlanFits.{plan-fits}
+use Rattle.superblock_reads.proofs.StageReads.{caught_of, caught-held}
+use Rattle.superblock_reads.proofs.RoundReads.{left_set, left-are, and_first, and_second, planned_list, planned-in, kept-of}
+use Rattle.superblock_reads.proofs.RoundsRead.{more-held}
 
 abbrev Disk : Type 0
 Disk = ℕ → ℕ → List Sector

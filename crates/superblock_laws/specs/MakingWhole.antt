@@ -15,8 +15,8 @@ use Rattle.superblocks.specs.Outcome.{AreStored, is_left, live_set}
 use Rattle.superblocks.specs.Rounds.{Round, IsInRounds, ArePast, IsReady, IsReadAsBefore, IsReadAsPlanned}
 use Rattle.superblocks.specs.Held.{AreDrawn}
 use Rattle.superblocks.specs.Crash.{AreHeldAsPlanned}
-use Rattle.superblocks.specs.Following.{IsFollowedBy}
-use Rattle.superblocks.specs.Said.{AreSaid, AreSaidAsPlanned}
+use Rattle.superblock_reads.specs.Following.{IsFollowedBy}
+use Rattle.superblock_reads.specs.Said.{AreSaid, AreSaidAsPlanned}
 
 -- the same change, which leaves each slot what it is
 abbrev pub without_gives : Change → Change

@@ -8,7 +8,7 @@ use Rattle.superblocks.specs.Updating.{IsSomeLeft}
 use Rattle.superblocks.specs.Rounds.{Round, IsReady}
 use Rattle.superblocks.specs.Crash.{IsWithin, EachReadsInUpdate, AreHeldAsPlanned}
 use Rattle.superblocks.specs.Losing.{IsInTurns, ArePastTurns}
-use Rattle.superblocks.specs.Following.{IsFollowedBy}
+use Rattle.superblock_reads.specs.Following.{IsFollowedBy}
 
 -- the slots that an update doesn't name, since they were lost before, are lost when it starts
 abbrev pub AreLostBefore : ℕ → Members → Type 0

@@ -8,8 +8,8 @@ use Rattle.bank.proofs.Laws.{kept_in}
 use Rattle.sb1.specs.declared.sb.Sb.{Sb}
 use Rattle.superblocks.specs.declared.change.Give.{Give}
 use Rattle.superblocks.specs.declared.change.Give.TheVariants.{Same}
-use Rattle.superblocks.specs.declared.pass.Part.{Part}
-use Rattle.superblocks.specs.declared.pass.Part.TheVariants.{Behind}
+use Rattle.superblocks.specs.declared.change.Part.{Part}
+use Rattle.superblocks.specs.declared.change.Part.TheVariants.{Behind}
 use Rattle.superblocks.specs.Update.{is_part, is_due, is_behind, is_recovery, give_of, own_in}
 use Rattle.superblocks.specs.Writing.{IsPlanned, IsWritten, IsWriting, AreWritten, plan_of}
 use Rattle.superblocks.specs.Updating.{IsTouched, IsUpdate, IsInOrder}

@@ -14,7 +14,7 @@ use Rattle.bank.proofs.Marks.{each_mark-along, each_mark-map, each_mark-then}
 use Rattle.bank.proofs.Causes.{faulted_longer}
 use Rattle.sb1.specs.declared.sb.Sb.{Sb}
 use Rattle.superblocks.specs.declared.change.Give.{Give}
-use Rattle.superblocks.specs.declared.pass.Part.{Part}
+use Rattle.superblocks.specs.declared.change.Part.{Part}
 use Rattle.superblocks.specs.Update.{is_part, is_due, is_recovery, give_of, own_in}
 use Rattle.superblocks.specs.Writing.{IsPlanned, IsBetween, IsWritten, IsStage, IsWriting, AreWritten, plan_of}
 use Rattle.superblocks.specs.Updating.{IsTouched, IsUpdating, IsUpdated, IsUpdate, AreLosses, IsLater, IsRecorded, ArePlanned, AreOthersKept, AreRecoveriesKept, AreRecoveriesWritten, IsInOrder}

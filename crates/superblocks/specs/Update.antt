@@ -10,8 +10,8 @@ use Rattle.superblocks.specs.declared.change.Give.TheVariants.{Same, Spare}
 use Rattle.superblocks.specs.declared.change.Give.TheVariants as give
 use Rattle.superblocks.specs.declared.change.Change.{Change}
 use Rattle.superblocks.specs.declared.members.Members.{Members}
-use Rattle.superblocks.specs.declared.pass.Part.{Part}
-use Rattle.superblocks.specs.declared.pass.Part.TheVariants.{Behind, Recoveries, Others, All}
+use Rattle.superblocks.specs.declared.change.Part.{Part}
+use Rattle.superblocks.specs.declared.change.Part.TheVariants.{Behind, Recoveries, Others, All}
 
 -- ---- the superblock that a slot gets
 

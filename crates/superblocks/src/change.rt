@@ -21,3 +21,13 @@ pub struct Change {
 
 /// The slots that were lost, one bit for each.
 pub type Lostness = u32;
+
+/// Which slots a pass writes: those whose event count is behind, those that get a role with a recovery offset, the
+/// others, or all.
+#[derive(Clone, Copy, Debug, PartialEq, Eq)]
+pub enum Part {
+    Behind,
+    Recoveries,
+    Others,
+    All,
+}

@@ -9,7 +9,7 @@ use std::alloc::Global;
 use std::process::Abort;
 use std::test::Fail;
 use superblocks::Members;
-use superblocks::election::elect;
+use election::elect;
 
 // Puts both sectors of a superblock in place.
 fn set_sectors(rt: &impl Abort, bank: &mut MemoryBank, slot: u32, sectors: &[u8])

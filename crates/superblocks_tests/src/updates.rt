@@ -12,7 +12,8 @@ use std::process::Abort;
 use std::test::Fail;
 use superblocks::says::role_count;
 use superblocks::sets::with;
-use superblocks::{Change, Give, Members, update};
+use superblock_updates::update;
+use superblocks::{Change, Give, Members};
 
 const CLEAN: u64 = u64::MAX;
 

@@ -20,13 +20,13 @@ use Rattle.superblocks.specs.Updating.{IsSomeLeft, planned_newest}
 use Rattle.superblocks.specs.Outcome.{live_set, is_left, AreLive, AreGivesOfLive}
 use Rattle.superblocks.specs.Held.{AreDrawn, said_by}
 use Rattle.superblocks.specs.Stages.{AreLeft}
-use Rattle.superblocks.specs.Following.{AreHeldAlone}
+use Rattle.superblock_reads.specs.Following.{AreHeldAlone}
 use Rattle.superblocks.specs.Rounds.{round_at, IsReady, IsReadAsPlanned}
 use Rattle.superblocks.specs.Crash.{IsWithin}
-use Rattle.superblocks.specs.Said.{AreSaid, AreSaidAsPlanned}
+use Rattle.superblock_reads.specs.Said.{AreSaid, AreSaidAsPlanned}
 use Rattle.superblocks.proofs.ReadLists.{by_bool}
-use Rattle.superblocks.proofs.RoundReads.{left_set, left-are}
-use Rattle.superblocks.proofs.StageReads.{held-reads}
+use Rattle.superblock_reads.proofs.RoundReads.{left_set, left-are}
+use Rattle.superblock_reads.proofs.StageReads.{held-reads}
 use Rattle.superblocks.proofs.UpdateReads.{some-or-all}
 use Rattle.superblock_laws.proofs.Laws.{turning-reads, turning-follows}
 use Rattle.row_io.specs.Rows.{reading_of, is_missing, members_without}

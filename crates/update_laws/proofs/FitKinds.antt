@@ -16,8 +16,8 @@ use Rattle.superblocks.specs.Outcome.{is_in_update}
 use Rattle.superblocks.specs.Held.{known_of}
 use Rattle.superblocks.specs.Plans.{KeepsRecovery}
 use Rattle.superblocks.proofs.ReadLists.{spares-at}
-use Rattle.superblocks.proofs.SaidLists.{role-holder}
-use Rattle.superblocks.proofs.SaidSlots.{below-length, listed, roles-count}
+use Rattle.superblock_reads.proofs.SaidLists.{role-holder}
+use Rattle.superblock_reads.proofs.SaidSlots.{below-length, listed, roles-count}
 use Rattle.row_io.specs.Rows.{members_without}
 use Rattle.update_laws.specs.Changing.{AreFieldsGood, IsFitUpdate}
 use Rattle.update_laws.specs.Kinds.{IsTaking, TakingIsFit}

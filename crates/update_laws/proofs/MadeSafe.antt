@@ -23,17 +23,17 @@ use Rattle.superblocks.specs.Updating.{IsSomeLeft, IsLater, AreNamed, planned_ne
 use Rattle.superblocks.specs.Outcome.{live_set, is_left, planned_state, AreLive, AreGivesOfLive}
 use Rattle.superblocks.specs.Held.{AreDrawn, said_by}
 use Rattle.superblocks.specs.Stages.{AreLeft, AreKept, AreFirstKept}
-use Rattle.superblocks.specs.Following.{AreHeldAlone}
+use Rattle.superblock_reads.specs.Following.{AreHeldAlone}
 use Rattle.superblocks.specs.Rounds.{round_at, IsReady, IsReadAsPlanned}
 use Rattle.superblocks.specs.Crash.{IsWithin}
-use Rattle.superblocks.specs.Said.{AreSaidAsPlanned}
+use Rattle.superblock_reads.specs.Said.{AreSaidAsPlanned}
 use Rattle.superblocks.proofs.ReadAlike.{tabulate-same}
 use Rattle.superblocks.proofs.ReadLists.{by_bool}
-use Rattle.superblocks.proofs.RoundReads.{left_set, left-are}
-use Rattle.superblocks.proofs.RoundsRead.{more-held}
-use Rattle.superblocks.proofs.SaidLists.{role-holder}
-use Rattle.superblocks.proofs.SaidSlots.{role-known, spare-known}
-use Rattle.superblocks.proofs.StageReads.{held-reads}
+use Rattle.superblock_reads.proofs.RoundReads.{left_set, left-are}
+use Rattle.superblock_reads.proofs.RoundsRead.{more-held}
+use Rattle.superblock_reads.proofs.SaidLists.{role-holder}
+use Rattle.superblock_reads.proofs.SaidSlots.{role-known, spare-known}
+use Rattle.superblock_reads.proofs.StageReads.{held-reads}
 use Rattle.superblock_laws.specs.MakingWhole.{without_gives, IsMakingWhole}
 use Rattle.superblock_laws.proofs.Laws.{making-reads, making-follows}
 use Rattle.superblock_laws.proofs.MadeWholeSaid.{made-said}

@@ -22,8 +22,8 @@ use Rattle.superblocks.specs.Outcome.{is_in_update, live_set, AreGivesOfLive, is
 use Rattle.superblocks.proofs.PlannedSb.{planned-of}
 use Rattle.superblocks.proofs.ReadAlike.{count-same}
 use Rattle.superblocks.proofs.ReadLists.{by_bool}
-use Rattle.superblocks.proofs.SaidLists.{role-holder}
-use Rattle.superblocks.proofs.SaidSlots.{below-length, has-slots_below}
+use Rattle.superblock_reads.proofs.SaidLists.{role-holder}
+use Rattle.superblock_reads.proofs.SaidSlots.{below-length, has-slots_below}
 use Rattle.superblocks.proofs.SlotSets.{some_role}
 use Rattle.row_io.specs.Rows.{role_without}
 use Rattle.update_laws.proofs.PlansLose.{found-passes, same-role}

@@ -17,13 +17,13 @@ use Rattle.superblocks.specs.Stages.{AreLeft, AreKept}
 use Rattle.superblocks.specs.Plans.{IsFitChange}
 use Rattle.superblocks.specs.Rounds.{IsReady}
 use Rattle.superblocks.specs.Crash.{IsWithin}
-use Rattle.superblocks.specs.Said.{AreSaidAsPlanned}
+use Rattle.superblock_reads.specs.Said.{AreSaidAsPlanned}
 use Rattle.superblocks.proofs.ReadAlike.{tabulate-same}
 use Rattle.superblocks.proofs.ReadLists.{by_bool}
-use Rattle.superblocks.proofs.RoundReads.{left_set, left-are}
-use Rattle.superblocks.proofs.RoundsRead.{more-held}
-use Rattle.superblocks.proofs.SaidSlots.{role-known, spare-known}
-use Rattle.superblocks.proofs.Tied.{IsPlannedNewest, planned-said}
+use Rattle.superblock_reads.proofs.RoundReads.{left_set, left-are}
+use Rattle.superblock_reads.proofs.RoundsRead.{more-held}
+use Rattle.superblock_reads.proofs.SaidSlots.{role-known, spare-known}
+use Rattle.superblock_reads.proofs.Tied.{IsPlannedNewest, planned-said}
 use Rattle.row_io.specs.Rows.{role_without, members_without}
 use Rattle.update_laws.specs.Changing.{IsFitUpdate}
 use Rattle.update_laws.proofs.PlannedRoles.{says-shared, gets-live, spare-live, role-same, state-same}

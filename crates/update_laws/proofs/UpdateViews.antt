@@ -19,9 +19,9 @@ use Rattle.superblocks.specs.Outcome.{planned_roles}
 use Rattle.superblocks.specs.Reads.{SaysSame, roles_refusal}
 use Rattle.superblocks.specs.Rounds.{IsReadAsPlanned}
 use Rattle.superblocks.specs.Held.{known_of, said_by}
-use Rattle.superblocks.specs.Said.{AreSaidAsPlanned}
+use Rattle.superblock_reads.specs.Said.{AreSaidAsPlanned}
 use Rattle.superblocks.proofs.ReadAlike.{shape-same, refused-same}
-use Rattle.superblocks.proofs.SaidSlots.{holder-own, read-own, listed}
+use Rattle.superblock_reads.proofs.SaidSlots.{holder-own, read-own, listed}
 use Rattle.row_io.specs.Rows.{reading_of}
 use Rattle.views.proofs.ReadOf.{said-recovering}
 use Rattle.views.specs.Readings.{IsReadOf}

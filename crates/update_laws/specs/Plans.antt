@@ -15,7 +15,7 @@ use Rattle.superblocks.specs.Update.{with_give, give_of, own_in, planned_role}
 use Rattle.superblocks.specs.Updating.{planned_newest}
 use Rattle.superblocks.specs.Outcome.{planned_roles, planned_spares}
 use Rattle.superblocks.specs.Rounds.{IsReadAsPlanned}
-use Rattle.superblocks.specs.Said.{AreSaidAsPlanned}
+use Rattle.superblock_reads.specs.Said.{AreSaidAsPlanned}
 use Rattle.row_io.specs.Rows.{reading_of, is_missing, held_slot}
 use Rattle.views.specs.Placed.{IsPlaced}
 use Rattle.views.specs.Lacking.{DoesWithout}

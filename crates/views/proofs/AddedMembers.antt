@@ -17,7 +17,7 @@ use Rattle.superblocks.specs.Writing.{IsMember}
 use Rattle.superblocks.specs.Outcome.{IsAddable, is_in_update, live_set}
 use Rattle.superblocks.proofs.SlotSets.{has-set_of}
 use Rattle.superblocks.proofs.StoredSlots.{set_apart}
-use Rattle.superblocks.proofs.SaidSlots.{has-slots_below}
+use Rattle.superblock_reads.proofs.SaidSlots.{has-slots_below}
 use Rattle.row_io.specs.Rows.{reading_of}
 use Rattle.views.specs.Placed.{IsPlaced, AreUnlost}
 use Rattle.views.specs.Marking.{adding, marking}

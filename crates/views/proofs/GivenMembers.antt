@@ -16,7 +16,7 @@ use Rattle.superblocks.specs.Reading.{is_reshaping, role_state, rows_held, holde
 use Rattle.superblocks.specs.Reads.{has_spare}
 use Rattle.superblocks.specs.Update.{own_in, with_recovery, is_held_by, is_live}
 use Rattle.superblocks.specs.Writing.{IsMember}
-use Rattle.superblocks.proofs.SaidSlots.{has-slots_below}
+use Rattle.superblock_reads.proofs.SaidSlots.{has-slots_below}
 use Rattle.row_io.specs.Rows.{reading_of, IsHolder}
 use Rattle.views.specs.Placed.{IsPlaced, AreUnlost}
 use Rattle.views.proofs.HeldRows.{recovered_of}

@@ -17,7 +17,7 @@ use Rattle.superblocks.specs.declared.members.Members.{Members}
 use Rattle.superblocks.specs.Reading.{holder}
 use Rattle.superblocks.specs.Update.{role_from, give_of, planned_role}
 use Rattle.superblocks.specs.Outcome.{is_same, is_planned_holder, held_state, planned_state}
-use Rattle.superblocks.proofs.SaidLists.{role-holder}
+use Rattle.superblock_reads.proofs.SaidLists.{role-holder}
 use Rattle.row_io.specs.Rows.{role_without}
 use Rattle.views.specs.Rebuilding.{with_state}
 use Rattle.views.proofs.MarkLaws.{Apart, give_of-same, state-kept}

@@ -14,7 +14,7 @@ use Rattle.superblocks.specs.Updating.{IsSomeLeft}
 use Rattle.superblocks.specs.Outcome.{live_set, planned_spares}
 use Rattle.superblocks.specs.Reads.{has_spare}
 use Rattle.superblocks.proofs.ReadLists.{by_bool}
-use Rattle.superblocks.proofs.SaidSlots.{has-slots_below}
+use Rattle.superblock_reads.proofs.SaidSlots.{has-slots_below}
 use Rattle.superblocks.proofs.UpdateReads.{some-or-all}
 use Rattle.views.specs.Placed.{AreLess}
 use Rattle.views.specs.Marking.{marking}

@@ -11,8 +11,8 @@ use Rattle.superblocks.specs.declared.members.Members.{Members}
 use Rattle.superblocks.specs.Reading.{Scope, is_fresh, entry_of, holds_role, state_of, role_count, holder, holder_from}
 use Rattle.superblocks.specs.Reads.{held_in}
 use Rattle.superblocks.specs.Held.{known_of}
-use Rattle.superblocks.proofs.SaidLists.{state-here}
-use Rattle.superblocks.proofs.SaidSlots.{role-said, role-below, role-known}
+use Rattle.superblock_reads.proofs.SaidLists.{state-here}
+use Rattle.superblock_reads.proofs.SaidSlots.{role-said, role-below, role-known}
 use Rattle.row_io.specs.Rows.{role_without}
 use Rattle.views.specs.Held.{IsHeldBy}
 use Rattle.views.proofs.Ready.{known-small}

@@ -15,10 +15,10 @@ use Rattle.superblocks.specs.declared.members.Members.{Members}
 use Rattle.superblocks.specs.Reading.{Scope, Reading, reading_by, is_reshaping, is_recovering, is_clean, shape_of, role_count, holds_role, holder_from, role_state, rows_held, holder, own_of, data_offset_of}
 use Rattle.superblocks.specs.Reads.{IsReadAs, held_in, roles_refusal}
 use Rattle.superblocks.specs.Held.{AreDrawn, known_of, said_by}
-use Rattle.superblocks.specs.Said.{AreSaid}
+use Rattle.superblock_reads.specs.Said.{AreSaid}
 use Rattle.superblocks.proofs.ReadAlike.{shape-same, refused-same}
-use Rattle.superblocks.proofs.SaidLists.{state-here}
-use Rattle.superblocks.proofs.SaidSlots.{below-length, read-own, role-said, role-known}
+use Rattle.superblock_reads.proofs.SaidLists.{state-here}
+use Rattle.superblock_reads.proofs.SaidSlots.{below-length, read-own, role-said, role-known}
 use Rattle.row_io.specs.Rows.{reading_of}
 use Rattle.flat_history.proofs.SameLaws.{read-same}
 use Rattle.views.specs.Held.{IsHeldBy}

@@ -19,7 +19,7 @@ use Rattle.superblocks.specs.Reads.{IsReadAs, roles_refusal}
 use Rattle.superblocks.specs.Held.{AreDrawn}
 use Rattle.superblocks.specs.Crash.{EachReadsEither}
 use Rattle.superblocks.proofs.ReadAlike.{shape-same}
-use Rattle.superblocks.proofs.SaidSlots.{read-own}
+use Rattle.superblock_reads.proofs.SaidSlots.{read-own}
 use Rattle.flat_history.specs.Stands.{has_room, reach_of}
 use Rattle.flat_history.proofs.SameLaws.{HaveSameMembers, read-same}
 use Rattle.views.specs.Whole.{Places, IsReadWhole, AreDrawnSuperblocks}

@@ -18,7 +18,7 @@ use Rattle.superblocks.specs.Update.{is_held_by}
 use Rattle.superblocks.specs.Outcome.{live_set}
 use Rattle.superblocks.specs.Reads.{has_spare}
 use Rattle.superblocks.proofs.ReadLists.{by_bool}
-use Rattle.superblocks.proofs.SaidSlots.{role-known, spare-known}
+use Rattle.superblock_reads.proofs.SaidSlots.{role-known, spare-known}
 use Rattle.row_io.specs.Rows.{members_without}
 use Rattle.views.specs.Marking.{marking}
 use Rattle.views.specs.Held.{IsHeldBy}

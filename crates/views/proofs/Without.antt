@@ -14,7 +14,7 @@ use Rattle.superblocks.specs.Update.{is_held_by, role_from}
 use Rattle.superblocks.specs.Outcome.{is_in_update, live_set}
 use Rattle.superblocks.specs.Reads.{has_spare}
 use Rattle.superblocks.proofs.SlotSets.{has-set_of, some_role}
-use Rattle.superblocks.proofs.SaidLists.{role-holder}
+use Rattle.superblock_reads.proofs.SaidLists.{role-holder}
 use Rattle.row_io.specs.Rows.{role_without, members_without}
 use Rattle.views.specs.Marking.{marking}
 

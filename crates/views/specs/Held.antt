@@ -9,7 +9,7 @@ use Rattle.superblocks.specs.Reading.{Scope}
 use Rattle.superblocks.specs.Outcome.{live_set}
 use Rattle.superblocks.specs.Stages.{AreLeft}
 use Rattle.superblocks.specs.Crash.{IsUpdatedTo}
-use Rattle.superblocks.specs.Said.{AreSaid}
+use Rattle.superblock_reads.specs.Said.{AreSaid}
 use Rattle.flat_history.specs.Same.{IsElsewhere}
 use Rattle.views.specs.Marking.{marking}
 

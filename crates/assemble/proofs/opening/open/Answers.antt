@@ -2,7 +2,7 @@ use Rattle.std.proofs.Common.{◌≡◌, ◌≤◌, ◌∙◌, ap, arith, length
 use Rattle.std.proofs.lemmas.List.{length-take-le}
 use Rattle.bank.specs.Given.{Given}
 use Rattle.bank.specs.Tape.{contents}
-use Rattle.superblocks.proofs.Elected.{lengths-taken}
+use Rattle.election.proofs.Elected.{lengths-taken}
 use Rattle.assemble.specs.Opening.{AreFlushed}
 use Rattle.views.proofs.Flushed.{contents-added}
 use Rattle.assemble.proofs.Judged.{ok-opened, err-caused, ok-writable, ok-own, ok-named, ok-sectors, given-as, on-ok, counted-by}

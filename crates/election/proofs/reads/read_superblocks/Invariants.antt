@@ -1,0 +1,18 @@
+use Rattle.std.proofs.Common.{◌≡◌, length}
+use Rattle.bank.specs.Tape.{contents}
+use Rattle.superblocks.specs.Found.{AreInSectors}
+use Rattle.superblocks.specs.Writing.{AreWritable}
+use Rattle.election.proofs.Looked.{IsRead}
+use Rattle.election.proofs.reads.read_superblocks.Given as goal
+
+abbrev pub invariant-loop-slot : goal.invariant-loop-slot
+invariant-loop-slot g l =
+    let given = g.B.Bank.given l.fn.bank in
+    let tape = g.B.Bank.tape l.fn.bank in
+    record {
+      same_tape : g.B.Bank.tells → g.B.Bank.tape l.bank ≡ tape;
+      writable : AreWritable given l.seen;
+      sectors : g.B.Bank.tells → AreInSectors (contents given.start tape (length tape)) l.seen;
+      same_given : g.B.Bank.given l.bank ≡ given;
+      read : IsRead g.B.Bank.tells given l.backup (contents given.start tape (length tape)) l.slot l.seen l.lost (g.B.Bank.faults_of l.fn.bank) (g.B.Bank.faults_of l.bank);
+    }

@@ -1,0 +1,16 @@
+pub mod ReadingChecks
+pub mod ReshapeChecks
+pub mod FlatChecks
+pub mod EpochChecks
+pub mod FitsChecks
+pub mod LeftChecks
+pub mod GoneChecks
+pub mod Refuted
+pub mod DirtyChecks
+pub mod SmallReshape
+pub mod CheckpointChecks
+pub mod WindowChecks
+pub mod FinishChecks
+pub mod LengthChecks
+pub mod NamingChecks
+pub mod SettledChecks

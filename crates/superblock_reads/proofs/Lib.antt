@@ -1,0 +1,14 @@
+pub mod StageReads
+pub mod WholeReads
+pub mod PlanFits
+pub mod PlannedAgain
+pub mod RoundReads
+pub mod SaidLists
+pub mod SaidSlots
+pub mod Accepted
+pub mod FoundHeld
+pub mod Tied
+pub mod RoundsRead
+pub mod Following
+pub mod MixedReads
+pub mod UpTo

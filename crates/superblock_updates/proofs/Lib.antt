@@ -1,0 +1,9 @@
+pub mod Turns
+pub mod Passes
+pub mod Naming
+pub mod RoleStates
+pub mod Orders
+pub mod Checksums
+pub mod HeldSlots
+pub mod RoleCounts
+pub mod Namings
