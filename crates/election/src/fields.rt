@@ -8,10 +8,10 @@ ghost use Rattle.superblocks.specs.Reading.{entry_of, is_reshaping, lies_within,
 ghost use Rattle.superblocks.specs.Verdict.{is_bad_size, is_bad_entry, is_late_entry, first_bad_entry, is_holder, is_role, judged_fields, bad_field};
 
 use crate::fresh::lies_within;
-use superblocks::says::{entry_of, is_reshaping, list_length, old_disks, role_count};
 use geometry::limits::{is_chunk, is_disk_count, is_layout, is_level, is_size};
 use md_base::Refusal;
 use sb1::Sb;
+use superblocks::says::{entry_of, is_reshaping, list_length, old_disks, role_count};
 
 /// The lowest offset of a field that is outside its limits, and behind the fields that of a role entry.
 pub fn bad_field(newest: &Sb, fresh: &[(Sb, u64)]) -> Option<Refusal>

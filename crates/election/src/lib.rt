@@ -17,13 +17,13 @@ pub mod numbers;
 pub mod position;
 pub mod reads;
 
-use superblocks::{Members, SbList};
 use bank::Bank;
 use found::{chosen_uuid, keep_array, newest};
 use judged::judge;
 use md_base::{Fault, Refusal};
 use reads::{lengths, read_superblocks};
 use std::alloc::Global;
+use superblocks::{Members, SbList};
 
 /// What the superblocks of a bank's member slots, which are all slots but the backup, say of the array with this uuid;
 /// without one, of the array of the first superblock. A slot that fails counts as one without a superblock, and is named

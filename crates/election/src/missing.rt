@@ -16,10 +16,10 @@ ghost use Rattle.superblocks.specs.Verdict.{
   AreValidShapes,
 };
 
-use superblocks::says::{is_clean, shape_of, target_of, tolerance};
 use layout::parity_only;
 use md_base::{Refusal, Role, Shape};
 use sb1::Sb;
+use superblocks::says::{is_clean, shape_of, target_of, tolerance};
 
 /// Whether a shape in force has more missing roles than its tolerance, the old one first.
 pub fn members_missing(newest: &Sb, roles: &[Role]) -> Option<Refusal>

@@ -10,10 +10,10 @@ ghost use Rattle.superblocks.specs.Writing.{IsMember, AreWritable};
 ghost use Rattle.superblocks.specs.Found.{IsInSectors, AreInSectors};
 ghost use Rattle.superblocks.specs.Election.{members_scope, seen_superblocks, IsCausedBy, OnlyMembersFail, AreLost};
 
-use superblocks::SbList;
 use bank::{Bank, BankFault};
 use sb1::{Sb, decode};
 use std::alloc::{AllocError, Global};
+use superblocks::SbList;
 
 // The superblock in two sectors.
 fn decoded(sectors: &[u8; 1024]) -> Option<Sb>

@@ -26,8 +26,8 @@ ghost use Rattle.views.specs.Steady.{IsSafeOver, KeepsSafe, AreGoneTold, IsUncle
 use crate::flushes::holders;
 use bank::Bank;
 use sb1::{Sb, fields_of};
-use superblocks::sets::without;
 use superblock_updates::update;
+use superblocks::sets::without;
 use superblocks::{Change, Give, Members};
 
 /// The first sector of a superblock.

@@ -23,8 +23,8 @@ use crate::flushes::holders;
 use crate::naming::name_missing;
 use bank::Bank;
 use row_io::lose_slot;
-use superblocks::sets::{with, without};
 use superblock_updates::update;
+use superblocks::sets::{with, without};
 use superblocks::{Change, Give, Members};
 
 // The update that makes a slot the holder of a role, which it recovers from this row on, or that is whole.

@@ -10,12 +10,11 @@ ghost use Rattle.sb1.specs.Writable.{IsWritable};
 ghost use Rattle.superblocks.specs.Update.{is_recovery, is_part, is_due, give_of, own_in, planned};
 ghost use Rattle.superblocks.specs.Writing.{IsMember, IsFirstSector, IsTurn, IsPlanned, IsWriting, AreMembers, AreWritten, AreLost, plan_of};
 
-use superblocks::{Give, Part};
-use superblocks::Members;
 use crate::plan::planned;
-use superblocks::sets::{contains, with};
 use bank::{Bank, BankFault, write_sector};
 use sb1::{Sb, sectors_of};
+use superblocks::sets::{contains, with};
+use superblocks::{Give, Members, Part};
 
 /// The first sector of a superblock.
 const SUPERBLOCK: u64 = 8;

@@ -3,8 +3,8 @@
 ghost use Rattle.std.specs.Prelude.{◌≡◌, ◌++◌, take, drop};
 ghost use Rattle.superblocks.specs.Update.{with_shared, with_recovery, with_give, planned};
 
-use superblocks::Give;
 use sb1::{Features, Sb};
+use superblocks::Give;
 
 const SHARED_BITS: u32 = 4 + 32;
 

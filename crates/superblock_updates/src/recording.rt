@@ -19,15 +19,14 @@ mod own;
 mod roles;
 mod spares;
 
-use superblocks::{Change, Lostness};
-use superblocks::Members;
-use superblocks::sets::without;
 use crate::writing::write_update;
 use bank::Bank;
 use live::{live_slots, take_added};
 use own::keep_own;
 use roles::keep_roles;
 use spares::keep_spares;
+use superblocks::sets::without;
+use superblocks::{Change, Lostness, Members};
 
 /// Records a change in the stored superblocks of the live slots, which hold a role, are spares or are made one, and in
 /// the members. First the slots that are behind come to the newest event count. Then the event count rises by one, and

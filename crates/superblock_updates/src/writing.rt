@@ -14,14 +14,13 @@ ghost use Rattle.bank.specs.Tape.{EachMark};
 ghost use Rattle.md_base.specs.Shapes.{has_slot};
 ghost use Rattle.superblocks.specs.declared.change.Give.TheVariants.{Same};
 
-use superblocks::{Change, Give, Part};
-use superblocks::Members;
 use crate::pass::write_slots;
 use crate::plan::with_shared;
-use superblocks::roles::enter_roles;
-use superblocks::sets::without;
 use bank::Bank;
 use sb1::Sb;
+use superblocks::roles::enter_roles;
+use superblocks::sets::without;
+use superblocks::{Change, Give, Members, Part};
 
 // Brings each live slot whose event count is behind to the newest's.
 fn catch_up<B: Bank>(bank: &mut B, members: &mut Members, live: u32)

@@ -8,11 +8,10 @@ ghost use Rattle.sb1.specs.Writable.{IsWritable};
 ghost use Rattle.superblocks.specs.Update.{planned, give_of, own_in};
 ghost use Rattle.superblocks.specs.Outcome.{IsStored, IsPlannedOwn, AreStored};
 
-use superblocks::Give;
-use superblocks::SbList;
 use crate::plan::planned;
-use superblocks::sets::contains;
 use sb1::{Sb, fields_of, sectors_of};
+use superblocks::sets::contains;
+use superblocks::{Give, SbList};
 
 // The fields of two sectors.
 fn decoded(sectors: &[u8; 1024]) -> Sb

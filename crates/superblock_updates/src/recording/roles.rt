@@ -8,12 +8,11 @@ ghost use Rattle.superblocks.specs.Reading.{role_count};
 ghost use Rattle.superblocks.specs.Update.{IsRoleGive, give_of, planned_role};
 ghost use Rattle.superblocks.specs.Outcome.{is_same, is_planned_holder, held_state, planned_state};
 
-use superblocks::Give;
-use superblocks::Members;
+use md_base::{Role, RoleList};
 use superblocks::roles::planned_role;
 use superblocks::says::role_count;
 use superblocks::sets::contains;
-use md_base::{Role, RoleList};
+use superblocks::{Give, Members};
 
 // The state of a role, which is missing where there is no such role.
 fn former_state(roles: &RoleList, role: u32) -> Role

@@ -5,11 +5,10 @@ ghost use Rattle.md_base.specs.Shapes.{has_slot};
 ghost use Rattle.superblocks.specs.Update.{is_planned_spare, give_of};
 ghost use Rattle.superblocks.specs.Outcome.{slots_below, planned_spares};
 
-use superblocks::Change;
-use superblocks::Members;
+use md_base::SlotList;
 use superblocks::roles::is_planned_spare;
 use superblocks::sets::{contains, with};
-use md_base::SlotList;
+use superblocks::{Change, Members};
 
 // The set of the spares after the update.
 fn spare_set(members: &Members, change: &Change) -> u32
