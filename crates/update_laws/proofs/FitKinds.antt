@@ -1,26 +1,31 @@
 -- Changes that are fit.
-use Rattle.std.proofs.Common.{◌≡◌, ◌⊎◌, inl, inr, ℕ, ◌+◌, ◌<◌, ◌==◌, ◌||◌, ◌&&◌, Bool, true, false, not, nat_lt, List, get_or, Option, Some, None, refl, sym, ◌∙◌, ap, subst, arith}
+use Rattle.std.proofs.Common.{◌≡◌, ◌⊎◌, inl, inr, ℕ, ◌+◌, ◌<◌, ◌==◌, ◌||◌, ◌&&◌, Bool, true, false, not, cond, nat_lt, nat_lt, List, get_or, Option, Some, None, refl, sym, ◌∙◌, ap, subst, arith}
 use Rattle.std.specs.List.{list_any}
+use Rattle.md_base.specs.Search.{tabulate}
+use Rattle.md_base.proofs.Tabulated.{length-tabulate, get_or-tabulate}
+use Rattle.views.proofs.PlacedLaws.{state-without}
+use Rattle.update_laws.proofs.Live.{without-holder}
+use Rattle.md_base.specs.declared.status.Role.{Role}
 use Rattle.md_base.specs.Shapes.{has_slot}
-use Rattle.md_base.specs.declared.status.Role.TheVariants.{Missing}
+use Rattle.md_base.specs.declared.status.Role.TheVariants.{Whole, Recovering, Missing}
 use Rattle.sb1.specs.declared.sb.Sb.{Sb}
 use Rattle.superblocks.specs.declared.change.Give.{Give}
-use Rattle.superblocks.specs.declared.change.Give.TheVariants.{Same}
+use Rattle.superblocks.specs.declared.change.Give.TheVariants.{Same, Spare}
 use Rattle.superblocks.specs.declared.change.Give.TheVariants as give
 use Rattle.superblocks.specs.declared.change.Change.{Change}
 use Rattle.superblocks.specs.declared.members.Members.{Members}
-use Rattle.superblocks.specs.Reading.{Scope, is_fresh, is_recovering, entry_of, lies_within, role_count, holder}
-use Rattle.superblocks.specs.Reads.{spare_in, has_spare}
-use Rattle.superblocks.specs.Update.{give_of, own_in, is_held_by, is_live, is_added, planned_role, is_planned_spare}
+use Rattle.superblocks.specs.Reading.{Scope, reading_by, role_state, is_fresh, is_recovering, entry_of, holds_role, lies_within, role_count, holder, holder_from}
+use Rattle.superblocks.specs.Reads.{held_in, spare_in, has_spare}
+use Rattle.superblocks.specs.Update.{give_of, own_in, is_recovery, is_held_by, is_live, is_added, planned_role, is_planned_spare}
 use Rattle.superblocks.specs.Outcome.{is_in_update}
 use Rattle.superblocks.specs.Held.{known_of}
 use Rattle.superblocks.specs.Plans.{KeepsRecovery}
 use Rattle.superblocks.proofs.ReadLists.{spares-at}
-use Rattle.superblock_reads.proofs.SaidLists.{role-holder}
-use Rattle.superblock_reads.proofs.SaidSlots.{below-length, listed, roles-count}
+use Rattle.superblock_reads.proofs.SaidLists.{role-holder, state-here}
+use Rattle.superblock_reads.proofs.SaidSlots.{below-length, listed, roles-count, role-said, role-known}
 use Rattle.row_io.specs.Rows.{members_without}
 use Rattle.update_laws.specs.Changing.{AreFieldsGood, IsFitUpdate}
-use Rattle.update_laws.specs.Kinds.{IsTaking, TakingIsFit}
+use Rattle.update_laws.specs.Kinds.{IsTaking, TakingIsFit, IsDropping, DroppingIsFit}
 use Rattle.update_laws.proofs.Kept.{without-less}
 use Rattle.update_laws.proofs.PlannedRoles.{count-planned}
 use Rattle.update_laws.specs.Plans.{Disk}
@@ -46,6 +51,28 @@ or-rest true b e none = refl
 or-rest false b e none = absurd (cc)
 
 -- ---- what the known superblocks say
+
+-- a slot on which a role is whole has no recovery bit
+said-whole : (sectors : ℕ → ℕ) (own : List (Option Sb)) (newest : Sb) (role slot : ℕ) (sb : Sb) → role_state (reading_by sectors own newest) role ≡ Whole slot
+    → get_or own slot None ≡ Some sb → is_recovering sb ≡ false
+said-whole sectors own newest role slot sb is there = of (holds_role newest role sb) (is_recovering sb) held
+  where
+    roles : List Role
+    roles = tabulate (role_count newest) (λ role. holder_from newest role 0 own)
+
+    below : role < role_count newest
+    below = let n = below-length roles role slot (ap holder is) in let long = length-tabulate (role_count newest) (λ role. holder_from newest role 0 own) in omega (arith, n, long)
+
+    from : holder_from newest role 0 own ≡ Whole slot
+    from = sym (get_or-tabulate (role_count newest) (λ role. holder_from newest role 0 own) role Missing below) ∙ is
+
+    held : held_in newest role slot (Some sb) ≡ Some (Whole slot)
+    held = ap (held_in newest role slot) (sym there) ∙ state-here newest role own slot (ap holder from) ∙ ap (λ (s : Role). Some s) from
+
+    of : (holds bit : Bool) → cond holds (Some (cond bit (Recovering slot) (Whole slot))) None ≡ Some (Whole slot) → bit ≡ false
+    of true true e = absurd (cc)
+    of true false e = refl
+    of false bit e = absurd (cc)
 
 module _ (scope : Scope) (former : Members) (gone : ℕ) (d : Disk) (held : IsHeldBy scope former d) where
   abbrev Old : Members
@@ -75,6 +102,15 @@ module _ (scope : Scope) (former : Members) (gone : ℕ) (d : Disk) (held : IsHe
           parts true true c d e h = refl
           parts true false c d e h = absurd (cc)
           parts false b c d e h = absurd (cc)
+
+  -- nor does the holder of a whole role
+  holder-whole : (role s : ℕ) (sb : Sb) → get_or Old.roles role Missing ≡ Whole s → own_in former.own s ≡ Some sb → is_recovering sb ≡ false
+  holder-whole role s sb is own =
+      let without = state-without gone former.roles role in
+      let was : get_or former.roles role Missing ≡ Whole s = sym (without-holder gone (get_or former.roles role Missing) s (ap holder (sym without ∙ is))) ∙ sym without ∙ is in
+      let k = role-known scope held.known former held.said role s (ap holder was) in
+      let same : k.1 ≡ sb = (let both : ◌≡◌ {A = Option Sb} (Some k.1) (Some sb) = sym k.2 ∙ own in cc) in
+      ap is_recovering (sym same) ∙ said-whole scope.sizes.sectors (known_of scope held.known former.own) former.newest role s k.1 (sym (role-said scope held.known former held.said role) ∙ was) k.3
 
   holder-role : (s role : ℕ) (g : Give) → g ≡ Same → planned_role Old.roles g s ≡ Some role → holder (get_or Old.roles role Missing) ≡ Some s
   holder-role s role g same is = role-holder s Old.roles role (sym (ap (λ (g : Give). planned_role Old.roles g s) same) ∙ is)
@@ -153,6 +189,51 @@ module _ (scope : Scope) (former : Members) (gone : ℕ) (d : Disk) (held : IsHe
         kept-recovery role None sb whole = whole
         kept-recovery role (Some offset) sb whole = tt
 
+  -- ---- holders that become spares
+
+  module _ (change : Change) (t : IsDropping Old change) (fields : AreFieldsGood Old change) where
+    kept-role : (s role : ℕ) → planned_role Old.roles (give_of change.gives s) s ≡ Some role → (give_of change.gives s ≡ Same) × (holder (get_or Old.roles role Missing) ≡ Some s)
+    kept-role s role is = elim (t.each s) [
+      | inl same ↦ (same, holder-role s role (give_of change.gives s) same is)
+      | inr (spare, other, holds) ↦ absurd (let none : ◌≡◌ {A = Option ℕ} None (Some role) = sym (ap (λ (g : Give). planned_role Old.roles g s) spare) ∙ is in cc)
+    ]
+
+    no-recovery : (s : ℕ) → is_recovery (give_of change.gives s) ≡ false
+    no-recovery s = elim (t.each s) [ inl same ↦ ap is_recovery same | inr (spare, other, holds) ↦ ap is_recovery spare ]
+
+    dropping-fit : IsFitUpdate Old change
+    dropping-fit = record {
+      none = t.none;
+      gives = λ s isnt. elim (t.each s) [
+        | inl same ↦ same
+        | inr (spare, role, holds) ↦ absurd (
+            let live : is_in_update Old change s ≡ true = or-first (is_live Old.roles Old.spares s) (is_added change.added s)
+            (or-first (list_any (is_held_by s) Old.roles) (has_spare former.spares s) (any-holder s Old.roles role (ap holder holds))) in
+            let both = sym isnt ∙ live in cc
+            )
+      ];
+      below = λ s role kept is. (let k = kept-role s role is in let under = t.below s role kept k.0 k.1 in let plan = count-planned Old change in omega (arith, under, plan));
+      one_holder = λ s u role kept kept' is is'. (let both : ◌≡◌ {A = Option ℕ} (Some s) (Some u) = sym (kept-role s role is).1 ∙ (kept-role u role is').1 in cc);
+      size = t.size;
+      fields = fields;
+      devices = λ s sb kept own. elim (t.each s) [
+        | inl same ↦ subst (λ (g : Give). KeepsRecovery g sb) (sym same) tt
+        | inr (spare, role, holds) ↦ subst (λ (g : Give). KeepsRecovery g sb) (sym spare) tt
+      ];
+      one = λ s u kept kept' first first'. absurd (let none = no-recovery s in let both = sym none ∙ first in cc);
+      spares = λ s sb kept own none so. elim (t.each s) [
+        | inl same ↦ absurd (
+            let was = or-rest (has_spare former.spares s) (is_added change.added s) (sym (ap (λ (g : Give). is_planned_spare former.spares change.added g s) same) ∙ so) (ap (λ (o : Option (ℕ × Sb)). is_added o s) t.none) in
+            let both = sym none ∙ was in cc
+            )
+        | inr (spare, role, holds) ↦ (holder-whole role s sb holds own, ap (λ (g : Give). planned_role Old.roles g s) spare)
+      ];
+    }
+
 pub taking-is-fit : TakingIsFit
 taking-is-fit scope former old change d since taking fields =
     subst (λ (o : Members). IsTaking o change → AreFieldsGood o change → IsFitUpdate o change) (sym since.since) (λ t good. taking-fit scope former since.gone d since.held change t good) taking fields
+
+pub dropping-is-fit : DroppingIsFit
+dropping-is-fit scope former old change d since dropping fields =
+    subst (λ (o : Members). IsDropping o change → AreFieldsGood o change → IsFitUpdate o change) (sym since.since) (λ t good. dropping-fit scope former since.gone d since.held change t good) dropping fields

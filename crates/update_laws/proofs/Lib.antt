@@ -5,6 +5,7 @@ pub mod LessViews
 pub mod PlannedRoles
 pub mod Started
 pub mod ChangeViews
+pub mod Stretch
 pub mod ChangeSafe
 pub mod CalledLaws
 pub mod Fields

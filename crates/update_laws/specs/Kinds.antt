@@ -1,11 +1,11 @@
 -- Kinds of updates, by what each owes of its change and of the view that it plans.
 use Rattle.std.specs.Prelude.{◌≡◌, ◌⊎◌, ℕ, ◌<◌, ◌≤◌, Bool, true, false, List, slice_index_or, Option, Some, None, ⊤}
 use Rattle.md_base.specs.Shapes.{has_slot}
-use Rattle.md_base.specs.declared.status.Role.TheVariants.{Missing}
+use Rattle.md_base.specs.declared.status.Role.TheVariants.{Whole, Missing}
 use Rattle.bank.specs.declared.bank.Operation.{Operation}
 use Rattle.bank.specs.Given.{Given}
 use Rattle.bank.specs.Tape.{disk}
-use Rattle.superblocks.specs.declared.change.Give.TheVariants.{Same}
+use Rattle.superblocks.specs.declared.change.Give.TheVariants.{Same, Spare}
 use Rattle.superblocks.specs.declared.change.Give.TheVariants as give
 use Rattle.superblocks.specs.declared.change.Change.{Change}
 use Rattle.superblocks.specs.declared.members.Members.{Members}
@@ -75,6 +75,21 @@ pub record IsTaking (old : Members) (change : Change) : Type 0 where
 -- Such a change is fit, if no field of what it plans is refused.
 abbrev pub TakingIsFit : Type 0
 TakingIsFit = (scope : Scope) (former old : Members) (change : Change) (d : Disk) → IsHeldSince scope former old d → IsTaking old change → AreFieldsGood old change → IsFitUpdate old change
+
+-- A slot stays what it is, or it becomes a spare, where it holds a role that is dropped and is whole.
+abbrev pub IsDroppedBy : Members → Change → ℕ → Type 0
+IsDroppedBy old change s = (give_of change.gives s ≡ Same) ⊎ ((give_of change.gives s ≡ Spare) × (role : ℕ) × (slice_index_or old.roles role Missing ≡ Whole s))
+
+-- Holders of roles become spares, and the roles of the others, of the slots that aren't lost, are below the new count.
+pub record IsDropping (old : Members) (change : Change) : Type 0 where
+  pub none : change.added ≡ None
+  pub size : change.shared.size ≡ old.newest.size
+  pub each : (s : ℕ) → IsDroppedBy old change s
+  pub below : (s role : ℕ) → has_slot old.lost s ≡ false → give_of change.gives s ≡ Same → holder (slice_index_or old.roles role Missing) ≡ Some s → role < role_count change.shared
+
+-- So is such a change.
+abbrev pub DroppingIsFit : Type 0
+DroppingIsFit = (scope : Scope) (former old : Members) (change : Change) (d : Disk) → IsHeldSince scope former old d → IsDropping old change → AreFieldsGood old change → IsFitUpdate old change
 
 -- ---- a role that is given
 

@@ -4,7 +4,7 @@
 ghost use Rattle.std.specs.Prelude.{⊤};
 ghost use Rattle.update_laws.specs.Called.{UpdateIsChange};
 ghost use Rattle.update_laws.specs.Changing.{ChangeStaysSafe, SpentStaysSpent, SafeChangeStaysSafe};
-ghost use Rattle.update_laws.specs.Kinds.{KeptStaysSafe, MarkStaysSafe, GivingStaysSafe, TakingIsFit};
+ghost use Rattle.update_laws.specs.Kinds.{KeptStaysSafe, MarkStaysSafe, GivingStaysSafe, TakingIsFit, DroppingIsFit};
 ghost use Rattle.update_laws.specs.Making.{MakingStaysSafe};
 ghost use Rattle.update_laws.specs.Plans.{PlannedIsRead, PlacedLessIsRight, PlansLoseRoles};
 
@@ -49,6 +49,11 @@ pub fn a_mark_stays_safe()
 /// A change by which spares get vacant roles is fit.
 pub fn taking_is_fit()
     ensures { TakingIsFit }
+{}
+
+/// So is one by which holders of roles that are dropped become spares.
+pub fn dropping_is_fit()
+    ensures { DroppingIsFit }
 {}
 
 /// The update that gives a vacant role to a spare keeps an array safe.
