@@ -13,7 +13,7 @@ use Rattle.bank.specs.Tape.{Contents, EachMark, Did, disk, run}
 use Rattle.std.proofs.lemmas.Bool.{cases_eq}
 use Rattle.std.specs.Prelude.{slice_index}
 use Rattle.bank.proofs.Calls.{did_marks}
-use Rattle.bank.proofs.Marks.{each_mark-map, each_mark-then}
+use Rattle.bank.proofs.Marks.{each_mark-map, each_mark-then, each_mark-told}
 use Rattle.bank.proofs.Laws.{disk-append}
 use Rattle.layout.specs.Layout.{row_roles, IsParity}
 use Rattle.layout.proofs.Places.{parity-or_sector}
@@ -25,12 +25,15 @@ use Rattle.row_io.specs.Writes.{new_sector}
 use Rattle.row_io.proofs.Turns.{marks_last}
 use Rattle.row_io.proofs.Written.{present-is, present-same}
 use Rattle.list_io.specs.Full.{full_sector}
-use Rattle.list_io.specs.Writing.{AreDataOf, HasFull}
+use Rattle.list_io.specs.Writing.{AreDataOf, AreSuperblocksKept, HasFull}
 use Rattle.list_io.specs.Buffers.{buffered, AreDistinct}
 use Rattle.list_io.proofs.FullLaws.{full-data, new-full}
 use Rattle.list_io.proofs.PartBytes.{sector-part}
 use Rattle.views.specs.Placed.{IsPlaced}
 use Rattle.views.specs.Rebuilding.{IsUnheld, IsFilling, IsFilledAmong}
+use Rattle.safe_updates.specs.Named.{AreDataKept}
+use Rattle.safe_rows.specs.Filled.{IsNamedFirst}
+use Rattle.views.proofs.LackingWrites.{marks-here}
 
 -- ---- a role's sector
 
@@ -67,6 +70,14 @@ pub filling-then : (members : Members) (role slot : ℕ) (d e f : ℕ → ℕ �
 filling-then members role slot d e f one two s k = elim (two s k) [
   | inl still ↦ elim (one s k) [ inl same ↦ inl (still ∙ same) | inr there ↦ inr there ]
   | inr there ↦ inr there
+]
+
+-- no superblock is among them
+pub filling-kept : (given : Given) (members : Members) (role slot : ℕ) (d e : ℕ → ℕ → List Sector) → IsPlaced given members → role_state (reading_of members) role ≡ Recovering slot
+    → IsFilling members role slot d e → AreSuperblocksKept d e
+filling-kept given members role slot d e placed recovers filling s at low = elim (filling s at) [
+  | inl same ↦ same
+  | inr there ↦ absurd (let behind = placed.behind role slot (ap holder recovers) in let is = there.1.4 in omega (arith, low, behind, is))
 ]
 
 -- what stands is filled in at the same places
@@ -172,3 +183,33 @@ full-next given members role slot shape list b c placed recovers rows once held 
       let early : j < i = omega (arith, below, other) in
       full-still given members role slot (λ other. other ≡ slice_index rows i) shape list b c placed recovers filled (slice_index rows j) (λ e. once j i early lt e) (before j early high)
 ]
+
+-- ---- names before data
+
+-- nothing is written
+pub named-none : {tells : Type 0} (given : Given) (old new : List Operation) → (tells → new ≡ old) → EachMark tells given.start old new (IsNamedFirst (disk given.start old) (disk given.start new))
+named-none {tells = tells} given old new same = each_mark-told (λ told.
+    subst (λ (l : List Operation). EachMark tells given.start old l (IsNamedFirst (disk given.start old) (disk given.start l))) (sym (same told))
+    (marks-here {P = IsNamedFirst (disk given.start old) (disk given.start old)} tells given.start old (inl (λ s k other. inl refl))))
+
+-- no data is written
+pub named-only : {tells : Type 0} (given given1 : Given) (tape0 tape1 tape2 : List Operation) → given1 ≡ given → (tells → tape1 ≡ tape0)
+    → EachMark tells given1.start tape1 tape2 (AreDataKept (disk given1.start tape1)) → EachMark tells given.start tape0 tape2 (IsNamedFirst (disk given.start tape0) (disk given.start tape2))
+named-only {tells = tells} given given1 tape0 tape1 tape2 is same still = each_mark-told (λ told.
+    each_mark-map (IsNamedFirst (disk given.start tape0) (disk given.start tape2)) (λ told' e kept. inl kept)
+    (subst (λ (l : List Operation). EachMark tells given.start l tape2 (AreDataKept (disk given.start l))) (same told)
+    (subst (λ (b : Given). EachMark tells b.start tape1 tape2 (AreDataKept (disk b.start tape1))) is still)))
+
+-- names are written, and then data
+pub named-first : {tells : Type 0} (given given1 given2 : Given) (tape0 tape1 tape2 tape3 : List Operation) → given1 ≡ given → given2 ≡ given → (tells → tape1 ≡ tape0)
+    → EachMark tells given1.start tape1 tape2 (AreDataKept (disk given1.start tape1)) → EachMark tells given2.start tape2 tape3 (AreSuperblocksKept (disk given2.start tape2))
+    → EachMark tells given.start tape0 tape3 (IsNamedFirst (disk given.start tape0) (disk given.start tape3))
+named-first {tells = tells} given given1 given2 tape0 tape1 tape2 tape3 one two same first kept =
+    let late : EachMark tells given.start tape2 tape3 (AreSuperblocksKept (disk given.start tape2)) = subst (λ (b : Given). EachMark tells b.start tape2 tape3 (AreSuperblocksKept (disk b.start tape2))) two kept in
+    each_mark-told (λ told.
+    each_mark-then
+    (each_mark-map (IsNamedFirst (disk given.start tape0) (disk given.start tape3)) (λ told' e still. inl still)
+    (subst (λ (l : List Operation). EachMark tells given.start l tape2 (AreDataKept (disk given.start l))) (same told)
+    (subst (λ (b : Given). EachMark tells b.start tape1 tape2 (AreDataKept (disk b.start tape1))) one first)))
+    (each_mark-map (IsNamedFirst (disk given.start tape0) (disk given.start tape3))
+    (λ told' e still. inr (λ s at low. still s at low ∙ sym (marks_last {P = AreSuperblocksKept (disk given.start tape2)} late told s at low))) late))

@@ -11,15 +11,17 @@ ghost use Rattle.superblocks.specs.Reading.{is_reshaping, shape_of, is_clean, ro
 ghost use Rattle.row_io.specs.Rows.{reading_of, present};
 ghost use Rattle.list_io.specs.Full.{full_sector};
 ghost use Rattle.list_io.specs.Buffers.{AreDistinct, IsTouched};
-ghost use Rattle.list_io.specs.Writing.{AreDataOf, AreDataFrom, HasFull};
+ghost use Rattle.list_io.specs.Writing.{AreDataOf, AreDataFrom, AreSuperblocksKept, HasFull};
 ghost use Rattle.flat_history.specs.World.{World};
 ghost use Rattle.views.specs.Whole.{list_size};
 ghost use Rattle.views.specs.Placed.{places_of, IsPlaced, AreUnlost};
 ghost use Rattle.views.specs.Moving.{Grows, IsMoved};
-ghost use Rattle.views.specs.Safety.{HasRoomLeft, IsRisen};
+ghost use Rattle.views.specs.Safety.{HasLiveSlot, HasRoomLeft, IsRisen};
 ghost use Rattle.views.specs.Status.{stripes_of};
 ghost use Rattle.views.specs.Lacking.{HaveFailedSince, AreTooMany, ListStands, RowsStandAmong, IsOfStripe};
 ghost use Rattle.views.specs.Rebuilding.{AreSparesFree, IsFilling, IsFilledAmong};
+ghost use Rattle.safe_updates.specs.Named.{AreNamedMissing};
+ghost use Rattle.safe_rows.specs.Filled.{IsNamedFirst};
 ghost use Rattle.views.specs.Views.{Ledger};
 ghost use Rattle.views.specs.Steady.{IsSafeOver, KeepsSafe, AreGoneTold, IsUncleanTold};
 
@@ -30,7 +32,7 @@ use md_base::{Refusal, Role, Shape};
 use parity::syndromes;
 use row_io::lose_slot;
 use safe_updates::naming::name_missing;
-use safe_updates::refusing::refused_by;
+use safe_updates::refusing::{refused_by, too_many};
 use safe_updates::roles::list_length;
 use superblocks::Members;
 
@@ -148,8 +150,8 @@ fn write_filled<B: Bank>(
     true
 }
 
-// Writes what belongs to the role, of these rows of the buffer, to the slot that recovers it, if one does. A slot that fails
-// is lost.
+// Writes what belongs to the role, of these rows of the buffer, to the slot that recovers it, if one does; each role that no
+// slot holds is named by then. A slot that fails is lost, and named. The spares that were lost in this.
 fn fill_rows<B: Bank>(
     members: &mut Members,
     bank: &mut B,
@@ -157,9 +159,12 @@ fn fill_rows<B: Bank>(
     target: &Target,
     rows: &[u64],
     buffer: &mut [u8],
-)
+) -> u32
+    requires slots { (B.given bank.old).slots ≤ 32 }
     requires placed { IsPlaced (B.given bank.old) members.old }
     requires unlost { AreUnlost members.old }
+    requires free { AreSparesFree (B.given bank.old) members.old }
+    requires named { role_state (reading_of members.old) target.now.role ≡ IsRecovering target.now.slot → AreNamedMissing members.old }
     requires shape { shape.now ≡ shape_of members.old.newest }
     requires role { target.now.role < shape.now.disks }
     requires recovering { (slot : ℕ) → role_state (reading_of members.old) target.now.role ≡ IsRecovering slot → slot ≡ target.now.slot }
@@ -169,8 +174,11 @@ fn fill_rows<B: Bank>(
     requires once { AreDistinct rows.now }
     requires buffer { 8192 * length rows.now ≤ length buffer.old }
     ensures moved { IsMoved (B.given bank.old) members.old members.new }
-    ensures failed { HaveFailedSince members.old members.new 0 (B.faults_of bank.old) (B.faults_of bank.new) }
-    ensures newest { members.new.newest ≡ members.old.newest }
+    ensures failed { HaveFailedSince members.old members.new result (B.faults_of bank.old) (B.faults_of bank.new) }
+    ensures clean { is_clean members.new.newest ≡ is_clean members.old.newest }
+    ensures missing { AreNamedMissing members.old → HasLiveSlot members.new → AreNamedMissing members.new }
+    ensures kept { role_state (reading_of members.new) target.now.role ≡ IsRecovering target.now.slot → let start = (B.given bank.old).start in EachMark B.tells start (B.tape bank.old) (B.tape bank.new)
+        (AreSuperblocksKept (disk start (B.tape bank.old))) }
     ensures written { role_state (reading_of members.new) target.now.role ≡ IsRecovering target.now.slot → B.tells → (list : ℕ → Sector) → AreDataFrom 0 shape.now list rows.now buffer.old
         → (i : ℕ) → i < length rows.now → target.now.held ≤ slice_index rows.now i
         → HasFull (reading_of members.new) (present (B.given bank.old) (B.tape bank.new)) shape.now list (slice_index rows.now i) target.now.role target.now.slot }
@@ -178,22 +186,26 @@ fn fill_rows<B: Bank>(
         × IsFilledAmong members.old target.now.role target.now.slot (Contains rows.now) (present (B.given bank.old) (B.tape bank.old)) (present (B.given bank.old) (B.tape bank.new))) }
     ensures grows { Grows B.tells (B.tape bank.old) (B.tape bank.new) }
     ensures rise { IsRisen B.tells members.old members.new (B.tape bank.old) (B.tape bank.new) }
-    ensures safe { B.tells → (world : World) → (size : ℕ) → (told : Ledger) → IsSafeOver world (B.given bank.old) size told members.old (B.tape bank.old)
+    ensures safe { B.tells → (world : World) → (size : ℕ) → (told : Ledger) → HasRoomLeft members.old (B.tape bank.old) (B.tape bank.new)
+        → AreGoneTold told members.new → IsUncleanTold told members.old → IsSafeOver world (B.given bank.old) size told members.old (B.tape bank.old)
         → KeepsSafe world (B.given bank.old) size told members.new (B.tape bank.old) (B.tape bank.new) }
     ensures given { B.given bank.new ≡ B.given bank.old }
     ensures counts { NeverFalls (B.faults_of bank.old) (B.faults_of bank.new) }
     ensures size { length buffer.new ≡ length buffer.old }
 {
     if recovering_slot(members, target.role).is_none() {
-        return;
+        return 0;
     }
-    if !write_filled(members, bank, shape, target, rows, buffer) {
-        let _ = lose_slot(members, target.slot);
+    if write_filled(members, bank, shape, target, rows, buffer) {
+        return 0;
     }
+    let _ = lose_slot(members, target.slot);
+    name_missing(members, bank)
 }
 
-// Reads rows, as many as so many sectors of the list from `first` on have their places in, and writes what belongs to the
-// role to the slot that recovers it; names the roles that no slot holds.
+// Reads rows, as many as so many sectors of the list from `first` on have their places in; names the roles that no slot
+// holds; and then writes what belongs to the role to the slot that recovers it. It ends before it writes where more are missing
+// than the array can do without.
 fn fill_part<B: Bank>(
     members: &mut Members,
     bank: &mut B,
@@ -223,6 +235,9 @@ fn fill_part<B: Bank>(
     ensures refused { MatchOption result.refusal ⊤ (AreTooMany members.new) }
     ensures grows { Grows B.tells (B.tape bank.old) (B.tape bank.new) }
     ensures clean { is_clean members.new.newest ≡ is_clean members.old.newest }
+    ensures missing { result.refusal ≡ None → HasLiveSlot members.new → AreNamedMissing members.new }
+    ensures named { role_state (reading_of members.new) target.now.role ≡ IsRecovering target.now.slot → let start = (B.given bank.old).start in EachMark B.tells start (B.tape bank.old) (B.tape bank.new)
+        (IsNamedFirst (disk start (B.tape bank.old)) (disk start (B.tape bank.new))) }
     ensures filled { result.refusal ≡ None → role_state (reading_of members.new) target.now.role ≡ IsRecovering target.now.slot → B.tells → (list : ℕ → Sector)
         → ListStands members.old (present (B.given bank.old) (B.tape bank.old)) list → RowsStandAmong (IsTouched shape.now first count) members.old (present (B.given bank.old) (B.tape bank.old)) list
         → (row : ℕ) → IsTouched shape.now first count row → target.now.held ≤ row
@@ -242,11 +257,18 @@ fn fill_part<B: Bank>(
     if refusal.is_some() {
         return Filled { spares: 0, refusal };
     }
+    let named = name_missing(members, bank);
+    let refusal = too_many(members);
+    if refusal.is_some() {
+        return Filled {
+            spares: named,
+            refusal,
+        };
+    }
     let bytes = buffer.as_mut_slice();
-    fill_rows(members, bank, shape, target, rows.as_slice(), bytes);
-    let spares = name_missing(members, bank);
+    let lost = fill_rows(members, bank, shape, target, rows.as_slice(), bytes);
     Filled {
-        spares,
+        spares: named | lost,
         refusal: None,
     }
 }
@@ -289,8 +311,8 @@ fn target_of(members: &Members, role: u32, slot: u32) -> Target
 }
 
 /// Rebuilds a stripe of a role on the slot that recovers it: reads its rows, a part of them at a time, and writes what
-/// belongs to the role, where the slot doesn't hold it yet; names the roles that no slot holds. It ends where more are
-/// missing than the array can do without, or that slot is lost.
+/// belongs to the role, where the slot doesn't hold it yet; what is lost in reading is named before the rows that were read are
+/// written. It ends where more are missing than the array can do without, or that slot is lost.
 pub fn fill<B: Bank>(
     members: &mut Members,
     bank: &mut B,

@@ -1,9 +1,9 @@
-use Rattle.std.proofs.Common.{◌≡◌, ℕ, ◌<◌, ◌≤◌, true, List, length, inl, inr, refl, sym, ◌∙◌, ap, subst, arith}
+use Rattle.std.proofs.Common.{◌≡◌, ℕ, ◌<◌, ◌≤◌, true, false, List, length, inl, inr, refl, sym, ◌∙◌, ap, subst, arith}
 use Rattle.std.specs.Prelude.{Option, Contains, is_some, slice_index}
 use Rattle.md_base.specs.declared.places.Shape.{Shape}
 use Rattle.md_base.specs.declared.answers.Refusal.{Refusal}
 use Rattle.md_base.specs.declared.status.Role.TheVariants.{Recovering}
-use Rattle.bank.specs.Given.{Given}
+use Rattle.bank.specs.Given.{Given, NeverFalls}
 use Rattle.bank.specs.declared.bank.Operation.{Operation}
 use Rattle.superblocks.specs.declared.members.Members.{Members}
 use Rattle.superblocks.specs.Reading.{role_state, holder, is_clean}
@@ -19,13 +19,15 @@ use Rattle.views.specs.Moving.{Grows, IsMoved}
 use Rattle.views.specs.Safety.{IsRisen}
 use Rattle.views.specs.Lacking.{HaveFailedSince}
 use Rattle.views.specs.Rebuilding.{AreSparesFree, IsFilledAmong}
-use Rattle.views.specs.Steady.{KeepsSafe, IsUncleanTold}
+use Rattle.views.specs.Steady.{KeepsSafe, AreGoneTold, IsUncleanTold}
 use Rattle.views.proofs.MovedLaws.{moved-lost, moved-then, moved-from, grows-none, grows-then}
-use Rattle.views.proofs.LackingLaws.{since-lost, since-then, in-second}
-use Rattle.views.proofs.LackingWrites.{lost-of, ok-of, recovering-before, full-later}
-use Rattle.views.proofs.Risen.{risen-lost, risen-then, room-then}
-use Rattle.views.proofs.SafeStretch.{safe-then, safe-lost, over-at, keeps-from}
-use Rattle.safe_rows.proofs.FillingLaws.{filled-none}
+use Rattle.views.proofs.LackingLaws.{since-lost, since-then, in-second, in-either}
+use Rattle.views.proofs.LackingLists.{none-of}
+use Rattle.views.proofs.LackingWrites.{lost-of, ok-of, recovering-before}
+use Rattle.views.proofs.Risen.{risen-lost, risen-then, room-first, room-then}
+use Rattle.views.proofs.SafeStretch.{safe-then, safe-lost, over-at, keeps-from, grows-longer, gone-before}
+use Rattle.views.proofs.LiveLeft.{holder-left}
+use Rattle.safe_rows.proofs.FillingLaws.{filled-none, filled-then, named-first, named-only, named-none}
 use Rattle.views.proofs.FilledParts.{recovered-alone, recovered-rows, filled-before, others-filled, at-touched}
 use Rattle.safe_rows.proofs.filling.fill_part.Goals as goal
 
@@ -90,8 +92,13 @@ returns-then-is_some-clause-safe g c =
     let tape1 = g.B.Bank.tape c.read_touched-read.new.bank in
     safe-lost (OpensFit world) world.scope given size ledger m n r tape0 tape1 did.lost.members (did.tape told) safe
 
-pub fill_rows-requires-clause-placed : goal.fill_rows-requires-clause-placed
-fill_rows-requires-clause-placed g c =
+pub returns-then-is_some-clause-named : goal.returns-then-is_some-clause-named
+returns-then-is_some-clause-named g c =
+    λ still.
+    named-none (g.B.Bank.given c.args.bank.now) (g.B.Bank.tape c.args.bank.now) (g.B.Bank.tape c.read_touched-read.new.bank) c.read_touched-read.ensures.tape
+
+pub name_missing-named-requires-clause-placed : goal.name_missing-named-requires-clause-placed
+name_missing-named-requires-clause-placed g c =
     let m = c.args.members.now in
     let n = c.read_touched-read.new.members in
     let given = g.B.Bank.given c.args.bank.now in
@@ -102,28 +109,11 @@ fill_rows-requires-clause-placed g c =
     let shape = c.args.shape.now in
     let did = c.read_touched-read.ensures in
     let lost : AreLost given shape m n r f0 f1 = lost-of given shape m n r f0 f1 c.requires.placed did.lost in
+    let one : IsMoved given m n = moved-lost given shape m n r f0 f1 c.requires.placed lost c.requires.unlost in
     subst (λ (b : Given). IsPlaced b n) (sym did.given) lost.placed
 
-pub fill_rows-requires-clause-unlost : goal.fill_rows-requires-clause-unlost
-fill_rows-requires-clause-unlost g c =
-    let m = c.args.members.now in
-    let n = c.read_touched-read.new.members in
-    let given = g.B.Bank.given c.args.bank.now in
-    let given1 = g.B.Bank.given c.read_touched-read.new.bank in
-    let f0 = g.B.Bank.faults_of c.args.bank.now in
-    let f1 = g.B.Bank.faults_of c.read_touched-read.new.bank in
-    let r = c.read_touched-read.result.lost in
-    let shape = c.args.shape.now in
-    let did = c.read_touched-read.ensures in
-    let lost : AreLost given shape m n r f0 f1 = lost-of given shape m n r f0 f1 c.requires.placed did.lost in
-    (moved-lost given shape m n r f0 f1 c.requires.placed lost c.requires.unlost).unlost
-
-pub fill_rows-requires-clause-below : goal.fill_rows-requires-clause-below
-fill_rows-requires-clause-below g c row has =
-    subst (λ (x : Members). row < x.newest.size) (sym c.read_touched-read.ensures.lost.members) (c.read_touched-read.ensures.below row (subst (λ (l : List ℕ). Contains l row) c.as_slice.ensures.value has))
-
-pub fill_rows-requires-clause-recovering : goal.fill_rows-requires-clause-recovering
-fill_rows-requires-clause-recovering g c =
+pub name_missing-named-requires-clause-unlost : goal.name_missing-named-requires-clause-unlost
+name_missing-named-requires-clause-unlost g c =
     let m = c.args.members.now in
     let n = c.read_touched-read.new.members in
     let given = g.B.Bank.given c.args.bank.now in
@@ -135,10 +125,10 @@ fill_rows-requires-clause-recovering g c =
     let did = c.read_touched-read.ensures in
     let lost : AreLost given shape m n r f0 f1 = lost-of given shape m n r f0 f1 c.requires.placed did.lost in
     let one : IsMoved given m n = moved-lost given shape m n r f0 f1 c.requires.placed lost c.requires.unlost in
-    λ slot recovers. recovered-alone one c.args.target.now.role c.args.target.now.slot slot c.requires.recovering recovers
+    one.unlost
 
-pub fill_rows-requires-clause-held : goal.fill_rows-requires-clause-held
-fill_rows-requires-clause-held g c =
+pub name_missing-named-requires-clause-free : goal.name_missing-named-requires-clause-free
+name_missing-named-requires-clause-free g c =
     let m = c.args.members.now in
     let n = c.read_touched-read.new.members in
     let given = g.B.Bank.given c.args.bank.now in
@@ -150,10 +140,10 @@ fill_rows-requires-clause-held g c =
     let did = c.read_touched-read.ensures in
     let lost : AreLost given shape m n r f0 f1 = lost-of given shape m n r f0 f1 c.requires.placed did.lost in
     let one : IsMoved given m n = moved-lost given shape m n r f0 f1 c.requires.placed lost c.requires.unlost in
-    λ recovers. c.requires.held ∙ sym (recovered-rows one c.args.target.now.role c.args.target.now.slot recovers)
+    subst (λ (b : Given). AreSparesFree b n) (sym did.given) (one.free c.requires.free)
 
-pub name_missing-spares-requires-clause-free : goal.name_missing-spares-requires-clause-free
-name_missing-spares-requires-clause-free g c =
+pub returns-then-is_some-2-clause-moved : goal.returns-then-is_some-2-clause-moved
+returns-then-is_some-2-clause-moved g c =
     let m = c.args.members.now in
     let n = c.read_touched-read.new.members in
     let given = g.B.Bank.given c.args.bank.now in
@@ -165,10 +155,437 @@ name_missing-spares-requires-clause-free g c =
     let did = c.read_touched-read.ensures in
     let lost : AreLost given shape m n r f0 f1 = lost-of given shape m n r f0 f1 c.requires.placed did.lost in
     let one : IsMoved given m n = moved-lost given shape m n r f0 f1 c.requires.placed lost c.requires.unlost in
-    let p = c.fill_rows.new.members in
-    let given2 = g.B.Bank.given c.fill_rows.new.bank in
-    let two : IsMoved given n p = moved-from given given1 n n p did.given refl c.fill_rows.ensures.moved in
-    subst (λ (b : Given). AreSparesFree b p) (sym (c.fill_rows.ensures.given ∙ did.given)) (two.free (one.free c.requires.free))
+    let p = c.name_missing-named.new.members in
+    let given2 = g.B.Bank.given c.name_missing-named.new.bank in
+    let f2 = g.B.Bank.faults_of c.name_missing-named.new.bank in
+    let named = c.name_missing-named.ensures in
+    let same2 : given2 ≡ given = named.given ∙ did.given in
+    let two : IsMoved given n p = moved-from given given1 n n p did.given refl named.moved in
+    let both : IsMoved given m p = moved-then given m n p one two in
+    let s = c.name_missing-named.result in
+    let role = c.args.target.now.role in
+    let slot = c.args.target.now.slot in
+    both
+
+pub returns-then-is_some-2-clause-failed : goal.returns-then-is_some-2-clause-failed
+returns-then-is_some-2-clause-failed g c =
+    let m = c.args.members.now in
+    let n = c.read_touched-read.new.members in
+    let given = g.B.Bank.given c.args.bank.now in
+    let given1 = g.B.Bank.given c.read_touched-read.new.bank in
+    let f0 = g.B.Bank.faults_of c.args.bank.now in
+    let f1 = g.B.Bank.faults_of c.read_touched-read.new.bank in
+    let r = c.read_touched-read.result.lost in
+    let shape = c.args.shape.now in
+    let did = c.read_touched-read.ensures in
+    let lost : AreLost given shape m n r f0 f1 = lost-of given shape m n r f0 f1 c.requires.placed did.lost in
+    let one : IsMoved given m n = moved-lost given shape m n r f0 f1 c.requires.placed lost c.requires.unlost in
+    let p = c.name_missing-named.new.members in
+    let given2 = g.B.Bank.given c.name_missing-named.new.bank in
+    let f2 = g.B.Bank.faults_of c.name_missing-named.new.bank in
+    let named = c.name_missing-named.ensures in
+    let same2 : given2 ≡ given = named.given ∙ did.given in
+    let two : IsMoved given n p = moved-from given given1 n n p did.given refl named.moved in
+    let both : IsMoved given m p = moved-then given m n p one two in
+    let s = c.name_missing-named.result in
+    let role = c.args.target.now.role in
+    let slot = c.args.target.now.slot in
+    let failed2 : HaveFailedSince m p s f0 f2 = since-then m n p 0 s s f0 f1 f2 did.lost.never_falls named.counts (since-lost given shape m n r f0 f1 lost) named.failed (in-second s) in
+    failed2
+
+pub returns-then-is_some-2-clause-grows : goal.returns-then-is_some-2-clause-grows
+returns-then-is_some-2-clause-grows g c =
+    let early : Grows g.B.Bank.tells (g.B.Bank.tape c.args.bank.now) (g.B.Bank.tape c.read_touched-read.new.bank) = grows-none c.read_touched-read.ensures.tape in
+    grows-then early c.name_missing-named.ensures.grows
+
+pub returns-then-is_some-2-clause-clean : goal.returns-then-is_some-2-clause-clean
+returns-then-is_some-2-clause-clean g c =
+    c.name_missing-named.ensures.clean ∙ ap (λ (x : Members). is_clean x.newest) c.read_touched-read.ensures.lost.members
+
+pub returns-then-is_some-2-clause-named : goal.returns-then-is_some-2-clause-named
+returns-then-is_some-2-clause-named g c =
+    λ still.
+    let m = c.args.members.now in
+    let n = c.read_touched-read.new.members in
+    let given = g.B.Bank.given c.args.bank.now in
+    let given1 = g.B.Bank.given c.read_touched-read.new.bank in
+    let f0 = g.B.Bank.faults_of c.args.bank.now in
+    let f1 = g.B.Bank.faults_of c.read_touched-read.new.bank in
+    let r = c.read_touched-read.result.lost in
+    let shape = c.args.shape.now in
+    let did = c.read_touched-read.ensures in
+    let lost : AreLost given shape m n r f0 f1 = lost-of given shape m n r f0 f1 c.requires.placed did.lost in
+    let one : IsMoved given m n = moved-lost given shape m n r f0 f1 c.requires.placed lost c.requires.unlost in
+    let p = c.name_missing-named.new.members in
+    let given2 = g.B.Bank.given c.name_missing-named.new.bank in
+    let f2 = g.B.Bank.faults_of c.name_missing-named.new.bank in
+    let named = c.name_missing-named.ensures in
+    let same2 : given2 ≡ given = named.given ∙ did.given in
+    let two : IsMoved given n p = moved-from given given1 n n p did.given refl named.moved in
+    let both : IsMoved given m p = moved-then given m n p one two in
+    let s = c.name_missing-named.result in
+    let role = c.args.target.now.role in
+    let slot = c.args.target.now.slot in
+    let tape0 = g.B.Bank.tape c.args.bank.now in
+    let tape1 = g.B.Bank.tape c.read_touched-read.new.bank in
+    let tape2 = g.B.Bank.tape c.name_missing-named.new.bank in
+    named-only given given1 tape0 tape1 tape2 did.given did.tape named.«data»
+
+pub returns-then-is_some-2-clause-others : goal.returns-then-is_some-2-clause-others
+returns-then-is_some-2-clause-others g c =
+    λ told.
+    let m = c.args.members.now in
+    let n = c.read_touched-read.new.members in
+    let given = g.B.Bank.given c.args.bank.now in
+    let given1 = g.B.Bank.given c.read_touched-read.new.bank in
+    let f0 = g.B.Bank.faults_of c.args.bank.now in
+    let f1 = g.B.Bank.faults_of c.read_touched-read.new.bank in
+    let r = c.read_touched-read.result.lost in
+    let shape = c.args.shape.now in
+    let did = c.read_touched-read.ensures in
+    let lost : AreLost given shape m n r f0 f1 = lost-of given shape m n r f0 f1 c.requires.placed did.lost in
+    let one : IsMoved given m n = moved-lost given shape m n r f0 f1 c.requires.placed lost c.requires.unlost in
+    let p = c.name_missing-named.new.members in
+    let given2 = g.B.Bank.given c.name_missing-named.new.bank in
+    let f2 = g.B.Bank.faults_of c.name_missing-named.new.bank in
+    let named = c.name_missing-named.ensures in
+    let same2 : given2 ≡ given = named.given ∙ did.given in
+    let two : IsMoved given n p = moved-from given given1 n n p did.given refl named.moved in
+    let both : IsMoved given m p = moved-then given m n p one two in
+    let s = c.name_missing-named.result in
+    let role = c.args.target.now.role in
+    let slot = c.args.target.now.slot in
+    let tape0 = g.B.Bank.tape c.args.bank.now in
+    let tape1 = g.B.Bank.tape c.read_touched-read.new.bank in
+    let tape2 = g.B.Bank.tape c.name_missing-named.new.bank in
+    let touched = IsTouched shape c.args.first c.args.count in
+    others-filled m role slot touched (present given tape0) (present given tape0) (present given tape2) (filled-none m role slot touched (present given tape0))
+    (subst (λ (l : List Operation). AreOthersPresent (present given l) (present given tape2)) (did.tape told)
+    (subst (λ (b : Given). AreOthersPresent (present b tape1) (present b tape2)) did.given (named.others told)))
+
+pub returns-then-is_some-2-clause-rise : goal.returns-then-is_some-2-clause-rise
+returns-then-is_some-2-clause-rise g c =
+    let m = c.args.members.now in
+    let n = c.read_touched-read.new.members in
+    let given = g.B.Bank.given c.args.bank.now in
+    let given1 = g.B.Bank.given c.read_touched-read.new.bank in
+    let f0 = g.B.Bank.faults_of c.args.bank.now in
+    let f1 = g.B.Bank.faults_of c.read_touched-read.new.bank in
+    let r = c.read_touched-read.result.lost in
+    let shape = c.args.shape.now in
+    let did = c.read_touched-read.ensures in
+    let lost : AreLost given shape m n r f0 f1 = lost-of given shape m n r f0 f1 c.requires.placed did.lost in
+    let one : IsMoved given m n = moved-lost given shape m n r f0 f1 c.requires.placed lost c.requires.unlost in
+    let p = c.name_missing-named.new.members in
+    let given2 = g.B.Bank.given c.name_missing-named.new.bank in
+    let f2 = g.B.Bank.faults_of c.name_missing-named.new.bank in
+    let named = c.name_missing-named.ensures in
+    let same2 : given2 ≡ given = named.given ∙ did.given in
+    let two : IsMoved given n p = moved-from given given1 n n p did.given refl named.moved in
+    let both : IsMoved given m p = moved-then given m n p one two in
+    let s = c.name_missing-named.result in
+    let role = c.args.target.now.role in
+    let slot = c.args.target.now.slot in
+    let tape0 = g.B.Bank.tape c.args.bank.now in
+    let tape1 = g.B.Bank.tape c.read_touched-read.new.bank in
+    let tape2 = g.B.Bank.tape c.name_missing-named.new.bank in
+    let risen1 : IsRisen g.B.Bank.tells m n tape0 tape1 = risen-lost m n r tape0 tape1 did.lost.members (λ told. let same = ap (λ (l : List Operation). length l) (did.tape told) in omega (arith, same)) in
+    let risen2 : IsRisen g.B.Bank.tells m p tape0 tape2 = risen-then risen1 named.rise in
+    risen2
+
+pub returns-then-is_some-2-clause-safe : goal.returns-then-is_some-2-clause-safe
+returns-then-is_some-2-clause-safe g c =
+    λ told world size ledger room gone unclean safe.
+    let m = c.args.members.now in
+    let n = c.read_touched-read.new.members in
+    let given = g.B.Bank.given c.args.bank.now in
+    let given1 = g.B.Bank.given c.read_touched-read.new.bank in
+    let f0 = g.B.Bank.faults_of c.args.bank.now in
+    let f1 = g.B.Bank.faults_of c.read_touched-read.new.bank in
+    let r = c.read_touched-read.result.lost in
+    let shape = c.args.shape.now in
+    let did = c.read_touched-read.ensures in
+    let lost : AreLost given shape m n r f0 f1 = lost-of given shape m n r f0 f1 c.requires.placed did.lost in
+    let one : IsMoved given m n = moved-lost given shape m n r f0 f1 c.requires.placed lost c.requires.unlost in
+    let p = c.name_missing-named.new.members in
+    let given2 = g.B.Bank.given c.name_missing-named.new.bank in
+    let f2 = g.B.Bank.faults_of c.name_missing-named.new.bank in
+    let named = c.name_missing-named.ensures in
+    let same2 : given2 ≡ given = named.given ∙ did.given in
+    let two : IsMoved given n p = moved-from given given1 n n p did.given refl named.moved in
+    let both : IsMoved given m p = moved-then given m n p one two in
+    let s = c.name_missing-named.result in
+    let role = c.args.target.now.role in
+    let slot = c.args.target.now.slot in
+    let tape0 = g.B.Bank.tape c.args.bank.now in
+    let tape1 = g.B.Bank.tape c.read_touched-read.new.bank in
+    let tape2 = g.B.Bank.tape c.name_missing-named.new.bank in
+    let risen1 : IsRisen g.B.Bank.tells m n tape0 tape1 = risen-lost m n r tape0 tape1 did.lost.members (λ told. let same = ap (λ (l : List Operation). length l) (did.tape told) in omega (arith, same)) in
+    let risen2 : IsRisen g.B.Bank.tells m p tape0 tape2 = risen-then risen1 named.rise in
+    let first : KeepsSafe world given size ledger n tape0 tape1 = safe-lost (OpensFit world) world.scope given size ledger m n r tape0 tape1 did.lost.members (did.tape told) safe in
+    let unclean1 : IsUncleanTold ledger n = λ dirty. unclean (sym (ap (λ (x : Members). is_clean x.newest) did.lost.members) ∙ dirty) in
+    let second : KeepsSafe world given size ledger p tape1 tape2 = keeps-from world given given1 size ledger p tape1 tape2 did.given
+    (named.safe told world size ledger (room-then tape2 told room risen1) gone unclean1 (over-at world given given1 size ledger n tape1 did.given first.next)) in
+    safe-then (OpensFit world) world.scope given size ledger n p tape0 tape1 tape2 first second
+
+pub returns-then-is_some-2-clause-counts : goal.returns-then-is_some-2-clause-counts
+returns-then-is_some-2-clause-counts g c =
+    λ k.
+    let low = c.read_touched-read.ensures.lost.never_falls k in
+    let high = c.name_missing-named.ensures.counts k in
+    omega (arith, low, high)
+
+pub fill_rows-lost-requires-clause-slots : goal.fill_rows-lost-requires-clause-slots
+fill_rows-lost-requires-clause-slots g c =
+    let m = c.args.members.now in
+    let n = c.read_touched-read.new.members in
+    let given = g.B.Bank.given c.args.bank.now in
+    let given1 = g.B.Bank.given c.read_touched-read.new.bank in
+    let f0 = g.B.Bank.faults_of c.args.bank.now in
+    let f1 = g.B.Bank.faults_of c.read_touched-read.new.bank in
+    let r = c.read_touched-read.result.lost in
+    let shape = c.args.shape.now in
+    let did = c.read_touched-read.ensures in
+    let lost : AreLost given shape m n r f0 f1 = lost-of given shape m n r f0 f1 c.requires.placed did.lost in
+    let one : IsMoved given m n = moved-lost given shape m n r f0 f1 c.requires.placed lost c.requires.unlost in
+    let p = c.name_missing-named.new.members in
+    let given2 = g.B.Bank.given c.name_missing-named.new.bank in
+    let f2 = g.B.Bank.faults_of c.name_missing-named.new.bank in
+    let named = c.name_missing-named.ensures in
+    let same2 : given2 ≡ given = named.given ∙ did.given in
+    let two : IsMoved given n p = moved-from given given1 n n p did.given refl named.moved in
+    let both : IsMoved given m p = moved-then given m n p one two in
+    let s = c.name_missing-named.result in
+    let role = c.args.target.now.role in
+    let slot = c.args.target.now.slot in
+    subst (λ (b : Given). b.slots ≤ 32) (sym same2) c.requires.slots
+
+pub fill_rows-lost-requires-clause-placed : goal.fill_rows-lost-requires-clause-placed
+fill_rows-lost-requires-clause-placed g c =
+    let m = c.args.members.now in
+    let n = c.read_touched-read.new.members in
+    let given = g.B.Bank.given c.args.bank.now in
+    let given1 = g.B.Bank.given c.read_touched-read.new.bank in
+    let f0 = g.B.Bank.faults_of c.args.bank.now in
+    let f1 = g.B.Bank.faults_of c.read_touched-read.new.bank in
+    let r = c.read_touched-read.result.lost in
+    let shape = c.args.shape.now in
+    let did = c.read_touched-read.ensures in
+    let lost : AreLost given shape m n r f0 f1 = lost-of given shape m n r f0 f1 c.requires.placed did.lost in
+    let one : IsMoved given m n = moved-lost given shape m n r f0 f1 c.requires.placed lost c.requires.unlost in
+    let p = c.name_missing-named.new.members in
+    let given2 = g.B.Bank.given c.name_missing-named.new.bank in
+    let f2 = g.B.Bank.faults_of c.name_missing-named.new.bank in
+    let named = c.name_missing-named.ensures in
+    let same2 : given2 ≡ given = named.given ∙ did.given in
+    let two : IsMoved given n p = moved-from given given1 n n p did.given refl named.moved in
+    let both : IsMoved given m p = moved-then given m n p one two in
+    let s = c.name_missing-named.result in
+    let role = c.args.target.now.role in
+    let slot = c.args.target.now.slot in
+    subst (λ (b : Given). IsPlaced b p) (sym same2) two.placed
+
+pub fill_rows-lost-requires-clause-unlost : goal.fill_rows-lost-requires-clause-unlost
+fill_rows-lost-requires-clause-unlost g c =
+    let m = c.args.members.now in
+    let n = c.read_touched-read.new.members in
+    let given = g.B.Bank.given c.args.bank.now in
+    let given1 = g.B.Bank.given c.read_touched-read.new.bank in
+    let f0 = g.B.Bank.faults_of c.args.bank.now in
+    let f1 = g.B.Bank.faults_of c.read_touched-read.new.bank in
+    let r = c.read_touched-read.result.lost in
+    let shape = c.args.shape.now in
+    let did = c.read_touched-read.ensures in
+    let lost : AreLost given shape m n r f0 f1 = lost-of given shape m n r f0 f1 c.requires.placed did.lost in
+    let one : IsMoved given m n = moved-lost given shape m n r f0 f1 c.requires.placed lost c.requires.unlost in
+    let p = c.name_missing-named.new.members in
+    let given2 = g.B.Bank.given c.name_missing-named.new.bank in
+    let f2 = g.B.Bank.faults_of c.name_missing-named.new.bank in
+    let named = c.name_missing-named.ensures in
+    let same2 : given2 ≡ given = named.given ∙ did.given in
+    let two : IsMoved given n p = moved-from given given1 n n p did.given refl named.moved in
+    let both : IsMoved given m p = moved-then given m n p one two in
+    let s = c.name_missing-named.result in
+    let role = c.args.target.now.role in
+    let slot = c.args.target.now.slot in
+    two.unlost
+
+pub fill_rows-lost-requires-clause-free : goal.fill_rows-lost-requires-clause-free
+fill_rows-lost-requires-clause-free g c =
+    let m = c.args.members.now in
+    let n = c.read_touched-read.new.members in
+    let given = g.B.Bank.given c.args.bank.now in
+    let given1 = g.B.Bank.given c.read_touched-read.new.bank in
+    let f0 = g.B.Bank.faults_of c.args.bank.now in
+    let f1 = g.B.Bank.faults_of c.read_touched-read.new.bank in
+    let r = c.read_touched-read.result.lost in
+    let shape = c.args.shape.now in
+    let did = c.read_touched-read.ensures in
+    let lost : AreLost given shape m n r f0 f1 = lost-of given shape m n r f0 f1 c.requires.placed did.lost in
+    let one : IsMoved given m n = moved-lost given shape m n r f0 f1 c.requires.placed lost c.requires.unlost in
+    let p = c.name_missing-named.new.members in
+    let given2 = g.B.Bank.given c.name_missing-named.new.bank in
+    let f2 = g.B.Bank.faults_of c.name_missing-named.new.bank in
+    let named = c.name_missing-named.ensures in
+    let same2 : given2 ≡ given = named.given ∙ did.given in
+    let two : IsMoved given n p = moved-from given given1 n n p did.given refl named.moved in
+    let both : IsMoved given m p = moved-then given m n p one two in
+    let s = c.name_missing-named.result in
+    let role = c.args.target.now.role in
+    let slot = c.args.target.now.slot in
+    subst (λ (b : Given). AreSparesFree b p) (sym same2) (both.free c.requires.free)
+
+pub fill_rows-lost-requires-clause-named : goal.fill_rows-lost-requires-clause-named
+fill_rows-lost-requires-clause-named g c =
+    λ recovers.
+    let m = c.args.members.now in
+    let n = c.read_touched-read.new.members in
+    let given = g.B.Bank.given c.args.bank.now in
+    let given1 = g.B.Bank.given c.read_touched-read.new.bank in
+    let f0 = g.B.Bank.faults_of c.args.bank.now in
+    let f1 = g.B.Bank.faults_of c.read_touched-read.new.bank in
+    let r = c.read_touched-read.result.lost in
+    let shape = c.args.shape.now in
+    let did = c.read_touched-read.ensures in
+    let lost : AreLost given shape m n r f0 f1 = lost-of given shape m n r f0 f1 c.requires.placed did.lost in
+    let one : IsMoved given m n = moved-lost given shape m n r f0 f1 c.requires.placed lost c.requires.unlost in
+    let p = c.name_missing-named.new.members in
+    let given2 = g.B.Bank.given c.name_missing-named.new.bank in
+    let f2 = g.B.Bank.faults_of c.name_missing-named.new.bank in
+    let named = c.name_missing-named.ensures in
+    let same2 : given2 ≡ given = named.given ∙ did.given in
+    let two : IsMoved given n p = moved-from given given1 n n p did.given refl named.moved in
+    let both : IsMoved given m p = moved-then given m n p one two in
+    let s = c.name_missing-named.result in
+    let role = c.args.target.now.role in
+    let slot = c.args.target.now.slot in
+    named.missing (holder-left given p role slot two.placed two.unlost (ap holder recovers))
+
+pub fill_rows-lost-requires-clause-shape : goal.fill_rows-lost-requires-clause-shape
+fill_rows-lost-requires-clause-shape g c =
+    let m = c.args.members.now in
+    let n = c.read_touched-read.new.members in
+    let given = g.B.Bank.given c.args.bank.now in
+    let given1 = g.B.Bank.given c.read_touched-read.new.bank in
+    let f0 = g.B.Bank.faults_of c.args.bank.now in
+    let f1 = g.B.Bank.faults_of c.read_touched-read.new.bank in
+    let r = c.read_touched-read.result.lost in
+    let shape = c.args.shape.now in
+    let did = c.read_touched-read.ensures in
+    let lost : AreLost given shape m n r f0 f1 = lost-of given shape m n r f0 f1 c.requires.placed did.lost in
+    let one : IsMoved given m n = moved-lost given shape m n r f0 f1 c.requires.placed lost c.requires.unlost in
+    let p = c.name_missing-named.new.members in
+    let given2 = g.B.Bank.given c.name_missing-named.new.bank in
+    let f2 = g.B.Bank.faults_of c.name_missing-named.new.bank in
+    let named = c.name_missing-named.ensures in
+    let same2 : given2 ≡ given = named.given ∙ did.given in
+    let two : IsMoved given n p = moved-from given given1 n n p did.given refl named.moved in
+    let both : IsMoved given m p = moved-then given m n p one two in
+    let s = c.name_missing-named.result in
+    let role = c.args.target.now.role in
+    let slot = c.args.target.now.slot in
+    c.requires.shape ∙ sym both.shape
+
+pub fill_rows-lost-requires-clause-recovering : goal.fill_rows-lost-requires-clause-recovering
+fill_rows-lost-requires-clause-recovering g c =
+    let m = c.args.members.now in
+    let n = c.read_touched-read.new.members in
+    let given = g.B.Bank.given c.args.bank.now in
+    let given1 = g.B.Bank.given c.read_touched-read.new.bank in
+    let f0 = g.B.Bank.faults_of c.args.bank.now in
+    let f1 = g.B.Bank.faults_of c.read_touched-read.new.bank in
+    let r = c.read_touched-read.result.lost in
+    let shape = c.args.shape.now in
+    let did = c.read_touched-read.ensures in
+    let lost : AreLost given shape m n r f0 f1 = lost-of given shape m n r f0 f1 c.requires.placed did.lost in
+    let one : IsMoved given m n = moved-lost given shape m n r f0 f1 c.requires.placed lost c.requires.unlost in
+    let p = c.name_missing-named.new.members in
+    let given2 = g.B.Bank.given c.name_missing-named.new.bank in
+    let f2 = g.B.Bank.faults_of c.name_missing-named.new.bank in
+    let named = c.name_missing-named.ensures in
+    let same2 : given2 ≡ given = named.given ∙ did.given in
+    let two : IsMoved given n p = moved-from given given1 n n p did.given refl named.moved in
+    let both : IsMoved given m p = moved-then given m n p one two in
+    let s = c.name_missing-named.result in
+    let role = c.args.target.now.role in
+    let slot = c.args.target.now.slot in
+    λ other recovers. recovered-alone both role slot other c.requires.recovering recovers
+
+pub fill_rows-lost-requires-clause-offset : goal.fill_rows-lost-requires-clause-offset
+fill_rows-lost-requires-clause-offset g c =
+    let m = c.args.members.now in
+    let n = c.read_touched-read.new.members in
+    let given = g.B.Bank.given c.args.bank.now in
+    let given1 = g.B.Bank.given c.read_touched-read.new.bank in
+    let f0 = g.B.Bank.faults_of c.args.bank.now in
+    let f1 = g.B.Bank.faults_of c.read_touched-read.new.bank in
+    let r = c.read_touched-read.result.lost in
+    let shape = c.args.shape.now in
+    let did = c.read_touched-read.ensures in
+    let lost : AreLost given shape m n r f0 f1 = lost-of given shape m n r f0 f1 c.requires.placed did.lost in
+    let one : IsMoved given m n = moved-lost given shape m n r f0 f1 c.requires.placed lost c.requires.unlost in
+    let p = c.name_missing-named.new.members in
+    let given2 = g.B.Bank.given c.name_missing-named.new.bank in
+    let f2 = g.B.Bank.faults_of c.name_missing-named.new.bank in
+    let named = c.name_missing-named.ensures in
+    let same2 : given2 ≡ given = named.given ∙ did.given in
+    let two : IsMoved given n p = moved-from given given1 n n p did.given refl named.moved in
+    let both : IsMoved given m p = moved-then given m n p one two in
+    let s = c.name_missing-named.result in
+    let role = c.args.target.now.role in
+    let slot = c.args.target.now.slot in
+    c.requires.offset ∙ sym (both.offsets slot)
+
+pub fill_rows-lost-requires-clause-held : goal.fill_rows-lost-requires-clause-held
+fill_rows-lost-requires-clause-held g c =
+    let m = c.args.members.now in
+    let n = c.read_touched-read.new.members in
+    let given = g.B.Bank.given c.args.bank.now in
+    let given1 = g.B.Bank.given c.read_touched-read.new.bank in
+    let f0 = g.B.Bank.faults_of c.args.bank.now in
+    let f1 = g.B.Bank.faults_of c.read_touched-read.new.bank in
+    let r = c.read_touched-read.result.lost in
+    let shape = c.args.shape.now in
+    let did = c.read_touched-read.ensures in
+    let lost : AreLost given shape m n r f0 f1 = lost-of given shape m n r f0 f1 c.requires.placed did.lost in
+    let one : IsMoved given m n = moved-lost given shape m n r f0 f1 c.requires.placed lost c.requires.unlost in
+    let p = c.name_missing-named.new.members in
+    let given2 = g.B.Bank.given c.name_missing-named.new.bank in
+    let f2 = g.B.Bank.faults_of c.name_missing-named.new.bank in
+    let named = c.name_missing-named.ensures in
+    let same2 : given2 ≡ given = named.given ∙ did.given in
+    let two : IsMoved given n p = moved-from given given1 n n p did.given refl named.moved in
+    let both : IsMoved given m p = moved-then given m n p one two in
+    let s = c.name_missing-named.result in
+    let role = c.args.target.now.role in
+    let slot = c.args.target.now.slot in
+    λ recovers. c.requires.held ∙ sym (recovered-rows both role slot recovers)
+
+pub fill_rows-lost-requires-clause-below : goal.fill_rows-lost-requires-clause-below
+fill_rows-lost-requires-clause-below g c =
+    λ row has.
+    let m = c.args.members.now in
+    let n = c.read_touched-read.new.members in
+    let given = g.B.Bank.given c.args.bank.now in
+    let given1 = g.B.Bank.given c.read_touched-read.new.bank in
+    let f0 = g.B.Bank.faults_of c.args.bank.now in
+    let f1 = g.B.Bank.faults_of c.read_touched-read.new.bank in
+    let r = c.read_touched-read.result.lost in
+    let shape = c.args.shape.now in
+    let did = c.read_touched-read.ensures in
+    let lost : AreLost given shape m n r f0 f1 = lost-of given shape m n r f0 f1 c.requires.placed did.lost in
+    let one : IsMoved given m n = moved-lost given shape m n r f0 f1 c.requires.placed lost c.requires.unlost in
+    let p = c.name_missing-named.new.members in
+    let given2 = g.B.Bank.given c.name_missing-named.new.bank in
+    let f2 = g.B.Bank.faults_of c.name_missing-named.new.bank in
+    let named = c.name_missing-named.ensures in
+    let same2 : given2 ≡ given = named.given ∙ did.given in
+    let two : IsMoved given n p = moved-from given given1 n n p did.given refl named.moved in
+    let both : IsMoved given m p = moved-then given m n p one two in
+    let s = c.name_missing-named.result in
+    let role = c.args.target.now.role in
+    let slot = c.args.target.now.slot in
+    subst (λ (most : ℕ). row < most) (sym both.size) (did.below row (subst (λ (l : List ℕ). Contains l row) c.as_slice.ensures.value has))
 
 pub returns-clause-moved : goal.returns-clause-moved
 returns-clause-moved g c =
@@ -183,15 +600,21 @@ returns-clause-moved g c =
     let did = c.read_touched-read.ensures in
     let lost : AreLost given shape m n r f0 f1 = lost-of given shape m n r f0 f1 c.requires.placed did.lost in
     let one : IsMoved given m n = moved-lost given shape m n r f0 f1 c.requires.placed lost c.requires.unlost in
-    let p = c.fill_rows.new.members in
-    let q = c.name_missing-spares.new.members in
-    let given2 = g.B.Bank.given c.fill_rows.new.bank in
-    let filled = c.fill_rows.ensures in
-    let named = c.name_missing-spares.ensures in
-    let same2 : given2 ≡ given = filled.given ∙ did.given in
-    let two : IsMoved given n p = moved-from given given1 n n p did.given refl filled.moved in
-    let three : IsMoved given p q = moved-from given given2 p p q same2 refl named.moved in
-    moved-then given m n q one (moved-then given n p q two three)
+    let p = c.name_missing-named.new.members in
+    let given2 = g.B.Bank.given c.name_missing-named.new.bank in
+    let f2 = g.B.Bank.faults_of c.name_missing-named.new.bank in
+    let named = c.name_missing-named.ensures in
+    let same2 : given2 ≡ given = named.given ∙ did.given in
+    let two : IsMoved given n p = moved-from given given1 n n p did.given refl named.moved in
+    let both : IsMoved given m p = moved-then given m n p one two in
+    let s = c.name_missing-named.result in
+    let role = c.args.target.now.role in
+    let slot = c.args.target.now.slot in
+    let q = c.fill_rows-lost.new.members in
+    let filled = c.fill_rows-lost.ensures in
+    let f3 = g.B.Bank.faults_of c.fill_rows-lost.new.bank in
+    let three : IsMoved given p q = moved-from given given2 p p q same2 refl filled.moved in
+    moved-then given m p q both three
 
 pub returns-clause-failed : goal.returns-clause-failed
 returns-clause-failed g c =
@@ -206,25 +629,96 @@ returns-clause-failed g c =
     let did = c.read_touched-read.ensures in
     let lost : AreLost given shape m n r f0 f1 = lost-of given shape m n r f0 f1 c.requires.placed did.lost in
     let one : IsMoved given m n = moved-lost given shape m n r f0 f1 c.requires.placed lost c.requires.unlost in
-    let p = c.fill_rows.new.members in
-    let q = c.name_missing-spares.new.members in
-    let given2 = g.B.Bank.given c.fill_rows.new.bank in
-    let filled = c.fill_rows.ensures in
-    let named = c.name_missing-spares.ensures in
-    let same2 : given2 ≡ given = filled.given ∙ did.given in
-    let two : IsMoved given n p = moved-from given given1 n n p did.given refl filled.moved in
-    let three : IsMoved given p q = moved-from given given2 p p q same2 refl named.moved in
-    let f2 = g.B.Bank.faults_of c.fill_rows.new.bank in
-    let f3 = g.B.Bank.faults_of c.name_missing-spares.new.bank in
-    let s = c.name_missing-spares.result in
-    let late : HaveFailedSince n q s f1 f3 = since-then n p q 0 s s f1 f2 f3 filled.counts named.counts filled.failed named.failed (in-second s) in
-    since-then m n q 0 s s f0 f1 f3 did.lost.never_falls (λ slot. let low = filled.counts slot in let high = named.counts slot in omega (arith, low, high)) (since-lost given shape m n r f0 f1 lost) late (in-second s)
+    let p = c.name_missing-named.new.members in
+    let given2 = g.B.Bank.given c.name_missing-named.new.bank in
+    let f2 = g.B.Bank.faults_of c.name_missing-named.new.bank in
+    let named = c.name_missing-named.ensures in
+    let same2 : given2 ≡ given = named.given ∙ did.given in
+    let two : IsMoved given n p = moved-from given given1 n n p did.given refl named.moved in
+    let both : IsMoved given m p = moved-then given m n p one two in
+    let s = c.name_missing-named.result in
+    let role = c.args.target.now.role in
+    let slot = c.args.target.now.slot in
+    let q = c.fill_rows-lost.new.members in
+    let filled = c.fill_rows-lost.ensures in
+    let f3 = g.B.Bank.faults_of c.fill_rows-lost.new.bank in
+    let three : IsMoved given p q = moved-from given given2 p p q same2 refl filled.moved in
+    let failed2 : HaveFailedSince m p s f0 f2 = since-then m n p 0 s s f0 f1 f2 did.lost.never_falls named.counts (since-lost given shape m n r f0 f1 lost) named.failed (in-second s) in
+    let counts2 : NeverFalls f0 f2 = (λ k. let low = did.lost.never_falls k in let high = named.counts k in omega (arith, low, high)) in
+    since-then m p q s c.fill_rows-lost.result _ f0 f2 f3 counts2 filled.counts failed2 filled.failed (in-either s c.fill_rows-lost.result)
 
 pub returns-clause-grows : goal.returns-clause-grows
 returns-clause-grows g c =
+    let early : Grows g.B.Bank.tells (g.B.Bank.tape c.args.bank.now) (g.B.Bank.tape c.read_touched-read.new.bank) = grows-none c.read_touched-read.ensures.tape in
+    grows-then early (grows-then c.name_missing-named.ensures.grows c.fill_rows-lost.ensures.grows)
+
+pub returns-clause-clean : goal.returns-clause-clean
+returns-clause-clean g c =
+    c.fill_rows-lost.ensures.clean ∙ c.name_missing-named.ensures.clean ∙ ap (λ (x : Members). is_clean x.newest) c.read_touched-read.ensures.lost.members
+
+pub returns-clause-missing : goal.returns-clause-missing
+returns-clause-missing g c =
+    λ none live.
+    let m = c.args.members.now in
+    let n = c.read_touched-read.new.members in
+    let given = g.B.Bank.given c.args.bank.now in
+    let given1 = g.B.Bank.given c.read_touched-read.new.bank in
+    let f0 = g.B.Bank.faults_of c.args.bank.now in
+    let f1 = g.B.Bank.faults_of c.read_touched-read.new.bank in
+    let r = c.read_touched-read.result.lost in
+    let shape = c.args.shape.now in
     let did = c.read_touched-read.ensures in
-    let early : Grows g.B.Bank.tells (g.B.Bank.tape c.args.bank.now) (g.B.Bank.tape c.read_touched-read.new.bank) = grows-none did.tape in
-    grows-then early (grows-then c.fill_rows.ensures.grows c.name_missing-spares.ensures.grows)
+    let lost : AreLost given shape m n r f0 f1 = lost-of given shape m n r f0 f1 c.requires.placed did.lost in
+    let one : IsMoved given m n = moved-lost given shape m n r f0 f1 c.requires.placed lost c.requires.unlost in
+    let p = c.name_missing-named.new.members in
+    let given2 = g.B.Bank.given c.name_missing-named.new.bank in
+    let f2 = g.B.Bank.faults_of c.name_missing-named.new.bank in
+    let named = c.name_missing-named.ensures in
+    let same2 : given2 ≡ given = named.given ∙ did.given in
+    let two : IsMoved given n p = moved-from given given1 n n p did.given refl named.moved in
+    let both : IsMoved given m p = moved-then given m n p one two in
+    let s = c.name_missing-named.result in
+    let role = c.args.target.now.role in
+    let slot = c.args.target.now.slot in
+    let q = c.fill_rows-lost.new.members in
+    let filled = c.fill_rows-lost.ensures in
+    let f3 = g.B.Bank.faults_of c.fill_rows-lost.new.bank in
+    let three : IsMoved given p q = moved-from given given2 p p q same2 refl filled.moved in
+    filled.missing (named.missing (filled.rise.left live)) live
+
+pub returns-clause-named : goal.returns-clause-named
+returns-clause-named g c =
+    λ still.
+    let m = c.args.members.now in
+    let n = c.read_touched-read.new.members in
+    let given = g.B.Bank.given c.args.bank.now in
+    let given1 = g.B.Bank.given c.read_touched-read.new.bank in
+    let f0 = g.B.Bank.faults_of c.args.bank.now in
+    let f1 = g.B.Bank.faults_of c.read_touched-read.new.bank in
+    let r = c.read_touched-read.result.lost in
+    let shape = c.args.shape.now in
+    let did = c.read_touched-read.ensures in
+    let lost : AreLost given shape m n r f0 f1 = lost-of given shape m n r f0 f1 c.requires.placed did.lost in
+    let one : IsMoved given m n = moved-lost given shape m n r f0 f1 c.requires.placed lost c.requires.unlost in
+    let p = c.name_missing-named.new.members in
+    let given2 = g.B.Bank.given c.name_missing-named.new.bank in
+    let f2 = g.B.Bank.faults_of c.name_missing-named.new.bank in
+    let named = c.name_missing-named.ensures in
+    let same2 : given2 ≡ given = named.given ∙ did.given in
+    let two : IsMoved given n p = moved-from given given1 n n p did.given refl named.moved in
+    let both : IsMoved given m p = moved-then given m n p one two in
+    let s = c.name_missing-named.result in
+    let role = c.args.target.now.role in
+    let slot = c.args.target.now.slot in
+    let q = c.fill_rows-lost.new.members in
+    let filled = c.fill_rows-lost.ensures in
+    let f3 = g.B.Bank.faults_of c.fill_rows-lost.new.bank in
+    let three : IsMoved given p q = moved-from given given2 p p q same2 refl filled.moved in
+    let tape0 = g.B.Bank.tape c.args.bank.now in
+    let tape1 = g.B.Bank.tape c.read_touched-read.new.bank in
+    let tape2 = g.B.Bank.tape c.name_missing-named.new.bank in
+    let tape3 = g.B.Bank.tape c.fill_rows-lost.new.bank in
+    named-first given given1 given2 tape0 tape1 tape2 tape3 did.given same2 did.tape named.«data» (filled.kept still)
 
 pub returns-clause-filled : goal.returns-clause-filled
 returns-clause-filled g c =
@@ -240,37 +734,40 @@ returns-clause-filled g c =
     let did = c.read_touched-read.ensures in
     let lost : AreLost given shape m n r f0 f1 = lost-of given shape m n r f0 f1 c.requires.placed did.lost in
     let one : IsMoved given m n = moved-lost given shape m n r f0 f1 c.requires.placed lost c.requires.unlost in
-    let p = c.fill_rows.new.members in
-    let q = c.name_missing-spares.new.members in
-    let given2 = g.B.Bank.given c.fill_rows.new.bank in
-    let filled = c.fill_rows.ensures in
-    let named = c.name_missing-spares.ensures in
-    let same2 : given2 ≡ given = filled.given ∙ did.given in
-    let two : IsMoved given n p = moved-from given given1 n n p did.given refl filled.moved in
-    let three : IsMoved given p q = moved-from given given2 p p q same2 refl named.moved in
-    let tape0 = g.B.Bank.tape c.args.bank.now in
-    let tape1 = g.B.Bank.tape c.read_touched-read.new.bank in
-    let tape2 = g.B.Bank.tape c.fill_rows.new.bank in
-    let tape3 = g.B.Bank.tape c.name_missing-spares.new.bank in
+    let p = c.name_missing-named.new.members in
+    let given2 = g.B.Bank.given c.name_missing-named.new.bank in
+    let f2 = g.B.Bank.faults_of c.name_missing-named.new.bank in
+    let named = c.name_missing-named.ensures in
+    let same2 : given2 ≡ given = named.given ∙ did.given in
+    let two : IsMoved given n p = moved-from given given1 n n p did.given refl named.moved in
+    let both : IsMoved given m p = moved-then given m n p one two in
+    let s = c.name_missing-named.result in
     let role = c.args.target.now.role in
     let slot = c.args.target.now.slot in
+    let q = c.fill_rows-lost.new.members in
+    let filled = c.fill_rows-lost.ensures in
+    let f3 = g.B.Bank.faults_of c.fill_rows-lost.new.bank in
+    let three : IsMoved given p q = moved-from given given2 p p q same2 refl filled.moved in
+    let tape0 = g.B.Bank.tape c.args.bank.now in
+    let tape1 = g.B.Bank.tape c.read_touched-read.new.bank in
+    let tape2 = g.B.Bank.tape c.name_missing-named.new.bank in
+    let tape3 = g.B.Bank.tape c.fill_rows-lost.new.bank in
     let rows = c.read_touched-read.new.rows.items in
     let buffer = c.read_touched-read.new.buffer.items in
     let c0 = present given tape0 in
-    let c2 = present given tape2 in
     let c3 = present given tape3 in
-    let then : role_state (reading_of p) role ≡ Recovering slot = recovering-before three role slot recovers in
     let read = ok-of n c.read_touched-read.result.answer (ap (λ (o : Option Refusal). is_some o) (sym c.refused_by-refusal.ensures) ∙ sym c.is_some.ensures ∙ c.if-is_some.false) did.read told in
+    let then : role_state (reading_of p) role ≡ Recovering slot = recovering-before three role slot recovers in
+    let early : role_state (reading_of n) role ≡ Recovering slot = recovering-before two role slot then in
     let own = data_read 0 shape true (reading_of m) (reading_of n) c0 list rows buffer read
     (λ row has. subst (λ (s : Shape). DataStands (reading_of m) c0 s list row) (sym c.requires.shape) (stands row (did.below row has)))
     (λ synced row has. subst (λ (s : Shape). RowStands (reading_of m) c0 s list row) (sym c.requires.shape) (full row (did.touched.only row has) (did.below row has))) in
-    let done : (i : ℕ) → i < length rows → c.args.target.now.held ≤ slice_index rows i → HasFull (reading_of p) c2 shape list (slice_index rows i) role slot =
-    subst (λ (l : List ℕ). (i : ℕ) → i < length l → c.args.target.now.held ≤ slice_index l i → HasFull (reading_of p) c2 shape list (slice_index l i) role slot) c.as_slice.ensures.value
-    (subst (λ (b : Given). (i : ℕ) → i < length c.as_slice.result.now → c.args.target.now.held ≤ slice_index c.as_slice.result.now i → HasFull (reading_of p) (present b tape2) shape list (slice_index c.as_slice.result.now i) role slot) did.given
-    (filled.written then told list (subst (λ (l : List ℕ). AreDataFrom 0 shape list l c.as_mut_slice-bytes.result.now) (sym c.as_slice.ensures.value)
+    let done : (i : ℕ) → i < length rows → c.args.target.now.held ≤ slice_index rows i → HasFull (reading_of q) c3 shape list (slice_index rows i) role slot =
+    subst (λ (l : List ℕ). (i : ℕ) → i < length l → c.args.target.now.held ≤ slice_index l i → HasFull (reading_of q) c3 shape list (slice_index l i) role slot) c.as_slice.ensures.value
+    (subst (λ (b : Given). (i : ℕ) → i < length c.as_slice.result.now → c.args.target.now.held ≤ slice_index c.as_slice.result.now i → HasFull (reading_of q) (present b tape3) shape list (slice_index c.as_slice.result.now i) role slot) same2
+    (filled.written recovers told list (subst (λ (l : List ℕ). AreDataFrom 0 shape list l c.as_mut_slice-bytes.result.now) (sym c.as_slice.ensures.value)
     (subst (λ (b : List ℕ). AreDataFrom 0 shape list rows b) (sym c.as_mut_slice-bytes.ensures.value) own)))) in
-    full-later three two.placed (subst (λ (b : Given). AreOthersPresent (present b tape2) (present b tape3)) same2 (named.others told)) shape list row role slot (ap holder recovers)
-    (at-touched shape c.args.first c.args.count rows did.touched (λ other. c.args.target.now.held ≤ other → HasFull (reading_of p) c2 shape list other role slot) done row at high)
+    at-touched shape c.args.first c.args.count rows did.touched (λ other. c.args.target.now.held ≤ other → HasFull (reading_of q) c3 shape list other role slot) done row at high
 
 pub returns-clause-others : goal.returns-clause-others
 returns-clause-others g c =
@@ -286,30 +783,36 @@ returns-clause-others g c =
     let did = c.read_touched-read.ensures in
     let lost : AreLost given shape m n r f0 f1 = lost-of given shape m n r f0 f1 c.requires.placed did.lost in
     let one : IsMoved given m n = moved-lost given shape m n r f0 f1 c.requires.placed lost c.requires.unlost in
-    let p = c.fill_rows.new.members in
-    let q = c.name_missing-spares.new.members in
-    let given2 = g.B.Bank.given c.fill_rows.new.bank in
-    let filled = c.fill_rows.ensures in
-    let named = c.name_missing-spares.ensures in
-    let same2 : given2 ≡ given = filled.given ∙ did.given in
-    let two : IsMoved given n p = moved-from given given1 n n p did.given refl filled.moved in
-    let three : IsMoved given p q = moved-from given given2 p p q same2 refl named.moved in
-    let tape0 = g.B.Bank.tape c.args.bank.now in
-    let tape1 = g.B.Bank.tape c.read_touched-read.new.bank in
-    let tape2 = g.B.Bank.tape c.fill_rows.new.bank in
-    let tape3 = g.B.Bank.tape c.name_missing-spares.new.bank in
+    let p = c.name_missing-named.new.members in
+    let given2 = g.B.Bank.given c.name_missing-named.new.bank in
+    let f2 = g.B.Bank.faults_of c.name_missing-named.new.bank in
+    let named = c.name_missing-named.ensures in
+    let same2 : given2 ≡ given = named.given ∙ did.given in
+    let two : IsMoved given n p = moved-from given given1 n n p did.given refl named.moved in
+    let both : IsMoved given m p = moved-then given m n p one two in
+    let s = c.name_missing-named.result in
     let role = c.args.target.now.role in
     let slot = c.args.target.now.slot in
+    let q = c.fill_rows-lost.new.members in
+    let filled = c.fill_rows-lost.ensures in
+    let f3 = g.B.Bank.faults_of c.fill_rows-lost.new.bank in
+    let three : IsMoved given p q = moved-from given given2 p p q same2 refl filled.moved in
+    let tape0 = g.B.Bank.tape c.args.bank.now in
+    let tape1 = g.B.Bank.tape c.read_touched-read.new.bank in
+    let tape2 = g.B.Bank.tape c.name_missing-named.new.bank in
+    let tape3 = g.B.Bank.tape c.fill_rows-lost.new.bank in
     let touched = IsTouched shape c.args.first c.args.count in
     let c0 = present given tape0 in
-    let early : IsFilledAmong m role slot touched (present given tape1) (present given tape2) = elim (filled.others told) [
-      | inl same ↦ subst (λ (l : List Operation). IsFilledAmong m role slot touched (present given tape1) (present given l)) (sym same) (filled-none m role slot touched (present given tape1))
-      | inr some ↦ filled-before one role slot (Contains c.as_slice.result.now) touched (present given tape1) (present given tape2) some.0
+    let early : AreOthersPresent c0 (present given tape2) = subst (λ (l : List Operation). AreOthersPresent (present given l) (present given tape2)) (did.tape told)
+    (subst (λ (b : Given). AreOthersPresent (present b tape1) (present b tape2)) did.given (named.others told)) in
+    let first : IsFilledAmong m role slot touched c0 (present given tape2) = others-filled m role slot touched c0 c0 (present given tape2) (filled-none m role slot touched c0) early in
+    elim (filled.others told) [
+      | inl same ↦ subst (λ (l : List Operation). IsFilledAmong m role slot touched c0 (present given l)) (sym same) first
+      | inr some ↦ filled-then m role slot touched touched touched c0 (present given tape2) (present given tape3) (λ row at. at) (λ row at. at) first
+          (filled-before both role slot (Contains c.as_slice.result.now) touched (present given tape2) (present given tape3) some.0
           (λ row has. did.touched.only row (subst (λ (l : List ℕ). Contains l row) c.as_slice.ensures.value has))
-          (subst (λ (b : Given). IsFilledAmong n role slot (Contains c.as_slice.result.now) (present b tape1) (present b tape2)) did.given some.1)
-    ] in
-    others-filled m role slot touched c0 (present given tape2) (present given tape3) (subst (λ (l : List Operation). IsFilledAmong m role slot touched (present given l) (present given tape2)) (did.tape told) early)
-    (subst (λ (b : Given). AreOthersPresent (present b tape2) (present b tape3)) same2 (named.others told))
+          (subst (λ (b : Given). IsFilledAmong p role slot (Contains c.as_slice.result.now) (present b tape2) (present b tape3)) same2 some.1))
+    ]
 
 pub returns-clause-rise : goal.returns-clause-rise
 returns-clause-rise g c =
@@ -323,12 +826,28 @@ returns-clause-rise g c =
     let shape = c.args.shape.now in
     let did = c.read_touched-read.ensures in
     let lost : AreLost given shape m n r f0 f1 = lost-of given shape m n r f0 f1 c.requires.placed did.lost in
+    let one : IsMoved given m n = moved-lost given shape m n r f0 f1 c.requires.placed lost c.requires.unlost in
+    let p = c.name_missing-named.new.members in
+    let given2 = g.B.Bank.given c.name_missing-named.new.bank in
+    let f2 = g.B.Bank.faults_of c.name_missing-named.new.bank in
+    let named = c.name_missing-named.ensures in
+    let same2 : given2 ≡ given = named.given ∙ did.given in
+    let two : IsMoved given n p = moved-from given given1 n n p did.given refl named.moved in
+    let both : IsMoved given m p = moved-then given m n p one two in
+    let s = c.name_missing-named.result in
+    let role = c.args.target.now.role in
+    let slot = c.args.target.now.slot in
+    let q = c.fill_rows-lost.new.members in
+    let filled = c.fill_rows-lost.ensures in
+    let f3 = g.B.Bank.faults_of c.fill_rows-lost.new.bank in
+    let three : IsMoved given p q = moved-from given given2 p p q same2 refl filled.moved in
     let tape0 = g.B.Bank.tape c.args.bank.now in
     let tape1 = g.B.Bank.tape c.read_touched-read.new.bank in
-    let tape2 = g.B.Bank.tape c.fill_rows.new.bank in
-    let tape3 = g.B.Bank.tape c.name_missing-spares.new.bank in
+    let tape2 = g.B.Bank.tape c.name_missing-named.new.bank in
+    let tape3 = g.B.Bank.tape c.fill_rows-lost.new.bank in
     let risen1 : IsRisen g.B.Bank.tells m n tape0 tape1 = risen-lost m n r tape0 tape1 did.lost.members (λ told. let same = ap (λ (l : List Operation). length l) (did.tape told) in omega (arith, same)) in
-    risen-then risen1 (risen-then c.fill_rows.ensures.rise c.name_missing-spares.ensures.rise)
+    let risen2 : IsRisen g.B.Bank.tells m p tape0 tape2 = risen-then risen1 named.rise in
+    risen-then risen2 filled.rise
 
 pub returns-clause-safe : goal.returns-clause-safe
 returns-clause-safe g c =
@@ -344,31 +863,41 @@ returns-clause-safe g c =
     let did = c.read_touched-read.ensures in
     let lost : AreLost given shape m n r f0 f1 = lost-of given shape m n r f0 f1 c.requires.placed did.lost in
     let one : IsMoved given m n = moved-lost given shape m n r f0 f1 c.requires.placed lost c.requires.unlost in
-    let p = c.fill_rows.new.members in
-    let q = c.name_missing-spares.new.members in
-    let given2 = g.B.Bank.given c.fill_rows.new.bank in
-    let filled = c.fill_rows.ensures in
-    let named = c.name_missing-spares.ensures in
-    let same2 : given2 ≡ given = filled.given ∙ did.given in
-    let two : IsMoved given n p = moved-from given given1 n n p did.given refl filled.moved in
-    let three : IsMoved given p q = moved-from given given2 p p q same2 refl named.moved in
+    let p = c.name_missing-named.new.members in
+    let given2 = g.B.Bank.given c.name_missing-named.new.bank in
+    let f2 = g.B.Bank.faults_of c.name_missing-named.new.bank in
+    let named = c.name_missing-named.ensures in
+    let same2 : given2 ≡ given = named.given ∙ did.given in
+    let two : IsMoved given n p = moved-from given given1 n n p did.given refl named.moved in
+    let both : IsMoved given m p = moved-then given m n p one two in
+    let s = c.name_missing-named.result in
+    let role = c.args.target.now.role in
+    let slot = c.args.target.now.slot in
+    let q = c.fill_rows-lost.new.members in
+    let filled = c.fill_rows-lost.ensures in
+    let f3 = g.B.Bank.faults_of c.fill_rows-lost.new.bank in
+    let three : IsMoved given p q = moved-from given given2 p p q same2 refl filled.moved in
     let tape0 = g.B.Bank.tape c.args.bank.now in
     let tape1 = g.B.Bank.tape c.read_touched-read.new.bank in
-    let tape2 = g.B.Bank.tape c.fill_rows.new.bank in
-    let tape3 = g.B.Bank.tape c.name_missing-spares.new.bank in
+    let tape2 = g.B.Bank.tape c.name_missing-named.new.bank in
+    let tape3 = g.B.Bank.tape c.fill_rows-lost.new.bank in
     let risen1 : IsRisen g.B.Bank.tells m n tape0 tape1 = risen-lost m n r tape0 tape1 did.lost.members (λ told. let same = ap (λ (l : List Operation). length l) (did.tape told) in omega (arith, same)) in
+    let risen2 : IsRisen g.B.Bank.tells m p tape0 tape2 = risen-then risen1 named.rise in
     let first : KeepsSafe world given size ledger n tape0 tape1 = safe-lost (OpensFit world) world.scope given size ledger m n r tape0 tape1 did.lost.members (did.tape told) safe in
+    let unclean1 : IsUncleanTold ledger n = λ dirty. unclean (sym (ap (λ (x : Members). is_clean x.newest) did.lost.members) ∙ dirty) in
+    let gone2 : AreGoneTold ledger p = gone-before given p q two.placed three ledger gone in
+    let room2 = room-then tape3 told room risen1 in
     let second : KeepsSafe world given size ledger p tape1 tape2 = keeps-from world given given1 size ledger p tape1 tape2 did.given
-    (filled.safe told world size ledger (over-at world given given1 size ledger n tape1 did.given first.next)) in
-    let unclean2 : IsUncleanTold ledger p = λ dirty. unclean (sym (ap (λ (x : Members). is_clean x.newest) did.lost.members) ∙ sym (ap is_clean filled.newest) ∙ dirty) in
+    (named.safe told world size ledger (room-first n tape1 tape2 tape3 room2 (grows-longer filled.grows told)) gone2 unclean1 (over-at world given given1 size ledger n tape1 did.given first.next)) in
+    let unclean2 : IsUncleanTold ledger p = λ dirty. unclean1 (sym named.clean ∙ dirty) in
     let third : KeepsSafe world given size ledger q tape2 tape3 = keeps-from world given given2 size ledger q tape2 tape3 same2
-    (named.safe told world size ledger (room-then tape3 told room (risen-then risen1 filled.rise)) gone unclean2 (over-at world given given2 size ledger p tape2 same2 second.next)) in
+    (filled.safe told world size ledger (room-then tape3 told room risen2) gone unclean2 (over-at world given given2 size ledger p tape2 same2 second.next)) in
     safe-then (OpensFit world) world.scope given size ledger n q tape0 tape1 tape3 first (safe-then (OpensFit world) world.scope given size ledger p q tape1 tape2 tape3 second third)
 
 pub returns-clause-counts : goal.returns-clause-counts
 returns-clause-counts g c =
-    λ slot.
-    let low = c.read_touched-read.ensures.lost.never_falls slot in
-    let mid = c.fill_rows.ensures.counts slot in
-    let high = c.name_missing-spares.ensures.counts slot in
+    λ k.
+    let low = c.read_touched-read.ensures.lost.never_falls k in
+    let mid = c.name_missing-named.ensures.counts k in
+    let high = c.fill_rows-lost.ensures.counts k in
     omega (arith, low, mid, high)

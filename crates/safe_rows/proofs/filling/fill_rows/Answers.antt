@@ -1,24 +1,59 @@
-use Rattle.std.proofs.Common.{◌≡◌, ℕ, ◌<◌, true, false, not, eq-eqb, refl, sym, ◌∙◌, ap, subst}
-use Rattle.superblocks.specs.Reading.{role_state, holder}
+use Rattle.std.proofs.Common.{◌≡◌, inr, ℕ, ◌<◌, ◌≤◌, true, false, not, eq-eqb, refl, sym, ◌∙◌, ap, subst, arith}
+use Rattle.std.specs.Prelude.{Contains}
+use Rattle.bank.specs.Given.{Given}
+use Rattle.bank.specs.Tape.{disk}
+use Rattle.bank.proofs.Marks.{each_mark-map}
+use Rattle.superblocks.specs.Reading.{role_state, holder, is_clean}
 use Rattle.superblocks.specs.declared.members.Members.{Members}
 use Rattle.md_base.specs.declared.status.Role.TheVariants.{Recovering}
 use Rattle.md_base.specs.Shapes.{has_slot}
-use Rattle.row_io.specs.Rows.{reading_of}
+use Rattle.row_io.specs.Rows.{reading_of, present}
+use Rattle.list_io.specs.Writing.{AreSuperblocksKept}
 use Rattle.list_io.proofs.LossLaws.{slot_lost, recovering-after}
 use Rattle.flat_history.specs.Sound.{OpensFit}
-use Rattle.views.specs.Placed.{AreLost}
-use Rattle.views.specs.Steady.{KeepsSafe}
-use Rattle.views.proofs.MovedLaws.{moved-lost}
-use Rattle.views.proofs.LackingLaws.{since-lost}
-use Rattle.views.proofs.LackingWrites.{lost-of}
-use Rattle.views.proofs.Risen.{risen-lost}
-use Rattle.views.proofs.SafeStretch.{safe-none, safe-then, safe-lost, grows-longer}
-use Rattle.views.proofs.FilledParts.{found-in, safe-filled}
+use Rattle.views.specs.Placed.{AreLost, IsPlaced}
+use Rattle.views.specs.Marking.{AreOthersPresent}
+use Rattle.views.specs.Moving.{IsMoved}
+use Rattle.views.specs.Safety.{IsRisen}
+use Rattle.views.specs.Rebuilding.{AreSparesFree}
+use Rattle.views.specs.Steady.{KeepsSafe, IsUncleanTold}
+use Rattle.views.proofs.MovedLaws.{moved-lost, moved-then, moved-from, grows-then}
+use Rattle.views.proofs.LackingLaws.{since-lost, since-then, in-second}
+use Rattle.views.proofs.LackingWrites.{marks-here, lost-of, recovering-before}
+use Rattle.views.proofs.Risen.{risen-lost, risen-then, room-then}
+use Rattle.views.proofs.SafeStretch.{safe-none, safe-then, safe-lost, over-at, keeps-from, grows-longer}
+use Rattle.views.proofs.FilledParts.{found-in, safe-filled, others-filled}
+use Rattle.safe_rows.proofs.FillingLaws.{filling-kept}
 use Rattle.safe_rows.proofs.filling.fill_rows.Goals as goal
 
 pub returns-then-is_none-clause-safe : goal.returns-then-is_none-clause-safe
-returns-then-is_none-clause-safe g c = λ told world size ledger safe.
+returns-then-is_none-clause-safe g c = λ told world size ledger room gone unclean safe.
     safe-none (OpensFit world) world.scope (g.B.Bank.given c.args.bank.now) size ledger c.args.members.now (g.B.Bank.tape c.args.bank.now) safe
+
+pub returns-then-is_none-clause-kept : goal.returns-then-is_none-clause-kept
+returns-then-is_none-clause-kept g c = λ recovers.
+    marks-here {P = AreSuperblocksKept (disk (g.B.Bank.given c.args.bank.now).start (g.B.Bank.tape c.args.bank.now))} g.B.Bank.tells (g.B.Bank.given c.args.bank.now).start (g.B.Bank.tape c.args.bank.now) (λ s at lt. refl)
+
+pub returns-then-write_filled-clause-kept : goal.returns-then-write_filled-clause-kept
+returns-then-write_filled-clause-kept g c = λ still.
+    let start = (g.B.Bank.given c.args.bank.now).start in
+    let tape0 = g.B.Bank.tape c.args.bank.now in
+    each_mark-map (AreSuperblocksKept (disk start tape0))
+    (λ told e filling. filling-kept (g.B.Bank.given c.args.bank.now) c.args.members.now c.args.target.now.role c.args.target.now.slot (disk start tape0) e c.requires.placed still filling) c.write_filled.ensures.each_mark
+
+pub returns-then-write_filled-clause-written : goal.returns-then-write_filled-clause-written
+returns-then-write_filled-clause-written g c = λ recovered told list own. c.write_filled.ensures.written c.if-write_filled.true told list own
+
+pub returns-then-write_filled-clause-safe : goal.returns-then-write_filled-clause-safe
+returns-then-write_filled-clause-safe g c =
+    λ told world size ledger room gone unclean safe.
+    let m = c.args.members.now in
+    let role = c.args.target.now.role in
+    let slot = c.args.target.now.slot in
+    let found = found-in c.recovering_slot.result _ (c.is_none.ensures ∙ ap not c.if-is_none.false) c.recovering_slot.ensures.some in
+    let recovers : role_state (reading_of m) role ≡ Recovering slot = subst (λ (s : ℕ). role_state (reading_of m) role ≡ Recovering s) (c.requires.recovering found.0 found.1) found.1 in
+    safe-filled (OpensFit world) world.scope (g.B.Bank.given c.args.bank.now) size ledger m role slot (g.B.Bank.tape c.args.bank.now) (g.B.Bank.tape c.write_filled.new.bank) told c.requires.placed c.requires.unlost recovers
+    c.write_filled.ensures.each_mark safe
 
 pub lose_slot-requires-clause-slot : goal.lose_slot-requires-clause-slot
 lose_slot-requires-clause-slot g c =
@@ -28,8 +63,12 @@ lose_slot-requires-clause-slot g c =
 pub lose_slot-requires-clause-small : goal.lose_slot-requires-clause-small
 lose_slot-requires-clause-small g c = λ role slot held. (c.requires.placed.holders role slot held).small
 
-pub returns-then-not-write_filled-clause-moved : goal.returns-then-not-write_filled-clause-moved
-returns-then-not-write_filled-clause-moved g c =
+pub name_missing-requires-clause-slots : goal.name_missing-requires-clause-slots
+name_missing-requires-clause-slots g c =
+    subst (λ (b : Given). b.slots ≤ 32) (sym c.write_filled.ensures.given) c.requires.slots
+
+pub name_missing-requires-clause-placed : goal.name_missing-requires-clause-placed
+name_missing-requires-clause-placed g c =
     let given = g.B.Bank.given c.args.bank.now in
     let m = c.args.members.now in
     let n = c.lose_slot.new.members in
@@ -41,11 +80,12 @@ returns-then-not-write_filled-clause-moved g c =
     let found = found-in c.recovering_slot.result _ (c.is_none.ensures ∙ ap not c.if-is_none.false) c.recovering_slot.ensures.some in
     let recovers : role_state (reading_of m) role ≡ Recovering slot = subst (λ (s : ℕ). role_state (reading_of m) role ≡ Recovering s) (c.requires.recovering found.0 found.1) found.1 in
     let lost : AreLost given shape m n c.lose_slot.result f0 f1 = lost-of given shape m n c.lose_slot.result f0 f1 c.requires.placed
-    (slot_lost shape m n c.lose_slot.result slot role f0 f1 c.lose_slot.ensures.members c.lose_slot.ensures.alone c.requires.role (ap holder recovers) (c.write_filled.ensures.failed c.if-not-write_filled.true) c.write_filled.ensures.counts) in
-    moved-lost given shape m n c.lose_slot.result f0 f1 c.requires.placed lost c.requires.unlost
+    (slot_lost shape m n c.lose_slot.result slot role f0 f1 c.lose_slot.ensures.members c.lose_slot.ensures.alone c.requires.role (ap holder recovers) (c.write_filled.ensures.failed c.if-write_filled.false) c.write_filled.ensures.counts) in
+    let one : IsMoved given m n = moved-lost given shape m n c.lose_slot.result f0 f1 c.requires.placed lost c.requires.unlost in
+    subst (λ (b : Given). IsPlaced b n) (sym c.write_filled.ensures.given) one.placed
 
-pub returns-then-not-write_filled-clause-failed : goal.returns-then-not-write_filled-clause-failed
-returns-then-not-write_filled-clause-failed g c =
+pub name_missing-requires-clause-unlost : goal.name_missing-requires-clause-unlost
+name_missing-requires-clause-unlost g c =
     let given = g.B.Bank.given c.args.bank.now in
     let m = c.args.members.now in
     let n = c.lose_slot.new.members in
@@ -57,43 +97,209 @@ returns-then-not-write_filled-clause-failed g c =
     let found = found-in c.recovering_slot.result _ (c.is_none.ensures ∙ ap not c.if-is_none.false) c.recovering_slot.ensures.some in
     let recovers : role_state (reading_of m) role ≡ Recovering slot = subst (λ (s : ℕ). role_state (reading_of m) role ≡ Recovering s) (c.requires.recovering found.0 found.1) found.1 in
     let lost : AreLost given shape m n c.lose_slot.result f0 f1 = lost-of given shape m n c.lose_slot.result f0 f1 c.requires.placed
-    (slot_lost shape m n c.lose_slot.result slot role f0 f1 c.lose_slot.ensures.members c.lose_slot.ensures.alone c.requires.role (ap holder recovers) (c.write_filled.ensures.failed c.if-not-write_filled.true) c.write_filled.ensures.counts) in
-    since-lost given shape m n c.lose_slot.result f0 f1 lost
+    (slot_lost shape m n c.lose_slot.result slot role f0 f1 c.lose_slot.ensures.members c.lose_slot.ensures.alone c.requires.role (ap holder recovers) (c.write_filled.ensures.failed c.if-write_filled.false) c.write_filled.ensures.counts) in
+    let one : IsMoved given m n = moved-lost given shape m n c.lose_slot.result f0 f1 c.requires.placed lost c.requires.unlost in
+    one.unlost
 
-pub returns-then-not-write_filled-clause-written : goal.returns-then-not-write_filled-clause-written
-returns-then-not-write_filled-clause-written g c = λ recovers told list own i lt high.
-    let out = (recovering-after c.args.members.now c.lose_slot.result c.args.target.now.role c.args.target.now.slot
-    (subst (λ (m : Members). role_state (reading_of m) c.args.target.now.role ≡ Recovering c.args.target.now.slot) c.lose_slot.ensures.members recovers)).1 in
-    let gone : has_slot c.lose_slot.result c.args.target.now.slot ≡ true = c.lose_slot.ensures.alone c.args.target.now.slot ∙ eq-eqb c.args.target.now.slot c.args.target.now.slot refl in
+pub name_missing-requires-clause-free : goal.name_missing-requires-clause-free
+name_missing-requires-clause-free g c =
+    let given = g.B.Bank.given c.args.bank.now in
+    let m = c.args.members.now in
+    let n = c.lose_slot.new.members in
+    let role = c.args.target.now.role in
+    let slot = c.args.target.now.slot in
+    let f0 = g.B.Bank.faults_of c.args.bank.now in
+    let f1 = g.B.Bank.faults_of c.write_filled.new.bank in
+    let shape = c.args.shape.now in
+    let found = found-in c.recovering_slot.result _ (c.is_none.ensures ∙ ap not c.if-is_none.false) c.recovering_slot.ensures.some in
+    let recovers : role_state (reading_of m) role ≡ Recovering slot = subst (λ (s : ℕ). role_state (reading_of m) role ≡ Recovering s) (c.requires.recovering found.0 found.1) found.1 in
+    let lost : AreLost given shape m n c.lose_slot.result f0 f1 = lost-of given shape m n c.lose_slot.result f0 f1 c.requires.placed
+    (slot_lost shape m n c.lose_slot.result slot role f0 f1 c.lose_slot.ensures.members c.lose_slot.ensures.alone c.requires.role (ap holder recovers) (c.write_filled.ensures.failed c.if-write_filled.false) c.write_filled.ensures.counts) in
+    let one : IsMoved given m n = moved-lost given shape m n c.lose_slot.result f0 f1 c.requires.placed lost c.requires.unlost in
+    subst (λ (b : Given). AreSparesFree b n) (sym c.write_filled.ensures.given) (one.free c.requires.free)
+
+pub returns-clause-moved : goal.returns-clause-moved
+returns-clause-moved g c =
+    let given = g.B.Bank.given c.args.bank.now in
+    let m = c.args.members.now in
+    let n = c.lose_slot.new.members in
+    let role = c.args.target.now.role in
+    let slot = c.args.target.now.slot in
+    let f0 = g.B.Bank.faults_of c.args.bank.now in
+    let f1 = g.B.Bank.faults_of c.write_filled.new.bank in
+    let shape = c.args.shape.now in
+    let found = found-in c.recovering_slot.result _ (c.is_none.ensures ∙ ap not c.if-is_none.false) c.recovering_slot.ensures.some in
+    let recovers : role_state (reading_of m) role ≡ Recovering slot = subst (λ (s : ℕ). role_state (reading_of m) role ≡ Recovering s) (c.requires.recovering found.0 found.1) found.1 in
+    let lost : AreLost given shape m n c.lose_slot.result f0 f1 = lost-of given shape m n c.lose_slot.result f0 f1 c.requires.placed
+    (slot_lost shape m n c.lose_slot.result slot role f0 f1 c.lose_slot.ensures.members c.lose_slot.ensures.alone c.requires.role (ap holder recovers) (c.write_filled.ensures.failed c.if-write_filled.false) c.write_filled.ensures.counts) in
+    let one : IsMoved given m n = moved-lost given shape m n c.lose_slot.result f0 f1 c.requires.placed lost c.requires.unlost in
+    let given1 = g.B.Bank.given c.write_filled.new.bank in
+    let same : given1 ≡ given = c.write_filled.ensures.given in
+    let q = c.name_missing.new.members in
+    let named = c.name_missing.ensures in
+    let two : IsMoved given n q = moved-from given given1 n n q same refl named.moved in
+    moved-then given m n q one two
+
+pub returns-clause-failed : goal.returns-clause-failed
+returns-clause-failed g c =
+    let given = g.B.Bank.given c.args.bank.now in
+    let m = c.args.members.now in
+    let n = c.lose_slot.new.members in
+    let role = c.args.target.now.role in
+    let slot = c.args.target.now.slot in
+    let f0 = g.B.Bank.faults_of c.args.bank.now in
+    let f1 = g.B.Bank.faults_of c.write_filled.new.bank in
+    let shape = c.args.shape.now in
+    let found = found-in c.recovering_slot.result _ (c.is_none.ensures ∙ ap not c.if-is_none.false) c.recovering_slot.ensures.some in
+    let recovers : role_state (reading_of m) role ≡ Recovering slot = subst (λ (s : ℕ). role_state (reading_of m) role ≡ Recovering s) (c.requires.recovering found.0 found.1) found.1 in
+    let lost : AreLost given shape m n c.lose_slot.result f0 f1 = lost-of given shape m n c.lose_slot.result f0 f1 c.requires.placed
+    (slot_lost shape m n c.lose_slot.result slot role f0 f1 c.lose_slot.ensures.members c.lose_slot.ensures.alone c.requires.role (ap holder recovers) (c.write_filled.ensures.failed c.if-write_filled.false) c.write_filled.ensures.counts) in
+    let one : IsMoved given m n = moved-lost given shape m n c.lose_slot.result f0 f1 c.requires.placed lost c.requires.unlost in
+    let given1 = g.B.Bank.given c.write_filled.new.bank in
+    let same : given1 ≡ given = c.write_filled.ensures.given in
+    let q = c.name_missing.new.members in
+    let named = c.name_missing.ensures in
+    let two : IsMoved given n q = moved-from given given1 n n q same refl named.moved in
+    let f2 = g.B.Bank.faults_of c.name_missing.new.bank in
+    let s = c.name_missing.result in
+    since-then m n q 0 s s f0 f1 f2 c.write_filled.ensures.counts named.counts (since-lost given shape m n c.lose_slot.result f0 f1 lost) named.failed (in-second s)
+
+pub returns-clause-clean : goal.returns-clause-clean
+returns-clause-clean g c =
+    c.name_missing.ensures.clean ∙ ap (λ (x : Members). is_clean x.newest) c.lose_slot.ensures.members
+
+pub returns-clause-missing : goal.returns-clause-missing
+returns-clause-missing g c =
+    λ unnamed live. c.name_missing.ensures.missing live
+
+pub returns-clause-kept : goal.returns-clause-kept
+returns-clause-kept g c =
+    λ still.
+    let given = g.B.Bank.given c.args.bank.now in
+    let m = c.args.members.now in
+    let n = c.lose_slot.new.members in
+    let role = c.args.target.now.role in
+    let slot = c.args.target.now.slot in
+    let f0 = g.B.Bank.faults_of c.args.bank.now in
+    let f1 = g.B.Bank.faults_of c.write_filled.new.bank in
+    let shape = c.args.shape.now in
+    let found = found-in c.recovering_slot.result _ (c.is_none.ensures ∙ ap not c.if-is_none.false) c.recovering_slot.ensures.some in
+    let recovers : role_state (reading_of m) role ≡ Recovering slot = subst (λ (s : ℕ). role_state (reading_of m) role ≡ Recovering s) (c.requires.recovering found.0 found.1) found.1 in
+    let lost : AreLost given shape m n c.lose_slot.result f0 f1 = lost-of given shape m n c.lose_slot.result f0 f1 c.requires.placed
+    (slot_lost shape m n c.lose_slot.result slot role f0 f1 c.lose_slot.ensures.members c.lose_slot.ensures.alone c.requires.role (ap holder recovers) (c.write_filled.ensures.failed c.if-write_filled.false) c.write_filled.ensures.counts) in
+    let one : IsMoved given m n = moved-lost given shape m n c.lose_slot.result f0 f1 c.requires.placed lost c.requires.unlost in
+    let given1 = g.B.Bank.given c.write_filled.new.bank in
+    let same : given1 ≡ given = c.write_filled.ensures.given in
+    let q = c.name_missing.new.members in
+    let named = c.name_missing.ensures in
+    let two : IsMoved given n q = moved-from given given1 n n q same refl named.moved in
+    let out = (recovering-after m c.lose_slot.result role slot (subst (λ (x : Members). role_state (reading_of x) role ≡ Recovering slot) c.lose_slot.ensures.members (recovering-before two role slot still))).1 in
+    let gone : has_slot c.lose_slot.result slot ≡ true = c.lose_slot.ensures.alone slot ∙ eq-eqb slot slot refl in
     absurd (let e : true ≡ false = sym gone ∙ out in cc)
 
-pub returns-then-not-write_filled-clause-rise : goal.returns-then-not-write_filled-clause-rise
-returns-then-not-write_filled-clause-rise g c =
-    risen-lost c.args.members.now c.lose_slot.new.members c.lose_slot.result (g.B.Bank.tape c.args.bank.now) (g.B.Bank.tape c.write_filled.new.bank) c.lose_slot.ensures.members (grows-longer c.write_filled.ensures.grows)
-
-pub returns-then-not-write_filled-clause-safe : goal.returns-then-not-write_filled-clause-safe
-returns-then-not-write_filled-clause-safe g c = λ told world size ledger safe.
+pub returns-clause-written : goal.returns-clause-written
+returns-clause-written g c =
+    λ still told list own i lt high.
     let given = g.B.Bank.given c.args.bank.now in
     let m = c.args.members.now in
     let n = c.lose_slot.new.members in
     let role = c.args.target.now.role in
     let slot = c.args.target.now.slot in
-    let tape0 = g.B.Bank.tape c.args.bank.now in
-    let tape1 = g.B.Bank.tape c.write_filled.new.bank in
+    let f0 = g.B.Bank.faults_of c.args.bank.now in
+    let f1 = g.B.Bank.faults_of c.write_filled.new.bank in
+    let shape = c.args.shape.now in
     let found = found-in c.recovering_slot.result _ (c.is_none.ensures ∙ ap not c.if-is_none.false) c.recovering_slot.ensures.some in
     let recovers : role_state (reading_of m) role ≡ Recovering slot = subst (λ (s : ℕ). role_state (reading_of m) role ≡ Recovering s) (c.requires.recovering found.0 found.1) found.1 in
-    let one : KeepsSafe world given size ledger m tape0 tape1 = safe-filled (OpensFit world) world.scope given size ledger m role slot tape0 tape1 told c.requires.placed c.requires.unlost recovers c.write_filled.ensures.each_mark safe in
-    safe-then (OpensFit world) world.scope given size ledger m n tape0 tape1 tape1 one (safe-lost (OpensFit world) world.scope given size ledger m n c.lose_slot.result tape1 tape1 c.lose_slot.ensures.members refl one.next)
+    let lost : AreLost given shape m n c.lose_slot.result f0 f1 = lost-of given shape m n c.lose_slot.result f0 f1 c.requires.placed
+    (slot_lost shape m n c.lose_slot.result slot role f0 f1 c.lose_slot.ensures.members c.lose_slot.ensures.alone c.requires.role (ap holder recovers) (c.write_filled.ensures.failed c.if-write_filled.false) c.write_filled.ensures.counts) in
+    let one : IsMoved given m n = moved-lost given shape m n c.lose_slot.result f0 f1 c.requires.placed lost c.requires.unlost in
+    let given1 = g.B.Bank.given c.write_filled.new.bank in
+    let same : given1 ≡ given = c.write_filled.ensures.given in
+    let q = c.name_missing.new.members in
+    let named = c.name_missing.ensures in
+    let two : IsMoved given n q = moved-from given given1 n n q same refl named.moved in
+    let out = (recovering-after m c.lose_slot.result role slot (subst (λ (x : Members). role_state (reading_of x) role ≡ Recovering slot) c.lose_slot.ensures.members (recovering-before two role slot still))).1 in
+    let gone : has_slot c.lose_slot.result slot ≡ true = c.lose_slot.ensures.alone slot ∙ eq-eqb slot slot refl in
+    absurd (let e : true ≡ false = sym gone ∙ out in cc)
 
-pub returns-else-not-write_filled-clause-written : goal.returns-else-not-write_filled-clause-written
-returns-else-not-write_filled-clause-written g c = λ recovers told list own. c.write_filled.ensures.written c.if-not-write_filled.false told list own
-
-pub returns-else-not-write_filled-clause-safe : goal.returns-else-not-write_filled-clause-safe
-returns-else-not-write_filled-clause-safe g c = λ told world size ledger safe.
+pub returns-clause-others : goal.returns-clause-others
+returns-clause-others g c =
+    λ told.
+    let given = g.B.Bank.given c.args.bank.now in
     let m = c.args.members.now in
+    let n = c.lose_slot.new.members in
     let role = c.args.target.now.role in
     let slot = c.args.target.now.slot in
+    let f0 = g.B.Bank.faults_of c.args.bank.now in
+    let f1 = g.B.Bank.faults_of c.write_filled.new.bank in
+    let shape = c.args.shape.now in
     let found = found-in c.recovering_slot.result _ (c.is_none.ensures ∙ ap not c.if-is_none.false) c.recovering_slot.ensures.some in
     let recovers : role_state (reading_of m) role ≡ Recovering slot = subst (λ (s : ℕ). role_state (reading_of m) role ≡ Recovering s) (c.requires.recovering found.0 found.1) found.1 in
-    safe-filled (OpensFit world) world.scope (g.B.Bank.given c.args.bank.now) size ledger m role slot (g.B.Bank.tape c.args.bank.now) (g.B.Bank.tape c.write_filled.new.bank) told c.requires.placed c.requires.unlost recovers
-    c.write_filled.ensures.each_mark safe
+    let lost : AreLost given shape m n c.lose_slot.result f0 f1 = lost-of given shape m n c.lose_slot.result f0 f1 c.requires.placed
+    (slot_lost shape m n c.lose_slot.result slot role f0 f1 c.lose_slot.ensures.members c.lose_slot.ensures.alone c.requires.role (ap holder recovers) (c.write_filled.ensures.failed c.if-write_filled.false) c.write_filled.ensures.counts) in
+    let one : IsMoved given m n = moved-lost given shape m n c.lose_slot.result f0 f1 c.requires.placed lost c.requires.unlost in
+    let given1 = g.B.Bank.given c.write_filled.new.bank in
+    let same : given1 ≡ given = c.write_filled.ensures.given in
+    let q = c.name_missing.new.members in
+    let named = c.name_missing.ensures in
+    let two : IsMoved given n q = moved-from given given1 n n q same refl named.moved in
+    let tape0 = g.B.Bank.tape c.args.bank.now in
+    let tape1 = g.B.Bank.tape c.write_filled.new.bank in
+    let tape2 = g.B.Bank.tape c.name_missing.new.bank in
+    inr (
+      recovers,
+      others-filled m role slot (Contains c.args.rows.now) (present given tape0) (present given tape1) (present given tape2) (c.write_filled.ensures.others told)
+          (subst (λ (b : Given). AreOthersPresent (present b tape1) (present b tape2)) same (named.others told)),
+    )
+
+pub returns-clause-grows : goal.returns-clause-grows
+returns-clause-grows g c =
+    grows-then c.write_filled.ensures.grows c.name_missing.ensures.grows
+
+pub returns-clause-rise : goal.returns-clause-rise
+returns-clause-rise g c =
+    let tape0 = g.B.Bank.tape c.args.bank.now in
+    let tape1 = g.B.Bank.tape c.write_filled.new.bank in
+    let tape2 = g.B.Bank.tape c.name_missing.new.bank in
+    let risen1 : IsRisen g.B.Bank.tells c.args.members.now c.lose_slot.new.members tape0 tape1 =
+    risen-lost c.args.members.now c.lose_slot.new.members c.lose_slot.result tape0 tape1 c.lose_slot.ensures.members (grows-longer c.write_filled.ensures.grows) in
+    risen-then risen1 c.name_missing.ensures.rise
+
+pub returns-clause-safe : goal.returns-clause-safe
+returns-clause-safe g c =
+    λ told world size ledger room missing unclean safe.
+    let given = g.B.Bank.given c.args.bank.now in
+    let m = c.args.members.now in
+    let n = c.lose_slot.new.members in
+    let role = c.args.target.now.role in
+    let slot = c.args.target.now.slot in
+    let f0 = g.B.Bank.faults_of c.args.bank.now in
+    let f1 = g.B.Bank.faults_of c.write_filled.new.bank in
+    let shape = c.args.shape.now in
+    let found = found-in c.recovering_slot.result _ (c.is_none.ensures ∙ ap not c.if-is_none.false) c.recovering_slot.ensures.some in
+    let recovers : role_state (reading_of m) role ≡ Recovering slot = subst (λ (s : ℕ). role_state (reading_of m) role ≡ Recovering s) (c.requires.recovering found.0 found.1) found.1 in
+    let lost : AreLost given shape m n c.lose_slot.result f0 f1 = lost-of given shape m n c.lose_slot.result f0 f1 c.requires.placed
+    (slot_lost shape m n c.lose_slot.result slot role f0 f1 c.lose_slot.ensures.members c.lose_slot.ensures.alone c.requires.role (ap holder recovers) (c.write_filled.ensures.failed c.if-write_filled.false) c.write_filled.ensures.counts) in
+    let one : IsMoved given m n = moved-lost given shape m n c.lose_slot.result f0 f1 c.requires.placed lost c.requires.unlost in
+    let given1 = g.B.Bank.given c.write_filled.new.bank in
+    let same : given1 ≡ given = c.write_filled.ensures.given in
+    let q = c.name_missing.new.members in
+    let named = c.name_missing.ensures in
+    let two : IsMoved given n q = moved-from given given1 n n q same refl named.moved in
+    let tape0 = g.B.Bank.tape c.args.bank.now in
+    let tape1 = g.B.Bank.tape c.write_filled.new.bank in
+    let tape2 = g.B.Bank.tape c.name_missing.new.bank in
+    let risen1 : IsRisen g.B.Bank.tells m n tape0 tape1 = risen-lost m n c.lose_slot.result tape0 tape1 c.lose_slot.ensures.members (grows-longer c.write_filled.ensures.grows) in
+    let first : KeepsSafe world given size ledger m tape0 tape1 = safe-filled (OpensFit world) world.scope given size ledger m role slot tape0 tape1 told c.requires.placed c.requires.unlost recovers c.write_filled.ensures.each_mark safe in
+    let second : KeepsSafe world given size ledger n tape0 tape1 = safe-then (OpensFit world) world.scope given size ledger m n tape0 tape1 tape1 first (safe-lost (OpensFit world) world.scope given size ledger m n c.lose_slot.result tape1 tape1 c.lose_slot.ensures.members refl first.next) in
+    let unclean2 : IsUncleanTold ledger n = λ dirty. unclean (sym (ap (λ (x : Members). is_clean x.newest) c.lose_slot.ensures.members) ∙ dirty) in
+    let third : KeepsSafe world given size ledger q tape1 tape2 = keeps-from world given given1 size ledger q tape1 tape2 same
+    (named.safe told world size ledger (room-then tape2 told room risen1) missing unclean2 (over-at world given given1 size ledger n tape1 same second.next)) in
+    safe-then (OpensFit world) world.scope given size ledger n q tape0 tape1 tape2 second third
+
+pub returns-clause-counts : goal.returns-clause-counts
+returns-clause-counts g c =
+    λ slot.
+    let low = c.write_filled.ensures.counts slot in
+    let high = c.name_missing.ensures.counts slot in
+    omega (arith, low, high)
