@@ -26,7 +26,7 @@ use Rattle.assemble.specs.Running.{OpensWithZeros}
 use Rattle.std.specs.List.{All}
 use Rattle.std.proofs.lemmas.List.Elements.{All-head, All-tail}
 use Rattle.array.specs.declared.spec.CreateSpec.{CreateSpec}
-use Rattle.script.specs.declared.lines.Line.TheVariants.{Create, Read, Write, Flush, Fail, Add, Step, Wait, Stop, Halt, Assemble}
+use Rattle.script.specs.declared.lines.Line.TheVariants.{Create, Read, Write, Flush, Fail, Add, Step, Wait, Stop, Halt, Detail, Mdstat, Assemble}
 use Rattle.flat_history.specs.declared.events.Entry.{Entry}
 use Rattle.flat_history.specs.declared.events.Event.TheVariants.{Shown}
 use Rattle.flat_history.specs.Plain.{entries_of}
@@ -196,6 +196,8 @@ module _ (was now : Setting) (wider : IsWider was now) (end later : ℕ) (moved 
   refused_stays true Wait refusal is = is
   refused_stays true Stop refusal is = is
   refused_stays true Halt refusal is = is
+  refused_stays true Detail refusal is = is
+  refused_stays true Mdstat refusal is = is
   refused_stays true (Assemble uuid) refusal is = is
   refused_stays false (Create line) refusal is = uncreated_stays (spec_of line) refusal is
   refused_stays false (Read at count) refusal is = is
@@ -207,6 +209,8 @@ module _ (was now : Setting) (wider : IsWider was now) (end later : ℕ) (moved 
   refused_stays false Wait refusal is = is
   refused_stays false Stop refusal is = is
   refused_stays false Halt refusal is = is
+  refused_stays false Detail refusal is = is
+  refused_stays false Mdstat refusal is = is
   refused_stays false (Assemble uuid) refusal is = unassembled_stays uuid refusal is
 
   -- a history that began within the former tape
@@ -240,6 +244,8 @@ module _ (was now : Setting) (wider : IsWider was now) (end later : ℕ) (moved 
   made_wider histories epoch Wait is = is
   made_wider histories epoch Stop is = is
   made_wider histories epoch Halt is = is
+  made_wider histories epoch Detail is = is
+  made_wider histories epoch Mdstat is = is
   made_wider histories epoch (Assemble uuid) is = is
 
   found_wider : (histories : List History) (epoch : ℕ) (line : Line) (status : Status) → IsFoundBy was histories epoch end line status → IsFoundBy now histories epoch later line status
@@ -253,6 +259,8 @@ module _ (was now : Setting) (wider : IsWider was now) (end later : ℕ) (moved 
   found_wider histories epoch Wait status is = is
   found_wider histories epoch Stop status is = is
   found_wider histories epoch Halt status is = is
+  found_wider histories epoch Detail status is = is
+  found_wider histories epoch Mdstat status is = is
   found_wider histories epoch (Assemble asked) status is = record {
     history = is.history;
     there = is.there;
@@ -308,6 +316,8 @@ made_stays setting olds news grown epoch end (Step most) is = is
 made_stays setting olds news grown epoch end Wait is = is
 made_stays setting olds news grown epoch end Stop is = is
 made_stays setting olds news grown epoch end Halt is = is
+made_stays setting olds news grown epoch end Detail is = is
+made_stays setting olds news grown epoch end Mdstat is = is
 made_stays setting olds news grown epoch end (Assemble uuid) is = is
 
 -- it still begins with its opening
@@ -333,6 +343,8 @@ found_stays setting olds news grown epoch end (Step most) status is = is
 found_stays setting olds news grown epoch end Wait status is = is
 found_stays setting olds news grown epoch end Stop status is = is
 found_stays setting olds news grown epoch end Halt status is = is
+found_stays setting olds news grown epoch end Detail status is = is
+found_stays setting olds news grown epoch end Mdstat status is = is
 found_stays setting olds news grown epoch end (Assemble asked) status is =
     let now = history_stays olds news grown epoch is.history is.there in
     record {

@@ -9,6 +9,7 @@ pub mod Legal
 pub mod Losses
 pub mod Marks
 pub mod Reopening
+pub mod Statuses
 pub mod Steps
 pub mod Texts
 pub mod Told

@@ -7,6 +7,7 @@ pub mod Pace
 pub mod Replies
 pub mod Runs
 pub mod Sessions
+pub mod Showing
 pub mod Shown
 pub mod Source
 pub mod States

@@ -22,7 +22,7 @@ use Rattle.assemble.specs.Opening.{AreGiven, array_of, scope_of}
 use Rattle.assemble.specs.Made.{used_slot}
 use Rattle.assemble.specs.Running.{OpensWithZeros}
 use Rattle.script.specs.declared.lines.Line.{Line}
-use Rattle.script.specs.declared.lines.Line.TheVariants.{Create, Read, Write, Flush, Fail, Add, Step, Wait, Stop, Halt, Assemble}
+use Rattle.script.specs.declared.lines.Line.TheVariants.{Create, Read, Write, Flush, Fail, Add, Step, Wait, Stop, Halt, Detail, Mdstat, Assemble}
 use Rattle.script.specs.declared.lines.Numbered.{Numbered}
 use Rattle.script.specs.declared.reply.Lane.TheVariants.{Script as InScript}
 use Rattle.script.specs.Seeds.{seeded}
@@ -31,6 +31,7 @@ use Rattle.runner.specs.declared.report.Answered.{Answered}
 use Rattle.runner.specs.declared.report.Answered.TheVariants.{Inside, Outside as IsOutside}
 use Rattle.runner.specs.declared.report.LineReply.{LineReply}
 use Rattle.runner.specs.Histories.{History, entry_at, is_end}
+use Rattle.runner.specs.Showing.{IsShown}
 use Rattle.runner.specs.Making.{Setting, held_at, history_world, IsUncreated, IsUnassembled, IsStoredNew, IsStoredAs, BeginsShown}
 
 -- the array that a line asks for
@@ -49,6 +50,8 @@ FitsLine size before e (Step most) = OneShapeFits size before e (AsksSteps most)
 FitsLine size before e Wait = ⊥
 FitsLine size before e Stop = FitsStop e.event
 FitsLine size before e Halt = FitsHalt e.event
+FitsLine size before e Detail = IsShown size e.event
+FitsLine size before e Mdstat = IsShown size e.event
 FitsLine size before e (Assemble uuid) = ⊥
 
 -- where a run stands between two lines: how many arrays were opened, whether the last one runs, and while it does, how many
@@ -80,6 +83,8 @@ size_made (Step most) = 0
 size_made Wait = 0
 size_made Stop = 0
 size_made Halt = 0
+size_made Detail = 0
+size_made Mdstat = 0
 size_made (Assemble uuid) = 0
 
 -- where it stands behind an entry that answers a line: its call is the last, and may have ended the array
@@ -166,6 +171,8 @@ IsMadeBy setting histories epoch end (Step most) = ⊥
 IsMadeBy setting histories epoch end Wait = ⊥
 IsMadeBy setting histories epoch end Stop = ⊥
 IsMadeBy setting histories epoch end Halt = ⊥
+IsMadeBy setting histories epoch end Detail = ⊥
+IsMadeBy setting histories epoch end Mdstat = ⊥
 IsMadeBy setting histories epoch end (Assemble uuid) = ⊥
 
 -- The next history is that of an array that was found: of the uuid that was asked for, or else of the first superblock in its given
@@ -193,6 +200,8 @@ IsFoundBy setting histories epoch end (Step most) status = ⊥
 IsFoundBy setting histories epoch end Wait status = ⊥
 IsFoundBy setting histories epoch end Stop status = ⊥
 IsFoundBy setting histories epoch end Halt status = ⊥
+IsFoundBy setting histories epoch end Detail status = ⊥
+IsFoundBy setting histories epoch end Mdstat status = ⊥
 IsFoundBy setting histories epoch end (Assemble uuid) status = IsFoundAt setting histories epoch end uuid status
 
 -- the refusals that stand in no history: a create or an assemble while an array runs, or for what the bank holds, and the other
@@ -209,6 +218,8 @@ IsRefusedOutside setting true end (Step most) refusal = ⊥
 IsRefusedOutside setting true end Wait refusal = ⊥
 IsRefusedOutside setting true end Stop refusal = ⊥
 IsRefusedOutside setting true end Halt refusal = ⊥
+IsRefusedOutside setting true end Detail refusal = ⊥
+IsRefusedOutside setting true end Mdstat refusal = ⊥
 IsRefusedOutside setting false end (Create line) refusal = IsUncreated setting (spec_of line) end refusal
 IsRefusedOutside setting false end (Assemble uuid) refusal = IsUnassembled setting uuid end refusal
 IsRefusedOutside setting false end (Read at count) refusal = refusal ≡ NotRunning
@@ -220,6 +231,8 @@ IsRefusedOutside setting false end (Step most) refusal = refusal ≡ NotRunning
 IsRefusedOutside setting false end Wait refusal = refusal ≡ NotRunning
 IsRefusedOutside setting false end Stop refusal = refusal ≡ NotRunning
 IsRefusedOutside setting false end Halt refusal = refusal ≡ NotRunning
+IsRefusedOutside setting false end Detail refusal = refusal ≡ NotRunning
+IsRefusedOutside setting false end Mdstat refusal = refusal ≡ NotRunning
 
 -- an answer to a line, given at this mark, where the run stands at this point
 abbrev pub IsAnswer : Setting → List History → Course → Line → ℕ → Answered → Type 0

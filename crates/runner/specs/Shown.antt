@@ -3,11 +3,12 @@ use Rattle.std.specs.Prelude.{ℕ, Bool, true, false, ◌||◌, List, [], ◌∷
 use Rattle.std.specs.Option.{option_map_or}
 use Rattle.md_base.specs.declared.answers.Refusal.TheVariants.{Nothing}
 use Rattle.flat_history.specs.declared.events.Event.{Event}
-use Rattle.flat_history.specs.declared.events.Event.TheVariants.{Refused as IsRefused, Stepped}
+use Rattle.flat_history.specs.declared.events.Event.TheVariants.{Refused as IsRefused, Shown, Stepped}
 use Rattle.script.specs.declared.lines.Line.{Line}
-use Rattle.script.specs.declared.lines.Line.TheVariants.{Wait}
+use Rattle.script.specs.declared.lines.Line.TheVariants.{Wait, Detail, Mdstat}
 use Rattle.script.specs.declared.lines.Numbered.{Numbered}
 use Rattle.script.specs.Texts.{created_text, assembled_text, refusal_text, event_text, waited_text, lane_text}
+use Rattle.status_text.specs.Texts.{detail_text, mdstat_text}
 use Rattle.runner.specs.declared.report.Outside.{Outside}
 use Rattle.runner.specs.declared.report.Outside.TheVariants.{Created, Assembled, Refused}
 use Rattle.runner.specs.declared.report.Answered.{Answered}
@@ -20,9 +21,11 @@ outside_text Created = created_text
 outside_text (Assembled epoch status) = assembled_text status
 outside_text (Refused refusal) = refusal_text refusal
 
--- the event of an entry that answers a line; a wait has a text of its own
+-- the event of an entry that answers a line; a wait has a text of its own, and a status one for each form that is asked for
 abbrev pub entry_text : Line → Event → List ℕ
 entry_text Wait event = waited_text event
+entry_text Detail (Shown status) = detail_text status
+entry_text Mdstat (Shown status) = mdstat_text status
 entry_text line event = event_text event
 
 -- an answer by an entry is shown as the entry's event

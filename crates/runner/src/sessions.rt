@@ -23,6 +23,7 @@ use script::{
     Lane, Line, Numbered, push_assembled, push_created, push_event, push_lane, push_refusal,
     push_waited,
 };
+use status_text::{push_detail, push_mdstat};
 use std::alloc::{AllocError, Global};
 use text_io::Sink;
 
@@ -73,8 +74,10 @@ fn is_refused(line: Line, event: &Event) -> bool
 fn push_entry(text: &mut Vec<u8>, line: Line, event: &Event) -> Result<(), AllocError>
     ensures { OnOk result (text.new.items ≡ text.old.items ++ entry_text line event.now) }
 {
-    match line {
-        Line::Wait => push_waited(text, event),
+    match (line, event) {
+        (Line::Wait, _) => push_waited(text, event),
+        (Line::Detail, Event::Shown { status }) => push_detail(text, status),
+        (Line::Mdstat, Event::Shown { status }) => push_mdstat(text, status),
         _ => push_event(text, event),
     }
 }

@@ -20,6 +20,7 @@ use crate::asks::{
     ask_add, ask_fail, ask_flush, ask_read, ask_steps, ask_wait, ask_write, last_place, script_call,
 };
 use crate::report::{Answered, Outside};
+use crate::shows::ask_show;
 use array::{Array, CreateSpec};
 use assemble::{assemble, create};
 use bank::Bank;
@@ -185,6 +186,14 @@ fn answer_running<B: Bank>(
         }
         Line::Stop => stop_array(array, epochs, backup),
         Line::Halt => halt_array(array, epochs, backup),
+        Line::Detail => {
+            let place = ask_show(&mut array);
+            goes_on(array, epochs, place)
+        }
+        Line::Mdstat => {
+            let place = ask_show(&mut array);
+            goes_on(array, epochs, place)
+        }
         Line::Create(_) => (State::Running(array, epochs), Ok(refused(Refusal::Running))),
         Line::Assemble { .. } => (State::Running(array, epochs), Ok(refused(Refusal::Running))),
     }
@@ -319,6 +328,8 @@ fn answer_idle<B: Bank>(
         Line::Wait => (State::Idle(bank, epochs), Ok(refused(Refusal::NotRunning))),
         Line::Stop => (State::Idle(bank, epochs), Ok(refused(Refusal::NotRunning))),
         Line::Halt => (State::Idle(bank, epochs), Ok(refused(Refusal::NotRunning))),
+        Line::Detail => (State::Idle(bank, epochs), Ok(refused(Refusal::NotRunning))),
+        Line::Mdstat => (State::Idle(bank, epochs), Ok(refused(Refusal::NotRunning))),
     }
 }
 

@@ -174,6 +174,27 @@ const ANSWERED: [Row; 9] = [
     },
 ];
 
+// What the array tells of itself: new, with a role that is being rebuilt, and with one missing; and that none runs.
+const SHOWN: [Row; 3] = [
+    Row {
+        lines: "detail\nmdstat\n",
+        output: b"created\nlevel 5\nlayout left-symmetric\nchunk 8\ndisks 3\nsize 40\nvisible 80\nstate clean\nevents 1\nrole 0 slot 0 whole\nrole 1 slot 1 whole\nrole 2 slot 2 whole\nleft 0\nmd: raid5 [3/3] [UUU] 80 sectors\n",
+        ..PLAIN
+    },
+    Row {
+        lines: "add 3\nadd 4\nfail 1\nstep 2\nwrite 0 1 7\ndetail\nmdstat\nfail 1\nmdstat\n",
+        output: b"created\nadded 3\nadded 4\nfailed 1\nstepped 2 left 5\nwrote 0 1\nlevel 5\nlayout left-symmetric\nchunk 8\ndisks 3\nsize 40\nvisible 80\nstate dirty\nevents 6\nrole 0 slot 0 whole\nrole 1 slot 3 recovering\nrole 2 slot 2 whole\nspare slot 4\nleft 5\nmd: raid5 [3/2] [U_U] 80 sectors left 5\nfailed 1\nmd: raid5 [3/2] [U_U] 80 sectors left 7\n",
+        ..PLAIN
+    },
+    Row {
+        create: false,
+        lines: "detail\nmdstat\n",
+        status: 1,
+        output: b"refused 28 NotRunning\nrefused 28 NotRunning\n",
+        ..PLAIN
+    },
+];
+
 // Scripts without that `create`.
 const COMING_AND_GOING: [Row; 20] = [
     // a dirty array is found with its resync to do, one step for each of five stripes and one for its end
@@ -371,6 +392,7 @@ const ENDING: [Row; 7] = [
 #[test]
 fn runs_of_scripts(rt: HostRuntime) -> Result<(), Fail> {
     compare(&rt, rt.alloc(), &ANSWERED)?;
+    compare(&rt, rt.alloc(), &SHOWN)?;
     compare(&rt, rt.alloc(), &COMING_AND_GOING)?;
     compare(&rt, rt.alloc(), &ENDING)
 }

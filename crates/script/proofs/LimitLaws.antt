@@ -12,7 +12,7 @@ use Rattle.script.specs.Numbers.{words_of, number_below}
 use Rattle.script.specs.Grammar.{is_span, span_of, array_from, array_of, shape_of, create_keys, create_of, assemble_of, alone, read_of, write_of, fail_of, add_of, step_of, line_of, is_printable, is_passed_over, asks_or_bad, meaning_of}
 use Rattle.script.specs.Script.{numbered, asked, is_within_limits}
 use Rattle.script.specs.declared.lines.Line.{Line}
-use Rattle.script.specs.declared.lines.Line.TheVariants.{Create, Read, Write, Flush, Fail, Add, Step, Wait, Stop, Halt, Assemble}
+use Rattle.script.specs.declared.lines.Line.TheVariants.{Create, Read, Write, Flush, Fail, Add, Step, Wait, Stop, Halt, Detail, Mdstat, Assemble}
 use Rattle.script.specs.declared.lines.Numbered.{Numbered}
 use Rattle.script.specs.declared.grammar.Meaning.{Meaning}
 use Rattle.script.specs.declared.grammar.Meaning.TheVariants.{PassedOver, Asks, Bad}
@@ -129,7 +129,9 @@ line_ok (verb ∷ values) line e =
     (verb_ok (bytes_eq verb (codes "step")) (step_of values) _ line (step_ok values line)
     (verb_ok (bytes_eq verb (codes "wait")) (alone Wait values) _ line (alone_ok Wait line values refl)
     (verb_ok (bytes_eq verb (codes "stop")) (alone Stop values) _ line (alone_ok Stop line values refl)
-    (verb_ok (bytes_eq verb (codes "halt")) (alone Halt values) None line (alone_ok Halt line values refl) (λ h. absurd (cc))))))))))))
+    (verb_ok (bytes_eq verb (codes "halt")) (alone Halt values) _ line (alone_ok Halt line values refl)
+    (verb_ok (bytes_eq verb (codes "detail")) (alone Detail values) _ line (alone_ok Detail line values refl)
+    (verb_ok (bytes_eq verb (codes "mdstat")) (alone Mdstat values) None line (alone_ok Mdstat line values refl) (λ h. absurd (cc))))))))))))))
     e
 
 meaning_ok : (text : List ℕ) (line : Line) → meaning_of text ≡ Asks line → is_within_limits line ≡ true

@@ -8,7 +8,7 @@ use Rattle.script.specs.Keys.{has_key, given}
 use Rattle.script.specs.Layouts.{layout_named}
 use Rattle.script.specs.Numbers.{is_space, words_of, number_below}
 use Rattle.script.specs.declared.lines.Line.{Line}
-use Rattle.script.specs.declared.lines.Line.TheVariants.{Create, Read, Write, Flush, Fail, Add, Step, Wait, Stop, Halt, Assemble}
+use Rattle.script.specs.declared.lines.Line.TheVariants.{Create, Read, Write, Flush, Fail, Add, Step, Wait, Stop, Halt, Detail, Mdstat, Assemble}
 use Rattle.script.specs.declared.grammar.Meaning.{Meaning}
 use Rattle.script.specs.declared.grammar.Meaning.TheVariants.{PassedOver, Asks, Bad}
 
@@ -112,6 +112,8 @@ line_of (verb ∷ values) =
     else if bytes_eq verb (codes "wait") then alone Wait values
     else if bytes_eq verb (codes "stop") then alone Stop values
     else if bytes_eq verb (codes "halt") then alone Halt values
+    else if bytes_eq verb (codes "detail") then alone Detail values
+    else if bytes_eq verb (codes "mdstat") then alone Mdstat values
     else None
 
 -- printable ASCII and spaces

@@ -83,6 +83,10 @@ fn parse_line(mut words: Words<'_>) -> Option<Line>
         parse_alone(words, Line::Stop)
     } else if verb == b"halt".as_slice() {
         parse_alone(words, Line::Halt)
+    } else if verb == b"detail".as_slice() {
+        parse_alone(words, Line::Detail)
+    } else if verb == b"mdstat".as_slice() {
+        parse_alone(words, Line::Mdstat)
     } else {
         None
     }

@@ -22,6 +22,8 @@ pub enum Line {
     Wait,
     Stop,
     Halt,
+    Detail,
+    Mdstat,
     Assemble { uuid: Option<[u8; 16]> },
 }
 

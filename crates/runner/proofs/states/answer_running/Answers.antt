@@ -2,7 +2,7 @@ use Rattle.std.proofs.Common.{true, length, Result, refl, sym, subst}
 use Rattle.bank.specs.Given.{NeverFalls}
 use Rattle.md_base.specs.declared.answers.NoMemory.{NoMemory}
 use Rattle.script.specs.declared.lines.Line.{Line}
-use Rattle.script.specs.declared.lines.Line.TheVariants.{Read, Write, Flush, Fail, Add, Step, Wait}
+use Rattle.script.specs.declared.lines.Line.TheVariants.{Read, Write, Flush, Fail, Add, Step, Wait, Detail, Mdstat}
 use Rattle.md_base.specs.declared.answers.Refusal.TheVariants.{Running as RefusedRunning}
 use Rattle.runner.specs.Making.{setting_of}
 use Rattle.runner.specs.Replies.{IsRefusedOutside}
@@ -18,6 +18,7 @@ use Rattle.views.specs.Placed.{places_of}
 use Rattle.runner.proofs.Told.{told_result, asked_read, asked_write, asked_flush, asked_fail, asked_steps, told_added, told_waited}
 use Rattle.runner.proofs.Losses.{later-of, losses-of, losses-given, held-later, on-lost, on-added, on-given}
 use Rattle.runner.proofs.Turns.{turn_of_ask, turn_of_wait, turn_refused, going_read, going_write, going_flush, going_fail, going_add, going_steps}
+use Rattle.runner.proofs.Statuses.{going_detail, going_mdstat, told_detail, told_mdstat}
 use Rattle.runner.specs.Written.{HasWritten}
 use Rattle.runner.proofs.Writing.{written-nothing, written_going}
 use Rattle.runner.proofs.states.answer_running.Goals as goal
@@ -60,6 +61,32 @@ returns-in-Flush-clause-answered g c =
     (subst (λ (r : Result Answered NoMemory). IsTurnOrNone (setting_of g.B.Bank.tells (g.B.Bank.given array.bank) (g.B.Bank.tape array.bank) (g.B.Bank.tape new.bank) c.args.backup (g.B.Bank.faults_of array.bank) (g.B.Bank.faults_of new.bank)) (IsRunning array c.args.epochs) (IsRunning new c.args.epochs) Flush r) (sym on.ensures.answer)
     (turn_of_ask (setting_of g.B.Bank.tells (g.B.Bank.given array.bank) (g.B.Bank.tape array.bank) (g.B.Bank.tape new.bank) c.args.backup (g.B.Bank.faults_of array.bank) (g.B.Bank.faults_of new.bank)) array new c.args.epochs c.requires.own (losses-of (setting_of g.B.Bank.tells (g.B.Bank.given array.bank) (g.B.Bank.tape array.bank) (g.B.Bank.tape new.bank) c.args.backup (g.B.Bank.faults_of array.bank) (g.B.Bank.faults_of new.bank)) (running_history new) (held-later (g.B.Bank.given array.bank) c.args.backup (running_history array) (running_history new) array.members did.grows (later-of same did.losses) c.requires.former.held) did.losses (told_result (setting_of g.B.Bank.tells (g.B.Bank.given array.bank) (g.B.Bank.tape array.bank) (g.B.Bank.tape new.bank) c.args.backup (g.B.Bank.faults_of array.bank) (g.B.Bank.faults_of new.bank)) c.ask_flush-place.result did.asked (λ p asked. asked_flush (setting_of g.B.Bank.tells (g.B.Bank.given array.bank) (g.B.Bank.tape array.bank) (g.B.Bank.tape new.bank) c.args.backup (g.B.Bank.faults_of array.bank) (g.B.Bank.faults_of new.bank)) asked))) same.uuid same.given same.first same.shape same.size
     Flush c.ask_flush-place.result (λ p asked. going_flush asked) (grows_longer did.grows) did.ended did.asked)))
+
+pub returns-in-Detail-clause-answered : goal.returns-in-Detail-clause-answered
+returns-in-Detail-clause-answered g c =
+    let array = c.args.array in
+    let new = c.ask_show-place.new.array in
+    let did = c.ask_show-place.ensures in
+    let same = did.same in
+    let on = c.goes_on-in-Detail in
+    subst (λ (l : Line). IsTurnOrNone (setting_of g.B.Bank.tells (g.B.Bank.given array.bank) (g.B.Bank.tape array.bank) (g.B.Bank.tape (bank_in on.result.0)) c.args.backup (g.B.Bank.faults_of array.bank) (g.B.Bank.faults_of (bank_in on.result.0))) (IsRunning array c.args.epochs) on.result.0 l on.result.1) (sym c.in-Detail.is)
+    (subst (λ (s : State g.row.B.Denot). IsTurnOrNone (setting_of g.B.Bank.tells (g.B.Bank.given array.bank) (g.B.Bank.tape array.bank) (g.B.Bank.tape (bank_in s)) c.args.backup (g.B.Bank.faults_of array.bank) (g.B.Bank.faults_of (bank_in s))) (IsRunning array c.args.epochs) s Detail on.result.1) (sym on.ensures.state)
+    (subst (λ (r : Result Answered NoMemory). IsTurnOrNone (setting_of g.B.Bank.tells (g.B.Bank.given array.bank) (g.B.Bank.tape array.bank) (g.B.Bank.tape new.bank) c.args.backup (g.B.Bank.faults_of array.bank) (g.B.Bank.faults_of new.bank)) (IsRunning array c.args.epochs) (IsRunning new c.args.epochs) Detail r) (sym on.ensures.answer)
+    (turn_of_ask (setting_of g.B.Bank.tells (g.B.Bank.given array.bank) (g.B.Bank.tape array.bank) (g.B.Bank.tape new.bank) c.args.backup (g.B.Bank.faults_of array.bank) (g.B.Bank.faults_of new.bank)) array new c.args.epochs c.requires.own (losses-of (setting_of g.B.Bank.tells (g.B.Bank.given array.bank) (g.B.Bank.tape array.bank) (g.B.Bank.tape new.bank) c.args.backup (g.B.Bank.faults_of array.bank) (g.B.Bank.faults_of new.bank)) (running_history new) (held-later (g.B.Bank.given array.bank) c.args.backup (running_history array) (running_history new) array.members did.grows (later-of same did.losses) c.requires.former.held) did.losses (told_result (setting_of g.B.Bank.tells (g.B.Bank.given array.bank) (g.B.Bank.tape array.bank) (g.B.Bank.tape new.bank) c.args.backup (g.B.Bank.faults_of array.bank) (g.B.Bank.faults_of new.bank)) c.ask_show-place.result did.asked (λ p asked. told_detail (setting_of g.B.Bank.tells (g.B.Bank.given array.bank) (g.B.Bank.tape array.bank) (g.B.Bank.tape new.bank) c.args.backup (g.B.Bank.faults_of array.bank) (g.B.Bank.faults_of new.bank)) asked))) same.uuid same.given same.first same.shape same.size
+    Detail c.ask_show-place.result (λ p asked. going_detail asked) (grows_longer did.grows) did.ended did.asked)))
+
+pub returns-in-Mdstat-clause-answered : goal.returns-in-Mdstat-clause-answered
+returns-in-Mdstat-clause-answered g c =
+    let array = c.args.array in
+    let new = c.ask_show-place-in-Mdstat.new.array in
+    let did = c.ask_show-place-in-Mdstat.ensures in
+    let same = did.same in
+    let on = c.goes_on-in-Mdstat in
+    subst (λ (l : Line). IsTurnOrNone (setting_of g.B.Bank.tells (g.B.Bank.given array.bank) (g.B.Bank.tape array.bank) (g.B.Bank.tape (bank_in on.result.0)) c.args.backup (g.B.Bank.faults_of array.bank) (g.B.Bank.faults_of (bank_in on.result.0))) (IsRunning array c.args.epochs) on.result.0 l on.result.1) (sym c.in-Mdstat.is)
+    (subst (λ (s : State g.row.B.Denot). IsTurnOrNone (setting_of g.B.Bank.tells (g.B.Bank.given array.bank) (g.B.Bank.tape array.bank) (g.B.Bank.tape (bank_in s)) c.args.backup (g.B.Bank.faults_of array.bank) (g.B.Bank.faults_of (bank_in s))) (IsRunning array c.args.epochs) s Mdstat on.result.1) (sym on.ensures.state)
+    (subst (λ (r : Result Answered NoMemory). IsTurnOrNone (setting_of g.B.Bank.tells (g.B.Bank.given array.bank) (g.B.Bank.tape array.bank) (g.B.Bank.tape new.bank) c.args.backup (g.B.Bank.faults_of array.bank) (g.B.Bank.faults_of new.bank)) (IsRunning array c.args.epochs) (IsRunning new c.args.epochs) Mdstat r) (sym on.ensures.answer)
+    (turn_of_ask (setting_of g.B.Bank.tells (g.B.Bank.given array.bank) (g.B.Bank.tape array.bank) (g.B.Bank.tape new.bank) c.args.backup (g.B.Bank.faults_of array.bank) (g.B.Bank.faults_of new.bank)) array new c.args.epochs c.requires.own (losses-of (setting_of g.B.Bank.tells (g.B.Bank.given array.bank) (g.B.Bank.tape array.bank) (g.B.Bank.tape new.bank) c.args.backup (g.B.Bank.faults_of array.bank) (g.B.Bank.faults_of new.bank)) (running_history new) (held-later (g.B.Bank.given array.bank) c.args.backup (running_history array) (running_history new) array.members did.grows (later-of same did.losses) c.requires.former.held) did.losses (told_result (setting_of g.B.Bank.tells (g.B.Bank.given array.bank) (g.B.Bank.tape array.bank) (g.B.Bank.tape new.bank) c.args.backup (g.B.Bank.faults_of array.bank) (g.B.Bank.faults_of new.bank)) c.ask_show-place-in-Mdstat.result did.asked_brief (λ p asked. told_mdstat (setting_of g.B.Bank.tells (g.B.Bank.given array.bank) (g.B.Bank.tape array.bank) (g.B.Bank.tape new.bank) c.args.backup (g.B.Bank.faults_of array.bank) (g.B.Bank.faults_of new.bank)) asked))) same.uuid same.given same.first same.shape same.size
+    Mdstat c.ask_show-place-in-Mdstat.result (λ p asked. going_mdstat asked) (grows_longer did.grows) did.ended did.asked_brief)))
 
 pub returns-in-Fail-clause-answered : goal.returns-in-Fail-clause-answered
 returns-in-Fail-clause-answered g c =
@@ -153,6 +180,22 @@ returns-in-Flush-clause-former g c =
     subst (λ (s : State g.row.B.Denot). IsRunKept g.B.Bank.tells (g.B.Bank.given array.bank) (g.B.Bank.tape (bank_in s)) c.args.backup s) (sym c.goes_on-in-Flush.ensures.state)
     (going_asked (g.B.Bank.given array.bank) (λ (b : g.row.B.Denot). g.B.Bank.tape b) c.args.backup array new c.args.epochs.items c.ask_flush-place.result did.grows (later-of did.same did.losses) did.same.backup (on-lost new.entries did.held did.spares) did.ended did.unchanged c.requires.former)
 
+pub returns-in-Detail-clause-former : goal.returns-in-Detail-clause-former
+returns-in-Detail-clause-former g c =
+    let array = c.args.array in
+    let new = c.ask_show-place.new.array in
+    let did = c.ask_show-place.ensures in
+    subst (λ (s : State g.row.B.Denot). IsRunKept g.B.Bank.tells (g.B.Bank.given array.bank) (g.B.Bank.tape (bank_in s)) c.args.backup s) (sym c.goes_on-in-Detail.ensures.state)
+    (going_asked (g.B.Bank.given array.bank) (λ (b : g.row.B.Denot). g.B.Bank.tape b) c.args.backup array new c.args.epochs.items c.ask_show-place.result did.grows (later-of did.same did.losses) did.same.backup (on-lost new.entries did.held did.spares) did.ended did.unchanged c.requires.former)
+
+pub returns-in-Mdstat-clause-former : goal.returns-in-Mdstat-clause-former
+returns-in-Mdstat-clause-former g c =
+    let array = c.args.array in
+    let new = c.ask_show-place-in-Mdstat.new.array in
+    let did = c.ask_show-place-in-Mdstat.ensures in
+    subst (λ (s : State g.row.B.Denot). IsRunKept g.B.Bank.tells (g.B.Bank.given array.bank) (g.B.Bank.tape (bank_in s)) c.args.backup s) (sym c.goes_on-in-Mdstat.ensures.state)
+    (going_asked (g.B.Bank.given array.bank) (λ (b : g.row.B.Denot). g.B.Bank.tape b) c.args.backup array new c.args.epochs.items c.ask_show-place-in-Mdstat.result did.grows (later-of did.same did.losses) did.same.backup (on-lost new.entries did.held did.spares) did.ended did.unchanged c.requires.former)
+
 pub returns-in-Fail-clause-former : goal.returns-in-Fail-clause-former
 returns-in-Fail-clause-former g c =
     let array = c.args.array in
@@ -207,6 +250,14 @@ pub returns-in-Flush-clause-never_falls : goal.returns-in-Flush-clause-never_fal
 returns-in-Flush-clause-never_falls g c =
     subst (λ (s : State g.row.B.Denot). NeverFalls (g.B.Bank.faults_of c.args.array.bank) (g.B.Bank.faults_of (bank_in s))) (sym c.goes_on-in-Flush.ensures.state) c.ask_flush-place.ensures.never_falls
 
+pub returns-in-Detail-clause-never_falls : goal.returns-in-Detail-clause-never_falls
+returns-in-Detail-clause-never_falls g c =
+    subst (λ (s : State g.row.B.Denot). NeverFalls (g.B.Bank.faults_of c.args.array.bank) (g.B.Bank.faults_of (bank_in s))) (sym c.goes_on-in-Detail.ensures.state) c.ask_show-place.ensures.never_falls
+
+pub returns-in-Mdstat-clause-never_falls : goal.returns-in-Mdstat-clause-never_falls
+returns-in-Mdstat-clause-never_falls g c =
+    subst (λ (s : State g.row.B.Denot). NeverFalls (g.B.Bank.faults_of c.args.array.bank) (g.B.Bank.faults_of (bank_in s))) (sym c.goes_on-in-Mdstat.ensures.state) c.ask_show-place-in-Mdstat.ensures.never_falls
+
 pub returns-in-Fail-clause-never_falls : goal.returns-in-Fail-clause-never_falls
 returns-in-Fail-clause-never_falls g c =
     subst (λ (s : State g.row.B.Denot). NeverFalls (g.B.Bank.faults_of c.args.array.bank) (g.B.Bank.faults_of (bank_in s))) (sym c.goes_on-in-Fail.ensures.state) c.ask_fail-place.ensures.never_falls
@@ -232,6 +283,18 @@ returns-in-Flush-clause-written g c =
     let did = c.ask_flush-place.ensures in
     written_going g.B.Bank.tells (g.B.Bank.given c.args.array.bank) (λ (b : g.row.B.Denot). g.B.Bank.tape b) c.args.backup (λ (b : g.row.B.Denot). g.B.Bank.faults_of b) c.args.array c.ask_flush-place.new.array c.args.epochs c.goes_on-in-Flush.result.0 c.args.line c.goes_on-in-Flush.result.1
     c.goes_on-in-Flush.ensures.state did.same.first did.grows c.requires.former (returns-in-Flush-clause-former g c)
+
+pub returns-in-Detail-clause-written : goal.returns-in-Detail-clause-written
+returns-in-Detail-clause-written g c =
+    let did = c.ask_show-place.ensures in
+    written_going g.B.Bank.tells (g.B.Bank.given c.args.array.bank) (λ (b : g.row.B.Denot). g.B.Bank.tape b) c.args.backup (λ (b : g.row.B.Denot). g.B.Bank.faults_of b) c.args.array c.ask_show-place.new.array c.args.epochs c.goes_on-in-Detail.result.0 c.args.line c.goes_on-in-Detail.result.1
+    c.goes_on-in-Detail.ensures.state did.same.first did.grows c.requires.former (returns-in-Detail-clause-former g c)
+
+pub returns-in-Mdstat-clause-written : goal.returns-in-Mdstat-clause-written
+returns-in-Mdstat-clause-written g c =
+    let did = c.ask_show-place-in-Mdstat.ensures in
+    written_going g.B.Bank.tells (g.B.Bank.given c.args.array.bank) (λ (b : g.row.B.Denot). g.B.Bank.tape b) c.args.backup (λ (b : g.row.B.Denot). g.B.Bank.faults_of b) c.args.array c.ask_show-place-in-Mdstat.new.array c.args.epochs c.goes_on-in-Mdstat.result.0 c.args.line c.goes_on-in-Mdstat.result.1
+    c.goes_on-in-Mdstat.ensures.state did.same.first did.grows c.requires.former (returns-in-Mdstat-clause-former g c)
 
 pub returns-in-Fail-clause-written : goal.returns-in-Fail-clause-written
 returns-in-Fail-clause-written g c =

@@ -1,0 +1,21 @@
+-- What an array tells of itself.
+use Rattle.std.specs.Prelude.{◌≡◌, ℕ, List, slice_get, MatchOption}
+use Rattle.flat_history.specs.declared.events.Entry.{Entry}
+use Rattle.flat_history.specs.declared.events.Event.{Event}
+use Rattle.flat_history.specs.declared.events.Event.TheVariants.{Shown}
+use Rattle.views.specs.Parts.{Parts}
+use Rattle.views.specs.Status.{IsStatusFor}
+
+-- the event tells a list of so many sectors, of which all can be read
+abbrev pub IsShown : ℕ → Event → Type 0
+IsShown size (Shown status) = (status.length ≡ size) × (status.visible ≡ size)
+IsShown size event = ⊥
+
+-- the event tells the array as it is
+abbrev pub TellsArray : {B : Type 0} → Parts B → Event → Type 0
+TellsArray array (Shown status) = IsStatusFor array status
+TellsArray array event = ⊥
+
+-- the entry at this place does
+abbrev pub IsToldAt : {B : Type 0} → Parts B → List Entry → ℕ → Type 0
+IsToldAt array entries place = MatchOption (slice_get entries place) ⊥ (λ e. TellsArray array e.event)
