@@ -21,13 +21,14 @@ use Rattle.flat_history.specs.Legal.{left_after}
 use Rattle.flat_history.specs.Losses.{is_resync_end}
 use Rattle.flat_history.specs.Transfers.{last_end_from}
 use Rattle.flat_history.specs.Plain.{loses_role, entries_of}
-use Rattle.flat_history.specs.OneShape.{ShapeOpening, is_lost, is_gone_now, IsOneShapeLegal, KeepShape}
+use Rattle.flat_history.specs.OneShape.{ShapeOpening, is_lost, is_gone_now, IsOneShapeLegal, KeepShape, is_spare_now}
 use Rattle.flat_history.proofs.OneShapeGone.{gone-lost}
 use Rattle.flat_history.proofs.OneShapeGrowing.{AreMissing, loss_events, found-legal, call-ends, entries-both}
 use Rattle.views.specs.Rebuilding.{HasNoRebuilt}
 use Rattle.array_kept.specs.Adopting.{opener, found_loss, absent_loss, absent_losses}
 use Rattle.call_entries.proofs.CallLaws.{GivesNone}
 use Rattle.array_kept.proofs.NowLaws.{now-quiet}
+use Rattle.array_kept.proofs.OnlyLaws.{either, gone-or}
 
 pub absents-first : (r : Reading) → absent_losses r 0 ≡ []
 unfolding absent_losses
@@ -209,6 +210,38 @@ absents-lost r who end (suc n) role lt is =
   where
     last : (b : Bool) → (b || true) ≡ true
     last b = grind (arith, nat_tests)
+
+-- and no other role is
+absents-only : (r : Reading) (who : Who) (end n role : ℕ) → IsTrue (is_lost (entries_of who end (absent_losses r n)) role) → is_missing r role ≡ true
+absents-only r who end zero role lost = absurd (let clash = sym (ap (λ (l : List Event). list_any (λ e. loses_role role e.event) (entries_of who end l)) (absents-first r)) ∙ lost in cc)
+absents-only r who end (suc n) role lost = elim (either (list_any (λ e. loses_role role e.event) (entries_of who end (absent_losses r n))) (list_any (λ e. loses_role role e.event) (entries_of who end (absent_loss r n)))
+    (sym (ap (λ (l : List Event). list_any (λ e. loses_role role e.event) (entries_of who end l)) (absents-more r n)
+    ∙ ap (λ (l : List Entry). list_any (λ e. loses_role role e.event) l) (entries-both who end (absent_losses r n) (absent_loss r n))
+    ∙ list_any-append (λ e. loses_role role e.event) (entries_of who end (absent_losses r n)) (entries_of who end (absent_loss r n))) ∙ lost)) [
+      | inl before ↦ absents-only r who end n role before
+      | inr here ↦ by (role_state r n) refl here
+    ]
+  where
+    equal : (a b : ℕ) → ((a == b) || false) ≡ true → a ≡ b
+    equal a b e = grind (arith, nat_tests, e)
+
+    by : (state : Role) → role_state r n ≡ state → list_any (λ e. loses_role role e.event) (entries_of who end (found_loss n state)) ≡ true → is_missing r role ≡ true
+    by (Whole slot) is told = absurd (cc)
+    by (Recovering slot) is told = subst (λ (k : ℕ). is_missing r k ≡ true) (equal n role told) (ap (λ (s : Role). not (is_whole s)) is)
+    by Missing is told = subst (λ (k : ℕ). is_missing r k ≡ true) (equal n role told) (ap (λ (s : Role). not (is_whole s)) is)
+
+pub absents-missing : (r : Reading) (who : Who) (end n role : ℕ) → is_gone_now (entries_of who end (absent_losses r n)) role ≡ true → is_missing r role ≡ true
+absents-missing r who end n role gone = elim (gone-or role [] (entries_of who end (absent_losses r n)) gone) [
+  | inl none ↦ absurd (cc)
+  | inr lost ↦ absents-only r who end n role lost
+]
+
+-- no slot is told to be a spare
+pub absents-spares : (who : Who) (end slot : ℕ) (xs : List Event) → AreAbsent xs → is_spare_now (entries_of who end xs) slot ≡ false
+absents-spares who end slot [] are = refl
+absents-spares who end slot (Lost role Absent ∷ xs) are = absents-spares who end slot xs are
+absents-spares who end slot (Lost role ByRecovering ∷ xs) are = absents-spares who end slot xs are
+absents-spares who end slot (event ∷ xs) are = absurd are
 
 -- and is gone, since none is given back
 pub absents-told : (r : Reading) (who : Who) (end n role : ℕ) → role < n → is_missing r role ≡ true → IsTrue (is_gone_now (entries_of who end (absent_losses r n)) role)

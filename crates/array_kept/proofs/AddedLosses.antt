@@ -194,7 +194,7 @@ module _ {tells : Type 0} {given : Given} {slot : ℕ} {sb : Sb} {old new : Memb
     all-since = lost-since given (with_spare slot sb old) new disks was roles lost before after with-placed did.moved did.failed same vacant newly
 
     pub since-added : AreLostSince old new roles spares before after
-    since-added = record { vacant = all-since.vacant; held = all-since.held; failed = told-lost spares without; told = told-spares spares without }
+    since-added = record { vacant = all-since.vacant; gone = all-since.gone; held = all-since.held; failed = told-lost spares without; told = told-spares spares without }
 
   module _ (roles spares : ℕ) (since : AreLostSince old new roles spares before after) where
     -- behind the entries of the losses each missing role is told gone
@@ -246,7 +246,7 @@ module _ {tells : Type 0} {given : Given} {slot : ℕ} {sb : Sb} {old new : Memb
 
     pub left-refused : (work : Work) → has_spare new.spares slot ≡ false → losses_of roles spares ≡ [] → left_of work new ≡ left_of work old
     left-refused work none quiet =
-        left-moved (moved-lacks none) work roles spares before after (record { vacant = since.vacant; held = since.held; failed = since.failed; told = since.told }) quiet ∙ left-lacks work
+        left-moved (moved-lacks none) work roles spares before after (record { vacant = since.vacant; gone = since.gone; held = since.held; failed = since.failed; told = since.told }) quiet ∙ left-lacks work
 
 -- the steps left are as many where other numbers are known
 pub left-carried : (work : Work) (carried : List Bool) (m : Members) → left_of (record work { carried = carried }) m ≡ left_of work m

@@ -55,7 +55,8 @@ use Rattle.array_kept.proofs.SafeLaws.{safe-last}
 use Rattle.views.proofs.Since.{since-none}
 use Rattle.views.proofs.SoundViews.{throughout-opening}
 use Rattle.views.proofs.Steady.{safe-is-seen, flushed-is-settled}
-use Rattle.array_kept.proofs.AbsentLaws.{AreAbsent, absents-legal, absents-are, absents-length, absents-limit, absents-left, absents-values, absents-now, absents-end, absents-keep, absents-ended, absents-told, absents-rebuilt}
+use Rattle.array_kept.proofs.AbsentLaws.{AreAbsent, absents-legal, absents-are, absents-length, absents-limit, absents-left, absents-values, absents-now, absents-end, absents-keep, absents-ended, absents-told, absents-missing, absents-spares, absents-rebuilt}
+use Rattle.call_entries.proofs.StepLaws.{used-more}
 
 -- ---- the resync of an array that opened dirty
 
@@ -231,6 +232,10 @@ kept-adopted {tells = tells} {given = given} {tape = tape} {scope = scope} {memb
   unlost = is.unlost;
   free = is.free;
   told = told;
+  only = record {
+    gone = λ role gone. absents-missing (reading_of members) opener first disks role gone;
+    spares = λ slot is. absurd (let clash : true ≡ false = sym is ∙ absents-spares opener first slot losses are in cc);
+  };
   sized = absents-length opener first (list_size (places_of members)) losses are;
   unlimited = absents-limit opener first None losses are;
   left = subst (λ (o : Option ℕ). IfSome o (λ n. n ≡ left_of (found_work members) members)) (sym (absents-left opener first losses are)) tt;
@@ -240,7 +245,9 @@ kept-adopted {tells = tells} {given = given} {tape = tape} {scope = scope} {memb
   recorded = λ t. subst (λ (n : ℕ). IsRecorded (world_in given tape scope n) (list_size (places_of members)) resync members (entries_of opener first losses)) (sym (first_is t)) (record {
     begun = omega arith;
     opened = is.opened t;
+    disks = is.disks t;
     tolerated = is.tolerated t;
+    used = λ role slot may. used-more (opening_in (world_in given tape scope (length tape))) [] (entries_of opener first losses) slot (is.used t role slot may);
     dirty = subst (λ (n : ℕ). is_unsynced (world_in given tape scope (length tape)) (entries_of opener n losses) ≡ is_some resync) (sym (first_is t)) (found-unsynced is has long t ∙ sym (pending-at (is_clean members.newest)));
     legal = λ fills. subst (λ (n : ℕ). IsOneShapeLegal (opening_in (world_in given tape scope (length tape))) (length tape) (entries_of opener n losses)) (sym (first_is t))
         (absents-legal (opening_in (world_in given tape scope (length tape))) (reading_of members) disks (length tape) (omega arith) (is.absent t));

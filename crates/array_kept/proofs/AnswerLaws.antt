@@ -1,5 +1,5 @@
 -- What is kept of an array after a reply to a request for steps.
-use Rattle.std.proofs.Common.{◌≡◌, ◌≢◌, inl, inr, ℕ, Option, Some, None, List, length, [], ◌∷◌, ◌++◌, refl}
+use Rattle.std.proofs.Common.{◌≡◌, ◌≢◌, inl, inr, ℕ, Option, Some, None, List, length, [], ◌∷◌, ◌++◌, refl, sym, ◌∙◌}
 use Rattle.std.specs.Prelude.{IfSome, MatchOption, ⊤}
 use Rattle.md_base.specs.declared.answers.Who.{Who}
 use Rattle.md_base.specs.declared.answers.Refusal.{Refusal}
@@ -23,6 +23,7 @@ use Rattle.call_entries.proofs.LeftLaws.{keeps-left}
 use Rattle.call_entries.proofs.StepLaws.{last-refused}
 use Rattle.array_kept.proofs.KeptLaws.{unrebuilt-before}
 use Rattle.array_kept.proofs.DegradedLaws.{kept-alone}
+use Rattle.array_kept.proofs.IdleLaws.{nothing-left}
 
 module _ {tells : Type 0} {given : Given} {tape : List Operation} {scope : Scope} {first : ℕ} {entries : List Entry} {members : Members} {work : Work}
     (who : Who) (end : ℕ) (was : IsKept tells given tape scope first entries members work)
@@ -39,8 +40,8 @@ module _ {tells : Type 0} {given : Given} {tape : List Operation} {scope : Scope
 
   pub kept-answered : (event : Event) → IsStepsReply work members entries event → IsKept tells given tape scope first (entries ++ entries_of who end (event ∷ [])) members work
   kept-answered (Refused Nothing) reply =
-      kept-alone who end was opens caller at_end (Refused Nothing) (record { length = λ n. refl; limit = refl }) (λ left is. is) refl (λ x values. refl) (λ x values v may. may) refl refl (λ role. refl) (λ t fills. (tt, tt, tt))
+      kept-alone who end was opens caller at_end (Refused Nothing) (record { length = λ n. refl; limit = refl }) (λ left is. is) refl (λ x values. refl) (λ x values v may. may) refl refl (λ role. refl) (λ role. refl) (λ slot spare is. inl is) (λ t fills. (nothing-left was reply t, tt, tt))
   kept-answered (Stepped done left ended) reply =
-      kept-alone who end was opens caller at_end (Stepped done left ended) (record { length = λ n. refl; limit = refl }) (λ before is. reply.0) refl (λ x values. refl) (λ x values v may. may) refl refl (λ role. refl)
-      (λ t fills. ((keeps-left (left_of work members) entries (one who end (Stepped done left ended)) [] left was.left reply.0, ended-right ended reply.1 t (fills-before (Stepped done left ended) fills)), tt, tt))
+      kept-alone who end was opens caller at_end (Stepped done left ended) (record { length = λ n. refl; limit = refl }) (λ before is. reply.0) refl (λ x values. refl) (λ x values v may. may) refl refl (λ role. refl) (λ role. refl) (λ slot spare is. inl is)
+      (λ t fills. (((keeps-left (left_of work members) entries (one who end (Stepped done left ended)) [] left was.left reply.0, (λ none. nothing-left was (sym reply.0 ∙ none) t)), ended-right ended reply.1 t (fills-before (Stepped done left ended) fills)), tt, tt))
   kept-answered event reply = absurd reply

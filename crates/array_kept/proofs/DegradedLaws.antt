@@ -31,7 +31,7 @@ use Rattle.flat_history.specs.declared.events.LostCause.TheVariants.{Command}
 use Rattle.flat_history.specs.World.{World, opening_list}
 use Rattle.flat_history.specs.Flat.{covers, sector_at, behind, now, visible_of, values_after}
 use Rattle.flat_history.specs.Plain.{entries_of, loses_role}
-use Rattle.flat_history.specs.OneShape.{opening_in, is_gone_now, gone_count_now, keeps_shape_event, IsCallOpen, IsOneShapeRefusal, AreTooManyLost}
+use Rattle.flat_history.specs.OneShape.{opening_in, is_gone_now, gone_count_now, keeps_shape_event, IsCallOpen, IsOneShapeRefusal, AreTooManyLost, IsNoRoleNow, is_spare_now, is_lost}
 use Rattle.flat_history.proofs.OneShapeGrowing.{one, IsOneShapeCall, call-faults, call-fails, too_many_missing}
 use Rattle.views.specs.declared.work.Work.{Work}
 use Rattle.views.specs.Rebuilding.{AreRebuilt, HasNoRebuilt}
@@ -45,7 +45,7 @@ use Rattle.views.specs.Marking.{AreOthersPresent}
 use Rattle.array_kept.specs.Kept.{world_in, AreTold, AreFillsRight, AreRebuildsRight, AreSectorsWhole, IsKept}
 use Rattle.views.specs.Status.{rebuilt_of, left_of}
 use Rattle.views.specs.Lacking.{AreLostSince, AreTooMany, IsUnread, IsUnwritten, DoesWithout, ListStands, RowsStandBelow, mended_rows, are_mended}
-use Rattle.array_kept.specs.Calls.{IsRefusedHere, IsRefusedFor}
+use Rattle.array_kept.specs.Calls.{IsRefusedHere, IsRefusedFor, HasRole}
 use Rattle.array_kept.proofs.KeptLaws.{StayPlaced, LeavesSafe, LeavesWork, NamesSafe, rebuilds-before, left-lost, mended-are, leaves-named as named-leaves, work-kept, kept-after, same-now, whole-still, seen-behind, held-behind, unsynced-behind}
 use Rattle.array_kept.proofs.StepsLeft.{left-moved}
 use Rattle.views.proofs.LackingWrites.{recovering-before, full-later}
@@ -56,7 +56,7 @@ use Rattle.views.specs.Views.{Ledger, AreViewsRight}
 use Rattle.views.specs.Steady.{IsSafeOver, KeepsSafe}
 use Rattle.bank.proofs.Marks.{each_mark-along}
 use Rattle.flat_history.specs.Losses.{was_dirty, is_resync_end, is_unsynced, settles}
-use Rattle.flat_history.specs.Sound.{OpensFit}
+use Rattle.flat_history.specs.Sound.{OpensFit, LosesNoRole}
 use Rattle.bank.specs.Tape.{Contents, IsIn, EachMark}
 use Rattle.array_kept.proofs.ReadyLaws.{Settles, AreStill, silent-behind, still-behind}
 use Rattle.views.proofs.MovedLaws.{grows-none, moved-same}
@@ -66,6 +66,9 @@ use Rattle.views.proofs.LackingLists.{list-moved, among-moved, row-sector}
 use Rattle.call_entries.proofs.CallLaws.{GivesNone, gives-losses, builds-losses, losses-are, told-losses, last_end-behind, length-losses, limit-losses, values-losses, ends-losses}
 use Rattle.call_entries.proofs.StepLaws.{faults-are}
 use Rattle.array_kept.proofs.RecordLaws.{AreSilent, told-more, gone-lately}
+use Rattle.array_kept.proofs.OnlyLaws.{MakeSpares, either, lost-among, gone-or, spare-both, spares-behind-losses, only-more, only-since, TellsOnly, moved-held}
+use Rattle.array_kept.proofs.IdleLaws.{nothing-left}
+use Rattle.superblocks.specs.Reads.{has_spare}
 
 -- nothing is done
 keeps-still : (world : World) (given : Given) (size : ℕ) (told : Ledger) (members : Members) (tape : List Operation) → IsSafeOver world given size told members tape → KeepsSafe world given size told members tape tape
@@ -89,17 +92,28 @@ told-since given old new entries who end roles spares tail before after few move
   | inr has ↦ gone-lately role entries (entries_of who end (losses_of roles spares ++ tail)) (gives-losses who end (losses_of roles spares) tail (losses-are roles spares) none) (told-losses role roles spares who end tail (omega (arith, lt, few)) has)
 ]
 
+-- where no slot holds a role, there is no such role, or it is gone
+no-role-right : (world : World) (m : Members) (before : List Entry) (role : ℕ) → (opening_in world).disks ≡ (shape_of m.newest).disks → AreTold m before → (HasRole m role → ⊥) → IsNoRoleNow (opening_in world) before role
+no-role-right world m before role disks told none = elim (cases_lt role (shape_of m.newest).disks) [
+  | inl below ↦ inr (told role below (vacant-missing (reading_of m) role (by (is_vacant (reading_of m) role) refl below)))
+  | inr above ↦ inl (omega (arith, disks, above))
+]
+  where
+    by : (b : Bool) → is_vacant (reading_of m) role ≡ b → role < (shape_of m.newest).disks → is_vacant (reading_of m) role ≡ true
+    by true is below = is
+    by false is below = absurd (none (below, is))
+
 -- a refusal is right by the entries before it
 pub refusal-right : (world : World) (size visible : ℕ) (resync : Option ℕ) (m : Members) (before : List Entry) (refusal : Refusal) → (shape_of m.newest).disks ≤ 16
-    → (opening_in world).tolerance ≡ tolerance (shape_of m.newest) → is_unsynced world before ≡ is_some resync → visible ≡ visible_of (length (opening_list world)) before
+    → (opening_in world).disks ≡ (shape_of m.newest).disks → (opening_in world).tolerance ≡ tolerance (shape_of m.newest) → is_unsynced world before ≡ is_some resync → visible ≡ visible_of (length (opening_list world)) before
     → AreTold m before → IsRefusedHere visible resync m refusal → IsOneShapeRefusal (opening_in world) before refusal
-refusal-right world size visible resync m before (PastEnd told) few tolerated dirty seen lost why = why ∙ seen
-refusal-right world size visible resync m before (TooManyMissing count most) few tolerated dirty seen lost why =
+refusal-right world size visible resync m before (PastEnd told) few disks tolerated dirty seen lost why = why ∙ seen
+refusal-right world size visible resync m before (TooManyMissing count most) few disks tolerated dirty seen lost why =
     let many = too_many_missing (opening_in world) before (shape_of m.newest).disks (is_missing (reading_of m)) (omega (arith, few)) lost (let above = why.0 in let is = why.1 in let t = why.2 in omega (arith, above, is, t, tolerated)) in
     record { above = why.0; lost = subst (λ (n : ℕ). n ≤ gone_count_now before) (sym why.1) many.lost; tolerated = why.2 ∙ sym tolerated }
-refusal-right world size visible resync m before (NotResynced role) few tolerated dirty seen lost why = (lost role why.1 why.2, dirty ∙ why.0)
-refusal-right world size visible resync m before (NoSuchRole role) few tolerated dirty seen lost why = tt
-refusal-right world size visible resync m before refusal few tolerated dirty seen lost why = absurd why
+refusal-right world size visible resync m before (NotResynced role) few disks tolerated dirty seen lost why = (lost role why.1 why.2, dirty ∙ why.0)
+refusal-right world size visible resync m before (NoSuchRole role) few disks tolerated dirty seen lost why = no-role-right world m before role disks lost why
+refusal-right world size visible resync m before refusal few disks tolerated dirty seen lost why = absurd why
 
 -- ---- members that moved
 
@@ -165,7 +179,7 @@ module _ {tells : Type 0} {given : Given} {tape tape' : List Operation} {scope :
   -- ---- what is kept after it
 
   pub degraded-after : {work' : Work} (inner : List Event) (event : Event) → AreSilent who end (inner ++ event ∷ []) → LeavesWork work work' members' entries (entries_of who end (inner ++ event ∷ []))
-      → AreTold members' (entries ++ entries_of who end (inner ++ event ∷ []))
+      → AreTold members' (entries ++ entries_of who end (inner ++ event ∷ [])) → TellsOnly members members' entries (entries_of who end (inner ++ event ∷ []))
       → (tells → AreFillsRight (world_in given tape scope first) work'.resync members' (entries ++ entries_of who end (inner ++ event ∷ []))
       → IsOneShapeCall (opening_in (world_in given tape scope first)) entries who end (inner ++ event ∷ []))
       → (tells → DoesWithout members' → AreRebuildsRight (world_in given tape scope first) (entries ++ entries_of who end (inner ++ event ∷ []))
@@ -207,14 +221,14 @@ module _ {tells : Type 0} {given : Given} {tape tape' : List Operation} {scope :
 
   -- a call that leaves the list and what the members have of it, and what is under way
   pub degraded-quiet : (inner : List Event) (event : Event) → AreSilent who end (inner ++ event ∷ []) → LeavesWork work work members' entries (entries_of who end (inner ++ event ∷ []))
-      → AreStill who end (inner ++ event ∷ []) → AreTold members' (entries ++ entries_of who end (inner ++ event ∷ []))
+      → AreStill who end (inner ++ event ∷ []) → AreTold members' (entries ++ entries_of who end (inner ++ event ∷ [])) → TellsOnly members members' entries (entries_of who end (inner ++ event ∷ []))
       → (tells → AreFillsRight (world_in given tape scope first) work.resync members' (entries ++ entries_of who end (inner ++ event ∷ []))
       → IsOneShapeCall (opening_in (world_in given tape scope first)) entries who end (inner ++ event ∷ []))
       → (tells → AreOthersPresent (present given tape) (present given tape'))
       → LeavesSafe tells given tape' scope first (entries ++ entries_of who end (inner ++ event ∷ [])) members' work
       → IsKept tells given tape' scope first (entries ++ entries_of who end (inner ++ event ∷ [])) members' work
-  degraded-quiet inner event silent leaves still told call others safe =
-      degraded-after inner event silent leaves told call
+  degraded-quiet inner event silent leaves still told only call others safe =
+      degraded-after inner event silent leaves told only call
       (holds-still (inner ++ event ∷ []) still others) (whole-still who end was opens caller at_end stays grows (inner ++ event ∷ []) still)
       (λ t does fit. subst (λ (n : ℕ). RowsStandBelow n members' (present given tape') (now (opening_list (world_in given tape scope first)) (entries ++ entries_of who end (inner ++ event ∷ []))))
       (sym (mended-are who end was opens caller at_end stays grows)) (good-still (inner ++ event ∷ []) still others t does fit))
@@ -223,6 +237,10 @@ module _ {tells : Type 0} {given : Given} {tape tape' : List Operation} {scope :
   module _ (roles spares : ℕ) (before after : ℕ → ℕ) (since : AreLostSince members members' roles spares before after) where
     pub told-behind : (tail : List Event) → GivesNone (entries_of who end tail) → AreTold members' (entries ++ entries_of who end (losses_of roles spares ++ tail))
     told-behind tail none = told-since given members members' entries who end roles spares tail before after (limited (shape_of members'.newest) moved.placed.valid).most moved was.told since none
+
+    -- and what is told is missing, or a spare
+    pub only-behind : (tail : List Event) → LosesNoRole (entries_of who end tail) → MakeSpares members'.spares (entries_of who end tail) → TellsOnly members members' entries (entries_of who end (losses_of roles spares ++ tail))
+    only-behind tail none makes = only-since given members members' entries who end roles spares tail before after moved was.free since none makes was.only
 
     pub told-alone : AreTold members' (entries ++ entries_of who end (losses_of roles spares))
     told-alone = subst (λ (l : List Event). AreTold members' (entries ++ entries_of who end l)) (append-nil (losses_of roles spares)) (told-behind [] (λ role. refl))
@@ -258,7 +276,7 @@ module _ {tells : Type 0} {given : Given} {tape tape' : List Operation} {scope :
     call-refused refusal why t =
         call-faults (opening_in (world_in given tape scope first)) entries who end (losses_of roles spares) (Refused refusal ∷ []) (faults-are (losses_of roles spares) (losses-are roles spares)) (
           refusal-right (world_in given tape scope first) 0 (list_size (places_of members)) work.resync members' (entries ++ entries_of who end (losses_of roles spares)) refusal (limited (shape_of members'.newest) moved.placed.valid).most
-              ((was.recorded t).tolerated ∙ ap (λ (s : Shape). tolerance s) (sym moved.shape)) (unsynced-behind who end was opens caller at_end stays grows roles spares t) (sym (all-seen t)) told-alone why,
+              ((was.recorded t).disks ∙ ap (λ (s : Shape). s.disks) (sym moved.shape)) ((was.recorded t).tolerated ∙ ap (λ (s : Shape). tolerance s) (sym moved.shape)) (unsynced-behind who end was opens caller at_end stays grows roles spares t) (sym (all-seen t)) told-alone why,
           tt,
           tt,
         )
@@ -272,7 +290,7 @@ module _ {tells : Type 0} {given : Given} {tape tape' : List Operation} {scope :
         (silent-behind who end (losses_of roles spares) (Refused refusal) (losses-are roles spares) (record { length = λ n. refl; limit = refl }))
         (work-behind (Refused refusal ∷ []) (λ steps left is. is) refl refl)
         (still-behind who end (losses_of roles spares) (Refused refusal) (losses-are roles spares) (λ x values. refl))
-        (told-behind (Refused refusal ∷ []) (λ role. refl))
+        (told-behind (Refused refusal ∷ []) (λ role. refl)) (only-behind (Refused refusal ∷ []) (λ role. refl) (λ slot spare is. inl is))
         (λ t fills. call-refused refusal why t) others safe
 
     -- after a read behind the losses
@@ -285,7 +303,7 @@ module _ {tells : Type 0} {given : Given} {tape tape' : List Operation} {scope :
         (silent-behind who end (losses_of roles spares) (Read at body) (losses-are roles spares) (record { length = λ n. refl; limit = refl }))
         (work-behind (Read at body ∷ []) (λ steps left is. is) refl refl)
         (still-behind who end (losses_of roles spares) (Read at body) (losses-are roles spares) (λ x values. refl))
-        (told-behind (Read at body ∷ []) (λ role. refl))
+        (told-behind (Read at body ∷ []) (λ role. refl)) (only-behind (Read at body ∷ []) (λ role. refl) (λ slot spare is. inl is))
         (λ t fills.
         let had = read t fills in
         let list = opening_list (world_in given tape scope first) in
@@ -304,7 +322,7 @@ module _ {tells : Type 0} {given : Given} {tape tape' : List Operation} {scope :
         (silent-behind who end (losses_of roles spares) event (losses-are roles spares) (settles.silent who end))
         (work-behind (event ∷ []) (λ steps. settles.left steps who end) (ap (λ (b : Bool). b || false) settles.ends) (settles.unbuilt who end))
         (still-behind who end (losses_of roles spares) event (losses-are roles spares) (settles.still who end))
-        (told-behind (event ∷ []) (settles.gives who end))
+        (told-behind (event ∷ []) (settles.gives who end)) (only-behind (event ∷ []) (settles.loses who end) (settles.makes members'.spares who end))
         (λ t fills. call-faults (opening_in (world_in given tape scope first)) entries who end (losses_of roles spares) (event ∷ []) (faults-are (losses_of roles spares) (losses-are roles spares))
         (settles.call (opening_in (world_in given tape scope first)) (entries ++ entries_of who end (losses_of roles spares)) who end))
         others safe
@@ -322,7 +340,7 @@ module _ {tells : Type 0} {given : Given} {tape tape' : List Operation} {scope :
         degraded-after (losses_of roles spares) (Wrote at (sectors_of from))
         (silent-behind who end (losses_of roles spares) (Wrote at (sectors_of from)) (losses-are roles spares) (record { length = λ n. refl; limit = refl }))
         (work-behind (Wrote at (sectors_of from) ∷ []) (λ steps left is. is) refl refl)
-        (told-behind (Wrote at (sectors_of from) ∷ []) (λ role. refl))
+        (told-behind (Wrote at (sectors_of from) ∷ []) (λ role. refl)) (only-behind (Wrote at (sectors_of from) ∷ []) (λ role. refl) (λ slot spare is. inl is))
         (λ t fills. call-faults (opening_in (world_in given tape scope first)) entries who end (losses_of roles spares) (Wrote at (sectors_of from) ∷ []) (faults-are (losses_of roles spares) (losses-are roles spares))
         (let all = all-seen t in let n = length-sectors_of from in omega (arith, within, all, n), tt, tt))
         (λ t does rebuilds. put t list list' written (was.holds t (does-before does)
@@ -363,6 +381,8 @@ module _ {tells : Type 0} {given : Given} {tape tape' : List Operation} {scope :
         (work-behind (Torn at body ∷ Refused (TooManyMissing count most) ∷ []) (λ steps left is. is) refl refl))
         (subst (λ (l : List Event). AreTold members' (entries ++ entries_of who end l)) (assoc (losses_of roles spares) (Torn at body) (Refused (TooManyMissing count most)))
         (told-behind (Torn at body ∷ Refused (TooManyMissing count most) ∷ []) (λ role. refl)))
+        (subst (λ (l : List Event). TellsOnly members members' entries (entries_of who end l)) (assoc (losses_of roles spares) (Torn at body) (Refused (TooManyMissing count most)))
+        (only-behind (Torn at body ∷ Refused (TooManyMissing count most) ∷ []) (λ role. refl) (λ slot spare is. inl is)))
         (λ t fills. subst (λ (l : List Event). IsOneShapeCall (opening_in (world_in given tape scope first)) entries who end l) (assoc (losses_of roles spares) (Torn at body) (Refused (TooManyMissing count most)))
         (call-faults (opening_in (world_in given tape scope first)) entries who end (losses_of roles spares) (Torn at body ∷ Refused (TooManyMissing count most) ∷ []) (faults-are (losses_of roles spares) (losses-are roles spares)) (
           record { within = let all = all-seen t in omega (arith, within, all); refused = tt },
@@ -391,7 +411,7 @@ module _ {tells : Type 0} {given : Given} {tape tape' : List Operation} {scope :
         refused : tells → AreTooManyLost (opening_in (world_in given tape scope first)) ((entries ++ entries_of who end (losses_of roles spares)) ++ one who end (Torn at body) ∷ []) count most
         refused t = refusal-right (world_in given tape scope first) 0 (visible_of (length (opening_list (world_in given tape scope first))) ((entries ++ entries_of who end (losses_of roles spares)) ++ one who end (Torn at body) ∷ [])) work.resync members'
             ((entries ++ entries_of who end (losses_of roles spares)) ++ one who end (Torn at body) ∷ []) (TooManyMissing count most) (limited (shape_of members'.newest) moved.placed.valid).most
-            ((was.recorded t).tolerated ∙ ap (λ (s : Shape). tolerance s) (sym moved.shape)) (pending-more (was_dirty (world_in given tape scope first)) (entries ++ entries_of who end (losses_of roles spares)) (one who end (Torn at body) ∷ []) refl ∙ unsynced-behind who end was opens caller at_end stays grows roles spares t) refl
+            ((was.recorded t).disks ∙ ap (λ (s : Shape). s.disks) (sym moved.shape)) ((was.recorded t).tolerated ∙ ap (λ (s : Shape). tolerance s) (sym moved.shape)) (pending-more (was_dirty (world_in given tape scope first)) (entries ++ entries_of who end (losses_of roles spares)) (one who end (Torn at body) ∷ []) refl ∙ unsynced-behind who end was opens caller at_end stays grows roles spares t) refl
             (told-more members' (entries ++ entries_of who end (losses_of roles spares)) (one who end (Torn at body) ∷ []) (λ role. refl) told-alone) why
 
   -- after a role was failed by command: its slot is taken out first, and others may be lost in the update that names it
@@ -441,10 +461,38 @@ module _ {tells : Type 0} {given : Given} {tape tape' : List Operation} {scope :
         (add-losses who end (losses_of roles spares) (Failed role ∷ []) (losses-are roles spares) (add-one (one who end (Failed role)) [] (λ x values v may. may) refl refl (λ other. refl) add-none)))
         rise told-failed clean named
 
-    pub degraded-failed : (tells → AreOthersPresent (present given tape) (present given tape'))
+    -- what is told gone is missing, where no slot holds the role now, and each spare that was left is one
+    only-failed : is_vacant (reading_of members') role ≡ true → ((slot : ℕ) → has_spare members.spares slot ≡ true → has_spare mid.spares slot ≡ true)
+        → TellsOnly members members' entries (entries_of who end (Lost role Command ∷ (losses_of roles spares ++ Failed role ∷ [])))
+    only-failed vacant left = record {
+      only = record {
+        gone = λ other gone. elim (gone-or other entries (entries_of who end (Lost role Command ∷ (losses_of roles spares ++ Failed role ∷ []))) gone) [
+          | inl before ↦ missing-moved moved other (was.only.gone other before)
+          | inr now ↦ elim (either (role == other) (is_lost (entries_of who end (losses_of roles spares ++ Failed role ∷ [])) other) now) [
+            | inl same ↦ subst (λ (r : ℕ). is_missing (reading_of members') r ≡ true) (equal role other same) (vacant-missing (reading_of members') role vacant)
+            | inr lost ↦ vacant-missing (reading_of members') other (since.gone other (lost-among other roles spares who end (Failed role ∷ []) refl lost))
+          ]
+        ];
+        spares = λ slot is. spares-behind-losses members.spares members'.spares entries who end roles spares (Failed role ∷ []) (λ s has. (was.free s has).room.small) (λ s has. since.told s (left s has)) (λ s spare has. inl has) was.only.spares slot
+            (sym (unlost-spare slot) ∙ is);
+      };
+      held = moved-held (entries_of who end (Lost role Command ∷ (losses_of roles spares ++ Failed role ∷ []))) moved;
+    }
+      where
+        equal : (a b : ℕ) → (a == b) ≡ true → a ≡ b
+        equal a b e = grind (arith, nat_tests, e)
+
+        -- the role that is taken out makes no difference to spares
+        unlost-spare : (slot : ℕ) → is_spare_now (entries ++ entries_of who end (Lost role Command ∷ (losses_of roles spares ++ Failed role ∷ []))) slot ≡ is_spare_now (entries ++ entries_of who end (losses_of roles spares ++ Failed role ∷ [])) slot
+        unlost-spare slot =
+            spare-both slot entries (entries_of who end (Lost role Command ∷ (losses_of roles spares ++ Failed role ∷ []))) false
+            ∙ sym (spare-both slot entries (entries_of who end (losses_of roles spares ++ Failed role ∷ [])) false)
+
+    pub degraded-failed : is_vacant (reading_of members') role ≡ true → ((slot : ℕ) → has_spare members.spares slot ≡ true → has_spare mid.spares slot ≡ true)
+        → (tells → AreOthersPresent (present given tape) (present given tape'))
         → LeavesSafe tells given tape' scope first (entries ++ entries_of who end ((Lost role Command ∷ losses_of roles spares) ++ Failed role ∷ [])) members' work
         → IsKept tells given tape' scope first (entries ++ entries_of who end ((Lost role Command ∷ losses_of roles spares) ++ Failed role ∷ [])) members' work
-    degraded-failed others safe =
+    degraded-failed vacant left others safe =
         degraded-quiet (Lost role Command ∷ losses_of roles spares) (Failed role)
         (record {
           length = λ n. length-losses who end (losses_of roles spares) (Failed role ∷ []) (losses-are roles spares) n;
@@ -456,7 +504,7 @@ module _ {tells : Type 0} {given : Given} {tape tape' : List Operation} {scope :
         (ends-losses who end (losses_of roles spares) (Failed role ∷ []) (losses-are roles spares))
         (builds-losses who end (losses_of roles spares) (Failed role ∷ []) (losses-are roles spares) refl))
         (λ x values. still-behind who end (losses_of roles spares) (Failed role) (losses-are roles spares) (λ x values. refl) x values)
-        told-failed
+        told-failed (only-failed vacant left)
         (λ t fills. call-fails (opening_in (world_in given tape scope first)) entries who end role [] (losses_of roles spares) tt (faults-are (losses_of roles spares) (losses-are roles spares)))
         others safe
 
@@ -469,16 +517,17 @@ module _ {tells : Type 0} {given : Given} {tape : List Operation} {scope : Scope
   pub kept-alone : (event : Event) → AreSilent who end (event ∷ []) → TellLeft (left_of work members) who end (event ∷ []) → HasNoRebuilt (entries_of who end (event ∷ []))
       → ((x : ℕ) (values : List Sector) → fold (λ values e. values_after x values e.event) values (entries_of who end (event ∷ [])) ≡ values)
       → ((x : ℕ) (values : List Sector) (v : Sector) → IsIn values v → IsIn (values_after x values event) v) → settles event ≡ false → keeps_shape_event event ≡ true → GivesNone (entries_of who end (event ∷ []))
+      → LosesNoRole (entries_of who end (event ∷ [])) → MakeSpares members.spares (entries_of who end (event ∷ []))
       → (tells → AreFillsRight (world_in given tape scope first) work.resync members (entries ++ entries_of who end (event ∷ [])) → IsOneShapeCall (opening_in (world_in given tape scope first)) entries who end (event ∷ []))
       → IsKept tells given tape scope first (entries ++ entries_of who end (event ∷ [])) members work
-  kept-alone event silent left unbuilt still adds settles keeps none call =
+  kept-alone event silent left unbuilt still adds settles keeps none loses makes call =
       let moved = moved-same given given members members refl refl was.placed was.unlost in
       let grows : Grows tells tape tape = grows-none (λ t. refl) in
       degraded-quiet who end was opens caller at_end moved grows [] event silent
       (work-kept who end was opens caller at_end (stays-moved was moved) grows work (event ∷ []) refl (left-more (left_of work members) entries who end (event ∷ []) was.left left)
       (ap (λ (b : Bool). b || false) (ends-nothing event settles)) unbuilt)
       (λ x values. ap (λ (l : List Sector). slice_index_or l 0 []) (still x values))
-      (told-more members entries (entries_of who end (event ∷ [])) none was.told) call (λ t s k apart. refl)
+      (told-more members entries (entries_of who end (event ∷ [])) none was.told) (only-more members entries (entries_of who end (event ∷ [])) loses makes was.only) call (λ t s k apart. refl)
       (leaves-named who end was opens caller at_end moved grows (event ∷ []) silent (add-one (one who end event) [] adds settles keeps none add-none) (risen-still members tape)
       (told-more members entries (entries_of who end (event ∷ [])) none was.told) refl
       (λ t world size told room gone unclean safe. keeps-still world given size told members tape safe))
@@ -489,23 +538,24 @@ module _ {tells : Type 0} {given : Given} {tape : List Operation} {scope : Scope
 
   pub kept-refused : (refusal : Refusal) → IsRefusedHere (list_size (places_of members)) work.resync members refusal → IsKept tells given tape scope first (entries ++ entries_of who end (Refused refusal ∷ [])) members work
   kept-refused refusal why =
-      kept-alone (Refused refusal) (record { length = λ n. refl; limit = refl }) (λ left is. is) refl (λ x values. refl) (λ x values v may. may) refl refl (λ role. refl)
+      kept-alone (Refused refusal) (record { length = λ n. refl; limit = refl }) (λ left is. is) refl (λ x values. refl) (λ x values v may. may) refl refl (λ role. refl) (λ role. refl) (λ slot spare is. inl is)
       (λ t fills. (
         refusal-right (world_in given tape scope first) 0 (list_size (places_of members)) work.resync members entries refusal (limited (shape_of members.newest) was.placed.valid).most
-            (was.recorded t).tolerated (was.recorded t).dirty (sym (seen-before t)) was.told why,
+            (was.recorded t).disks (was.recorded t).tolerated (was.recorded t).dirty (sym (seen-before t)) was.told why,
         tt,
         tt,
       ))
 
   -- after what it tells of itself
-  pub kept-shown : (status : Status) → status.left ≡ left_of work members → IsKept tells given tape scope first (entries ++ entries_of who end (Shown status ∷ [])) members work
-  kept-shown status steps =
+  pub kept-shown : (status : Status) → status.left ≡ left_of work members → status.spares ≡ members.spares → IsKept tells given tape scope first (entries ++ entries_of who end (Shown status ∷ [])) members work
+  kept-shown status steps spares =
       kept-alone (Shown status) (record { length = λ n. refl; limit = refl }) (λ left is. steps) refl (λ x values. refl) (λ x values v may. may) refl refl (λ role. refl)
-      (λ t fills. (keeps-left (left_of work members) entries (one who end (Shown status)) [] status.left was.left steps, tt, tt))
+      (λ role. refl) (λ slot spare is. inr (subst (λ (l : List ℕ). has_spare l slot ≡ true) spares is))
+      (λ t fills. ((keeps-left (left_of work members) entries (one who end (Shown status)) [] status.left was.left steps, (λ none. nothing-left was (sym steps ∙ none) t)), tt, tt))
 
   -- after its end
   pub kept-halted : IsKept tells given tape scope first (entries ++ entries_of who end (Halted ∷ [])) members work
-  kept-halted = kept-alone Halted (record { length = λ n. refl; limit = refl }) (λ left is. is) refl (λ x values. refl) (λ x values v may. may) refl refl (λ role. refl) (λ t fills. (tt, tt, tt))
+  kept-halted = kept-alone Halted (record { length = λ n. refl; limit = refl }) (λ left is. is) refl (λ x values. refl) (λ x values v may. may) refl refl (λ role. refl) (λ role. refl) (λ slot spare is. inl is) (λ t fills. (tt, tt, tt))
 
 -- ---- why calls are refused
 

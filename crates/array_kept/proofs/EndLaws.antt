@@ -1,5 +1,5 @@
 -- What is kept of an array whose resync ends.
-use Rattle.std.proofs.Common.{◌≡◌, ◌≢◌, ℕ, ◌*◌, ◌/◌, ◌<◌, ◌≤◌, ◌||◌, ◌&&◌, Bool, true, false, not, Option, Some, None, List, length, [], ◌∷◌, ◌++◌, refl, sym, ◌∙◌, ap, subst, arith}
+use Rattle.std.proofs.Common.{◌≡◌, ◌≢◌, ℕ, ◌*◌, ◌/◌, ◌<◌, ◌≤◌, ◌||◌, ◌&&◌, Bool, true, false, not, Option, Some, None, List, length, [], ◌∷◌, ◌++◌, refl, sym, ◌∙◌, ap, subst, arith, inl}
 use Rattle.std.specs.Prelude.{IfSome}
 use Rattle.std.specs.List.{list_any}
 use Rattle.std.proofs.lemmas.Bool.Decides.{nat_tests}
@@ -34,7 +34,7 @@ use Rattle.call_entries.proofs.StepLaws.{left-stepped}
 use Rattle.array_kept.proofs.SteppedLaws.{call-stepping}
 use Rattle.array_kept.proofs.StepsLeft.{left-ended}
 use Rattle.array_kept.proofs.KeptLaws.{LeavesSafe, LeavesWork, built-still, whole-still}
-use Rattle.array_kept.proofs.DegradedLaws.{stays-moved, degraded-after, holds-still, good-still, rebuilt-still, told-behind}
+use Rattle.array_kept.proofs.DegradedLaws.{stays-moved, degraded-after, holds-still, good-still, rebuilt-still, told-behind, only-behind}
 
 -- ---- every stripe is mended
 
@@ -93,6 +93,7 @@ module _ {tells : Type 0} {given : Given} {tape tape' : List Operation} {scope :
       degraded-after who end was opens caller at_end moved grows (losses_of roles spares) (Step ResyncEnded steps)
       (silent-behind who end (losses_of roles spares) (Step ResyncEnded steps) (losses-are roles spares) (end-silent who end steps)) resync-ends
       (told-behind who end was opens caller at_end moved grows roles spares before after since (Step ResyncEnded steps ∷ []) (λ role. refl))
+      (only-behind who end was opens caller at_end moved grows roles spares before after since (Step ResyncEnded steps ∷ []) (λ role. refl) (λ slot spare is. inl is))
       (λ t fills. call-stepping (opening_in (world_in given tape scope first)) (record work { resync = None }) (left_of work members) entries who end ResyncEnded steps moved since (left-ended work members all) was.left tt steps_are)
       (holds-still who end was opens caller at_end moved grows ending still others)
       (whole-still who end was opens caller at_end (stays-moved was moved) grows ending still)

@@ -25,6 +25,7 @@ use Rattle.views.proofs.LackingLaws.{holder-without}
 use Rattle.views.proofs.Steady.{losing-stays-safe}
 use Rattle.views.proofs.Without.{in-both, live-before}
 use Rattle.std.specs.Prelude.{◌^◌}
+use Rattle.superblocks.specs.Reads.{has_spare}
 
 module _ (given : Given) (m mid : Members) (lost slot role : ℕ) (was : IsPlaced given m) (unlost : AreUnlost m) (is : mid ≡ members_without lost m) (alone : (s : ℕ) → has_slot lost s ≡ (slot == s))
     (held : holder (role_state (reading_of m) role) ≡ Some slot) where
@@ -45,6 +46,10 @@ module _ (given : Given) (m mid : Members) (lost slot role : ℕ) (was : IsPlace
   out-vacant = subst (λ (x : Members). is_vacant (reading_of x) role ≡ true) (sym is)
       (ap (λ (s : Role). not (is_some (holder s))) (state_after m lost role ∙ ap (λ (h : Option ℕ). cond (option_map_or (has_slot lost) h false) Missing (role_state (reading_of m) role)) held
       ∙ ap (λ (b : Bool). cond b Missing (role_state (reading_of m) role)) (alone slot ∙ itself slot)))
+
+  -- the spares are as they were
+  pub out-spares : (s : ℕ) → has_spare m.spares s ≡ true → has_spare mid.spares s ≡ true
+  out-spares s has = subst (λ (x : Members). has_spare x.spares s ≡ true) (sym is) has
 
   -- and of the others those alone that had none before
   pub out-only : (other : ℕ) → is_vacant (reading_of mid) other ≡ true → (is_vacant (reading_of m) other ≡ true) ⊎ (other ≡ role)

@@ -1,6 +1,6 @@
 -- What an array keeps, after a call that may change its members and what is under way.
 use Rattle.std.proofs.Common.{◌≡◌, ◌≢◌, inl, inr, ℕ, ◌*◌, ◌/◌, ◌≤◌, ◌<◌, ◌==◌, ◌&&◌, ◌||◌, Bool, true, false, not, Option, Some, None, zero, suc, ◌+◌, List, [], ◌∷◌, ◌++◌, length, refl, sym, ◌∙◌, ap, ap₂, subst, arith, length-append, append-nil}
-use Rattle.std.specs.Prelude.{IsFalse, IfSome, IsSome, is_some, slice_index_or, fold}
+use Rattle.std.specs.Prelude.{IsFalse, IfSome, IsSome, is_some, slice_index_or, fold, IsTrue}
 use Rattle.std.specs.List.{list_any}
 use Rattle.std.proofs.lemmas.Bool.Decides.{nat_tests}
 use Rattle.std.proofs.lemmas.List.Folds.{list_any-append}
@@ -26,7 +26,7 @@ use Rattle.flat_history.specs.Transfers.{last_end_from}
 use Rattle.flat_history.specs.Epochs.{HasRoomForEvents, OpensAlike}
 use Rattle.flat_history.specs.Losses.{was_dirty, is_resync_end, is_unsynced, unsettles}
 use Rattle.flat_history.specs.Sound.{LosesNoRole, OpensFit, FillsRight}
-use Rattle.flat_history.specs.OneShape.{ShapeOpening, opening_in, is_resyncing, is_unsettled, KeepShape, IsCallOpen}
+use Rattle.flat_history.specs.OneShape.{ShapeOpening, opening_in, is_resyncing, is_unsettled, KeepShape, IsCallOpen, adds_slot, is_used_now}
 use Rattle.flat_history.proofs.OneShapeLegal.{opening-grown, entries-keep}
 use Rattle.flat_history.proofs.OneShapeGrowing.{IsOneShapeCall}
 use Rattle.flat_history.proofs.OneShapeGone.{keep-both}
@@ -51,9 +51,10 @@ use Rattle.call_entries.proofs.CallLaws.{AreLossEvents, losses-are, length-losse
 use Rattle.array_kept.proofs.NowLaws.{now-quiet, length-more, limit-more, visible-is}
 use Rattle.array_kept.proofs.RecordLaws.{AreSilent, ends-call}
 use Rattle.array_kept.proofs.ReadyLaws.{AreStill, opening-later, kept-legal}
-use Rattle.call_entries.proofs.StepLaws.{record-goes_on}
+use Rattle.call_entries.proofs.StepLaws.{record-goes_on, used-more}
 use Rattle.array_kept.proofs.SafeLaws.{begun-of, room-before, alike-before, room-now, safe-called}
 use Rattle.array_kept.proofs.LedgerLaws.{told_by, CarriesMore, OnlyAdd, pending-more, unsettled-still, unsettled-by, none-lost-before, told-more as more-told, told-now, told-unclean, more-safe, newest-allowed}
+use Rattle.array_kept.proofs.OnlyLaws.{TellsOnly}
 
 -- The members are of the same array as before, and each has its place.
 pub record StayPlaced (given : Given) (old new : Members) : Type 0 where
@@ -149,17 +150,34 @@ module _ {tells : Type 0} {given : Given} {tape : List Operation} {scope : Scope
 
 -- ---- the history
 
+-- a slot that more entries tell added is used behind them
+used-added : (opening : ShapeOpening) (entries added : List Entry) (slot : ℕ) → IsTrue (list_any (λ e. adds_slot slot e.event) added) → IsTrue (is_used_now opening (entries ++ added) slot)
+used-added opening entries added slot told =
+    ap (λ (b : Bool). opening.used slot || b) (list_any-append (λ e. adds_slot slot e.event) entries added)
+    ∙ last (opening.used slot) (list_any (λ e. adds_slot slot e.event) entries) (list_any (λ e. adds_slot slot e.event) added) told
+  where
+    last : (a b c : Bool) → c ≡ true → (a || (b || c)) ≡ true
+    last true b c is = refl
+    last false true c is = refl
+    last false false c is = is
+
 pub recorded-after : {size : ℕ} {work work' : Work} {old new : Members} {entries : List Entry} (world : World) (ops : List Operation) (who : Who) (events : List Event)
     → IsRecorded world size work.resync old entries → (AreWhole new → HasNoRebuilt (entries ++ entries_of who (length (world.tape ++ ops)) events) → AreWhole old) → shape_of new.newest ≡ shape_of old.newest
+    → TellsOnly old new entries (entries_of who (length (world.tape ++ ops)) events)
     → LeavesWork work work' new entries (entries_of who (length (world.tape ++ ops)) events) → IsCallOpen entries who → IsFalse (who.caller == 254)
     → last_end_from world.first (entries ++ entries_of who (length (world.tape ++ ops)) events) ≡ length (world.tape ++ ops)
     → (AreFillsRight world work'.resync new (entries ++ entries_of who (length (world.tape ++ ops)) events) → IsOneShapeCall (opening_in world) entries who (length (world.tape ++ ops)) events)
     → IsRecorded (grown world ops) size work'.resync new (entries ++ entries_of who (length (world.tape ++ ops)) events)
-recorded-after {work = work} {work' = work'} {old = old} {new = new} {entries = entries} world ops who events was whole shape leaves opens other ended call = record {
+recorded-after {work = work} {work' = work'} {old = old} {new = new} {entries = entries} world ops who events was whole shape tells leaves opens other ended call = record {
   begun = omega (arith, was.begun, longer);
   opened = ap (λ (l : List Sector). length l) (list-grown world ops was.begun) ∙ was.opened;
+  disks = ap (λ (o : ShapeOpening). o.disks) (opening-grown world ops was.begun) ∙ was.disks ∙ ap (λ (s : Shape). s.disks) (sym shape);
   tolerated = ap (λ (o : ShapeOpening). o.tolerance) (opening-grown world ops was.begun) ∙ was.tolerated ∙ ap (λ (s : Shape). tolerance s) (sym shape);
   dirty = ap (λ (o : ShapeOpening). is_resyncing o (entries ++ added)) (opening-grown world ops was.begun) ∙ leaves.pending (was_dirty world) was.dirty;
+  used = λ role slot may. subst (λ (o : ShapeOpening). IsTrue (is_used_now o (entries ++ added) slot)) (sym (opening-grown world ops was.begun)) (elim (tells.held role slot may) [
+    | inl before ↦ used-more (opening_in world) entries added slot (was.used before.0 slot before.1)
+    | inr told ↦ used-added (opening_in world) entries added slot told
+  ]);
   legal = λ fills.
       let right : AreFillsRight world work'.resync new (entries ++ added) = λ mended. elim (fills mended) [ inl is ↦ inl is | inr fit ↦ inr (fit-before world ops was.begun fit) ] in
       let before : AreFillsRight world work.resync old entries = λ mended. elim (right (λ none. mended (leaves.begins none))) [
@@ -355,7 +373,7 @@ module _ {tells : Type 0} {given : Given} {tape tape' : List Operation} {scope :
   pub kept-after : {work' : Work} (events : List Event) → AreSilent who end events → LeavesWork work work' members' entries (entries_of who end events)
       → last_end_from first (entries ++ entries_of who end events) ≡ end
       → (AreWhole members' → HasNoRebuilt (entries ++ entries_of who end events) → AreWhole members)
-      → AreTold members' (entries ++ entries_of who end events)
+      → AreTold members' (entries ++ entries_of who end events) → TellsOnly members members' entries (entries_of who end events)
       → (tells → AreFillsRight (world_in given tape scope first) work'.resync members' (entries ++ entries_of who end events)
       → IsOneShapeCall (opening_in (world_in given tape scope first)) entries who end events)
       → (tells → DoesWithout members' → AreRebuildsRight (world_in given tape scope first) (entries ++ entries_of who end events)
@@ -367,13 +385,14 @@ module _ {tells : Type 0} {given : Given} {tape tape' : List Operation} {scope :
       → AreRebuilt work' members' (present given tape') (now (opening_list (world_in given tape scope first)) (entries ++ entries_of who end events)))
       → LeavesSafe tells given tape' scope first (entries ++ entries_of who end events) members' work'
       → IsKept tells given tape' scope first (entries ++ entries_of who end events) members' work'
-  kept-after {work' = work'} events silent leaves ended smaller told call holds whole good rebuilt safe = record {
+  kept-after {work' = work'} events silent leaves ended smaller told only call holds whole good rebuilt safe = record {
     slots = was.slots;
     spares = stays.spares;
     placed = stays.placed;
     unlost = stays.unlost;
     free = stays.free;
     told = told;
+    only = only.only;
     sized = subst (λ (n : ℕ). length_of n (entries ++ entries_of who end events) ≡ n) (sym size-is) (length-more (list_size (places_of members)) entries (entries_of who end events) was.sized (silent.length (list_size (places_of members))));
     unlimited = limit-more entries (entries_of who end events) was.unlimited silent.limit;
     left = leaves.left;
@@ -409,6 +428,7 @@ module _ {tells : Type 0} {given : Given} {tape tape' : List Operation} {scope :
           (subst (λ (n : ℕ). IsRecorded (grown (world_in given tape scope first) g.0) (list_size (places_of members)) work'.resync members' (entries ++ entries_of who n events)) (sym end_is)
           (recorded-after {work = work} {work' = work'} (world_in given tape scope first) g.0 who events (was.recorded t)
           (subst (λ (n : ℕ). AreWhole members' → HasNoRebuilt (entries ++ entries_of who n events) → AreWhole members) end_is smaller) stays.shape
+          (subst (λ (n : ℕ). TellsOnly members members' entries (entries_of who n events)) end_is only)
           (subst (λ (n : ℕ). LeavesWork work work' members' entries (entries_of who n events)) end_is leaves) opens (not_254 who.caller caller)
           (subst (λ (n : ℕ). last_end_from first (entries ++ entries_of who n events) ≡ n) end_is ended)
           (λ fills. subst (λ (n : ℕ). IsOneShapeCall (opening_in (world_in given tape scope first)) entries who n events) end_is

@@ -3,6 +3,8 @@ pub mod StepsLeft
 pub mod FoundLaws
 pub mod NowLaws
 pub mod RecordLaws
+pub mod OnlyLaws
+pub mod IdleLaws
 pub mod ReplyLaws
 pub mod LossLaws
 pub mod ReadyLaws

@@ -49,7 +49,7 @@ use Rattle.call_entries.proofs.StepLaws.{left-stepped}
 use Rattle.array_kept.proofs.SteppedLaws.{call-stepping}
 use Rattle.array_kept.proofs.StepsLeft.{left-mended}
 use Rattle.array_kept.proofs.KeptLaws.{StayPlaced, LeavesSafe, LeavesWork, leaves-as, leaves-unsettled, unbuilt-still, built-still, stripes-are, mended-are, same-now, whole-still, newest-old}
-use Rattle.array_kept.proofs.DegradedLaws.{stays-moved, rows-same, degraded-after, work-behind, none-ended, told-behind, call-refused, unwritten-here}
+use Rattle.array_kept.proofs.DegradedLaws.{stays-moved, rows-same, degraded-after, work-behind, none-ended, told-behind, call-refused, unwritten-here, only-behind}
 
 -- a resync that has a stripe to mend is pending
 pub is-pending : (resync : Option ℕ) (m : Members) → HasStripeLeft resync m → IsSome resync
@@ -161,6 +161,7 @@ module _ {tells : Type 0} {given : Given} {tape tape' : List Operation} {scope :
       degraded-after who end was opens caller at_end moved grows losses (Refused refusal) (silent-all (Refused refusal) quiet none refl refl (λ role. refl))
       (work-behind who end was opens caller at_end moved grows roles spares before after since (Refused refusal ∷ []) (λ steps left is. is) refl refl)
       (told-behind who end was opens caller at_end moved grows roles spares before after since (Refused refusal ∷ []) (λ role. refl))
+      (only-behind who end was opens caller at_end moved grows roles spares before after since (Refused refusal ∷ []) (λ role. refl) (λ slot spare is. inl is))
       (λ t fills. call-refused who end was opens caller at_end moved grows roles spares before after since refusal here t)
       (holds-mending (Refused refusal) quiet none refl refl (λ role. refl))
       (whole-still who end was opens caller at_end stays grows (losses ++ Refused refusal ∷ []) (still-all (Refused refusal) quiet none refl refl (λ role. refl)))
@@ -220,6 +221,7 @@ module _ {tells : Type 0} {given : Given} {tape tape' : List Operation} {scope :
     degraded-mended =
         degraded-after who end was opens caller at_end moved grows losses (Step ResyncStripe steps) (silent-all (Step ResyncStripe steps) quiet-step none-step refl refl (λ role. refl)) resync-mends
         (told-behind who end was opens caller at_end moved grows roles spares before after since (Step ResyncStripe steps ∷ []) (λ role. refl))
+        (only-behind who end was opens caller at_end moved grows roles spares before after since (Step ResyncStripe steps ∷ []) (λ role. refl) (λ slot spare is. inl is))
         (λ t fills. call-stepping (opening_in (world_in given tape scope first)) (record work { resync = Some (mended + 1) }) (left_of work members) entries who end ResyncStripe steps moved since
         (left-mended work members mended pending below) was.left tt steps_are)
         (holds-mending (Step ResyncStripe steps) quiet-step none-step refl refl (λ role. refl))

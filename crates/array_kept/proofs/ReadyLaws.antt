@@ -42,6 +42,7 @@ use Rattle.call_entries.proofs.CallLaws.{AreLossEvents, GivesNone, length-losses
 use Rattle.call_entries.proofs.LeftLaws.{TellLeft}
 use Rattle.array_kept.proofs.LedgerLaws.{HasNewest}
 use Rattle.array_kept.proofs.RecordLaws.{AreSilent, whole-told}
+use Rattle.array_kept.proofs.OnlyLaws.{MakeSpares}
 
 -- ---- the opening stays what it was
 
@@ -88,13 +89,15 @@ pub record Settles (event : Event) : Type 0 where
   pub gives : (who : Who) (end : ℕ) → GivesNone (entries_of who end (event ∷ []))
   pub ends : is_resync_end event ≡ false
   pub unbuilt : (who : Who) (end : ℕ) → HasNoRebuilt (entries_of who end (event ∷ []))
+  pub loses : (who : Who) (end : ℕ) → LosesNoRole (entries_of who end (event ∷ []))
+  pub makes : (spares : List ℕ) (who : Who) (end : ℕ) → MakeSpares spares (entries_of who end (event ∷ []))
   pub newest : (who : Who) (end : ℕ) → KeepsNewest who end event
 
 pub flush-settles : Settles Flushed
-flush-settles = record { silent = λ who end. record { length = λ n. refl; limit = refl }; left = λ steps who end left is. is; still = λ who end x values. flushed-still values; call = λ opening before who end. (tt, tt, tt); keep = λ who end. refl; gives = λ who end role. refl; ends = refl; unbuilt = λ who end. refl; newest = λ who end x values has. first-stays values has }
+flush-settles = record { silent = λ who end. record { length = λ n. refl; limit = refl }; left = λ steps who end left is. is; still = λ who end x values. flushed-still values; call = λ opening before who end. (tt, tt, tt); keep = λ who end. refl; gives = λ who end role. refl; ends = refl; unbuilt = λ who end. refl; loses = λ who end role. refl; makes = λ spares who end slot spare is. inl is; newest = λ who end x values has. first-stays values has }
 
 pub stop-settles : Settles Stopped
-stop-settles = record { silent = λ who end. record { length = λ n. refl; limit = refl }; left = λ steps who end left is. is; still = λ who end x values. flushed-still values; call = λ opening before who end. (tt, tt, tt); keep = λ who end. refl; gives = λ who end role. refl; ends = refl; unbuilt = λ who end. refl; newest = λ who end x values has. first-stays values has }
+stop-settles = record { silent = λ who end. record { length = λ n. refl; limit = refl }; left = λ steps who end left is. is; still = λ who end x values. flushed-still values; call = λ opening before who end. (tt, tt, tt); keep = λ who end. refl; gives = λ who end role. refl; ends = refl; unbuilt = λ who end. refl; loses = λ who end role. refl; makes = λ spares who end slot spare is. inl is; newest = λ who end x values has. first-stays values has }
 
 pub settles-of : (event : Event) → IsSettling event → Settles event
 settles-of event (inl is) = subst Settles (sym is) flush-settles

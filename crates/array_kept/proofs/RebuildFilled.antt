@@ -29,7 +29,7 @@ use Rattle.flat_history.specs.Flat.{now}
 use Rattle.flat_history.specs.Legal.{told_left}
 use Rattle.flat_history.specs.Plain.{entries_of}
 use Rattle.flat_history.specs.OneShape.{opening_in, IsCallOpen}
-use Rattle.flat_history.specs.Sound.{OpensFit}
+use Rattle.flat_history.specs.Sound.{OpensFit, LosesNoRole}
 use Rattle.flat_history.proofs.OneShapeGrowing.{one, IsOneShapeCall, call-faults}
 use Rattle.views.specs.declared.work.Work.{Work}
 use Rattle.call_entries.specs.Losing.{losses_of}
@@ -44,7 +44,7 @@ use Rattle.views.specs.Lacking.{AreLostSince, AreTooMany, DoesWithout, RowsStand
 use Rattle.array_kept.specs.Kept.{world_in, IsKept}
 use Rattle.array_kept.specs.Calls.{with_rebuilt}
 use Rattle.call_entries.proofs.CallLaws.{GivesNone, losses-are, last_end-behind}
-use Rattle.array_kept.proofs.DegradedLaws.{stays-moved, told-behind, work-behind, call-refused, too-many-here, rows-same}
+use Rattle.array_kept.proofs.DegradedLaws.{stays-moved, told-behind, work-behind, call-refused, too-many-here, rows-same, only-behind}
 use Rattle.views.proofs.FilledParts.{list-filled, row-filled, full-kept}
 use Rattle.array_kept.proofs.KeptLaws.{StayPlaced, LeavesSafe, NamesSafe, rebuilds-before, left-lost, mended-are, leaves-named, work-kept}
 use Rattle.views.proofs.LackingWrites.{recovering-before}
@@ -54,6 +54,7 @@ use Rattle.call_entries.proofs.StepLaws.{faults-are, left-stepped}
 use Rattle.array_kept.proofs.SteppedLaws.{call-stepping}
 use Rattle.array_kept.proofs.StepsLeft.{left-filled}
 use Rattle.array_kept.proofs.ToldLosses.{role-told}
+use Rattle.array_kept.proofs.OnlyLaws.{MakeSpares}
 
 -- ---- how many stripes are rebuilt
 
@@ -153,6 +154,7 @@ module _ {tells : Type 0} {given : Given} {tape tape' : List Operation} {scope :
       (work-behind who end was opens caller at_end moved grows roles spares before after since (Refused refusal ∷ []) (λ steps left is. is) refl refl)
       (last_end-behind first entries who end losses (Refused refusal)) (λ whole none. moved.whole whole)
       (told-behind who end was opens caller at_end moved grows roles spares before after since (Refused refusal ∷ []) (λ r. refl))
+      (only-behind who end was opens caller at_end moved grows roles spares before after since (Refused refusal ∷ []) (λ role. refl) (λ slot spare is. inl is))
       (λ t fills. call-refused who end was opens caller at_end moved grows roles spares before after since refusal (too-many-here (list_size (places_of members)) work.resync members' refusal many) t)
       (λ t does' rebuilds. absurd (never does')) (λ t does' fit. absurd (never does')) (λ t does' fit. absurd (never does'))
       (leaves work refl refl (Refused refusal ∷ []) quiet (λ r. refl))
@@ -170,14 +172,15 @@ module _ {tells : Type 0} {given : Given} {tape tape' : List Operation} {scope :
     abbrev next : Work
     next = with_rebuilt role (rebuilt_of work role + 1) work
 
-    done : (tail : List Event) → AreQuiet who end (losses ++ tail) → GivesNone (entries_of who end tail) → IfSome (told_left (entries ++ entries_of who end (losses ++ tail))) (λ n. n ≡ left_of next members')
+    done : (tail : List Event) → AreQuiet who end (losses ++ tail) → GivesNone (entries_of who end tail) → LosesNoRole (entries_of who end tail) → MakeSpares members'.spares (entries_of who end tail) → IfSome (told_left (entries ++ entries_of who end (losses ++ tail))) (λ n. n ≡ left_of next members')
         → last_end_from first (entries ++ entries_of who end (losses ++ tail)) ≡ end → (tells → IsOneShapeCall (opening_in W) entries who end (losses ++ tail))
         → IsKept tells given tape' scope first (entries ++ entries_of who end (losses ++ tail)) members' next
-    done tail quiet gives left ended call =
+    done tail quiet gives loses makes left ended call =
         kept-listed who end was opens caller at_end stays grows {work' = next} (losses ++ tail) quiet.silent quiet.values
         (work-kept who end was opens caller at_end stays grows next (losses ++ tail) refl left quiet.ends quiet.unbuilt)
         ended (λ whole none. moved.whole whole)
         (told-behind who end was opens caller at_end moved grows roles spares before after since tail gives)
+        (only-behind who end was opens caller at_end moved grows roles spares before after since tail loses makes)
         (λ t fills. call t)
         (λ t does' rebuilds. list-filled moved was.placed role slot recovers (IsOfStripe shape (rebuilt_of work role)) (present given tape) (present given tape') (others t) L
         (was.holds t does (rebuilds-before W entries (entries_of who end (losses ++ tail)) rebuilds)))
@@ -191,7 +194,7 @@ module _ {tells : Type 0} {given : Given} {tape tape' : List Operation} {scope :
     kept-filled more steps steps_are =
         done (Step RebuildStripe steps ∷ [])
         (quiet-one (Step RebuildStripe steps) (record { silent = record { length = λ n. refl; limit = refl }; values = λ x values. refl; adds = add-one (one who end (Step RebuildStripe steps)) [] (λ x values v may. may) refl refl (λ r. refl) add-none; unbuilt = refl; ends = refl }))
-        (λ r. refl) (subst (λ (o : Option ℕ). IfSome o (λ n. n ≡ left_of next members')) (sym (left-stepped entries who end losses RebuildStripe steps)) steps_are)
+        (λ r. refl) (λ role. refl) (λ slot spare is. inl is) (subst (λ (o : Option ℕ). IfSome o (λ n. n ≡ left_of next members')) (sym (left-stepped entries who end losses RebuildStripe steps)) steps_are)
         (last_end-behind first entries who end losses (Step RebuildStripe steps))
         (λ t. call-stepping (opening_in W) next (left_of work members) entries who end RebuildStripe steps moved since (left-filled work members role slot below few recovers more) was.left tt steps_are)
 
@@ -208,7 +211,7 @@ module _ {tells : Type 0} {given : Given} {tape tape' : List Operation} {scope :
 
       pub kept-lost : IsKept tells given tape' scope first (entries ++ entries_of who end losses) members' next
       kept-lost = subst (λ (l : List Event). IsKept tells given tape' scope first (entries ++ entries_of who end l) members' next) (append-nil losses)
-          (done [] are (λ r. refl)
+          (done [] are (λ r. refl) (λ role. refl) (λ slot spare is. inl is)
           (left-lost (left_of work members) (left_of next members') entries who end losses [] (losses-are roles spares) (λ none. absurd (some-lost losses (Lost role Fault) among none)) was.left (λ left is. is))
           (subst (λ (l : List Event). last_end_from first (entries ++ entries_of who end l) ≡ end) (sym (append-nil losses)) (losses-end first entries who end losses (Lost role Fault) among))
           (λ t. call-faults (opening_in W) entries who end losses [] (faults-are losses (losses-are roles spares)) tt))

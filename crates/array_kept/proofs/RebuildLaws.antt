@@ -35,6 +35,7 @@ use Rattle.array_kept.proofs.RecordLaws.{AreSilent}
 use Rattle.array_kept.proofs.ReadyLaws.{AreStill}
 use Rattle.call_entries.proofs.StepLaws.{GoOnBehind, faults-are}
 use Rattle.array_kept.proofs.KeptLaws.{StayPlaced, LeavesSafe, LeavesWork, kept-after, same-now, whole-still}
+use Rattle.array_kept.proofs.OnlyLaws.{TellsOnly}
 
 -- ---- events behind the losses of a call
 
@@ -111,15 +112,15 @@ module _ {tells : Type 0} {given : Given} {tape tape' : List Operation} {scope :
       → LeavesWork work work' members' entries (entries_of who end events)
       → last_end_from first (entries ++ entries_of who end events) ≡ end
       → (AreWhole members' → HasNoRebuilt (entries ++ entries_of who end events) → AreWhole members)
-      → AreTold members' (entries ++ entries_of who end events)
+      → AreTold members' (entries ++ entries_of who end events) → TellsOnly members members' entries (entries_of who end events)
       → (tells → AreFillsRight world work'.resync members' (entries ++ entries_of who end events) → IsOneShapeCall (opening_in world) entries who end events)
       → (tells → DoesWithout members' → AreRebuildsRight world (entries ++ entries_of who end events) → ListStands members' (present given tape') list)
       → (tells → DoesWithout members' → OpensFit world → RowsStandBelow (mended_rows work'.resync members') members' (present given tape') list)
       → (tells → DoesWithout members' → OpensFit world → AreRebuilt work' members' (present given tape') list)
       → LeavesSafe tells given tape' scope first (entries ++ entries_of who end events) members' work'
       → IsKept tells given tape' scope first (entries ++ entries_of who end events) members' work'
-  kept-listed {work' = work'} events silent values leaves ended smaller told call holds good rebuilt safe =
-      kept-after who end was opens caller at_end stays grows {work' = work'} events silent leaves ended smaller told call
+  kept-listed {work' = work'} events silent values leaves ended smaller told only call holds good rebuilt safe =
+      kept-after who end was opens caller at_end stays grows {work' = work'} events silent leaves ended smaller told only call
       (λ t does rebuilds. subst (λ (l : ℕ → Sector). ListStands members' (present given tape') l) (sym same) (holds t does rebuilds))
       (whole-still who end was opens caller at_end stays grows events still)
       (λ t does fit. subst (λ (l : ℕ → Sector). RowsStandBelow (mended_rows work'.resync members') members' (present given tape') l) (sym same) (good t does fit))

@@ -1,5 +1,5 @@
 -- What an array keeps after the step that gives a role to a spare.
-use Rattle.std.proofs.Common.{◌≡◌, ◌≢◌, inl, inr, ℕ, ◌*◌, ◌<◌, true, false, not, Option, Some, is_some, List, [], ◌∷◌, ◌++◌, length, refl, sym, ◌∙◌, ap, subst, arith}
+use Rattle.std.proofs.Common.{◌≡◌, ◌≢◌, inl, inr, ℕ, ◌*◌, ◌<◌, true, false, not, Option, Some, is_some, List, [], ◌∷◌, ◌++◌, length, refl, sym, ◌∙◌, ap, subst, arith, ◌⊎◌}
 use Rattle.std.specs.Prelude.{IfSome}
 use Rattle.md_base.specs.Sectors.{Sector}
 use Rattle.md_base.specs.declared.answers.Who.{Who}
@@ -8,7 +8,7 @@ use Rattle.md_base.specs.declared.status.Role.{Role}
 use Rattle.bank.specs.Given.{Given}
 use Rattle.bank.specs.declared.bank.Operation.{Operation}
 use Rattle.superblocks.specs.declared.members.Members.{Members}
-use Rattle.superblocks.specs.Reading.{Scope, shape_of, is_whole, is_clean}
+use Rattle.superblocks.specs.Reading.{Scope, shape_of, is_whole, is_clean, holder, role_state}
 use Rattle.superblocks.specs.Reads.{has_spare}
 use Rattle.row_io.specs.Rows.{reading_of, present, is_missing}
 use Rattle.flat_history.specs.declared.events.Entry.{Entry}
@@ -28,16 +28,16 @@ use Rattle.views.specs.Marking.{AreOthersPresent}
 use Rattle.views.specs.Moving.{Grows, IsMoved}
 use Rattle.views.specs.Safety.{HasRoomLeft, IsRisen}
 use Rattle.views.specs.Status.{left_of}
-use Rattle.views.specs.Rebuilding.{with_recovering}
+use Rattle.views.specs.Rebuilding.{with_recovering, MayHold}
 use Rattle.views.specs.Lacking.{AreLostSince, DoesWithout, RowsStandBelow, mended_rows}
-use Rattle.array_kept.specs.Kept.{world_in, AreTold, IsKept}
+use Rattle.array_kept.specs.Kept.{world_in, AreTold, IsKept, AreOnlyTold}
 use Rattle.views.specs.Views.{Ledger}
 use Rattle.views.specs.Steady.{IsSafeOver, KeepsSafe, AreGoneTold, IsUncleanTold}
 use Rattle.array_kept.specs.Calls.{with_rebuilt}
 use Rattle.call_entries.proofs.CallLaws.{losses-are, last_end-behind, told-losses}
 use Rattle.array_kept.proofs.DegradedLaws.{rebuilt-moved}
-use Rattle.views.proofs.GivenMembers.{IsReceiver, state-here, placed-given}
-use Rattle.views.proofs.HeldRows.{vacant-missing}
+use Rattle.views.proofs.GivenMembers.{IsReceiver, state-here, placed-given, state-other, spare-before}
+use Rattle.views.proofs.HeldRows.{vacant-missing, missing-moved}
 use Rattle.array_kept.proofs.KeptLaws.{StayPlaced, rebuilds-before, mended-are, few, leaves-alike, work-kept}
 use Rattle.views.proofs.LackingLaws.{since-missing}
 use Rattle.views.proofs.LackingLists.{list-moved, among-moved}
@@ -49,6 +49,8 @@ use Rattle.array_kept.proofs.RecordLaws.{told-more, gone-lately}
 use Rattle.array_kept.proofs.SteppedLaws.{call-stepping}
 use Rattle.call_entries.proofs.StepLaws.{left-stepped}
 use Rattle.array_kept.proofs.StepsLeft.{left-taken}
+use Rattle.array_kept.proofs.OnlyLaws.{gone-behind-losses, taken-spares, TellsOnly}
+use Rattle.std.proofs.lemmas.Bool.{cases_eq}
 
 module _ {tells : Type 0} {given : Given} {tape tape' : List Operation} {scope : Scope} {first : ℕ} {entries : List Entry} {members members' : Members} {work : Work}
     (who : Who) (end : ℕ) (was : IsKept tells given tape scope first entries members work)
@@ -119,6 +121,38 @@ module _ {tells : Type 0} {given : Given} {tape tape' : List Operation} {scope :
         (told-losses r roles spares who end (Step RebuildTaken steps ∷ []) (let most = few who end was opens caller at_end stays grows in omega (arith, lt, most)) has)
   ]
 
+  -- and what is told gone is missing
+  only : TellsOnly members members' entries added
+  only = record {
+    only = record {
+      gone = gone-behind-losses members members' entries who end roles spares (Step RebuildTaken steps ∷ []) (λ r missing. missing-moved moved r (in-given r missing)) (λ r has. vacant-missing (reading_of members') r (since.gone r has))
+          (λ r. refl) was.only;
+      spares = λ s is. absurd (let clash : true ≡ false = sym is ∙ taken-spares entries who end losses steps s in cc);
+    };
+    held = λ r s may. inl (by_held r s may);
+  }
+    where
+      by_held : (r s : ℕ) → MayHold members' r s → (q : ℕ) × MayHold members q s
+      by_held r s (inl held) = from (cases_eq r role) (moved.held r s held)
+        where
+          some-same : {a b : ℕ} → Some a ≡ Some b → a ≡ b
+          some-same is = cc
+
+          from : (r ≡ role) ⊎ (r ≢ role) → holder (role_state (reading_of V) r) ≡ Some s → (q : ℕ) × MayHold members q s
+          from (inl same) at = (
+            role,
+            inr (subst (λ (k : ℕ). has_spare members.spares k ≡ true)
+                (some-same (sym (ap holder (state-here given members was.placed (Some 0) role slot to)) ∙ ap (λ (k : ℕ). holder (role_state (reading_of V) k)) (sym same) ∙ at)) spare),
+          )
+          from (inr apart) at = (r, inl (ap holder (sym (state-other given members was.placed (Some 0) role slot to r apart)) ∙ at))
+      by_held r s (inr has) = (r, inr (spare-before given members was.placed (Some 0) role slot to s (moved.fewer s has)).0)
+
+      in-given : (r : ℕ) → is_missing (reading_of members) r ≡ true → is_missing (reading_of V) r ≡ true
+      in-given r missing = elim (cases_eq r role) [
+        | inl same ↦ subst (λ (k : ℕ). is_missing (reading_of V) k ≡ true) (sym same) (ap (λ (s : Role). not (is_whole s)) (state-here given members was.placed (Some 0) role slot to))
+        | inr apart ↦ ap (λ (s : Role). not (is_whole s)) (state-other given members was.placed (Some 0) role slot to r apart) ∙ missing
+      ]
+
   pub kept-taken : IsKept tells given tape' scope first (entries ++ added) members' next
   kept-taken =
       kept-listed who end was opens caller at_end stays grows {work' = next} events quiet.silent quiet.values
@@ -127,7 +161,7 @@ module _ {tells : Type 0} {given : Given} {tape tape' : List Operation} {scope :
       (last_end-behind first entries who end losses (Step RebuildTaken steps))
       (λ whole none. absurd (
       let here : true ≡ false = sym (ap (λ (s : Role). not (is_whole s)) (state-here given members was.placed (Some 0) role slot to)) ∙ moved.whole whole role below in cc))
-      told
+      told only
       (λ t fills. call-stepping (opening_in W) next (left_of work members) entries who end RebuildTaken steps moved since
       (left-taken work members role slot below (let n = was.placed.roles in omega (arith, below, n)) known vacant spare to.room.small) was.left tt steps_are)
       (λ t does' rebuilds. list-moved given V members' (present given tape) (present given tape') L moved taker-placed (others t)

@@ -25,7 +25,7 @@ use Rattle.flat_history.specs.Flat.{now, values_after, values_of}
 use Rattle.flat_history.specs.Legal.{told_left}
 use Rattle.flat_history.specs.Losses.{was_dirty, is_resync_end, is_unsynced, settles}
 use Rattle.flat_history.specs.Plain.{entries_of}
-use Rattle.flat_history.specs.OneShape.{opening_in, is_gone_now, gives_role, is_unsettled, KeepShape, IsCallOpen}
+use Rattle.flat_history.specs.OneShape.{opening_in, is_gone_now, gives_role, is_unsettled, KeepShape, IsCallOpen, is_gone_with, is_spare_now}
 use Rattle.flat_history.specs.Sound.{OpensFit, FillsRight}
 use Rattle.flat_history.specs.Transfers.{last_end_from}
 use Rattle.flat_history.proofs.OneShapeGrowing.{one, IsOneShapeCall, call-faults, gone-more}
@@ -37,14 +37,14 @@ use Rattle.views.specs.Marking.{AreOthersPresent}
 use Rattle.views.specs.Moving.{Grows, IsMoved}
 use Rattle.views.specs.Safety.{HasRoomLeft, IsRisen}
 use Rattle.views.specs.Status.{stripes_of, rebuilt_of, left_of}
-use Rattle.views.specs.Rebuilding.{AreRowsFull, HasNoRebuilt, is_rebuilt, with_whole}
+use Rattle.views.specs.Rebuilding.{AreRowsFull, HasNoRebuilt, is_rebuilt, with_whole, MayHold}
 use Rattle.views.specs.Lacking.{AreLostSince, DoesWithout, RowsStand, RowsStandBelow, mended_rows}
-use Rattle.array_kept.specs.Kept.{world_in, ledger_now, AreTold, AreRebuildsRight, IsKept}
+use Rattle.array_kept.specs.Kept.{world_in, ledger_now, AreTold, AreRebuildsRight, IsKept, AreOnlyTold}
 use Rattle.views.specs.Views.{Ledger}
 use Rattle.views.specs.Steady.{IsSafeOver, KeepsSafe, IsMoreTold, AreGoneTold, IsUncleanTold, AreWritesAllowed, given_back}
 use Rattle.call_entries.proofs.CallLaws.{losses-are, last_end-behind, length-losses, limit-losses, values-losses, ends-losses, told-losses}
-use Rattle.array_kept.proofs.DegradedLaws.{rebuilt-moved, told-behind, work-behind}
-use Rattle.views.proofs.GivenMembers.{IsReceiver, state-here, placed-given}
+use Rattle.array_kept.proofs.DegradedLaws.{rebuilt-moved, told-behind, work-behind, only-behind}
+use Rattle.views.proofs.GivenMembers.{IsReceiver, state-here, placed-given, state-other, spare-before}
 use Rattle.array_kept.proofs.KeptLaws.{StayPlaced, LeavesSafe, LeavesWork, rebuilds-before, mended-are, few, newest-old, safe-by, leaves-alike}
 use Rattle.views.proofs.LackingLaws.{since-missing}
 use Rattle.views.proofs.LackingLists.{list-moved, among-moved}
@@ -61,6 +61,9 @@ use Rattle.array_kept.proofs.SteppedLaws.{told-stepped}
 use Rattle.call_entries.proofs.StepLaws.{faults-are, left-stepped}
 use Rattle.array_kept.proofs.StepsLeft.{left-whole}
 use Rattle.array_kept.proofs.ToldLosses.{role-told}
+use Rattle.array_kept.proofs.OnlyLaws.{lost-among, gone-or, spare-both, spares-behind-losses, TellsOnly}
+use Rattle.std.proofs.lemmas.List.Sums.{fold-append}
+use Rattle.views.proofs.HeldRows.{missing-moved, vacant-missing}
 
 module _ {tells : Type 0} {given : Given} {tape tape' : List Operation} {scope : Scope} {first : ℕ} {entries : List Entry} {members members' : Members} {work : Work}
     (who : Who) (end : ℕ) (was : IsKept tells given tape scope first entries members work)
@@ -162,6 +165,7 @@ module _ {tells : Type 0} {given : Given} {tape tape' : List Operation} {scope :
         | inl in_V ↦ inl (by r (holder (role_state (reading_of members) r)) refl in_V)
         | inr has ↦ inr has
       ];
+      gone = since.gone;
       held = λ r has. let h = since.held r has in (h.0, holder-before given members members' was.placed role slot to was.free recovers moved r h.0 h.1, h.2);
       failed = since.failed;
       told = λ s has. since.told s (spare-still given members members' was.placed role slot to was.free recovers moved s has);
@@ -191,6 +195,7 @@ module _ {tells : Type 0} {given : Given} {tape tape' : List Operation} {scope :
         (subst (λ (l : List Event). last_end_from first (entries ++ entries_of who end l) ≡ end) (sym (append-nil losses)) (losses-end first entries who end losses (Lost role Fault) ended-among))
         (λ whole none. moved-lost.whole whole)
         (told-behind who end was opens caller at_end moved-lost grows roles spares before after since-lost [] (λ r. refl))
+        (only-behind who end was opens caller at_end moved-lost grows roles spares before after since-lost [] (λ role. refl) (λ slot spare is. inl is))
         (λ t fills. call-faults (opening_in W) entries who end losses [] (faults-are losses (losses-are roles spares)) tt)
         (λ t does' rebuilds. list-moved given members members' (present given tape) (present given tape') L moved-lost was.placed (others t)
         (was.holds t does (rebuilds-before W entries (entries_of who end (losses ++ [])) rebuilds)))
@@ -272,6 +277,37 @@ module _ {tells : Type 0} {given : Given} {tape tape' : List Operation} {scope :
         let clash : true ≡ false = sym out ∙ here in
         cc
         )) (told-early r lt out)
+
+    -- a role that is told gone is another one, which is missing
+    still-told : AreOnlyTold members' (entries ++ entries_of who end (early ++ late))
+    still-told = record {
+      gone = λ r gone. by r (parts (is_gone_now (entries ++ entries_of who end early) r) (role == r)
+          (sym (ap (λ (l : List Entry). is_gone_now l r) both ∙ fold-append (is_gone_with r) false (entries ++ entries_of who end early) (one who end (Rebuilt role) ∷ [])) ∙ gone));
+      spares = λ s is. spares-behind-losses members.spares members'.spares entries who end roles spares (Step RebuildEnded steps ∷ []) (λ k has. (was.free k has).room.small)
+          (λ k has. since.told k (spare-still given members members' was.placed role slot to was.free recovers moved k has)) (λ k spare has. inl has) was.only.spares s
+          (sym (ap (λ (l : List Entry). is_spare_now l s) both ∙ spare-both s (entries ++ entries_of who end early) (one who end (Rebuilt role) ∷ []) false) ∙ is);
+    }
+      where
+        parts : (a b : Bool) → (a && not b || false) ≡ true → (a ≡ true) × (b ≡ false)
+        parts true false is = (refl, refl)
+        parts true true is = absurd (cc)
+        parts false b is = absurd (cc)
+
+        other : (r : ℕ) → (role == r) ≡ false → r ≢ role
+        other r apart same = absurd (let equal : (role == r) ≡ true = eq-eqb role r (sym same) in let clash : true ≡ false = sym equal ∙ apart in cc)
+
+        by : (r : ℕ) → (is_gone_now (entries ++ entries_of who end early) r ≡ true) × ((role == r) ≡ false) → is_missing (reading_of members') r ≡ true
+        by r are = elim (gone-or r entries (entries_of who end early) are.0) [
+          | inl before ↦ missing-moved moved r (ap (λ (s : Role). not (is_whole s)) (state-other given members was.placed None role slot to r (other r are.1)) ∙ was.only.gone r before)
+          | inr now ↦ vacant-missing (reading_of members') r (since.gone r (lost-among r roles spares who end (Step RebuildEnded steps ∷ []) refl now))
+        ]
+
+    only-whole : TellsOnly members members' entries (entries_of who end (early ++ late))
+    only-whole = record { only = still-told; held = λ r s may. inl (by_held r s may) }
+      where
+        by_held : (r s : ℕ) → MayHold members' r s → (q : ℕ) × MayHold members q s
+        by_held r s (inl held) = (r, inl (holder-before given members members' was.placed role slot to was.free recovers moved r s (moved.held r s held)))
+        by_held r s (inr has) = (r, inr (spare-before given members was.placed None role slot to s (moved.fewer s has)).0)
 
     -- no role was rebuilt, or the epoch opened fit
     rebuilt-told : {P : Type 0} → HasNoRebuilt (entries ++ entries_of who end (early ++ late)) → P
@@ -358,7 +394,7 @@ module _ {tells : Type 0} {given : Given} {tape tape' : List Operation} {scope :
     pub kept-whole : IsKept tells given tape' scope first (entries ++ entries_of who end whole) members' work
     kept-whole = subst (λ (l : List Event). IsKept tells given tape' scope first (entries ++ entries_of who end l) members' work) split
         (kept-listed who end was opens caller at_end stays grows {work' = work} (early ++ late) silent values leaves (last_end-behind first entries who end early (Rebuilt role))
-        (λ all_whole none. rebuilt-told none) told-whole (λ t fills. call)
+        (λ all_whole none. rebuilt-told none) told-whole only-whole (λ t fills. call)
         (λ t does' rebuilds.
         let fit = fit-by rebuilds in
         list-moved given V members' (present given tape) (present given tape') L moved whole-placed (others t)

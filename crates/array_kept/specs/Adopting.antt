@@ -30,7 +30,7 @@ use Rattle.views.specs.Held.{IsHeldBy}
 use Rattle.views.specs.Whole.{list_size}
 use Rattle.views.specs.Placed.{places_of, IsPlaced, AreUnlost}
 use Rattle.views.specs.Lacking.{ListStands, RowsStand, AreHoldersFlushed}
-use Rattle.array_kept.specs.Kept.{world_in, AreSectorsWhole}
+use Rattle.array_kept.specs.Kept.{world_in, AreSectorsWhole, AreUsed}
 use Rattle.flat_history.specs.Opened.{OpensGood}
 use Rattle.views.specs.Rebuilding.{AreSparesFree}
 use Rattle.views.specs.declared.work.Work.{Work}
@@ -93,8 +93,10 @@ pub record IsAdoptable (tells : Type 0) (given : Given) (tape : List Operation) 
   pub free : AreSparesFree given members
   pub sizes_are : scope.sizes ≡ sizes given
   pub opened : tells → length (opening_list (world_in given tape scope (length tape))) ≡ list_size (places_of members)
+  pub disks : tells → (opening_in (world_in given tape scope (length tape))).disks ≡ (shape_of members.newest).disks
   pub tolerated : tells → (opening_in (world_in given tape scope (length tape))).tolerance ≡ tolerance (shape_of members.newest)
   pub dirty : tells → was_dirty (world_in given tape scope (length tape)) ≡ not (is_clean members.newest)
+  pub used : tells → AreUsed (world_in given tape scope (length tape)) members []
   pub absent : tells → (role : ℕ) → role < (shape_of members.newest).disks → is_missing (reading_of members) role ≡ true
       → IsTrue (is_absent_at_first (world_in given tape scope (length tape)) role)
   pub holds : tells → ListStands members (present given tape) (now (opening_list (world_in given tape scope (length tape))) [])

@@ -111,12 +111,16 @@ IsEndOf tells first entries tape = tells → last_end_from first entries ≡ len
 
 -- ---- why it is refused
 
+-- a slot holds this role of the array, whole or in part
+abbrev pub HasRole : Members → ℕ → Type 0
+HasRole members role = (role < (shape_of members.newest).disks) × (is_vacant (reading_of members) role ≡ false)
+
 -- what stands behind a refusal
 abbrev pub IsRefusedHere : ℕ → Option ℕ → Members → Refusal → Type 0
 IsRefusedHere visible resync members (PastEnd told) = told ≡ visible
 IsRefusedHere visible resync members (TooManyMissing count most) = (most < count) × (count ≡ lacking members) × (most ≡ tolerance (shape_of members.newest))
 IsRefusedHere visible resync members (NotResynced role) = IsSome resync × (role < (shape_of members.newest).disks) × (is_missing (reading_of members) role ≡ true)
-IsRefusedHere visible resync members (NoSuchRole role) = ⊤
+IsRefusedHere visible resync members (NoSuchRole role) = HasRole members role → ⊥
 IsRefusedHere visible resync members refusal = ⊥
 
 -- A refusal's cause: the call ends past the visible size; or else what its kind gives for the members that it leaves.
@@ -139,10 +143,6 @@ IsFaultFor visible to why old new NoMemory = new ≡ old
 abbrev pub IsRefusalOf : ℕ → ℕ → (Members → Refusal → Type 0) → Members → Option Refusal → Type 0
 IsRefusalOf visible to why members None = (to ≤ visible) × ((refusal : Refusal) → why members refusal → ⊥)
 IsRefusalOf visible to why members (Some refusal) = IsRefusedFor visible to why members members refusal
-
--- a slot holds this role of the array, whole or in part
-abbrev pub HasRole : Members → ℕ → Type 0
-HasRole members role = (role < (shape_of members.newest).disks) × (is_vacant (reading_of members) role ≡ false)
 
 -- a fail is answered Ok exactly where a slot holds the role, which it loses, and refused, with nothing changed, exactly where none does
 abbrev pub IsFailedFor : {T : Type 0} → ℕ → Members → Members → Result T Fault → Type 0

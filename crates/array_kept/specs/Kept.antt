@@ -7,6 +7,7 @@ use Rattle.bank.specs.declared.bank.Operation.{Operation}
 use Rattle.bank.specs.Given.{Given, sizes}
 use Rattle.superblocks.specs.declared.members.Members.{Members}
 use Rattle.superblocks.specs.Reading.{Scope, Reading, is_clean, shape_of}
+use Rattle.superblocks.specs.Reads.{has_spare}
 use Rattle.row_io.specs.Rows.{reading_of, present, is_missing}
 use Rattle.flat_history.specs.declared.events.Entry.{Entry}
 use Rattle.flat_history.specs.World.{World, opening_list, reading_at}
@@ -17,7 +18,7 @@ use Rattle.flat_history.specs.Losses.{is_unsynced}
 use Rattle.flat_history.specs.Sound.{FillsRight, LosesNoRole, OpensFit, LeavesSoundThroughout}
 use Rattle.flat_history.specs.Epochs.{HasRoomForEvents, OpensAlike}
 use Rattle.flat_history.specs.Growing.{EndBy, IsSafeThroughout}
-use Rattle.flat_history.specs.OneShape.{opening_in, is_gone_now, is_unsettled, IsOneShapeLegal}
+use Rattle.flat_history.specs.OneShape.{opening_in, is_gone_now, is_spare_now, is_unsettled, IsOneShapeLegal, is_used_now}
 use Rattle.views.specs.Whole.{list_size}
 use Rattle.views.specs.Views.{Ledger}
 use Rattle.views.specs.Steady.{IsSafeOver}
@@ -26,7 +27,7 @@ use Rattle.views.specs.Safety.{HasLiveSlot}
 use Rattle.views.specs.declared.work.Work.{Work}
 use Rattle.views.specs.Status.{stripes_of, left_of}
 use Rattle.views.specs.Numbers.{is_carried}
-use Rattle.views.specs.Rebuilding.{AreSparesFree, AreRebuilt, HasNoRebuilt}
+use Rattle.views.specs.Rebuilding.{AreSparesFree, AreRebuilt, HasNoRebuilt, MayHold}
 use Rattle.views.specs.Lacking.{DoesWithout, ListStands, RowsStandBelow, mended_rows}
 
 -- these slots of a bank, looked at for an array
@@ -41,6 +42,15 @@ world_in given tape scope first = record { start = given.start; tape = tape; sco
 abbrev pub AreTold : Members → List Entry → Type 0
 AreTold members entries = (role : ℕ) → role < (shape_of members.newest).disks → is_missing (reading_of members) role ≡ true
     → IsTrue (is_gone_now entries role)
+
+-- Each role that is told gone is missing, and each slot that is told to be a spare is one.
+pub record AreOnlyTold (members : Members) (entries : List Entry) : Type 0 where
+  pub gone : (role : ℕ) → is_gone_now entries role ≡ true → is_missing (reading_of members) role ≡ true
+  pub spares : (slot : ℕ) → is_spare_now entries slot ≡ true → has_spare members.spares slot ≡ true
+
+-- Each slot that holds a role or is a spare did so at the opening, or was added since.
+abbrev pub AreUsed : World → Members → List Entry → Type 0
+AreUsed world members entries = (role slot : ℕ) → MayHold members role slot → IsTrue (is_used_now (opening_in world) entries slot)
 
 -- What was filled in is right: none is missing and none was rebuilt, or the epoch opened sound. Before a pending resync has mended a stripe nothing
 -- is filled in.
@@ -59,8 +69,10 @@ AreSectorsWhole size list = (x : ℕ) → x < size → IsSector (list x)
 pub record IsRecorded (world : World) (size : ℕ) (resync : Option ℕ) (members : Members) (entries : List Entry) : Type 0 where
   pub begun : world.first ≤ length world.tape
   pub opened : length (opening_list world) ≡ size
+  pub disks : (opening_in world).disks ≡ (shape_of members.newest).disks
   pub tolerated : (opening_in world).tolerance ≡ tolerance (shape_of members.newest)
   pub dirty : is_unsynced world entries ≡ is_some resync
+  pub used : AreUsed world members entries
   pub legal : AreFillsRight world resync members entries → IsOneShapeLegal (opening_in world) (length world.tape) entries
   pub ends : EndBy (length world.tape) entries
   pub ended : last_end_from world.first entries ≡ length world.tape
@@ -89,7 +101,7 @@ pub record IsSafe (world : World) (given : Given) (size : ℕ) (members : Member
   pub now : IsSafeOver world given size (ledger_now world work entries) members world.tape
   pub counted : HasLiveSlot members → IsCounted world members
 
--- The list stands on the members that are there, as long as they suffice, and each that is missing was told; what was rebuilt on recovering
+-- The list stands on the members that are there, as long as they suffice, and what is missing or a spare is what was told so; what was rebuilt on recovering
 -- slots is the list's.
 pub record IsKept (tells : Type 0) (given : Given) (tape : List Operation) (scope : Scope) (first : ℕ) (entries : List Entry)
     (members : Members) (work : Work) : Type 0 where
@@ -99,6 +111,7 @@ pub record IsKept (tells : Type 0) (given : Given) (tape : List Operation) (scop
   pub unlost : AreUnlost members
   pub free : AreSparesFree given members
   pub told : AreTold members entries
+  pub only : AreOnlyTold members entries
   pub sized : length_of (list_size (places_of members)) entries ≡ list_size (places_of members)
   pub unlimited : limit_of entries ≡ None
   pub left : IfSome (told_left entries) (λ n. n ≡ left_of work members)

@@ -1,5 +1,5 @@
 -- What was opened can be taken over as an array.
-use Rattle.std.proofs.Common.{◌≡◌, ℕ, ◌<◌, ◌≤◌, Bool, true, false, not, ◌&&◌, nat_lt, List, [], length, take, Option, Some, IfSome, refl, sym, ◌∙◌, ap, subst, arith, le_refl}
+use Rattle.std.proofs.Common.{◌≡◌, ℕ, ◌<◌, ◌≤◌, Bool, true, false, not, ◌&&◌, nat_lt, List, [], length, take, Option, Some, IfSome, refl, sym, ◌∙◌, ap, subst, arith, le_refl, ◌||◌, ◌==◌, inl, inr, None}
 use Rattle.std.specs.Option.{option_map_or}
 use Rattle.std.proofs.lemmas.Bool.Decides.{nat_tests}
 use Rattle.md_base.specs.Shapes.{has_slot, tolerance, tolerance_of}
@@ -9,7 +9,7 @@ use Rattle.bank.specs.Tape.{Contents, contents, disk}
 use Rattle.bank.specs.Whole.{HasWholeSectors}
 use Rattle.bank.proofs.Whole.{sectors-whole}
 use Rattle.superblocks.specs.declared.members.Members.{Members}
-use Rattle.superblocks.specs.Reading.{Scope, Reading, reading, is_clean, role_count, shape_of, role_state, is_whole}
+use Rattle.superblocks.specs.Reading.{Scope, Reading, reading, is_clean, role_count, shape_of, role_state, is_whole, holder, is_backup}
 use Rattle.superblocks.specs.Election.{reading_in}
 use Rattle.superblocks.specs.Found.{AreLikeNewest, AreInSectors}
 use Rattle.row_io.specs.Rows.{reading_of, is_missing}
@@ -17,15 +17,15 @@ use Rattle.flat_history.specs.Flat.{now}
 use Rattle.flat_history.specs.World.{World, reading_at, opening_list}
 use Rattle.flat_history.specs.Losses.{was_dirty}
 use Rattle.flat_history.specs.Opened.{IsSound, OpensSound, OpensGood}
-use Rattle.flat_history.specs.OneShape.{opening_in, is_absent_at_first}
+use Rattle.flat_history.specs.OneShape.{opening_in, is_absent_at_first, is_used_in}
 use Rattle.flat_history.specs.Epochs.{OpensAlike}
 use Rattle.flat_history.proofs.GivenLaws.{holder-given}
 use Rattle.views.specs.Whole.{Places, list_size}
 use Rattle.views.specs.Placed.{places_of, IsPlaced, AreUnlost}
 use Rattle.views.specs.Held.{IsHeldBy}
 use Rattle.views.specs.Lacking.{DoesWithout, ListStands, RowsStand, AreHoldersFlushed}
-use Rattle.array_kept.specs.Kept.{world_in, AreSectorsWhole}
-use Rattle.views.specs.Rebuilding.{AreSparesFree}
+use Rattle.array_kept.specs.Kept.{world_in, AreSectorsWhole, AreUsed}
+use Rattle.views.specs.Rebuilding.{AreSparesFree, MayHold}
 use Rattle.array_kept.specs.Adopting.{IsAdoptable}
 use Rattle.assemble.specs.declared.opening.Opened.{Opened}
 use Rattle.assemble.specs.Opening.{scope_of, IsOpened, AreFlushed}
@@ -33,6 +33,13 @@ use Rattle.assemble.proofs.FoundRows.{list-length, list-stands, list-whole, rows
 use Rattle.assemble.proofs.Judged.{elected-does}
 use Rattle.assemble.proofs.PlacedFound.{count-is, few-spares}
 use Rattle.assemble.proofs.OpenedHeld.{numbers-kept, opened-held}
+use Rattle.superblocks.specs.Reads.{has_spare}
+use Rattle.superblocks.proofs.Searches.{any_below-some}
+use Rattle.md_base.specs.Search.{any_below}
+use Rattle.md_base.specs.declared.status.Role.TheVariants.{Missing}
+use Rattle.std.proofs.lemmas.Bool.{cases_lt}
+use Rattle.std.proofs.lemmas.List.{get_or_past}
+use Rattle.layout.proofs.Limits.{limited}
 
 module _ {tells : Type 0} (bank : Given) (tape : List Operation) (backup : Option ℕ) (asked : Option (List ℕ)) (opened : Opened) (few : bank.slots ≤ 32)
     (is : IsOpened tells bank (contents bank.start tape (length tape)) backup asked opened)
@@ -69,6 +76,10 @@ module _ {tells : Type 0} (bank : Given) (tape : List Operation) (backup : Optio
     unfolding reading_at
     tolerance-is = ap (λ (o : Option Reading). tolerance_of (option_map_or (λ q. q.newest.level) o 5)) (is.says told)
 
+    disks-is : (opening_in world).disks ≡ (shape_of m.newest).disks
+    unfolding reading_at
+    disks-is = ap (λ (o : Option Reading). option_map_or (λ q. role_count q.newest) o 0) (is.says told) ∙ count-is m.newest placed.still
+
     dirty-is : was_dirty world ≡ not (is_clean m.newest)
     unfolding reading_at
     dirty-is = ap (λ (o : Option Reading). option_map_or (λ q. not (is_clean q.newest)) o false) (is.says told)
@@ -84,6 +95,34 @@ module _ {tells : Type 0} (bank : Given) (tape : List Operation) (backup : Optio
 
         also : (a b : Bool) → a ≡ true → b ≡ true → (a && b) ≡ true
         also a b met met' = grind (arith, met, met')
+
+    used-is : AreUsed world m []
+    unfolding reading_at
+    used-is role slot may =
+        ap (λ (o : Option Reading). option_map_or (λ q. is_used_in q slot) o false || false) (is.says told) ∙ ap (λ (b : Bool). b || false) (by may)
+      where
+        itself : (n : ℕ) → (n == n) ≡ true
+        itself n = grind (arith, nat_tests)
+
+        -- such a role is below the disk count
+        role-below : (o : Option ℕ) → holder (role_state (reading_of m) role) ≡ o → o ≡ Some slot → role < 32
+        role-below o is_at held = elim (cases_lt role (length m.roles)) [
+          | inl below ↦ let n = placed.roles in let most = (limited (shape_of m.newest) placed.valid).most in omega (arith, below, n, most)
+          | inr past ↦ absurd (let none : None ≡ Some slot = sym (ap holder (get_or_past m.roles role Missing past)) ∙ is_at ∙ held in cc)
+        ]
+
+        or-left : (a b : Bool) → a ≡ true → (a || b) ≡ true
+        or-left true b is = refl
+        or-left false b is = absurd (cc)
+
+        or-right : (a b : Bool) → b ≡ true → (a || b) ≡ true
+        or-right true b is = refl
+        or-right false b is = is
+
+        by : MayHold m role slot → is_used_in r slot ≡ true
+        by (inl held) = or-left (any_below 32 (λ k. is_backup (holder (role_state r k)) slot)) (has_spare r.spares slot)
+            (any_below-some 32 (λ k. is_backup (holder (role_state r k)) slot) role (role-below (holder (role_state (reading_of m) role)) refl held) (ap (λ (o : Option ℕ). is_backup o slot) held ∙ itself slot))
+        by (inr spare) = or-right (any_below 32 (λ k. is_backup (holder (role_state r k)) slot)) (has_spare r.spares slot) spare
 
     clean-is : was_dirty world ≡ false → is_clean m.newest ≡ true
     clean-is not_dirty = by (is_clean m.newest) (sym dirty-is ∙ not_dirty)
@@ -138,8 +177,10 @@ module _ {tells : Type 0} (bank : Given) (tape : List Operation) (backup : Optio
     free = free;
     sizes_are = refl;
     opened = length-is;
+    disks = disks-is;
     tolerated = tolerance-is;
     dirty = dirty-is;
+    used = used-is;
     absent = absent-is;
     holds = list-is;
     whole = whole-list;

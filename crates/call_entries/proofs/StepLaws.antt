@@ -1,6 +1,6 @@
 -- The entries of a step of a resync, and of a call that may go on.
-use Rattle.std.proofs.Common.{◌≡◌, ℕ, ◌+◌, ◌≤◌, ◌==◌, ◌&&◌, ◌||◌, Bool, true, false, not, cond, Option, Some, None, List, [], ◌∷◌, ◌++◌, length, refl, sym, ◌∙◌, ap, ap₂, subst, arith, append-nil, append_assoc, length-append}
-use Rattle.std.specs.Prelude.{fold, min, IfSome, IsFalse, MatchOption, ⊤}
+use Rattle.std.proofs.Common.{◌≡◌, inl, inr, ℕ, ◌+◌, ◌≤◌, ◌==◌, ◌&&◌, ◌||◌, Bool, true, false, not, cond, Option, Some, None, List, [], ◌∷◌, ◌++◌, length, refl, sym, ◌∙◌, ap, ap₂, subst, arith, append-nil, append_assoc, length-append}
+use Rattle.std.specs.Prelude.{fold, min, IfSome, IsFalse, MatchOption, ⊤, IsTrue}
 use Rattle.std.specs.Option.{option_map_or}
 use Rattle.std.specs.List.{All, list_any}
 use Rattle.std.proofs.lemmas.Bool.Decides.{nat_tests}
@@ -9,7 +9,7 @@ use Rattle.std.proofs.lemmas.List.Folds.{list_any-append}
 use Rattle.std.proofs.lemmas.List.Sums.{fold-append}
 use Rattle.md_base.specs.declared.answers.Who.{Who}
 use Rattle.md_base.specs.declared.answers.Refusal.{Refusal}
-use Rattle.md_base.specs.declared.answers.Refusal.TheVariants.{PastEnd, TooManyMissing, NotResynced}
+use Rattle.md_base.specs.declared.answers.Refusal.TheVariants.{PastEnd, TooManyMissing, NotResynced, NoSuchRole, NoSuchSlot, SlotTaken, SlotTooSmall, Nothing}
 use Rattle.bank.specs.declared.bank.Operation.{Operation}
 use Rattle.flat_history.specs.declared.events.Entry.{Entry}
 use Rattle.flat_history.specs.declared.events.Event.{Event}
@@ -23,8 +23,8 @@ use Rattle.flat_history.specs.World.{World}
 use Rattle.flat_history.specs.Growing.{grown}
 use Rattle.flat_history.specs.Legal.{told_left, call_before, disturbs}
 use Rattle.flat_history.specs.Losses.{was_dirty, is_resync_end, is_unsynced}
-use Rattle.flat_history.specs.Plain.{entries_of}
-use Rattle.flat_history.specs.OneShape.{ShapeOpening, opening_in, gives_role, is_gone_now, gone_count_now, IsOneShapeEvent, AreOneShape, IsOneShapeLegal, IsOneShapeRefusal, IsOneShapeStep, IsIdleStep, GoesOnBehind, IsOfCall, IsCallOpen}
+use Rattle.flat_history.specs.Plain.{loses_role, entries_of}
+use Rattle.flat_history.specs.OneShape.{ShapeOpening, opening_in, gives_role, is_gone_with, is_gone_now, is_spare_after, is_spare_now, is_resyncing, gone_count_now, IsOneShapeEvent, AreOneShape, IsOneShapeLegal, IsOneShapeRefusal, IsOneShapeStep, IsIdleStep, GoesOnBehind, IsOfCall, IsCallOpen, adds_slot, is_used_now}
 use Rattle.flat_history.proofs.OneShapeLegal.{opening-grown}
 use Rattle.flat_history.proofs.OneShapeGrowing.{one, IsOneShapeCall, AreFaults, others-enter, call-one_shape, call-faults, gone-more}
 use Rattle.flat_history.proofs.OneShapeGoing.{open-more, open-numbered, going-on}
@@ -163,6 +163,38 @@ synced-behind world entries who end losses left are =
 refusal-gives : (e : Entry) (refusal : Refusal) → e.event ≡ Refused refusal → GivesNone (e ∷ [])
 refusal-gives e refusal is role = ap (λ (event : Event). gives_role role event || false) is
 
+-- a slot that was used was used behind more entries too
+pub used-more : (opening : ShapeOpening) (entries added : List Entry) (slot : ℕ) → IsTrue (is_used_now opening entries slot) → IsTrue (is_used_now opening (entries ++ added) slot)
+used-more opening entries added slot used =
+    ap (λ (b : Bool). opening.used slot || b) (list_any-append (λ e. adds_slot slot e.event) entries added)
+    ∙ more (opening.used slot) (list_any (λ e. adds_slot slot e.event) entries) (list_any (λ e. adds_slot slot e.event) added) used
+  where
+    more : (a b c : Bool) → (a || b) ≡ true → (a || (b || c)) ≡ true
+    more true b c is = refl
+    more false true c is = refl
+    more false false c is = absurd (cc)
+
+-- it leaves a resync pending, a role gone and a slot a spare
+resyncing-same : (opening : ShapeOpening) (before : List Entry) (e : Entry) (refusal : Refusal) → e.event ≡ Refused refusal → is_resyncing opening (before ++ e ∷ []) ≡ is_resyncing opening before
+resyncing-same opening before e refusal is =
+    ap (λ (b : Bool). opening.dirty && not b) (list_any-append (λ e. is_resync_end e.event) before (e ∷ []) ∙ ap (λ (event : Event). list_any (λ e. is_resync_end e.event) before || (is_resync_end event || false)) is
+    ∙ or_none (list_any (λ e. is_resync_end e.event) before))
+  where
+    or_none : (a : Bool) → (a || false) ≡ a
+    or_none true = refl
+    or_none false = refl
+
+gone-same : (before : List Entry) (e : Entry) (refusal : Refusal) (role : ℕ) → e.event ≡ Refused refusal → is_gone_now (before ++ e ∷ []) role ≡ is_gone_now before role
+gone-same before e refusal role is =
+    fold-append (is_gone_with role) false before (e ∷ []) ∙ ap (λ (event : Event). is_gone_now before role && not (gives_role role event) || loses_role role event) is ∙ unchanged (is_gone_now before role)
+  where
+    unchanged : (b : Bool) → (b && true || false) ≡ b
+    unchanged true = refl
+    unchanged false = refl
+
+spare-same : (before : List Entry) (e : Entry) (refusal : Refusal) (slot : ℕ) → e.event ≡ Refused refusal → is_spare_now (before ++ e ∷ []) slot ≡ is_spare_now before slot
+spare-same before e refusal slot is = fold-append (λ spare e. is_spare_after slot spare e.event) false before (e ∷ []) ∙ ap (is_spare_after slot (is_spare_now before slot)) is
+
 -- a refusal is right too behind an entry that tells it
 refused-still : (opening : ShapeOpening) (before : List Entry) (e : Entry) (refusal : Refusal) → e.event ≡ Refused refusal → IsOneShapeRefusal opening before refusal → IsOneShapeRefusal opening (before ++ e ∷ []) refusal
 refused-still opening before e (PastEnd visible) is was = was ∙ sym (ap₂ (λ (n : ℕ) (limit : Option ℕ). option_map_or (λ l. min l n) limit n) long limit)
@@ -177,15 +209,20 @@ refused-still opening before e (TooManyMissing count tolerance) is was =
     count-implied 32 (is_gone_now before) (is_gone_now (before ++ e ∷ [])) (λ role lt gone. gone-more role before (e ∷ []) (refusal-gives e (TooManyMissing count tolerance) is role) gone) in
     let lost = was.lost in
     record { above = was.above; lost = omega (arith, lost, more); tolerated = was.tolerated }
-refused-still opening before e (NotResynced role) is was = (
-  gone-more role before (e ∷ []) (refusal-gives e (NotResynced role) is role) was.0,
-  ap (λ (b : Bool). opening.dirty && not b) (list_any-append (λ e. is_resync_end e.event) before (e ∷ []) ∙ ap (λ (event : Event). list_any (λ e. is_resync_end e.event) before || (is_resync_end event || false)) is
-      ∙ or_none (list_any (λ e. is_resync_end e.event) before)) ∙ was.1,
-)
-  where
-    or_none : (a : Bool) → (a || false) ≡ a
-    or_none true = refl
-    or_none false = refl
+refused-still opening before e (NotResynced role) is was = (gone-more role before (e ∷ []) (refusal-gives e (NotResynced role) is role) was.0, resyncing-same opening before e (NotResynced role) is ∙ was.1)
+refused-still opening before e (NoSuchRole role) is (inl few) = inl few
+refused-still opening before e (NoSuchRole role) is (inr gone) = inr (gone-more role before (e ∷ []) (refusal-gives e (NoSuchRole role) is role) gone)
+refused-still opening before e (NoSuchSlot slot) is was = was
+refused-still opening before e (SlotTaken slot) is (inl backup) = inl backup
+refused-still opening before e (SlotTaken slot) is (inr used) = inr (used-more opening before (e ∷ []) slot used)
+refused-still opening before e (SlotTooSmall have want) is was = record { fewer = was.fewer; short = was.short; long = (was.long.0, used-more opening before (e ∷ []) was.long.0 was.long.1, was.long.2) }
+refused-still opening before e Nothing is was = record {
+  synced = resyncing-same opening before e Nothing is ∙ was.synced;
+  built = elim was.built [
+    | inl none ↦ inl (λ role lt. gone-same before e Nothing role is ∙ none role lt)
+    | inr none ↦ inr (λ slot. spare-same before e Nothing slot is ∙ none slot)
+  ];
+}
 refused-still opening before e refusal is was = tt
 
 -- what the last entry of a legal history refuses is refused rightly behind it

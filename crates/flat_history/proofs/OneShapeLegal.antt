@@ -29,7 +29,7 @@ use Rattle.flat_history.specs.Legal.{call_end, known_left, IsLost, IsStep, IsRef
 use Rattle.flat_history.specs.Losses.{is_resync_end, is_unsynced}
 use Rattle.flat_history.specs.Reshaped.{AreReshaped, is_done, is_planned, behind, comes_with_finish, comes_with_step, plans_after, IsFinishedRight, ArePlansDone, open_plans}
 use Rattle.flat_history.specs.Growing.{grown}
-use Rattle.flat_history.specs.OneShape.{ShapeOpening, IsFoundAs, opening_in, is_resyncing, IsIdleStep, keeps_shape, keeps_shape_event, KeepShape, IsOneShapeLost, IsOneShapeRefusal, IsOneShapeEvent, AreOneShape, IsOneShapeLegal, OneShapeHistoriesAreLegal}
+use Rattle.flat_history.specs.OneShape.{ShapeOpening, IsFoundAs, opening_in, is_resyncing, IsIdleStep, keeps_shape, keeps_shape_event, KeepShape, IsOneShapeLost, IsOneShapeRefusal, IsOneShapeEvent, AreOneShape, IsOneShapeLegal, OneShapeHistoriesAreLegal, is_used_in}
 use Rattle.flat_history.proofs.OneShapeGone.{keep-both, after-gone, after-count, same-level}
 
 -- ---- where the entries of a call end
@@ -83,9 +83,14 @@ module _ (world : World) (start : Contents) (tape : List Operation) (same : cont
   opening-other = ap₂ (λ (l : List Sector) (r : Option Reading). record {
     list = l;
     first = world.first;
+    disks = option_map_or (λ r. role_count r.newest) r 0;
     tolerance = tolerance_of (option_map_or (λ r. r.newest.level) r 5);
     dirty = option_map_or (λ r. not (is_clean r.newest)) r false;
     missing = λ role. option_map_or (λ r. nat_lt role (role_count r.newest) && not (is_whole (role_state r role))) r false;
+    slots = world.scope.sizes.slots;
+    sectors = world.scope.sizes.sectors;
+    backup = world.scope.backup;
+    used = λ slot. option_map_or (λ r. is_used_in r slot) r false;
   }) list-other reading-other
 
 -- seen from a later mark
@@ -215,8 +220,8 @@ module _ (world : World) (opening : ShapeOpening) (found : IsFoundAs world openi
   legal_event e rest (Added slot) is = tt
   legal_event e rest (Failed role) is = is
   legal_event e rest (Step kind left) is = legal_step world before e rest kind left is.0 is.1
-  legal_event e rest (Stepped done left ended) is = (is.0, legal_end ended is.1)
-  legal_event e rest (Shown status) is = is
+  legal_event e rest (Stepped done left ended) is = (is.0.0, legal_end ended is.1)
+  legal_event e rest (Shown status) is = is.0
   legal_event e rest Stopped is = tt
   legal_event e rest Halted is = tt
   legal_event e rest (Refused refusal) is = legal_refusal refusal is

@@ -1,15 +1,16 @@
 -- What a history must be for an array that keeps its shape and may lose members, over what its opening found: no bank occurs
 -- here. In each definition `before` are the entries before the entry, and `rest` are those behind it that are of the same call.
-use Rattle.std.specs.Prelude.{◌≡◌, ◌⊎◌, ℕ, ◌+◌, ◌<◌, ◌≤◌, Bool, true, false, not, ◌&&◌, ◌||◌, ◌==◌, nat_lt, List, [], ◌∷◌, ◌++◌, length, take, slice_range, fold, count_by, Option, MatchOption, MatchBool, IfSome, IsSome, IsTrue, ⊤}
+use Rattle.std.specs.Prelude.{◌≡◌, ◌⊎◌, ℕ, ◌+◌, ◌<◌, ◌≤◌, Bool, true, false, not, ◌&&◌, ◌||◌, ◌==◌, nat_lt, List, [], ◌∷◌, ◌++◌, length, take, slice_range, fold, count_by, Option, MatchOption, MatchBool, IfSome, IsSome, IsTrue, ⊤, Some}
 use Rattle.std.specs.Option.{option_map_or}
 use Rattle.std.specs.List.{list_any, list_all, All}
 use Rattle.md_base.specs.Sectors.{Sector}
-use Rattle.md_base.specs.Search.{count_below}
+use Rattle.md_base.specs.Search.{count_below, any_below}
 use Rattle.md_base.specs.Shapes.{tolerance_of}
 use Rattle.md_base.specs.declared.answers.Refusal.{Refusal}
 use Rattle.md_base.specs.declared.answers.Refusal.TheVariants.{PastEnd, TooManyMissing, NotResynced, NoSuchRole, NoSuchSlot, SlotTaken, SlotTooSmall, SlotFault, Nothing}
 use Rattle.md_base.specs.declared.answers.Who.{Who}
-use Rattle.superblocks.specs.Reading.{is_whole, role_state, role_count}
+use Rattle.superblocks.specs.Reading.{is_whole, role_state, role_count, Reading, holder, is_backup}
+use Rattle.superblocks.specs.Reads.{has_spare}
 use Rattle.flat_history.specs.declared.events.Event.{Event}
 use Rattle.flat_history.specs.declared.events.Event.TheVariants.{Read, Wrote, Torn, Flushed, Lost, SpareLost, Rebuilt, Added, Failed, Step, Stepped, Shown, Stopped, Halted, Refused}
 use Rattle.flat_history.specs.declared.events.LostCause.{LostCause}
@@ -31,14 +32,20 @@ use Rattle.flat_history.specs.Plain.{loses_role}
 
 -- ---- the opening
 
--- what an opening found: the flat list, the mark, how many members the level can do without, whether the array was dirty, and
--- which roles were missing
+-- what an opening found: the flat list, the mark, how many roles there are, how many members the level can do without, whether the
+-- array was dirty, and which roles were missing; and of the bank how many slots there are, how long each is, which is the backup, and
+-- which held a role or were spares
 pub record ShapeOpening : Type 0 where
   pub list : List Sector
   pub first : ℕ
+  pub disks : ℕ
   pub tolerance : ℕ
   pub dirty : Bool
   pub missing : ℕ → Bool
+  pub slots : ℕ
+  pub sectors : ℕ → ℕ
+  pub backup : Option ℕ
+  pub used : ℕ → Bool
 
 -- the bank at the opening is as it was found
 pub record IsFoundAs (world : World) (opening : ShapeOpening) : Type 0 where
@@ -47,6 +54,10 @@ pub record IsFoundAs (world : World) (opening : ShapeOpening) : Type 0 where
   pub tolerance : opening.tolerance ≡ tolerance_of (level_at world [])
   pub dirty : opening.dirty ≡ was_dirty world
   pub missing : (role : ℕ) → IsTrue (opening.missing role) → IsAbsentAtFirst world role
+
+-- a slot holds a role there, or is a spare
+abbrev pub is_used_in : Reading → ℕ → Bool
+is_used_in r slot = any_below 32 (λ role. is_backup (holder (role_state r role)) slot) || has_spare r.spares slot
 
 -- what this bank shows at the opening
 abbrev pub is_absent_at_first : World → ℕ → Bool
@@ -57,9 +68,14 @@ abbrev pub opening_in : World → ShapeOpening
 opening_in world = record {
   list = opening_list world;
   first = world.first;
+  disks = option_map_or (λ r. role_count r.newest) (reading_at world world.first) 0;
   tolerance = tolerance_of (level_at world []);
   dirty = was_dirty world;
   missing = is_absent_at_first world;
+  slots = world.scope.sizes.slots;
+  sectors = world.scope.sizes.sectors;
+  backup = world.scope.backup;
+  used = λ slot. option_map_or (λ r. is_used_in r slot) (reading_at world world.first) false;
 }
 
 -- ---- losses, and what is gone by the entries alone
@@ -105,6 +121,46 @@ IsOneShapeLost opening before e rest role Recovering = IsFoundMissing opening be
 IsOneShapeLost opening before e rest role Command = MatchOption (last_of rest) ⊥ (λ last. IsFailed role last.event)
 IsOneShapeLost opening before e rest role Fault = ⊤
 
+-- ---- spares, and what is left to do, by the entries alone
+
+-- The entries tell the slot to be a spare, after one more event: it was shown or added as one, and since then it wasn't told lost, and
+-- no role was given to a spare.
+abbrev pub is_spare_after : ℕ → Bool → Event → Bool
+is_spare_after slot spare (Shown status) = has_spare status.spares slot
+is_spare_after slot spare (Added added) = (added == slot) || spare
+is_spare_after slot spare (SpareLost lost) = spare && not (lost == slot)
+is_spare_after slot spare (Step RebuildTaken left) = false
+is_spare_after slot spare event = spare
+
+abbrev pub is_spare_now : List Entry → ℕ → Bool
+is_spare_now entries slot = fold (λ spare e. is_spare_after slot spare e.event) false entries
+
+-- opened dirty, and no resync has ended in these entries
+abbrev pub is_resyncing : ShapeOpening → List Entry → Bool
+is_resyncing opening before = opening.dirty && not (list_any (λ e. is_resync_end e.event) before)
+
+-- each role of the array is there
+abbrev pub IsNoneGone : ShapeOpening → List Entry → Type 0
+IsNoneGone opening before = (role : ℕ) → role < opening.disks → is_gone_now before role ≡ false
+
+-- no slot is told to be a spare
+abbrev pub IsNoneSpare : List Entry → Type 0
+IsNoneSpare before = (slot : ℕ) → is_spare_now before slot ≡ false
+
+-- Nothing is left to do: no resync is pending, and no role is gone, or no slot is told to be a spare for one.
+pub record IsNothingLeft (opening : ShapeOpening) (before : List Entry) : Type 0 where
+  pub synced : is_resyncing opening before ≡ false
+  pub built : IsNoneGone opening before ⊎ IsNoneSpare before
+
+-- the event adds the slot
+abbrev pub adds_slot : ℕ → Event → Bool
+adds_slot slot (Added added) = added == slot
+adds_slot slot event = false
+
+-- the slot held a role or was a spare at the opening, or it was added
+abbrev pub is_used_now : ShapeOpening → List Entry → ℕ → Bool
+is_used_now opening before slot = opening.used slot || list_any (λ e. adds_slot slot e.event) before
+
 -- ---- refusals
 
 -- more roles are gone than the level can do without
@@ -113,14 +169,29 @@ pub record AreTooManyLost (opening : ShapeOpening) (before : List Entry) (count 
   pub lost : count ≤ gone_count_now before
   pub tolerated : tolerance ≡ opening.tolerance
 
--- opened dirty, and no resync has ended in these entries
-abbrev pub is_resyncing : ShapeOpening → List Entry → Bool
-is_resyncing opening before = opening.dirty && not (list_any (λ e. is_resync_end e.event) before)
+-- there is no such role, or it is gone
+abbrev pub IsNoRoleNow : ShapeOpening → List Entry → ℕ → Type 0
+IsNoRoleNow opening before role = (opening.disks ≤ role) ⊎ IsTrue (is_gone_now before role)
+
+-- the slot is the backup, or was used since the opening
+abbrev pub IsTakenNow : ShapeOpening → List Entry → ℕ → Type 0
+IsTakenNow opening before slot = (opening.backup ≡ Some slot) ⊎ IsTrue (is_used_now opening before slot)
+
+-- some slot has so many sectors, which are fewer than are wanted, and one that was used since the opening has as many as that
+pub record IsTooSmallNow (opening : ShapeOpening) (before : List Entry) (have want : ℕ) : Type 0 where
+  pub fewer : have < want
+  pub short : (slot : ℕ) × (have ≡ opening.sectors slot)
+  pub long : (slot : ℕ) × IsTrue (is_used_now opening before slot) × (want ≤ opening.sectors slot)
 
 abbrev pub IsOneShapeRefusal : ShapeOpening → List Entry → Refusal → Type 0
 IsOneShapeRefusal opening before (PastEnd visible) = visible ≡ visible_of (length opening.list) before
 IsOneShapeRefusal opening before (TooManyMissing count tolerance) = AreTooManyLost opening before count tolerance
 IsOneShapeRefusal opening before (NotResynced role) = IsTrue (is_gone_now before role) × IsTrue (is_resyncing opening before)
+IsOneShapeRefusal opening before (NoSuchRole role) = IsNoRoleNow opening before role
+IsOneShapeRefusal opening before (NoSuchSlot slot) = opening.slots ≤ slot
+IsOneShapeRefusal opening before (SlotTaken slot) = IsTakenNow opening before slot
+IsOneShapeRefusal opening before (SlotTooSmall have want) = IsTooSmallNow opening before have want
+IsOneShapeRefusal opening before Nothing = IsNothingLeft opening before
 IsOneShapeRefusal opening before refusal = ⊤
 
 -- ---- steps
@@ -138,9 +209,13 @@ IsIdleStep kind = ⊥
 abbrev pub IsOneShapeStep : List Entry → Entry → List Entry → StepKind → ℕ → Type 0
 IsOneShapeStep before e rest kind left = IsIdleStep kind × IfSome (known_left before e rest) (λ n. left + 1 ≡ n)
 
+-- so many steps are left: as many as were told last, and none only where nothing is left to do
+abbrev pub IsOneShapeLeft : ShapeOpening → List Entry → Entry → List Entry → ℕ → Type 0
+IsOneShapeLeft opening before e rest left = KeepsLeft before e rest left × (left ≡ 0 → IsNothingLeft opening before)
+
 -- a request for steps tells how many are left, and what refused one
 abbrev pub IsOneShapeStepped : ShapeOpening → List Entry → Entry → List Entry → ℕ → Option Refusal → Type 0
-IsOneShapeStepped opening before e rest left ended = KeepsLeft before e rest left × IfSome ended (IsOneShapeRefusal opening before)
+IsOneShapeStepped opening before e rest left ended = IsOneShapeLeft opening before e rest left × IfSome ended (IsOneShapeRefusal opening before)
 
 -- ---- an entry, and a history
 
@@ -157,7 +232,7 @@ IsOneShapeEvent opening before e rest (Added slot) = ⊤
 IsOneShapeEvent opening before e rest (Failed role) = IsFailedByCall before e role
 IsOneShapeEvent opening before e rest (Step kind left) = IsOneShapeStep before e rest kind left
 IsOneShapeEvent opening before e rest (Stepped done left ended) = IsOneShapeStepped opening before e rest left ended
-IsOneShapeEvent opening before e rest (Shown status) = KeepsLeft before e rest status.left
+IsOneShapeEvent opening before e rest (Shown status) = IsOneShapeLeft opening before e rest status.left
 IsOneShapeEvent opening before e rest Stopped = ⊤
 IsOneShapeEvent opening before e rest Halted = ⊤
 IsOneShapeEvent opening before e rest (Refused refusal) = IsOneShapeRefusal opening before refusal

@@ -3,13 +3,13 @@
 ghost use Rattle.std.specs.Prelude.{◌≡◌, length};
 
 use bank::{Bank, MemoryBank};
+use election::elect;
 use md_base::Fault;
 use sb1::{Sb, sectors_of};
 use std::alloc::Global;
 use std::process::Abort;
 use std::test::Fail;
 use superblocks::Members;
-use election::elect;
 
 // Puts both sectors of a superblock in place.
 fn set_sectors(rt: &impl Abort, bank: &mut MemoryBank, slot: u32, sectors: &[u8])

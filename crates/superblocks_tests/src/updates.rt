@@ -10,9 +10,9 @@ use sb1::{Sb, fields_of};
 use std::alloc::Global;
 use std::process::Abort;
 use std::test::Fail;
+use superblock_updates::update;
 use superblocks::says::role_count;
 use superblocks::sets::with;
-use superblock_updates::update;
 use superblocks::{Change, Give, Members};
 
 const CLEAN: u64 = u64::MAX;

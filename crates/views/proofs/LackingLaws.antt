@@ -117,6 +117,7 @@ pub lost-since : (given : Given) (old new : Members) (disks was roles spares : �
     → disks ≡ (shape_of old.newest).disks → AreVacant old disks was → AreNewlyVacant new disks was roles → AreLostSince old new roles spares before after
 lost-since given old new disks was roles spares before after placed moved failed same vacant newly = record {
   vacant = λ role lt is. old-or role (is_vacant (reading_of old) role) refl (subst (λ (n : ℕ). role < n) (sym same) (subst (λ (s : Shape). role < s.disks) moved.shape lt)) is;
+  gone = λ role has. (parts (nat_lt role disks) (is_vacant (reading_of new) role) (has_slot was role) (sym (newly role) ∙ has)).1;
   held = λ role has. at role (parts (nat_lt role disks) (is_vacant (reading_of new) role) (has_slot was role) (sym (newly role) ∙ has)) (holder (role_state (reading_of old) role)) refl;
   failed = failed.spares_are;
   told = failed.told;

@@ -94,10 +94,11 @@ pub record HaveFailedSince (old new : Members) (spares : ℕ) (before after : �
   pub spares_are : (slot : ℕ) → has_slot spares slot ≡ true → IsFaulted slot before after
   pub told : (slot : ℕ) → has_spare old.spares slot ≡ true → (has_spare new.spares slot ≡ true) ⊎ (has_slot spares slot ≡ true)
 
--- Each role that no slot holds now had none before, or is one of these, the slot of each of which has failed since, as have these spares; each
--- other spare is one still.
+-- Each role that no slot holds now had none before, or is one of these; no slot holds these now, and the slot of each has failed since, as have
+-- these spares; each other spare is one still.
 pub record AreLostSince (old new : Members) (roles spares : ℕ) (before after : ℕ → ℕ) : Type 0 where
   pub vacant : (role : ℕ) → role < (shape_of new.newest).disks → is_vacant (reading_of new) role ≡ true → (is_vacant (reading_of old) role ≡ true) ⊎ (has_slot roles role ≡ true)
+  pub gone : (role : ℕ) → has_slot roles role ≡ true → is_vacant (reading_of new) role ≡ true
   pub held : (role : ℕ) → has_slot roles role ≡ true → (slot : ℕ) × (holder (role_state (reading_of old) role) ≡ Some slot) × IsFaulted slot before after
   pub failed : (slot : ℕ) → has_slot spares slot ≡ true → IsFaulted slot before after
   pub told : (slot : ℕ) → has_spare old.spares slot ≡ true → (has_spare new.spares slot ≡ true) ⊎ (has_slot spares slot ≡ true)

@@ -41,7 +41,7 @@ invariant_of-self-2 g c =
     let why = subst (λ v. IsUnaddable (g.B.Bank.given v.bank) v.backup c.args.slot v.members refusal) (sym c.self.view_is) c.in-Some-unaddable.ensures in
     let opens = begins-open a.epoch.entries.items c.args.who (c.requires.next ∙ ap (λ p. next_number c.args.who.caller p.entries) (sym c.self.view_is)) in
     ready (entries_of c.args.who c.ops-end.result (Refused refusal ∷ []))
-    (kept-unadded c.args.who c.ops-end.result c.args.slot a.backup was.kept opens c.requires.caller c.ops-end.ensures.count refusal why)
+    (kept-unadded c.args.who c.ops-end.result c.args.slot a.backup was.kept opens c.requires.caller c.ops-end.ensures.count refl refusal why)
     was.failed (λ s. omega arith) refl (scope-same given a.backup refl c.enter.ensures.uuid c.enter.ensures.given) c.enter.ensures.first
     c.make_room.ensures.items c.enter.ensures.items (omega (arith, c.enter.ensures.room, c.in-Ok.ensures.ok)) was.rows_fit was.buffer_fits
 

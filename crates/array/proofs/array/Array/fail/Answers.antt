@@ -21,7 +21,7 @@ use Rattle.array_kept.proofs.ReplyLaws.{fail_reply, no_role_reply}
 use Rattle.array_kept.proofs.LossLaws.{losses-failed, ended-behind}
 use Rattle.views.proofs.HeldRows.{vacant-moved}
 use Rattle.array_kept.proofs.DegradedLaws.{kept-refused, leaves-failed, degraded-failed}
-use Rattle.array_kept.proofs.FailedLaws.{placed-out, unlost-out, moved-out, out-vacant, out-only, clean-out, rise-out, named-out}
+use Rattle.array_kept.proofs.FailedLaws.{placed-out, unlost-out, moved-out, out-vacant, out-spares, out-only, clean-out, rise-out, named-out}
 use Rattle.array.proofs.array.Array.fail.Goals as goal
 
 -- an event, and others of its call behind it
@@ -35,7 +35,7 @@ invariant_of-self-in_default g c =
     let given = g.B.Bank.given a.bank in
     let number : c.args.who.number ≡ next_number c.args.who.caller a.epoch.entries.items = c.requires.next ∙ ap (λ p. next_number c.args.who.caller p.entries) (sym c.self.view_is) in
     ready (entries_of c.args.who c.ops-end.result (Refused (NoSuchRole c.args.role) ∷ []))
-    (kept-refused c.args.who c.ops-end.result was.kept (begins-open a.epoch.entries.items c.args.who number) c.requires.caller c.ops-end.ensures.count (NoSuchRole c.args.role) tt)
+    (kept-refused c.args.who c.ops-end.result was.kept (begins-open a.epoch.entries.items c.args.who number) c.requires.caller c.ops-end.ensures.count (NoSuchRole c.args.role) c.in_default.ensures.none)
     was.failed (λ slot. omega arith) refl (scope-same given a.backup refl c.enter.ensures.uuid c.enter.ensures.given) c.enter.ensures.first c.make_room.ensures.items c.enter.ensures.items
     (omega (arith, c.enter.ensures.room, c.in-Ok.ensures.ok)) was.rows_fit was.buffer_fits
 
@@ -94,8 +94,10 @@ invariant_of-self-2 g c =
     (ap (λ (s : Shape). s.disks) (c.shape_in-disks.ensures ∙ sym moved.shape)) c.vacant_roles-before.ensures c.newly_vacant-roles.ensures in
     let items = behind-loss c.make_room.new.self.items c.enter-2.new.epoch.entries.items c.enter_behind.new.epoch.entries.items c.args.who end (Lost role Command) (losses_of roles spares ++ Failed role ∷ []) c.enter-2.ensures.items c.enter_behind.ensures.items in
     let out = out-only given a.members mid c.lose_slot.result c.in-Some.slot role was.kept.placed was.kept.unlost c.lose_slot.ensures.members c.lose_slot.ensures.alone c.in-Some.ensures.held in
+    let gone = out-vacant given a.members mid c.lose_slot.result c.in-Some.slot role was.kept.placed was.kept.unlost c.lose_slot.ensures.members c.lose_slot.ensures.alone c.in-Some.ensures.held in
     ready (entries_of c.args.who end ((Lost role Command ∷ losses_of roles spares) ++ Failed role ∷ []))
-    (degraded-failed c.args.who end was.kept (begins-open a.epoch.entries.items c.args.who number) c.requires.caller c.ops-end-2.ensures.count (moved-then given a.members mid m moved did.moved) did.grows role mid roles spares before after did.moved.shape out since did.others
+    (degraded-failed c.args.who end was.kept (begins-open a.epoch.entries.items c.args.who number) c.requires.caller c.ops-end-2.ensures.count (moved-then given a.members mid m moved did.moved) did.grows role mid roles spares before after did.moved.shape out since (vacant-moved did.moved role gone)
+    (out-spares given a.members mid c.lose_slot.result c.in-Some.slot role was.kept.placed was.kept.unlost c.lose_slot.ensures.members c.lose_slot.ensures.alone c.in-Some.ensures.held) did.others
     (leaves-failed c.args.who end was.kept (begins-open a.epoch.entries.items c.args.who number) c.requires.caller c.ops-end-2.ensures.count (moved-then given a.members mid m moved did.moved) did.grows role mid roles spares before after did.moved.shape out since
     (rise-out a.members mid c.lose_slot.result c.lose_slot.ensures.members m (g.B.Bank.tape a.bank) (g.B.Bank.tape c.name_missing-spares.new.bank) did.rise)
     (did.clean ∙ clean-out a.members mid c.lose_slot.result c.lose_slot.ensures.members)

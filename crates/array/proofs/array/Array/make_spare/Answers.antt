@@ -349,7 +349,7 @@ invariant_of-self-2 g c =
     (without-left given a.members was.kept.placed was.kept.unlost (slot-does given a.backup c.args.slot a.members was.kept.placed addable))
     (slot-of-scope given a.backup c.args.slot a.members was.kept.placed addable a.epoch.uuid a.epoch.given sb (g.B.Bank.faults_of a.bank) was.failed c.in-Some.ensures.sound c.spare_for-sb.ensures.uuid)
     (ap (λ (n : ℕ). is_carried a.work n) c.spare_for-sb.ensures.number ∙ free.1)
-    (λ t sector may. second-half sb c.in-Some.second sector c.spare_for-sb.ensures.second (c.in-Some.ensures.second t sector may)) safe))
+    (λ t sector may. second-half sb c.in-Some.second sector c.spare_for-sb.ensures.second (c.in-Some.ensures.second t sector may)) safe (e.spare (sym c.contains.ensures ∙ c.if-contains.false))))
     was.failed did.counts given_is (scope-same given a.backup given_is c.enter_behind-2.ensures.uuid c.enter_behind-2.ensures.given) c.enter_behind-2.ensures.first
     c.make_room.ensures.items c.enter_behind-2.ensures.items (omega (arith, c.enter_behind-2.ensures.room, c.in-Ok.ensures.ok)) was.rows_fit was.buffer_fits
 
