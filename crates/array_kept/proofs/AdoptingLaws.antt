@@ -20,6 +20,7 @@ use Rattle.views.specs.Rebuilding.{AreRebuilt, HasNoRebuilt}
 use Rattle.md_base.specs.Sectors.{Sector}
 use Rattle.bank.specs.Given.{Given}
 use Rattle.bank.specs.Tape.{Contents, IsIn, disk}
+use Rattle.bank.specs.Whole.{HasWholeSectors}
 use Rattle.bank.specs.declared.bank.Operation.{Operation}
 use Rattle.superblocks.specs.declared.members.Members.{Members}
 use Rattle.superblocks.specs.Reading.{Scope, shape_of, is_clean, role_state, rows_held, data_offset_of}
@@ -43,7 +44,6 @@ use Rattle.views.specs.Views.{AreHeldAllowed, IsViewRight, AreViewsRight}
 use Rattle.views.specs.Steady.{IsSafeOver}
 use Rattle.views.specs.Lacking.{ListStands, RowsStand, RowsStandBelow, mended_rows}
 use Rattle.array_kept.specs.Kept.{world_in, ledger_now, IsReady, IsKept, IsRecorded, IsSafe, AreTold, AreSectorsWhole}
-use Rattle.flat_history.specs.Opened.{OpensWhole}
 use Rattle.array_kept.specs.Adopting.{opener, found_losses, stripes_held, found_stripes, is_number_of, found_work, AreNumbersKept, IsAdoptable}
 use Rattle.layout.specs.Layout.{place}
 use Rattle.layout.proofs.Places.{place-role_below, place-row_below}
@@ -133,7 +133,8 @@ found-rebuilt members c list few role slot row lt state beyond below = absurd (
 
 -- ---- the opening is safe
 
-module _ {tells : Type 0} {given : Given} {tape : List Operation} {scope : Scope} {members : Members} (is : IsAdoptable tells given tape scope members) (long : length members.own ≡ 32) (t : tells) where
+module _ {tells : Type 0} {given : Given} {tape : List Operation} {scope : Scope} {members : Members} (is : IsAdoptable tells given tape scope members) (has : tells → HasWholeSectors given tape)
+    (long : length members.own ≡ 32) (t : tells) where
   abbrev world : World
   world = world_in given tape scope (length tape)
 
@@ -196,7 +197,7 @@ module _ {tells : Type 0} {given : Given} {tape : List Operation} {scope : Scope
     held = found-held;
     settled = λ clean does fit.
         flushed-is-settled given members tape (values_of list entries) (now list []) is.placed (is.flushed t)
-        (is.good t (record { clean = is.dirty t ∙ ap not clean; sound = fit.0; whole = fit.1 })) found-allowed;
+        (is.good t (has t) (record { clean = is.dirty t ∙ ap not clean; sound = fit })) found-allowed;
   }
 
   found-safe : OpensAlike world → IsSafeOver world given size (ledger_now world work entries) members tape
@@ -221,9 +222,9 @@ module _ {tells : Type 0} {given : Given} {tape : List Operation} {scope : Scope
 
 -- ---- what is kept
 
-kept-adopted : {tells : Type 0} {given : Given} {tape : List Operation} {scope : Scope} {members : Members} (first : ℕ) → IsAdoptable tells given tape scope members → length members.own ≡ 32 → (tells → first ≡ length tape)
+kept-adopted : {tells : Type 0} {given : Given} {tape : List Operation} {scope : Scope} {members : Members} (first : ℕ) → IsAdoptable tells given tape scope members → (tells → HasWholeSectors given tape) → length members.own ≡ 32 → (tells → first ≡ length tape)
     → IsKept tells given tape scope first (entries_of opener first (found_losses (reading_of members))) members (found_work members)
-kept-adopted {tells = tells} {given = given} {tape = tape} {scope = scope} {members = members} first is long first_is = record {
+kept-adopted {tells = tells} {given = given} {tape = tape} {scope = scope} {members = members} first is has long first_is = record {
   slots = is.slots;
   spares = is.spares;
   placed = is.placed;
@@ -240,26 +241,26 @@ kept-adopted {tells = tells} {given = given} {tape = tape} {scope = scope} {memb
     begun = omega arith;
     opened = is.opened t;
     tolerated = is.tolerated t;
-    dirty = subst (λ (n : ℕ). is_unsynced (world_in given tape scope (length tape)) (entries_of opener n losses) ≡ is_some resync) (sym (first_is t)) (found-unsynced is long t ∙ sym (pending-at (is_clean members.newest)));
+    dirty = subst (λ (n : ℕ). is_unsynced (world_in given tape scope (length tape)) (entries_of opener n losses) ≡ is_some resync) (sym (first_is t)) (found-unsynced is has long t ∙ sym (pending-at (is_clean members.newest)));
     legal = λ fills. subst (λ (n : ℕ). IsOneShapeLegal (opening_in (world_in given tape scope (length tape))) (length tape) (entries_of opener n losses)) (sym (first_is t))
         (absents-legal (opening_in (world_in given tape scope (length tape))) (reading_of members) disks (length tape) (omega arith) (is.absent t));
     ends = subst (λ (n : ℕ). EndBy (length tape) (entries_of opener n losses)) (sym (first_is t)) (ends-at opener (length tape) losses);
     ended = absents-end (length tape) opener first losses (sym (first_is t)) ∙ first_is t;
   });
   holds = λ t does right. subst (λ (l : ℕ → Sector). ListStands members (present given tape) l) (sym (list t)) (is.holds t);
-  whole = λ t opens. subst (λ (l : ℕ → Sector). AreSectorsWhole (list_size (places_of members)) l) (sym (list t)) (is.whole t (subst (λ (n : ℕ). OpensWhole (world_in given tape scope n)) (first_is t) opens));
+  whole = λ t. subst (λ (l : ℕ → Sector). AreSectorsWhole (list_size (places_of members)) l) (sym (list t)) (is.whole t (has t));
   good = λ t does opens. subst (λ (l : ℕ → Sector). RowsStandBelow (mended_rows resync members) members (present given tape) l) (sym (list t))
       (good-at (is_clean members.newest) members (present given tape) (now (opening_list (world_in given tape scope (length tape))) [])
       (λ clean.
       let fit = subst (λ (n : ℕ). OpensFit (world_in given tape scope n)) (first_is t) opens in
-      is.good t (record { clean = is.dirty t ∙ ap not clean; sound = fit.0; whole = fit.1 })));
+      is.good t (has t) (record { clean = is.dirty t ∙ ap not clean; sound = fit })));
   rebuilt = λ t does opens. found-rebuilt members (present given tape) (now (opening_list (world_in given tape scope first)) (entries_of opener first losses)) (limited (shape_of members.newest) is.placed.valid).most;
   sizes_are = is.sizes_are;
   dirty = λ does is. dirty-at (is_clean members.newest) is;
   unclean = λ dirty. unclean-at (is_clean members.newest) (is_unsettled (entries_of opener first losses)) dirty;
   safe = λ t fills room alike.
       subst (λ (n : ℕ). FillsRight (world_in given tape scope n) (entries_of opener n losses) → OpensAlike (world_in given tape scope n)
-      → IsSafe (world_in given tape scope n) given (list_size (places_of members)) members (found_work members) (entries_of opener n losses)) (sym (first_is t)) (safe-adopted is long t) fills alike;
+      → IsSafe (world_in given tape scope n) given (list_size (places_of members)) members (found_work members) (entries_of opener n losses)) (sym (first_is t)) (safe-adopted is has long t) fills alike;
 }
   where
     resync : Option ℕ
@@ -284,9 +285,9 @@ kept-adopted {tells = tells} {given = given} {tape = tape} {scope = scope} {memb
     list t = absents-now (opening_list (world_in given tape scope first)) opener first losses are ∙ ap (λ (n : ℕ). now (opening_list (world_in given tape scope n)) []) (first_is t)
 
 pub ready_adopted : {tells : Type 0} {given : Given} {tape : List Operation} {scope : Scope} {first : ℕ} {entries : List Entry} {members : Members} {faults : ℕ → ℕ} {room rows buffer : ℕ} → IsAdoptable tells given tape scope members
-    → length members.own ≡ 32 → ((slot : ℕ) → slot < given.slots → has_slot scope.given slot ≡ false → 0 < faults slot)
+    → (tells → HasWholeSectors given tape) → length members.own ≡ 32 → ((slot : ℕ) → slot < given.slots → has_slot scope.given slot ≡ false → 0 < faults slot)
     → entries ≡ entries_of opener first (found_losses (reading_of members)) → (tells → first ≡ length tape) → 0 < room → 128 ≤ rows → 1048576 ≤ buffer
     → IsReady tells given tape scope first entries members (found_work members) faults 0 room rows buffer
-ready_adopted {tells = tells} {given = given} {tape = tape} {scope = scope} {first = first} {members = members} {faults = faults} {room = room} {rows = rows} {buffer = buffer} is long failed entries_are first_is room_left rows_fit buffer_fits =
+ready_adopted {tells = tells} {given = given} {tape = tape} {scope = scope} {first = first} {members = members} {faults = faults} {room = room} {rows = rows} {buffer = buffer} is has long failed entries_are first_is room_left rows_fit buffer_fits =
     subst (λ (l : List Entry). IsReady tells given tape scope first l members (found_work members) faults 0 room rows buffer) (sym entries_are)
-    (record { kept = kept-adopted first is long first_is; failed = failed; room_left = room_left; rows_fit = rows_fit; buffer_fits = buffer_fits })
+    (record { kept = kept-adopted first is has long first_is; failed = failed; room_left = room_left; rows_fit = rows_fit; buffer_fits = buffer_fits })

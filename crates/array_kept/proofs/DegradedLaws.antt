@@ -43,7 +43,6 @@ use Rattle.call_entries.specs.Losing.{losses_of}
 use Rattle.views.specs.Moving.{Grows, IsMoved}
 use Rattle.views.specs.Marking.{AreOthersPresent}
 use Rattle.array_kept.specs.Kept.{world_in, AreTold, AreFillsRight, AreRebuildsRight, AreSectorsWhole, IsKept}
-use Rattle.flat_history.specs.Opened.{OpensWhole}
 use Rattle.views.specs.Status.{rebuilt_of, left_of}
 use Rattle.views.specs.Lacking.{AreLostSince, AreTooMany, IsUnread, IsUnwritten, DoesWithout, ListStands, RowsStandBelow, mended_rows, are_mended}
 use Rattle.array_kept.specs.Calls.{IsRefusedHere, IsRefusedFor}
@@ -171,7 +170,7 @@ module _ {tells : Type 0} {given : Given} {tape tape' : List Operation} {scope :
       → IsOneShapeCall (opening_in (world_in given tape scope first)) entries who end (inner ++ event ∷ []))
       → (tells → DoesWithout members' → AreRebuildsRight (world_in given tape scope first) (entries ++ entries_of who end (inner ++ event ∷ []))
       → ListStands members' (present given tape') (now (opening_list (world_in given tape scope first)) (entries ++ entries_of who end (inner ++ event ∷ []))))
-      → (tells → OpensWhole (world_in given tape scope first) → AreSectorsWhole (list_size (places_of members)) (now (opening_list (world_in given tape scope first)) (entries ++ entries_of who end (inner ++ event ∷ []))))
+      → (tells → AreSectorsWhole (list_size (places_of members)) (now (opening_list (world_in given tape scope first)) (entries ++ entries_of who end (inner ++ event ∷ []))))
       → (tells → DoesWithout members' → OpensFit (world_in given tape scope first)
       → RowsStandBelow (mended_rows work'.resync members') members' (present given tape') (now (opening_list (world_in given tape scope first)) (entries ++ entries_of who end (inner ++ event ∷ []))))
       → (tells → DoesWithout members' → OpensFit (world_in given tape scope first)
@@ -328,7 +327,7 @@ module _ {tells : Type 0} {given : Given} {tape tape' : List Operation} {scope :
         (let all = all-seen t in let n = length-sectors_of from in omega (arith, within, all, n), tt, tt))
         (λ t does rebuilds. put t list list' written (was.holds t (does-before does)
         (rebuilds-before (world_in given tape scope first) entries (entries_of who end (losses_of roles spares ++ Wrote at (sectors_of from) ∷ [])) rebuilds)))
-        (λ t opens_whole. written-whole at from list list' (list_size (places_of members)) written whole (was.whole t opens_whole))
+        (λ t. written-whole at from list list' (list_size (places_of members)) written whole (was.whole t))
         (λ t does fit.
         let did = does-before does in
         good t list list' written (was.holds t did (inr fit)) (was.good t did fit))

@@ -25,7 +25,6 @@ use Rattle.flat_history.specs.Legal.{told_left}
 use Rattle.flat_history.specs.Transfers.{last_end_from}
 use Rattle.flat_history.specs.Epochs.{HasRoomForEvents, OpensAlike}
 use Rattle.flat_history.specs.Losses.{was_dirty, is_resync_end, is_unsynced, unsettles}
-use Rattle.flat_history.specs.Opened.{OpensWhole}
 use Rattle.flat_history.specs.Sound.{LosesNoRole, OpensFit, FillsRight}
 use Rattle.flat_history.specs.OneShape.{ShapeOpening, opening_in, is_resyncing, is_unsettled, KeepShape, IsCallOpen}
 use Rattle.flat_history.proofs.OneShapeLegal.{opening-grown, entries-keep}
@@ -51,7 +50,7 @@ use Rattle.flat_history.specs.declared.events.LostCause.TheVariants.{Fault}
 use Rattle.call_entries.proofs.CallLaws.{AreLossEvents, losses-are, length-losses, limit-losses, values-losses, ends-losses}
 use Rattle.array_kept.proofs.NowLaws.{now-quiet, length-more, limit-more, visible-is}
 use Rattle.array_kept.proofs.RecordLaws.{AreSilent, ends-call}
-use Rattle.array_kept.proofs.ReadyLaws.{AreStill, whole-back, opening-later, kept-legal}
+use Rattle.array_kept.proofs.ReadyLaws.{AreStill, opening-later, kept-legal}
 use Rattle.call_entries.proofs.StepLaws.{record-goes_on}
 use Rattle.array_kept.proofs.SafeLaws.{begun-of, room-before, alike-before, room-now, safe-called}
 use Rattle.array_kept.proofs.LedgerLaws.{told_by, CarriesMore, OnlyAdd, pending-more, unsettled-still, unsettled-by, none-lost-before, told-more as more-told, told-now, told-unclean, more-safe, newest-allowed}
@@ -361,7 +360,7 @@ module _ {tells : Type 0} {given : Given} {tape tape' : List Operation} {scope :
       → IsOneShapeCall (opening_in (world_in given tape scope first)) entries who end events)
       → (tells → DoesWithout members' → AreRebuildsRight (world_in given tape scope first) (entries ++ entries_of who end events)
       → ListStands members' (present given tape') (now (opening_list (world_in given tape scope first)) (entries ++ entries_of who end events)))
-      → (tells → OpensWhole (world_in given tape scope first) → AreSectorsWhole (list_size (places_of members)) (now (opening_list (world_in given tape scope first)) (entries ++ entries_of who end events)))
+      → (tells → AreSectorsWhole (list_size (places_of members)) (now (opening_list (world_in given tape scope first)) (entries ++ entries_of who end events)))
       → (tells → DoesWithout members' → OpensFit (world_in given tape scope first)
       → RowsStandBelow (mended_rows work'.resync members') members' (present given tape') (now (opening_list (world_in given tape scope first)) (entries ++ entries_of who end events)))
       → (tells → DoesWithout members' → OpensFit (world_in given tape scope first)
@@ -383,9 +382,9 @@ module _ {tells : Type 0} {given : Given} {tape tape' : List Operation} {scope :
     built = leaves.built;
     recorded = recorded;
     holds = λ t does rebuilds. subst (λ (l : List Sector). ListStands members' (present given tape') (now l (entries ++ entries_of who end events))) (sym (later t)) (holds t does (rebuilds-here t rebuilds));
-    whole = λ t opens_whole. subst (λ (n : ℕ). AreSectorsWhole n (now (opening_list (world_in given tape' scope first)) (entries ++ entries_of who end events))) (sym size-is)
+    whole = λ t. subst (λ (n : ℕ). AreSectorsWhole n (now (opening_list (world_in given tape' scope first)) (entries ++ entries_of who end events))) (sym size-is)
         (subst (λ (l : List Sector). AreSectorsWhole (list_size (places_of members)) (now l (entries ++ entries_of who end events))) (sym (later t))
-        (whole t (whole-back (world_in given tape scope first) (grows.more t).0 (was.recorded t).begun (subst (λ (l : List Operation). OpensWhole (world_in given l scope first)) (grows.more t).1 opens_whole))));
+        (whole t));
     good = λ t does fit. subst (λ (l : List Sector). RowsStandBelow (mended_rows work'.resync members') members' (present given tape') (now l (entries ++ entries_of who end events))) (sym (later t)) (good t does (fit-here t fit));
     rebuilt = λ t does fit. subst (λ (l : List Sector). AreRebuilt work' members' (present given tape') (now l (entries ++ entries_of who end events))) (sym (later t)) (rebuilt t does (fit-here t fit));
     sizes_are = was.sizes_are;
@@ -421,8 +420,8 @@ module _ {tells : Type 0} {given : Given} {tape tape' : List Operation} {scope :
     pub same-now : now (opening_list (world_in given tape scope first)) (entries ++ entries_of who end events) ≡ now (opening_list (world_in given tape scope first)) entries
     same-now = λ i x. now-quiet (opening_list (world_in given tape scope first)) entries (entries_of who end events) x (λ values. still x values) i
 
-    pub whole-still : tells → OpensWhole (world_in given tape scope first) → AreSectorsWhole (list_size (places_of members)) (now (opening_list (world_in given tape scope first)) (entries ++ entries_of who end events))
-    whole-still t opens_whole = subst (λ (l : ℕ → Sector). AreSectorsWhole (list_size (places_of members)) l) (sym same-now) (was.whole t opens_whole)
+    pub whole-still : tells → AreSectorsWhole (list_size (places_of members)) (now (opening_list (world_in given tape scope first)) (entries ++ entries_of who end events))
+    whole-still t = subst (λ (l : ℕ → Sector). AreSectorsWhole (list_size (places_of members)) l) (sym same-now) (was.whole t)
 
   -- ---- losses
 

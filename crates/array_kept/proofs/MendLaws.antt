@@ -213,7 +213,7 @@ module _ {tells : Type 0} {given : Given} {tape tape' : List Operation} {scope :
       | inl low ↦ row-kept (Step ResyncStripe steps) quiet-step none-step refl refl (λ role. refl) t does' fit row (subst (λ (o : Option ℕ). row < mended_rows o members) (sym pending) low) lt
       | inr low ↦ subst (λ (s : Shape). RowStands (reading_of members') (present given tape') s list row) (shape_is ∙ sym moved.shape)
           (mends t list (held t) row (subst (λ (s : Shape). IsOfStripe s mended row) (sym shape_is) (low, high))
-          (subst (λ (s : Shape). AreWholeIn s list row) (sym shape_is) (whole-in given members was.placed list (was.whole t fit.1) row lt)))
+          (subst (λ (s : Shape). AreWholeIn s list row) (sym shape_is) (whole-in given members was.placed list (was.whole t) row lt)))
     ]
 
     pub degraded-mended : IsKept tells given tape' scope first (entries ++ entries_of who end (losses_of roles spares ++ Step ResyncStripe steps ∷ [])) members' (record work { resync = Some (mended + 1) })

@@ -34,7 +34,6 @@ use Rattle.views.specs.Rebuilding.{HasNoRebuilt}
 use Rattle.views.specs.Moving.{Grows}
 use Rattle.array_kept.specs.Kept.{scope_in, world_in, IsReady, IsKept}
 use Rattle.flat_history.specs.Losses.{is_resync_end}
-use Rattle.flat_history.specs.Opened.{OpensWhole}
 use Rattle.flat_history.specs.Sound.{OpensFit, FillsRight}
 use Rattle.array_kept.specs.Calls.{IsSettling}
 use Rattle.array_kept.proofs.MadeLaws.{opening-grown}
@@ -45,12 +44,6 @@ use Rattle.array_kept.proofs.LedgerLaws.{HasNewest}
 use Rattle.array_kept.proofs.RecordLaws.{AreSilent, whole-told}
 
 -- ---- the opening stays what it was
-
-pub whole-back : (world : World) (ops : List Operation) → world.first ≤ length world.tape → OpensWhole (grown world ops) → OpensWhole world
-whole-back world ops within whole = subst (λ (c : Contents). (slot k : ℕ) → k < world.scope.sizes.sectors slot → IsSector (c slot k)) same whole
-  where
-    same : contents_at (grown world ops) world.first ≡ contents_at world world.first
-    same = λ i slot at. contents-earlier world.start world.tape ops world.first slot at within i
 
 pub opening-later : {tells : Type 0} {tape tape' : List Operation} (given : Given) (scope : Scope) (first : ℕ) → Grows tells tape tape' → (tells → first ≤ length tape)
     → tells → opening_list (world_in given tape' scope first) ≡ opening_list (world_in given tape scope first)

@@ -86,7 +86,7 @@ alike-before world ops within alike = subst (λ (c : Contents). IfSome (reading 
 
 fit-grown : (world : World) (ops : List Operation) → world.first ≤ length world.tape → OpensFit (grown world ops) ≡ OpensFit world
 unfolding reading_at
-fit-grown world ops within = λ i. IfSome (reading world.scope (same i)) (IsSound world.scope (same i)) × ((slot k : ℕ) → k < world.scope.sizes.sectors slot → IsSector (same i slot k))
+fit-grown world ops within = λ i. IfSome (reading world.scope (same i)) (IsSound world.scope (same i))
   where
     same : contents_at (grown world ops) world.first ≡ contents_at world world.first
     same = λ i slot at. contents-earlier world.start world.tape ops world.first slot at within i

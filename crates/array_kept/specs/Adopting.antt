@@ -5,6 +5,7 @@ use Rattle.md_base.specs.declared.answers.Who.{Who}
 use Rattle.bank.specs.declared.bank.Operation.{Operation}
 use Rattle.bank.specs.Given.{Given, sizes}
 use Rattle.bank.specs.Tape.{disk}
+use Rattle.bank.specs.Whole.{HasWholeSectors}
 use Rattle.superblocks.specs.declared.members.Members.{Members}
 use Rattle.md_base.specs.declared.status.Role.{Role}
 use Rattle.md_base.specs.declared.status.Role.TheVariants.{Whole, Recovering, Missing}
@@ -30,7 +31,7 @@ use Rattle.views.specs.Whole.{list_size}
 use Rattle.views.specs.Placed.{places_of, IsPlaced, AreUnlost}
 use Rattle.views.specs.Lacking.{ListStands, RowsStand, AreHoldersFlushed}
 use Rattle.array_kept.specs.Kept.{world_in, AreSectorsWhole}
-use Rattle.flat_history.specs.Opened.{OpensGood, OpensWhole}
+use Rattle.flat_history.specs.Opened.{OpensGood}
 use Rattle.views.specs.Rebuilding.{AreSparesFree}
 use Rattle.views.specs.declared.work.Work.{Work}
 use Rattle.views.specs.Parts.{Parts}
@@ -82,8 +83,8 @@ found_work members = record {
 abbrev pub AreNumbersKept : Scope → List (Option Sb) → (ℕ → ℕ → List Sector) → Type 0
 AreNumbersKept scope own d = (slot : ℕ) (sb : Sb) → MayRead scope d slot (Some sb) → (kept : Sb) × (own_in own slot ≡ Some kept) × (kept.dev_number ≡ sb.dev_number)
 
--- What an array needs that begins here: the members are read from its slots; its list stands on them, and
--- its rows where the opening finds them good; a stop leaves what is there, and the next update may start.
+-- What an array needs that begins here: the members are read from its slots; its list stands on them, and its rows where the opening
+-- finds them good, over the whole sectors that every bank has; a stop leaves what is there, and the next update may start.
 pub record IsAdoptable (tells : Type 0) (given : Given) (tape : List Operation) (scope : Scope) (members : Members) : Type 0 where
   pub slots : given.slots ≤ 32
   pub spares : length members.spares ≤ 32
@@ -97,8 +98,8 @@ pub record IsAdoptable (tells : Type 0) (given : Given) (tape : List Operation) 
   pub absent : tells → (role : ℕ) → role < (shape_of members.newest).disks → is_missing (reading_of members) role ≡ true
       → IsTrue (is_absent_at_first (world_in given tape scope (length tape)) role)
   pub holds : tells → ListStands members (present given tape) (now (opening_list (world_in given tape scope (length tape))) [])
-  pub whole : tells → OpensWhole (world_in given tape scope (length tape)) → AreSectorsWhole (list_size (places_of members)) (now (opening_list (world_in given tape scope (length tape))) [])
-  pub good : tells → OpensGood (world_in given tape scope (length tape)) → RowsStand members (present given tape) (now (opening_list (world_in given tape scope (length tape))) [])
+  pub whole : tells → HasWholeSectors given tape → AreSectorsWhole (list_size (places_of members)) (now (opening_list (world_in given tape scope (length tape))) [])
+  pub good : tells → HasWholeSectors given tape → OpensGood (world_in given tape scope (length tape)) → RowsStand members (present given tape) (now (opening_list (world_in given tape scope (length tape))) [])
   pub flushed : tells → AreHoldersFlushed (reading_of members) given tape
   pub next : tells → OpensAlike (world_in given tape scope (length tape)) → IsHeldBy scope members (disk given.start tape)
   pub numbers : tells → AreNumbersKept scope members.own (disk given.start tape)

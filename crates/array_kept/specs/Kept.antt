@@ -14,7 +14,6 @@ use Rattle.flat_history.specs.Flat.{now, values_of, length_of, limit_of}
 use Rattle.flat_history.specs.Legal.{told_left}
 use Rattle.flat_history.specs.Transfers.{last_end_from}
 use Rattle.flat_history.specs.Losses.{is_unsynced}
-use Rattle.flat_history.specs.Opened.{OpensWhole}
 use Rattle.flat_history.specs.Sound.{FillsRight, LosesNoRole, OpensFit, LeavesSoundThroughout}
 use Rattle.flat_history.specs.Epochs.{HasRoomForEvents, OpensAlike}
 use Rattle.flat_history.specs.Growing.{EndBy, IsSafeThroughout}
@@ -43,12 +42,12 @@ abbrev pub AreTold : Members → List Entry → Type 0
 AreTold members entries = (role : ℕ) → role < (shape_of members.newest).disks → is_missing (reading_of members) role ≡ true
     → IsTrue (is_gone_now entries role)
 
--- What was filled in is right: none is missing and none was rebuilt, or the epoch opened sound, in whole sectors. Before a pending resync has
--- mended a stripe nothing is filled in.
+-- What was filled in is right: none is missing and none was rebuilt, or the epoch opened sound. Before a pending resync has mended a stripe nothing
+-- is filled in.
 abbrev pub AreFillsRight : World → Option ℕ → Members → List Entry → Type 0
 AreFillsRight world resync members entries = (resync ≡ Some 0 → ⊥) → (AreWhole members × HasNoRebuilt entries) ⊎ OpensFit world
 
--- What was rebuilt is right: nothing was, or the epoch opened sound, in whole sectors.
+-- What was rebuilt is right: nothing was, or the epoch opened sound.
 abbrev pub AreRebuildsRight : World → List Entry → Type 0
 AreRebuildsRight world entries = HasNoRebuilt entries ⊎ OpensFit world
 
@@ -108,7 +107,7 @@ pub record IsKept (tells : Type 0) (given : Given) (tape : List Operation) (scop
   pub built : LosesNoRole entries → HasNoRebuilt entries
   pub recorded : tells → IsRecorded (world_in given tape scope first) (list_size (places_of members)) work.resync members entries
   pub holds : tells → DoesWithout members → AreRebuildsRight (world_in given tape scope first) entries → ListStands members (present given tape) (now (opening_list (world_in given tape scope first)) entries)
-  pub whole : tells → OpensWhole (world_in given tape scope first) → AreSectorsWhole (list_size (places_of members)) (now (opening_list (world_in given tape scope first)) entries)
+  pub whole : tells → AreSectorsWhole (list_size (places_of members)) (now (opening_list (world_in given tape scope first)) entries)
   pub good : tells → DoesWithout members → OpensFit (world_in given tape scope first) → RowsStandBelow (mended_rows work.resync members) members (present given tape) (now (opening_list (world_in given tape scope first)) entries)
   pub rebuilt : tells → DoesWithout members → OpensFit (world_in given tape scope first) → AreRebuilt work members (present given tape) (now (opening_list (world_in given tape scope first)) entries)
   pub sizes_are : scope.sizes ≡ sizes given

@@ -6,6 +6,8 @@ use Rattle.md_base.specs.Shapes.{has_slot, tolerance, tolerance_of}
 use Rattle.bank.specs.declared.bank.Operation.{Operation}
 use Rattle.bank.specs.Given.{Given, sizes}
 use Rattle.bank.specs.Tape.{Contents, contents, disk}
+use Rattle.bank.specs.Whole.{HasWholeSectors}
+use Rattle.bank.proofs.Whole.{sectors-whole}
 use Rattle.superblocks.specs.declared.members.Members.{Members}
 use Rattle.superblocks.specs.Reading.{Scope, Reading, reading, is_clean, role_count, shape_of, role_state, is_whole}
 use Rattle.superblocks.specs.Election.{reading_in}
@@ -14,7 +16,7 @@ use Rattle.row_io.specs.Rows.{reading_of, is_missing}
 use Rattle.flat_history.specs.Flat.{now}
 use Rattle.flat_history.specs.World.{World, reading_at, opening_list}
 use Rattle.flat_history.specs.Losses.{was_dirty}
-use Rattle.flat_history.specs.Opened.{IsSound, OpensSound, OpensWhole, OpensGood}
+use Rattle.flat_history.specs.Opened.{IsSound, OpensSound, OpensGood}
 use Rattle.flat_history.specs.OneShape.{opening_in, is_absent_at_first}
 use Rattle.flat_history.specs.Epochs.{OpensAlike}
 use Rattle.flat_history.proofs.GivenLaws.{holder-given}
@@ -103,13 +105,13 @@ module _ {tells : Type 0} (bank : Given) (tape : List Operation) (backup : Optio
     does : DoesWithout m
     does = elected-does (sizes bank).sectors (take bank.slots opened.members.own) opened.members.lost opened.members is.elected
 
-    whole-list : OpensWhole world → AreSectorsWhole (list_size p) (now (opening_list world) [])
+    whole-list : HasWholeSectors bank tape → AreSectorsWhole (list_size p) (now (opening_list world) [])
     unfolding opening_list
-    whole-list whole = list-whole bank m placed scope c (is.says told) refl whole does
+    whole-list has = list-whole bank m placed scope c (is.says told) refl (λ slot k within. sectors-whole bank tape (length tape) slot k has within) does
 
-    rows-are : OpensGood world → RowsStand m c (now (opening_list world) [])
+    rows-are : HasWholeSectors bank tape → OpensGood world → RowsStand m c (now (opening_list world) [])
     unfolding opening_list
-    rows-are opens = rows-stand bank m placed scope c (is.says told) refl opens.whole does ((sound-is opens.sound).rows (clean-is opens.clean))
+    rows-are has opens = rows-stand bank m placed scope c (is.says told) refl (λ slot k within. sectors-whole bank tape (length tape) slot k has within) does ((sound-is opens.sound).rows (clean-is opens.clean))
 
     -- ---- the superblocks
 

@@ -8,7 +8,6 @@ use Rattle.bank.specs.declared.bank.Operation.TheVariants.{Write, Flush}
 use Rattle.bank.specs.Tape.{Contents, IsDrawn, IsIn, disk, choices, AreFlushes}
 use Rattle.bank.proofs.Laws.{contents-earlier, disk-append}
 use Rattle.bank.proofs.Images.{image-drawn, image-earlier, image-now, now-image}
-use Rattle.parity.specs.Rows.{IsSector}
 use Rattle.superblocks.specs.Reading.{reading}
 use Rattle.flat_history.specs.declared.events.Entry.{Entry}
 use Rattle.flat_history.specs.World.{World, contents_at, reading_at}
@@ -21,10 +20,7 @@ use Rattle.flat_history.specs.Sound.{OpensFit, LeavesSound, StaysSound, LeavesSo
 
 pub fit-before : (world : World) (more : List Operation) → world.first ≤ length world.tape → OpensFit (grown world more) → OpensFit world
 unfolding reading_at
-fit-before world more begun opens = (
-  subst (λ (c : Contents). IfSome (reading world.scope c) (IsSound world.scope c)) same opens.0,
-  subst (λ (c : Contents). (slot k : ℕ) → k < world.scope.sizes.sectors slot → IsSector (c slot k)) same opens.1,
-)
+fit-before world more begun opens = subst (λ (c : Contents). IfSome (reading world.scope c) (IsSound world.scope c)) same opens
   where
     same : contents_at (grown world more) world.first ≡ contents_at world world.first
     same = λ i slot at. contents-earlier world.start world.tape more world.first slot at begun i

@@ -6,16 +6,16 @@ use Rattle.flat_history.specs.declared.events.Entry.{Entry}
 use Rattle.flat_history.specs.World.{World}
 use Rattle.flat_history.specs.Legal.{last_end}
 use Rattle.flat_history.specs.Stands.{verdict}
-use Rattle.flat_history.specs.Opened.{IsSound, OpensSound, OpensWhole}
+use Rattle.flat_history.specs.Opened.{IsSound, OpensSound}
 use Rattle.flat_history.specs.OneShape.{is_lost}
 
 -- no entry tells a role lost
 abbrev pub LosesNoRole : List Entry → Type 0
 LosesNoRole entries = (role : ℕ) → is_lost entries role ≡ false
 
--- what the opening found was sound, in whole sectors
+-- what the opening found was sound
 abbrev pub OpensFit : World → Type 0
-OpensFit world = OpensSound world × OpensWhole world
+OpensFit world = OpensSound world
 
 -- What is filled in for missing roles is right: none was lost, or the epoch opened so.
 abbrev pub FillsRight : World → List Entry → Type 0

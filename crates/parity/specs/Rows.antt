@@ -4,6 +4,7 @@ use Rattle.std.specs.Option.{option_map_or}
 use Rattle.md_base.specs.declared.places.RowRoles.{RowRoles}
 use Rattle.md_base.specs.Search.{tabulate}
 use Rattle.md_base.specs.Sectors.{Sector}
+pub use Rattle.md_base.specs.Sectors.{IsSector}
 use Rattle.parity.specs.Exponents.{is_q, exponent}
 use Rattle.parity.specs.Parity.{Row, fill}
 use Rattle.gf256.specs.Field.{power_of_two}
@@ -17,11 +18,6 @@ pub record IsRowRoles (roles : RowRoles) : Type 0 where
 -- how many lacking roles a row can do without
 abbrev pub parity_count : RowRoles → ℕ
 parity_count roles = option_map_or (λ q. 2) roles.q 1
-
--- 512 bytes
-pub record IsSector (sector : Sector) : Type 0 where
-  pub whole : length sector ≡ 512
-  pub bytes : (at : ℕ) → slice_index sector at < 256
 
 -- the bytes that are a row of so many disks
 abbrev pub IsRowOf : ℕ → List ℕ → Type 0

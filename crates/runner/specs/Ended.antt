@@ -19,8 +19,8 @@ use Rattle.runner.specs.Making.{world_at, AreHeldSince}
 use Rattle.runner.specs.States.{running_history}
 
 -- The epoch begins, and each of its entries ends, within the tape, and what its opening found was refused for nothing. Its history is
--- legal where no role is told lost in it, or where at the opening the sectors were whole and, if the array was clean, its rows good:
--- else what was filled in for a missing role might be anything.
+-- legal where no role is told lost in it, or where at the opening, if the array was clean, its rows were good: else what was filled in for a
+-- missing role might be anything.
 pub record IsLegalEpoch (given : Given) (tape : List Operation) (backup : Option ℕ) (epoch : Epoch) : Type 0 where
   pub begun : epoch.first ≤ length tape
   pub accepted : OpensAccepted (world_of given tape backup epoch)
@@ -31,8 +31,8 @@ pub record IsLegalEpoch (given : Given) (tape : List Operation) (backup : Option
 abbrev pub AreLegal : Given → List Operation → Option ℕ → List Epoch → Type 0
 AreLegal given tape backup epochs = All (λ epoch. IsLegalEpoch given tape backup epoch) epochs
 
--- A fact of an epoch in which no role is told lost, or which opened sound over whole sectors, so that what is filled in for a missing role
--- is right, and which had room for its events and opened with superblocks that are alike.
+-- A fact of an epoch in which no role is told lost, or which opened sound, so that what is filled in for a missing role is right, and which
+-- had room for its events and opened with superblocks that are alike.
 abbrev pub IfFilledRight : Given → List Operation → Option ℕ → Epoch → Type 0 → Type 0
 IfFilledRight given tape backup epoch fact =
     FillsRight (world_of given tape backup epoch) epoch.entries.items → HasRoomForEvents (world_of given tape backup epoch)

@@ -23,7 +23,7 @@ returns-clause-right g c told =
     let epochs = c.end_epochs.new.epochs.items in
     all_right (g.B.Bank.given (bank_in c.args.state)) tape c.args.backup epochs
     (former_kept (g.B.Bank.given (bank_in c.args.state)) tape c.args.backup (length tape) c.halt-bank.result.1.items epochs c.end_epochs.ensures.same (c.halt-bank.ensures.former told))
-    (ended_to (length tape) epochs (subst (λ (n : ℕ). AreEndedAt n epochs) (c.ops-ops.ensures told) c.end_epochs.ensures.ended))
+    (ended_to (length tape) epochs (subst (λ (n : ℕ). AreEndedAt n epochs) (c.ops-ops.ensures.count told) c.end_epochs.ensures.ended))
 
 pub returns-clause-kept : goal.returns-clause-kept
 returns-clause-kept g c told =
@@ -33,7 +33,7 @@ returns-clause-kept g c told =
     (former_kept (g.B.Bank.given (bank_in c.args.state)) tape c.args.backup (length tape) c.halt-bank.result.1.items epochs c.end_epochs.ensures.same (c.halt-bank.ensures.former told))
 
 pub returns-clause-marks : goal.returns-clause-marks
-returns-clause-marks g c told = subst (λ (n : ℕ). AreEndedAt n c.end_epochs.new.epochs.items) (c.ops-ops.ensures told) c.end_epochs.ensures.ended
+returns-clause-marks g c told = subst (λ (n : ℕ). AreEndedAt n c.end_epochs.new.epochs.items) (c.ops-ops.ensures.count told) c.end_epochs.ensures.ended
 
 pub returns-clause-written : goal.returns-clause-written
 returns-clause-written g c told =

@@ -41,7 +41,7 @@ invariant_of-self-2 g c =
     let why = subst (λ v. IsUnaddable (g.B.Bank.given v.bank) v.backup c.args.slot v.members refusal) (sym c.self.view_is) c.in-Some-unaddable.ensures in
     let opens = begins-open a.epoch.entries.items c.args.who (c.requires.next ∙ ap (λ p. next_number c.args.who.caller p.entries) (sym c.self.view_is)) in
     ready (entries_of c.args.who c.ops-end.result (Refused refusal ∷ []))
-    (kept-unadded c.args.who c.ops-end.result c.args.slot a.backup was.kept opens c.requires.caller c.ops-end.ensures refusal why)
+    (kept-unadded c.args.who c.ops-end.result c.args.slot a.backup was.kept opens c.requires.caller c.ops-end.ensures.count refusal why)
     was.failed (λ s. omega arith) refl (scope-same given a.backup refl c.enter.ensures.uuid c.enter.ensures.given) c.enter.ensures.first
     c.make_room.ensures.items c.enter.ensures.items (omega (arith, c.enter.ensures.room, c.in-Ok.ensures.ok)) was.rows_fit was.buffer_fits
 
@@ -55,7 +55,7 @@ returns-clause-answered g c =
 
 pub returns-clause-ended : goal.returns-clause-ended
 returns-clause-ended g c =
-    ended-behind (g.B.Bank.tape c.self.inside.bank) c.enter.new.epoch.first c.make_room.new.self.items c.args.who c.ops-end.result [] (Refused c.in-Some-unaddable.refusal) c.enter.ensures.items c.ops-end.ensures
+    ended-behind (g.B.Bank.tape c.self.inside.bank) c.enter.new.epoch.first c.make_room.new.self.items c.args.who c.ops-end.result [] (Refused c.in-Some-unaddable.refusal) c.enter.ensures.items c.ops-end.ensures.count
 
 pub contains-requires : goal.contains-requires
 contains-requires g c =

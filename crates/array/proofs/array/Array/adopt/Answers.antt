@@ -24,8 +24,8 @@ invariant_of-result g c =
     let entries : epoch.entries.items ≡ entries_of opener epoch.first (found_losses (reading_of m)) =
     did.items ∙ ap (λ (l : List Entry). l ++ entries_of opener c.ops-first.result (absent_losses (reading_of m) c.shape_in-disks.result.disks)) room.empty
     ∙ ap (λ (s : Shape). entries_of opener c.ops-first.result (absent_losses (reading_of m) s.disks)) c.shape_in-disks.ensures ∙ ap (λ (n : ℕ). entries_of opener n (found_losses (reading_of m))) (sym did.same.first) in
-    rw c.found_work-work.ensures.work (ready_adopted adoptable c.found_work-work.ensures.slots (subst (λ (slots : ℕ). (slot : ℕ) → slot < given.slots → has_slot slots slot ≡ false → 0 < g.B.Bank.faults_of c.args.bank slot) (sym did.same.given) c.requires.failed)
-    entries (λ t. did.same.first ∙ c.ops-first.ensures t) did.room room.rows (omega (arith, room.buffer)))
+    rw c.found_work-work.ensures.work (ready_adopted adoptable c.ops-first.ensures.whole c.found_work-work.ensures.slots (subst (λ (slots : ℕ). (slot : ℕ) → slot < given.slots → has_slot slots slot ≡ false → 0 < g.B.Bank.faults_of c.args.bank slot) (sym did.same.given) c.requires.failed)
+    entries (λ t. did.same.first ∙ c.ops-first.ensures.count t) did.room room.rows (omega (arith, room.buffer)))
 
 pub found_work-work-requires-clause-small : goal.found_work-work-requires-clause-small
 found_work-work-requires-clause-small g c = λ role slot is. (c.requires.adoptable.placed.holders role slot is).small

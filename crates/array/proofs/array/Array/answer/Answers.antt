@@ -15,10 +15,10 @@ invariant_of-self g c =
     let reply : IsStepsReply a.work a.members a.epoch.entries.items c.args.event = subst (λ p. IsStepsReply p.work p.members p.entries c.args.event) (sym c.self.view_is) c.requires.reply in
     let some : 1 ≤ a.steps = subst (λ p. 1 ≤ p.steps) (sym c.self.view_is) c.requires.room in
     ready (entries_of c.args.who c.ops-end.result (c.args.event ∷ []))
-    (kept-answered c.args.who c.ops-end.result was.kept opens c.requires.caller c.ops-end.ensures c.args.event reply)
+    (kept-answered c.args.who c.ops-end.result was.kept opens c.requires.caller c.ops-end.ensures.count c.args.event reply)
     was.failed (λ slot. omega arith) refl (scope-same (g.B.Bank.given a.bank) a.backup refl c.enter.ensures.uuid c.enter.ensures.given) c.enter.ensures.first refl c.enter.ensures.items
     (omega (arith, c.enter.ensures.room, was.room_left, some)) was.rows_fit was.buffer_fits
 
 pub returns-clause-ended : goal.returns-clause-ended
 returns-clause-ended g c =
-    ended-behind (g.B.Bank.tape c.self.inside.bank) c.enter.new.epoch.first c.self.inside.epoch.entries.items c.args.who c.ops-end.result [] c.args.event c.enter.ensures.items c.ops-end.ensures
+    ended-behind (g.B.Bank.tape c.self.inside.bank) c.enter.new.epoch.first c.self.inside.epoch.entries.items c.args.who c.ops-end.result [] c.args.event c.enter.ensures.items c.ops-end.ensures.count

@@ -70,7 +70,7 @@ invariant_of-self g c =
     let some : 1 ≤ a.steps = subst (λ p. 1 ≤ p.steps) (sym c.self.view_is) c.requires.room in
     let refusal = c.in-Some.refusal in
     ready (entries_of c.args.who c.ops-end.result (Refused refusal ∷ []))
-    (kept-refused c.args.who c.ops-end.result was.kept opens c.requires.caller c.ops-end.ensures refusal
+    (kept-refused c.args.who c.ops-end.result was.kept opens c.requires.caller c.ops-end.ensures.count refusal
     (refused-here (list_size (places_of a.members)) 0 a.work.resync AreTooMany a.members refusal (λ within many. too-many-here (list_size (places_of a.members)) a.work.resync a.members refusal many)
     (refused-zero (list_size (places_of a.members)) AreTooMany a.members refusal c.in-Some.ensures)))
     was.failed (λ s. omega arith) refl (scope-same (g.B.Bank.given a.bank) a.backup refl c.enter.ensures.uuid c.enter.ensures.given) c.enter.ensures.first refl c.enter.ensures.items
@@ -86,7 +86,7 @@ returns-in-Some-clause-open g c =
 
 pub returns-in-Some-clause-ended : goal.returns-in-Some-clause-ended
 returns-in-Some-clause-ended g c =
-    ended-behind (g.B.Bank.tape c.self.inside.bank) c.enter.new.epoch.first c.self.inside.epoch.entries.items c.args.who c.ops-end.result [] (Refused c.in-Some.refusal) c.enter.ensures.items c.ops-end.ensures
+    ended-behind (g.B.Bank.tape c.self.inside.bank) c.enter.new.epoch.first c.self.inside.epoch.entries.items c.args.who c.ops-end.result [] (Refused c.in-Some.refusal) c.enter.ensures.items c.ops-end.ensures.count
 
 pub vacant_roles-before-requires-clause-few : goal.vacant_roles-before-requires-clause-few
 vacant_roles-before-requires-clause-few g c =
@@ -123,7 +123,7 @@ invariant_of-self-then-is_vacant g c =
     let synced : a.work.resync ≡ None = ap (λ p. p.work.resync) c.self.view_is ∙ c.requires.synced in
     let does = does-without a.members c.in_default.ensures.1 in
     ready (entries_of c.args.who end (losses_of roles spares))
-    (kept-ended_lost c.args.who end was.kept opens c.requires.caller c.ops-end-2.ensures role slot below recovers left.1 synced did.moved did.grows roles spares before after since does did.others did.rise did.clean did.safe (sym c.is_vacant.ensures ∙ c.if-is_vacant.true))
+    (kept-ended_lost c.args.who end was.kept opens c.requires.caller c.ops-end-2.ensures.count role slot below recovers left.1 synced did.moved did.grows roles spares before after since does did.others did.rise did.clean did.safe (sym c.is_vacant.ensures ∙ c.if-is_vacant.true))
     was.failed did.counts did.given (scope-same given a.backup did.given c.enter_lost.ensures.uuid c.enter_lost.ensures.given) c.enter_lost.ensures.first refl c.enter_lost.ensures.items
     (omega (arith, c.enter_lost.ensures.room, was.room_left, some)) was.rows_fit was.buffer_fits
 
@@ -153,7 +153,7 @@ returns-then-is_vacant-clause-entered g c =
     let some : 1 ≤ a.steps = subst (λ p. 1 ≤ p.steps) (sym c.self.view_is) c.requires.room in
     let synced : a.work.resync ≡ None = ap (λ p. p.work.resync) c.self.view_is ∙ c.requires.synced in
     let does = does-without a.members c.in_default.ensures.1 in
-    let told = ended-among c.args.who end was.kept opens c.requires.caller c.ops-end-2.ensures role slot below recovers left.1 synced did.moved did.grows roles spares before after since does did.others did.rise did.clean did.safe (sym c.is_vacant.ensures ∙ c.if-is_vacant.true) in
+    let told = ended-among c.args.who end was.kept opens c.requires.caller c.ops-end-2.ensures.count role slot below recovers left.1 synced did.moved did.grows roles spares before after since does did.others did.rise did.clean did.safe (sym c.is_vacant.ensures ∙ c.if-is_vacant.true) in
     rw (← c.self.view_is) (inr (record { roles = roles; spares = spares; end = end; is = c.enter_lost.ensures.items; among = told }, (sym c.is_vacant.ensures ∙ c.if-is_vacant.true)))
 
 pub returns-then-is_vacant-clause-open : goal.returns-then-is_vacant-clause-open
@@ -325,8 +325,8 @@ returns-then-is_vacant-clause-ended g c =
     let some : 1 ≤ a.steps = subst (λ p. 1 ≤ p.steps) (sym c.self.view_is) c.requires.room in
     let synced : a.work.resync ≡ None = ap (λ p. p.work.resync) c.self.view_is ∙ c.requires.synced in
     let does = does-without a.members c.in_default.ensures.1 in
-    let told = ended-among c.args.who end was.kept opens c.requires.caller c.ops-end-2.ensures role slot below recovers left.1 synced did.moved did.grows roles spares before after since does did.others did.rise did.clean did.safe (sym c.is_vacant.ensures ∙ c.if-is_vacant.true) in
-    let at : end ≡ length (g.B.Bank.tape c.flush_and_record-spares.new.bank) = c.ops-end-2.ensures t in
+    let told = ended-among c.args.who end was.kept opens c.requires.caller c.ops-end-2.ensures.count role slot below recovers left.1 synced did.moved did.grows roles spares before after since does did.others did.rise did.clean did.safe (sym c.is_vacant.ensures ∙ c.if-is_vacant.true) in
+    let at : end ≡ length (g.B.Bank.tape c.flush_and_record-spares.new.bank) = c.ops-end-2.ensures.count t in
     subst (λ (l : List Entry). last_end_from c.enter_lost.new.epoch.first l ≡ length (g.B.Bank.tape c.flush_and_record-spares.new.bank)) (sym c.enter_lost.ensures.items)
     (losses-end c.enter_lost.new.epoch.first a.epoch.entries.items c.args.who end (losses_of roles spares) (Lost role Fault) told ∙ at)
 
@@ -397,7 +397,7 @@ invariant_of-self-2 g c =
     let does = does-without a.members c.in_default.ensures.1 in
     let whole_is : role_state (reading_of m) role ≡ Whole slot = whole-after given a.members m was.kept.placed role slot to was.kept.free recovers did.moved (sym c.is_vacant.ensures ∙ c.if-is_vacant.false) in
     ready (entries_of c.args.who end (losses_of roles spares ++ Step RebuildEnded c.steps_left-left.result ∷ Rebuilt role ∷ []))
-    (kept-whole c.args.who end was.kept opens c.requires.caller c.ops-end-2.ensures role slot below recovers left.1 synced did.moved did.grows roles spares before after since does did.others did.rise did.clean did.safe
+    (kept-whole c.args.who end was.kept opens c.requires.caller c.ops-end-2.ensures.count role slot below recovers left.1 synced did.moved did.grows roles spares before after since does did.others did.rise did.clean did.safe
     c.steps_left-left.result c.steps_left-left.ensures whole_is (did.given_back whole_is))
     was.failed did.counts did.given (scope-same given a.backup did.given (c.enter-2.ensures.uuid ∙ c.enter_behind.ensures.uuid) (c.enter-2.ensures.given ∙ c.enter_behind.ensures.given)) (c.enter-2.ensures.first ∙ c.enter_behind.ensures.first) refl (both a.epoch.entries.items c.enter_behind.new.epoch.entries.items c.enter-2.new.epoch.entries.items c.args.who end (losses_of roles spares) (Step RebuildEnded c.steps_left-left.result) (Rebuilt role) c.enter_behind.ensures.items c.enter-2.ensures.items)
     (omega (arith, c.enter_behind.ensures.room, c.enter-2.ensures.room, was.room_left, some)) was.rows_fit was.buffer_fits
@@ -601,7 +601,7 @@ returns-clause-losses g c =
 
 pub returns-clause-ended : goal.returns-clause-ended
 returns-clause-ended g c =
-    ended-behind (g.B.Bank.tape c.flush_and_record-spares.new.bank) c.enter-2.new.epoch.first c.enter_behind.new.epoch.entries.items c.args.who c.ops-end-2.result [] (Rebuilt c.args.role) c.enter-2.ensures.items c.ops-end-2.ensures
+    ended-behind (g.B.Bank.tape c.flush_and_record-spares.new.bank) c.enter-2.new.epoch.first c.enter_behind.new.epoch.entries.items c.args.who c.ops-end-2.result [] (Rebuilt c.args.role) c.enter-2.ensures.items c.ops-end-2.ensures.count
 
 pub returns-clause-never_falls : goal.returns-clause-never_falls
 returns-clause-never_falls g c =

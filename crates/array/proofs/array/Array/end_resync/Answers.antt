@@ -49,7 +49,7 @@ invariant_of-self g c =
     let refusal = c.in-Some.refusal in
     let why = refused-here visible 0 a.work.resync AreTooMany a.members refusal (λ within. too-many-here visible a.work.resync a.members refusal) (refused-zero visible AreTooMany a.members refusal c.in-Some.ensures) in
     ready (entries_of c.args.who c.ops-end.result (Refused refusal ∷ []))
-    (kept-refused c.args.who c.ops-end.result was.kept opens c.requires.caller c.ops-end.ensures refusal why)
+    (kept-refused c.args.who c.ops-end.result was.kept opens c.requires.caller c.ops-end.ensures.count refusal why)
     was.failed (λ slot. omega arith) refl (scope-same (g.B.Bank.given a.bank) a.backup refl c.enter.ensures.uuid c.enter.ensures.given) c.enter.ensures.first refl c.enter.ensures.items
     (omega (arith, c.enter.ensures.room, was.room_left, some)) was.rows_fit was.buffer_fits
 
@@ -63,7 +63,7 @@ returns-in-Some-clause-open g c =
 
 pub returns-in-Some-clause-ended : goal.returns-in-Some-clause-ended
 returns-in-Some-clause-ended g c =
-    ended-behind (g.B.Bank.tape c.self.inside.bank) c.enter.new.epoch.first c.self.inside.epoch.entries.items c.args.who c.ops-end.result [] (Refused c.in-Some.refusal) c.enter.ensures.items c.ops-end.ensures
+    ended-behind (g.B.Bank.tape c.self.inside.bank) c.enter.new.epoch.first c.self.inside.epoch.entries.items c.args.who c.ops-end.result [] (Refused c.in-Some.refusal) c.enter.ensures.items c.ops-end.ensures.count
 
 -- ---- refused behind the losses
 
@@ -87,9 +87,9 @@ invariant_of-self-in-Some-refusal g c =
     let refusal = c.in-Some-refusal.refusal in
     let many = too-many-of m c.settle-settled.result.refusal refusal c.in-Some-refusal.is did.refused in
     ready (entries_of c.args.who end (losses_of roles spares ++ Refused refusal ∷ []))
-    (degraded-refused c.args.who end was.kept opens c.requires.caller c.ops-end-2.ensures did.moved did.grows roles spares before after since refusal
+    (degraded-refused c.args.who end was.kept opens c.requires.caller c.ops-end-2.ensures.count did.moved did.grows roles spares before after since refusal
     (too-many-here (list_size (places_of a.members)) a.work.resync m refusal many) did.others
-    (leaves-refused c.args.who end was.kept opens c.requires.caller c.ops-end-2.ensures did.moved did.grows roles spares before after since did.rise false (λ synced. enough-mended was.kept.placed all) did.safe refusal many))
+    (leaves-refused c.args.who end was.kept opens c.requires.caller c.ops-end-2.ensures.count did.moved did.grows roles spares before after since did.rise false (λ synced. enough-mended was.kept.placed all) did.safe refusal many))
     was.failed did.counts did.given (scope-same given a.backup did.given c.enter_behind.ensures.uuid c.enter_behind.ensures.given) c.enter_behind.ensures.first refl c.enter_behind.ensures.items
     (omega (arith, c.enter_behind.ensures.room, was.room_left, some)) was.rows_fit was.buffer_fits
 
@@ -138,7 +138,7 @@ returns-in-Some-refusal-clause-spares g c = rw (← c.self.view_is) c.settle-set
 pub returns-in-Some-refusal-clause-ended : goal.returns-in-Some-refusal-clause-ended
 returns-in-Some-refusal-clause-ended g c =
     ended-behind (g.B.Bank.tape c.settle-settled.new.bank) c.enter_behind.new.epoch.first c.self.inside.epoch.entries.items c.args.who c.ops-end-2.result (losses_of c.newly_vacant-roles.result c.settle-settled.result.spares)
-    (Refused c.in-Some-refusal.refusal) c.enter_behind.ensures.items c.ops-end-2.ensures
+    (Refused c.in-Some-refusal.refusal) c.enter_behind.ensures.items c.ops-end-2.ensures.count
 
 pub returns-in-Some-refusal-clause-same : goal.returns-in-Some-refusal-clause-same
 returns-in-Some-refusal-clause-same g c =
@@ -176,8 +176,8 @@ invariant_of-self-2 g c =
     let since = lost-since given a.members m c.shape_in-disks.result.disks c.vacant_roles-before.result roles spares before after was.kept.placed did.moved did.failed (ap (λ (s : Shape). s.disks) c.shape_in-disks.ensures)
     c.vacant_roles-before.ensures c.newly_vacant-roles.ensures in
     ready (entries_of c.args.who end (losses_of roles spares ++ Step ResyncEnded c.steps_left-left.result ∷ []))
-    (degraded-ended c.args.who end was.kept opens c.requires.caller c.ops-end-2.ensures did.moved did.grows roles spares before after since all c.steps_left-left.result c.steps_left-left.ensures did.others
-    (leaves-settled c.args.who end was.kept opens c.requires.caller c.ops-end-2.ensures did.moved did.grows roles spares before after since did.rise false (λ synced. enough-mended was.kept.placed all) did.safe
+    (degraded-ended c.args.who end was.kept opens c.requires.caller c.ops-end-2.ensures.count did.moved did.grows roles spares before after since all c.steps_left-left.result c.steps_left-left.ensures did.others
+    (leaves-settled c.args.who end was.kept opens c.requires.caller c.ops-end-2.ensures.count did.moved did.grows roles spares before after since did.rise false (λ synced. enough-mended was.kept.placed all) did.safe
     (record a.work { resync = None }) (λ number is. is) refl (Step ResyncEnded c.steps_left-left.result) (end-silent c.args.who end c.steps_left-left.result) refl (λ role. refl) (λ x values has. has) (λ t. synced-behind _ a.epoch.entries.items c.args.who end (losses_of roles spares) c.steps_left-left.result (losses-are roles spares))
     (λ no. absurd (cc)) did.stays (did.clean c.in_default-refusal.is) (did.settled c.in_default-refusal.is)))
     was.failed did.counts did.given (scope-same given a.backup did.given c.enter_behind-2.ensures.uuid c.enter_behind-2.ensures.given) c.enter_behind-2.ensures.first refl c.enter_behind-2.ensures.items
@@ -240,7 +240,7 @@ returns-clause-spares g c = rw (← c.self.view_is) c.settle-settled.ensures.mov
 pub returns-clause-ended : goal.returns-clause-ended
 returns-clause-ended g c =
     ended-behind (g.B.Bank.tape c.settle-settled.new.bank) c.enter_behind-2.new.epoch.first c.self.inside.epoch.entries.items c.args.who c.ops-end-2.result (losses_of c.newly_vacant-roles.result c.settle-settled.result.spares)
-    (Step ResyncEnded c.steps_left-left.result) c.enter_behind-2.ensures.items c.ops-end-2.ensures
+    (Step ResyncEnded c.steps_left-left.result) c.enter_behind-2.ensures.items c.ops-end-2.ensures.count
 
 pub returns-clause-same : goal.returns-clause-same
 returns-clause-same g c =

@@ -35,7 +35,7 @@ invariant_of-self-in_default g c =
     let given = g.B.Bank.given a.bank in
     let number : c.args.who.number ≡ next_number c.args.who.caller a.epoch.entries.items = c.requires.next ∙ ap (λ p. next_number c.args.who.caller p.entries) (sym c.self.view_is) in
     ready (entries_of c.args.who c.ops-end.result (Refused (NoSuchRole c.args.role) ∷ []))
-    (kept-refused c.args.who c.ops-end.result was.kept (begins-open a.epoch.entries.items c.args.who number) c.requires.caller c.ops-end.ensures (NoSuchRole c.args.role) tt)
+    (kept-refused c.args.who c.ops-end.result was.kept (begins-open a.epoch.entries.items c.args.who number) c.requires.caller c.ops-end.ensures.count (NoSuchRole c.args.role) tt)
     was.failed (λ slot. omega arith) refl (scope-same given a.backup refl c.enter.ensures.uuid c.enter.ensures.given) c.enter.ensures.first c.make_room.ensures.items c.enter.ensures.items
     (omega (arith, c.enter.ensures.room, c.in-Ok.ensures.ok)) was.rows_fit was.buffer_fits
 
@@ -47,7 +47,7 @@ returns-in_default-clause-answered g c =
 
 pub returns-in_default-clause-ended : goal.returns-in_default-clause-ended
 returns-in_default-clause-ended g c =
-    ended-behind (g.B.Bank.tape c.self.inside.bank) c.enter.new.epoch.first c.make_room.new.self.items c.args.who c.ops-end.result [] (Refused (NoSuchRole c.args.role)) c.enter.ensures.items c.ops-end.ensures
+    ended-behind (g.B.Bank.tape c.self.inside.bank) c.enter.new.epoch.first c.make_room.new.self.items c.args.who c.ops-end.result [] (Refused (NoSuchRole c.args.role)) c.enter.ensures.items c.ops-end.ensures.count
 
 pub lose_slot-requires-clause-slot : goal.lose_slot-requires-clause-slot
 lose_slot-requires-clause-slot g c = (c.self.invariant.kept.placed.holders c.args.role c.in-Some.slot c.in-Some.ensures.held).small
@@ -95,8 +95,8 @@ invariant_of-self-2 g c =
     let items = behind-loss c.make_room.new.self.items c.enter-2.new.epoch.entries.items c.enter_behind.new.epoch.entries.items c.args.who end (Lost role Command) (losses_of roles spares ++ Failed role ∷ []) c.enter-2.ensures.items c.enter_behind.ensures.items in
     let out = out-only given a.members mid c.lose_slot.result c.in-Some.slot role was.kept.placed was.kept.unlost c.lose_slot.ensures.members c.lose_slot.ensures.alone c.in-Some.ensures.held in
     ready (entries_of c.args.who end ((Lost role Command ∷ losses_of roles spares) ++ Failed role ∷ []))
-    (degraded-failed c.args.who end was.kept (begins-open a.epoch.entries.items c.args.who number) c.requires.caller c.ops-end-2.ensures (moved-then given a.members mid m moved did.moved) did.grows role mid roles spares before after did.moved.shape out since did.others
-    (leaves-failed c.args.who end was.kept (begins-open a.epoch.entries.items c.args.who number) c.requires.caller c.ops-end-2.ensures (moved-then given a.members mid m moved did.moved) did.grows role mid roles spares before after did.moved.shape out since
+    (degraded-failed c.args.who end was.kept (begins-open a.epoch.entries.items c.args.who number) c.requires.caller c.ops-end-2.ensures.count (moved-then given a.members mid m moved did.moved) did.grows role mid roles spares before after did.moved.shape out since did.others
+    (leaves-failed c.args.who end was.kept (begins-open a.epoch.entries.items c.args.who number) c.requires.caller c.ops-end-2.ensures.count (moved-then given a.members mid m moved did.moved) did.grows role mid roles spares before after did.moved.shape out since
     (rise-out a.members mid c.lose_slot.result c.lose_slot.ensures.members m (g.B.Bank.tape a.bank) (g.B.Bank.tape c.name_missing-spares.new.bank) did.rise)
     (did.clean ∙ clean-out a.members mid c.lose_slot.result c.lose_slot.ensures.members)
     (named-out a.members mid c.lose_slot.result c.lose_slot.ensures.members given m (g.B.Bank.tape a.bank) (g.B.Bank.tape c.name_missing-spares.new.bank) did.safe)))
@@ -176,7 +176,7 @@ returns-clause-ended g c =
     let spares = c.name_missing-spares.result in
     let end = c.ops-end-2.result in
     let items = behind-loss c.make_room.new.self.items c.enter-2.new.epoch.entries.items c.enter_behind.new.epoch.entries.items c.args.who end (Lost role Command) (losses_of roles spares ++ Failed role ∷ []) c.enter-2.ensures.items c.enter_behind.ensures.items in
-    ended-behind (g.B.Bank.tape c.name_missing-spares.new.bank) c.enter_behind.new.epoch.first c.make_room.new.self.items c.args.who end (Lost role Command ∷ losses_of roles spares) (Failed role) items c.ops-end-2.ensures
+    ended-behind (g.B.Bank.tape c.name_missing-spares.new.bank) c.enter_behind.new.epoch.first c.make_room.new.self.items c.args.who end (Lost role Command ∷ losses_of roles spares) (Failed role) items c.ops-end-2.ensures.count
 
 pub returns-clause-same : goal.returns-clause-same
 returns-clause-same g c =

@@ -48,7 +48,7 @@ invariant_of-self g c =
     let some : 1 ≤ a.steps = subst (λ p. 1 ≤ p.steps) (sym c.self.view_is) c.requires.room in
     let refusal = c.in-Some.refusal in
     ready (entries_of c.args.who c.ops-end.result (Refused refusal ∷ []))
-    (kept-refused c.args.who c.ops-end.result was.kept opens c.requires.caller c.ops-end.ensures refusal
+    (kept-refused c.args.who c.ops-end.result was.kept opens c.requires.caller c.ops-end.ensures.count refusal
     (refused-here (list_size (places_of a.members)) 0 a.work.resync AreTooMany a.members refusal (λ within many. too-many-here (list_size (places_of a.members)) a.work.resync a.members refusal many) (refused-zero (list_size (places_of a.members)) AreTooMany a.members refusal c.in-Some.ensures)))
     was.failed (λ s. omega arith) refl (scope-same (g.B.Bank.given a.bank) a.backup refl c.enter.ensures.uuid c.enter.ensures.given) c.enter.ensures.first refl c.enter.ensures.items
     (omega (arith, c.enter.ensures.room, was.room_left, some)) was.rows_fit was.buffer_fits
@@ -63,7 +63,7 @@ returns-in-Some-clause-open g c =
 
 pub returns-in-Some-clause-ended : goal.returns-in-Some-clause-ended
 returns-in-Some-clause-ended g c =
-    ended-behind (g.B.Bank.tape c.self.inside.bank) c.enter.new.epoch.first c.self.inside.epoch.entries.items c.args.who c.ops-end.result [] (Refused c.in-Some.refusal) c.enter.ensures.items c.ops-end.ensures
+    ended-behind (g.B.Bank.tape c.self.inside.bank) c.enter.new.epoch.first c.self.inside.epoch.entries.items c.args.who c.ops-end.result [] (Refused c.in-Some.refusal) c.enter.ensures.items c.ops-end.ensures.count
 
 -- ---- it isn't rebuilt
 
@@ -96,7 +96,7 @@ invariant_of-self-in-Some-refusal g c =
     let does = does-without a.members c.in_default.ensures.1 in
     let refusal = c.in-Some-refusal.refusal in
     ready (entries_of c.args.who end (losses_of roles spares ++ Refused refusal ∷ []))
-    (kept-unfilled c.args.who end was.kept opens c.requires.caller c.ops-end-2.ensures did.moved did.grows roles spares before after since c.args.role slot below c.in-Some-recovering_slot.ensures.some does
+    (kept-unfilled c.args.who end was.kept opens c.requires.caller c.ops-end-2.ensures.count did.moved did.grows roles spares before after since c.args.role slot below c.in-Some-recovering_slot.ensures.some does
     c.shape_in-shape.result c.shape_in-shape.ensures did.rise did.clean did.safe did.others
     refusal (some-of (AreTooMany m) c.fill-filled.result.refusal refusal c.in-Some-refusal.is did.refused))
     was.failed did.counts did.given (scope-same given a.backup did.given c.enter_behind.ensures.uuid c.enter_behind.ensures.given) c.enter_behind.ensures.first refl c.enter_behind.ensures.items
@@ -149,7 +149,7 @@ returns-in-Some-refusal-clause-losses g c =
 pub returns-in-Some-refusal-clause-ended : goal.returns-in-Some-refusal-clause-ended
 returns-in-Some-refusal-clause-ended g c =
     ended-behind (g.B.Bank.tape c.fill-filled.new.bank) c.enter_behind.new.epoch.first c.self.inside.epoch.entries.items c.args.who c.ops-end-2.result
-    (losses_of c.newly_vacant-roles.result c.fill-filled.result.spares) (Refused c.in-Some-refusal.refusal) c.enter_behind.ensures.items c.ops-end-2.ensures
+    (losses_of c.newly_vacant-roles.result c.fill-filled.result.spares) (Refused c.in-Some-refusal.refusal) c.enter_behind.ensures.items c.ops-end-2.ensures.count
 
 pub returns-in-Some-refusal-clause-same : goal.returns-in-Some-refusal-clause-same
 returns-in-Some-refusal-clause-same g c =
@@ -201,7 +201,7 @@ invariant_of-self-then-is_vacant g c =
     let does = does-without a.members c.in_default.ensures.1 in
     ready (entries_of c.args.who end (losses_of roles spares))
     (subst (λ (w : Work). IsKept g.B.Bank.tells given (g.B.Bank.tape c.fill-filled.new.bank) (scope_in given a.epoch.uuid a.epoch.given a.backup) a.epoch.first (a.epoch.entries.items ++ entries_of c.args.who end (losses_of roles spares)) m w)
-    (sym c.set_rebuilt.ensures.work) (kept-lost c.args.who end was.kept opens c.requires.caller c.ops-end-2.ensures did.moved did.grows roles spares before after since c.args.role slot below c.in-Some-recovering_slot.ensures.some does
+    (sym c.set_rebuilt.ensures.work) (kept-lost c.args.who end was.kept opens c.requires.caller c.ops-end-2.ensures.count did.moved did.grows roles spares before after since c.args.role slot below c.in-Some-recovering_slot.ensures.some does
     c.shape_in-shape.result c.shape_in-shape.ensures did.rise did.clean did.safe did.others
     c.set_rebuilt.ensures.known (λ t fit recovers row of high. did.filled c.in_default-refusal.is recovers t _ (was.kept.holds t does (inr fit))
     (λ other of lt. was.kept.good t does fit other (subst (λ (o : Option ℕ). other < mended_rows o a.members) (sym synced) lt) lt) row of high) (sym c.is_vacant.ensures ∙ c.if-is_vacant.true)))
@@ -229,7 +229,7 @@ returns-then-is_vacant-clause-entered g c =
     let below : c.args.role < (shape_of a.members.newest).disks = left.0.0 in
     let slot = c.in-Some-recovering_slot.slot in
     let does = does-without a.members c.in_default.ensures.1 in
-    let told = among c.args.who end was.kept opens c.requires.caller c.ops-end-2.ensures did.moved did.grows roles spares before after since c.args.role slot below c.in-Some-recovering_slot.ensures.some does
+    let told = among c.args.who end was.kept opens c.requires.caller c.ops-end-2.ensures.count did.moved did.grows roles spares before after since c.args.role slot below c.in-Some-recovering_slot.ensures.some does
     c.shape_in-shape.result c.shape_in-shape.ensures did.rise did.clean did.safe did.others
     c.set_rebuilt.ensures.known (λ t fit recovers row of high. did.filled c.in_default-refusal.is recovers t _ (was.kept.holds t does (inr fit))
     (λ other of lt. was.kept.good t does fit other (subst (λ (o : Option ℕ). other < mended_rows o a.members) (sym synced) lt) lt) row of high) (sym c.is_vacant.ensures ∙ c.if-is_vacant.true) in
@@ -326,11 +326,11 @@ returns-then-is_vacant-clause-ended g c =
     let below : c.args.role < (shape_of a.members.newest).disks = left.0.0 in
     let slot = c.in-Some-recovering_slot.slot in
     let does = does-without a.members c.in_default.ensures.1 in
-    let told = among c.args.who end was.kept opens c.requires.caller c.ops-end-2.ensures did.moved did.grows roles spares before after since c.args.role slot below c.in-Some-recovering_slot.ensures.some does
+    let told = among c.args.who end was.kept opens c.requires.caller c.ops-end-2.ensures.count did.moved did.grows roles spares before after since c.args.role slot below c.in-Some-recovering_slot.ensures.some does
     c.shape_in-shape.result c.shape_in-shape.ensures did.rise did.clean did.safe did.others
     c.set_rebuilt.ensures.known (λ t fit recovers row of high. did.filled c.in_default-refusal.is recovers t _ (was.kept.holds t does (inr fit))
     (λ other of lt. was.kept.good t does fit other (subst (λ (o : Option ℕ). other < mended_rows o a.members) (sym synced) lt) lt) row of high) (sym c.is_vacant.ensures ∙ c.if-is_vacant.true) in
-    let at : end ≡ length (g.B.Bank.tape c.fill-filled.new.bank) = c.ops-end-2.ensures t in
+    let at : end ≡ length (g.B.Bank.tape c.fill-filled.new.bank) = c.ops-end-2.ensures.count t in
     subst (λ (l : List Entry). last_end_from c.enter_lost.new.epoch.first l ≡ length (g.B.Bank.tape c.fill-filled.new.bank)) (sym c.enter_lost.ensures.items)
     (losses-end c.enter_lost.new.epoch.first a.epoch.entries.items c.args.who end (losses_of roles spares) (Lost c.args.role Fault) told ∙ at)
 
@@ -388,7 +388,7 @@ invariant_of-self-2 g c =
     let does = does-without a.members c.in_default.ensures.1 in
     ready (entries_of c.args.who end (losses_of roles spares ++ Step RebuildStripe c.steps_left-left.result ∷ []))
     (subst (λ (w : Work). IsKept g.B.Bank.tells given (g.B.Bank.tape c.fill-filled.new.bank) (scope_in given a.epoch.uuid a.epoch.given a.backup) a.epoch.first (a.epoch.entries.items ++ entries_of c.args.who end (losses_of roles spares ++ Step RebuildStripe c.steps_left-left.result ∷ [])) m w)
-    (sym c.set_rebuilt.ensures.work) (kept-filled c.args.who end was.kept opens c.requires.caller c.ops-end-2.ensures did.moved did.grows roles spares before after since c.args.role slot below c.in-Some-recovering_slot.ensures.some does
+    (sym c.set_rebuilt.ensures.work) (kept-filled c.args.who end was.kept opens c.requires.caller c.ops-end-2.ensures.count did.moved did.grows roles spares before after since c.args.role slot below c.in-Some-recovering_slot.ensures.some does
     c.shape_in-shape.result c.shape_in-shape.ensures did.rise did.clean did.safe did.others
     c.set_rebuilt.ensures.known (λ t fit recovers row of high. did.filled c.in_default-refusal.is recovers t _ (was.kept.holds t does (inr fit))
     (λ other of lt. was.kept.good t does fit other (subst (λ (o : Option ℕ). other < mended_rows o a.members) (sym synced) lt) lt) row of high)
@@ -461,7 +461,7 @@ returns-clause-losses g c =
 pub returns-clause-ended : goal.returns-clause-ended
 returns-clause-ended g c =
     ended-behind (g.B.Bank.tape c.fill-filled.new.bank) c.enter_behind-2.new.epoch.first c.self.inside.epoch.entries.items c.args.who c.ops-end-2.result
-    (losses_of c.newly_vacant-roles.result c.fill-filled.result.spares) (Step RebuildStripe c.steps_left-left.result) c.enter_behind-2.ensures.items c.ops-end-2.ensures
+    (losses_of c.newly_vacant-roles.result c.fill-filled.result.spares) (Step RebuildStripe c.steps_left-left.result) c.enter_behind-2.ensures.items c.ops-end-2.ensures.count
 
 pub returns-clause-never_falls : goal.returns-clause-never_falls
 returns-clause-never_falls g c =

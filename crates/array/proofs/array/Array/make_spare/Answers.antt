@@ -44,7 +44,7 @@ invariant_of-self-in_default g c =
     let was = c.self.invariant in
     let a = c.self.inside in
     ready (entries_of c.args.who c.ops-end.result (Refused (SlotFault c.args.slot) ∷ []))
-    (kept-looked c.args.who c.ops-end.result c.args.slot was.kept opens c.requires.caller c.ops-end.ensures c.look_at.ensures.tape)
+    (kept-looked c.args.who c.ops-end.result c.args.slot was.kept opens c.requires.caller c.ops-end.ensures.count c.look_at.ensures.tape)
     was.failed c.look_at.ensures.counts c.look_at.ensures.given (scope-same (g.B.Bank.given a.bank) a.backup c.look_at.ensures.given c.enter.ensures.uuid c.enter.ensures.given) c.enter.ensures.first
     c.make_room.ensures.items c.enter.ensures.items (omega (arith, c.enter.ensures.room, c.in-Ok.ensures.ok)) was.rows_fit was.buffer_fits
 
@@ -68,11 +68,11 @@ returns-in_default-clause-caused g c =
 pub returns-in_default-clause-others : goal.returns-in_default-clause-others
 returns-in_default-clause-others g c =
     let opens = begins-open c.self.inside.epoch.entries.items c.args.who (c.requires.next ∙ ap (λ p. next_number c.args.who.caller p.entries) (sym c.self.view_is)) in
-    rw (← c.self.view_is) (looked-others c.args.who c.ops-end.result c.args.slot c.self.invariant.kept opens c.requires.caller c.ops-end.ensures c.look_at.ensures.tape)
+    rw (← c.self.view_is) (looked-others c.args.who c.ops-end.result c.args.slot c.self.invariant.kept opens c.requires.caller c.ops-end.ensures.count c.look_at.ensures.tape)
 
 pub returns-in_default-clause-ended : goal.returns-in_default-clause-ended
 returns-in_default-clause-ended g c =
-    ended-behind (g.B.Bank.tape c.look_at.new.bank) c.enter.new.epoch.first c.make_room.new.self.items c.args.who c.ops-end.result [] (Refused (SlotFault c.args.slot)) c.enter.ensures.items c.ops-end.ensures
+    ended-behind (g.B.Bank.tape c.look_at.new.bank) c.enter.new.epoch.first c.make_room.new.self.items c.args.who c.ops-end.result [] (Refused (SlotFault c.args.slot)) c.enter.ensures.items c.ops-end.ensures.count
 
 pub returns-in_default-clause-same : goal.returns-in_default-clause-same
 returns-in_default-clause-same g c =
@@ -88,7 +88,7 @@ returns-in_default-clause-same g c =
       size = refl;
       list = list-same (g.B.Bank.given a.bank) (scope_in (g.B.Bank.given a.bank) a.epoch.uuid a.epoch.given a.backup) a.epoch.first c.look_at.ensures.given
           (scope-same (g.B.Bank.given a.bank) a.backup c.look_at.ensures.given c.enter.ensures.uuid c.enter.ensures.given) c.enter.ensures.first
-          (looked-grows c.args.who c.ops-end.result c.args.slot was.kept opens c.requires.caller c.ops-end.ensures c.look_at.ensures.tape) (λ t. (was.kept.recorded t).begun);
+          (looked-grows c.args.who c.ops-end.result c.args.slot was.kept opens c.requires.caller c.ops-end.ensures.count c.look_at.ensures.tape) (λ t. (was.kept.recorded t).begun);
     })
 
 -- ---- what the update needs
@@ -171,7 +171,7 @@ invariant_of-self-then-contains g c =
     ready (entries_of c.args.who c.ops-end-2.result events)
     (subst (λ (n : ℕ). IsKept g.B.Bank.tells given tape' (scope_in given a.epoch.uuid a.epoch.given a.backup) a.epoch.first (a.epoch.entries.items ++ entries_of c.args.who c.ops-end-2.result events)
     c.add_member-lost.new.members (with_carried n a.work)) c.spare_for-sb.ensures.number
-    (kept-lost c.args.who c.ops-end-2.result was.kept opens c.requires.caller c.ops-end-2.ensures look.tape did c.newly_vacant-roles.result c.without-spares.result since
+    (kept-lost c.args.who c.ops-end-2.result was.kept opens c.requires.caller c.ops-end-2.ensures.count look.tape did c.newly_vacant-roles.result c.without-spares.result since
     (without-left given a.members was.kept.placed was.kept.unlost (slot-does given a.backup c.args.slot a.members was.kept.placed addable))
     (slot-of-scope given a.backup c.args.slot a.members was.kept.placed addable a.epoch.uuid a.epoch.given sb (g.B.Bank.faults_of a.bank) was.failed c.in-Some.ensures.sound c.spare_for-sb.ensures.uuid)
     (ap (λ (n : ℕ). is_carried a.work n) c.spare_for-sb.ensures.number ∙ free.1)
@@ -284,7 +284,7 @@ returns-then-contains-clause-work g c =
 pub returns-then-contains-clause-ended : goal.returns-then-contains-clause-ended
 returns-then-contains-clause-ended g c =
     ended-behind (g.B.Bank.tape c.add_member-lost.new.bank) c.enter_behind.new.epoch.first c.make_room.new.self.items c.args.who c.ops-end-2.result (losses_of c.newly_vacant-roles.result c.without-spares.result)
-    (Refused (SlotFault c.args.slot)) c.enter_behind.ensures.items c.ops-end-2.ensures
+    (Refused (SlotFault c.args.slot)) c.enter_behind.ensures.items c.ops-end-2.ensures.count
 
 pub returns-then-contains-clause-never_falls : goal.returns-then-contains-clause-never_falls
 returns-then-contains-clause-never_falls g c =
@@ -345,7 +345,7 @@ invariant_of-self-2 g c =
     ready (entries_of c.args.who c.ops-end-2.result events)
     (subst (λ (n : ℕ). IsKept g.B.Bank.tells given tape' (scope_in given a.epoch.uuid a.epoch.given a.backup) a.epoch.first (a.epoch.entries.items ++ entries_of c.args.who c.ops-end-2.result events)
     c.add_member-lost.new.members (with_carried n a.work)) c.spare_for-sb.ensures.number
-    (kept-spare c.args.who c.ops-end-2.result was.kept opens c.requires.caller c.ops-end-2.ensures look.tape did c.newly_vacant-roles.result c.without-spares.result since
+    (kept-spare c.args.who c.ops-end-2.result was.kept opens c.requires.caller c.ops-end-2.ensures.count look.tape did c.newly_vacant-roles.result c.without-spares.result since
     (without-left given a.members was.kept.placed was.kept.unlost (slot-does given a.backup c.args.slot a.members was.kept.placed addable))
     (slot-of-scope given a.backup c.args.slot a.members was.kept.placed addable a.epoch.uuid a.epoch.given sb (g.B.Bank.faults_of a.bank) was.failed c.in-Some.ensures.sound c.spare_for-sb.ensures.uuid)
     (ap (λ (n : ℕ). is_carried a.work n) c.spare_for-sb.ensures.number ∙ free.1)
@@ -447,7 +447,7 @@ returns-clause-work g c =
 pub returns-clause-ended : goal.returns-clause-ended
 returns-clause-ended g c =
     ended-behind (g.B.Bank.tape c.add_member-lost.new.bank) c.enter_behind-2.new.epoch.first c.make_room.new.self.items c.args.who c.ops-end-2.result (losses_of c.newly_vacant-roles.result c.without-spares.result)
-    (Added c.args.slot) c.enter_behind-2.ensures.items c.ops-end-2.ensures
+    (Added c.args.slot) c.enter_behind-2.ensures.items c.ops-end-2.ensures.count
 
 pub returns-clause-never_falls : goal.returns-clause-never_falls
 returns-clause-never_falls g c =

@@ -35,7 +35,7 @@ invariant_of-self-in-Some g c =
     let refusal = c.in-Some.refusal in
     let why = unwritten-here (list_size (places_of a.members)) a.work.resync false a.members refusal (λ no. is-pending a.work.resync a.members left) c.in-Some.ensures in
     ready (entries_of c.args.who c.ops-end.result (Refused refusal ∷ []))
-    (kept-refused c.args.who c.ops-end.result was.kept opens c.requires.caller c.ops-end.ensures refusal why)
+    (kept-refused c.args.who c.ops-end.result was.kept opens c.requires.caller c.ops-end.ensures.count refusal why)
     was.failed (λ slot. omega arith) refl (scope-same (g.B.Bank.given a.bank) a.backup refl c.enter.ensures.uuid c.enter.ensures.given) c.enter.ensures.first refl c.enter.ensures.items
     (omega (arith, c.enter.ensures.room, was.room_left, some)) was.rows_fit was.buffer_fits
 
@@ -49,7 +49,7 @@ returns-in-Some-clause-open g c =
 
 pub returns-in-Some-clause-ended : goal.returns-in-Some-clause-ended
 returns-in-Some-clause-ended g c =
-    ended-behind (g.B.Bank.tape c.self.inside.bank) c.enter.new.epoch.first c.self.inside.epoch.entries.items c.args.who c.ops-end.result [] (Refused c.in-Some.refusal) c.enter.ensures.items c.ops-end.ensures
+    ended-behind (g.B.Bank.tape c.self.inside.bank) c.enter.new.epoch.first c.self.inside.epoch.entries.items c.args.who c.ops-end.result [] (Refused c.in-Some.refusal) c.enter.ensures.items c.ops-end.ensures.count
 
 -- ---- the stripe
 
@@ -83,7 +83,7 @@ invariant_of-self-in-Some-refusal g c =
     (ap (λ (s : Shape). s.disks) c.shape_in-shape.ensures) c.vacant_roles-before.ensures c.newly_vacant-roles.ensures in
     let refusal = c.in-Some-refusal.refusal in
     ready (entries_of c.args.who end (losses_of roles spares ++ Refused refusal ∷ []))
-    (degraded-unmended c.args.who end was.kept opens c.requires.caller c.ops-end-2.ensures did.moved did.grows roles spares before after since stripe next.0 does did.dirty did.rise
+    (degraded-unmended c.args.who end was.kept opens c.requires.caller c.ops-end-2.ensures.count did.moved did.grows roles spares before after since stripe next.0 does did.dirty did.rise
     c.shape_in-shape.result c.shape_in-shape.ensures did.stands did.kept did.rebuilt did.safe
     refusal (some-of (IsUnwritten false m) c.mend-mended.result.refusal refusal c.in-Some-refusal.is did.refused))
     was.failed did.counts did.given (scope-same given a.backup did.given c.enter_behind.ensures.uuid c.enter_behind.ensures.given) c.enter_behind.ensures.first refl c.enter_behind.ensures.items
@@ -143,7 +143,7 @@ returns-in-Some-refusal-clause-spares g c = rw (← c.self.view_is) c.mend-mende
 pub returns-in-Some-refusal-clause-ended : goal.returns-in-Some-refusal-clause-ended
 returns-in-Some-refusal-clause-ended g c =
     ended-behind (g.B.Bank.tape c.mend-mended.new.bank) c.enter_behind.new.epoch.first c.self.inside.epoch.entries.items c.args.who c.ops-end-2.result
-    (losses_of c.newly_vacant-roles.result c.mend-mended.result.spares) (Refused c.in-Some-refusal.refusal) c.enter_behind.ensures.items c.ops-end-2.ensures
+    (losses_of c.newly_vacant-roles.result c.mend-mended.result.spares) (Refused c.in-Some-refusal.refusal) c.enter_behind.ensures.items c.ops-end-2.ensures.count
 
 pub returns-in-Some-refusal-clause-same : goal.returns-in-Some-refusal-clause-same
 returns-in-Some-refusal-clause-same g c =
@@ -185,7 +185,7 @@ invariant_of-self-2 g c =
     let since : AreLostSince a.members m roles spares before after = lost-since given a.members m c.shape_in-shape.result.disks c.vacant_roles-before.result roles spares before after was.kept.placed did.moved did.failed
     (ap (λ (s : Shape). s.disks) c.shape_in-shape.ensures) c.vacant_roles-before.ensures c.newly_vacant-roles.ensures in
     ready (entries_of c.args.who end (losses_of roles spares ++ Step ResyncStripe c.steps_left-left.result ∷ []))
-    (degraded-mended c.args.who end was.kept opens c.requires.caller c.ops-end-2.ensures did.moved did.grows roles spares before after since stripe next.0 does did.dirty did.rise
+    (degraded-mended c.args.who end was.kept opens c.requires.caller c.ops-end-2.ensures.count did.moved did.grows roles spares before after since stripe next.0 does did.dirty did.rise
     c.shape_in-shape.result c.shape_in-shape.ensures did.stands did.kept did.rebuilt did.safe
     next.1 c.steps_left-left.result c.steps_left-left.ensures (did.mended c.in_default-refusal.is))
     was.failed did.counts did.given (scope-same given a.backup did.given c.enter_behind-2.ensures.uuid c.enter_behind-2.ensures.given) c.enter_behind-2.ensures.first refl c.enter_behind-2.ensures.items
@@ -248,7 +248,7 @@ returns-clause-spares g c = rw (← c.self.view_is) c.mend-mended.ensures.moved.
 pub returns-clause-ended : goal.returns-clause-ended
 returns-clause-ended g c =
     ended-behind (g.B.Bank.tape c.mend-mended.new.bank) c.enter_behind-2.new.epoch.first c.self.inside.epoch.entries.items c.args.who c.ops-end-2.result
-    (losses_of c.newly_vacant-roles.result c.mend-mended.result.spares) (Step ResyncStripe c.steps_left-left.result) c.enter_behind-2.ensures.items c.ops-end-2.ensures
+    (losses_of c.newly_vacant-roles.result c.mend-mended.result.spares) (Step ResyncStripe c.steps_left-left.result) c.enter_behind-2.ensures.items c.ops-end-2.ensures.count
 
 pub returns-clause-same : goal.returns-clause-same
 returns-clause-same g c =

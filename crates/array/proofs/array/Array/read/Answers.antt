@@ -48,7 +48,7 @@ invariant_of-self-in-Some g c =
     let why = refused-here size (c.args.at + count) a.work.resync (IsUnread mended c.args.at count) a.members c.in-Some.refusal
     (λ within. unread-here (g.B.Bank.given a.bank) size c.args.at count mended a.work.resync a.members c.in-Some.refusal was.kept.placed within (λ none. ap (λ (o : Option ℕ). mended_rows o a.members) none)) c.in-Some.ensures in
     ready (entries_of c.args.who c.ops-end.result (Refused c.in-Some.refusal ∷ []))
-    (kept-refused c.args.who c.ops-end.result was.kept (begins-open a.epoch.entries.items c.args.who number) c.requires.caller c.ops-end.ensures c.in-Some.refusal why)
+    (kept-refused c.args.who c.ops-end.result was.kept (begins-open a.epoch.entries.items c.args.who number) c.requires.caller c.ops-end.ensures.count c.in-Some.refusal why)
     was.failed (λ slot. omega arith) refl (scope-same (g.B.Bank.given a.bank) a.backup refl c.enter.ensures.uuid c.enter.ensures.given) c.enter.ensures.first c.make_room.ensures.items c.enter.ensures.items
     (omega (arith, c.enter.ensures.room, c.in-Ok-make_room.ensures.ok)) was.rows_fit was.buffer_fits
 
@@ -65,7 +65,7 @@ returns-in-Some-clause-answered g c =
 
 pub returns-in-Some-clause-ended : goal.returns-in-Some-clause-ended
 returns-in-Some-clause-ended g c =
-    ended-behind (g.B.Bank.tape c.self.inside.bank) c.enter.new.epoch.first c.make_room.new.self.items c.args.who c.ops-end.result [] (Refused c.in-Some.refusal) c.enter.ensures.items c.ops-end.ensures
+    ended-behind (g.B.Bank.tape c.self.inside.bank) c.enter.new.epoch.first c.make_room.new.self.items c.args.who c.ops-end.result [] (Refused c.in-Some.refusal) c.enter.ensures.items c.ops-end.ensures.count
 
 pub returns-in-Some-clause-caused : goal.returns-in-Some-clause-caused
 returns-in-Some-clause-caused g c = rw (← c.self.view_is) c.in-Some.ensures
@@ -90,7 +90,7 @@ invariant_of-self-in-Some-refusal g c =
     let since : AreLostSince a.members m roles spares before after = lost-since given a.members m c.shape_in-shape.result.disks c.vacant_roles-before.result roles spares before after was.kept.placed did.moved did.failed
     (ap (λ (s : Shape). s.disks) c.shape_in-shape.ensures) c.vacant_roles-before.ensures c.newly_vacant-roles.ensures in
     ready (entries_of c.args.who end (losses_of roles spares ++ Refused refusal ∷ []))
-    (kept-unread c.args.who end was.kept (begins-open a.epoch.entries.items c.args.who number) c.requires.caller c.ops-end-2.ensures did.moved did.grows roles spares before after since did.others did.rise did.clean did.safe c.args.at count c.mended_rows-mended.result refusal
+    (kept-unread c.args.who end was.kept (begins-open a.epoch.entries.items c.args.who number) c.requires.caller c.ops-end-2.ensures.count did.moved did.grows roles spares before after since did.others did.rise did.clean did.safe c.args.at count c.mended_rows-mended.result refusal
     (subst (λ (n : ℕ). c.args.at + n ≤ list_size (places_of a.members)) (sym (asked-is c.in-Ok.bytes.items c.as_mut_slice.result.now c.args.into.now c.in-Ok.ensures.len c.as_mut_slice.ensures.value)) c.in_default.ensures.0) c.mended_rows-mended.ensures.rows
     (some-of (IsUnread c.mended_rows-mended.result c.args.at count m) c.fetch-fetched.result.refusal refusal c.in-Some-refusal.is did.refused))
     was.failed did.counts did.given (scope-same given a.backup did.given c.enter_behind.ensures.uuid c.enter_behind.ensures.given) c.enter_behind.ensures.first c.make_room.ensures.items c.enter_behind.ensures.items
@@ -157,7 +157,7 @@ returns-in-Some-refusal-clause-losses g c =
 pub returns-in-Some-refusal-clause-ended : goal.returns-in-Some-refusal-clause-ended
 returns-in-Some-refusal-clause-ended g c =
     ended-behind (g.B.Bank.tape c.fetch-fetched.new.bank) c.enter_behind.new.epoch.first c.make_room.new.self.items c.args.who c.ops-end-2.result
-    (losses_of c.newly_vacant-roles.result c.fetch-fetched.result.spares) (Refused c.in-Some-refusal.refusal) c.enter_behind.ensures.items c.ops-end-2.ensures
+    (losses_of c.newly_vacant-roles.result c.fetch-fetched.result.spares) (Refused c.in-Some-refusal.refusal) c.enter_behind.ensures.items c.ops-end-2.ensures.count
 
 pub returns-in-Some-refusal-clause-never_falls : goal.returns-in-Some-refusal-clause-never_falls
 returns-in-Some-refusal-clause-never_falls g c = rw (← c.self.view_is) c.fetch-fetched.ensures.counts
@@ -204,7 +204,7 @@ invariant_of-self-3 g c =
     let since : AreLostSince a.members m roles spares before after = lost-since given a.members m c.shape_in-shape.result.disks c.vacant_roles-before.result roles spares before after was.kept.placed did.moved did.failed
     (ap (λ (s : Shape). s.disks) c.shape_in-shape.ensures) c.vacant_roles-before.ensures c.newly_vacant-roles.ensures in
     ready (entries_of c.args.who end (losses_of roles spares ++ Read c.args.at (sectors_of bytes) ∷ []))
-    (kept-read c.args.who end was.kept (begins-open a.epoch.entries.items c.args.who number) c.requires.caller c.ops-end-2.ensures did.moved did.grows roles spares before after since did.others did.rise did.clean did.safe c.args.at bytes within
+    (kept-read c.args.who end was.kept (begins-open a.epoch.entries.items c.args.who number) c.requires.caller c.ops-end-2.ensures.count did.moved did.grows roles spares before after since did.others did.rise did.clean did.safe c.args.at bytes within
     (fetched was.kept (entries_of c.args.who end (losses_of roles spares ++ Read c.args.at (sectors_of bytes) ∷ [])) m c.args.at c.mended_rows-mended.result bytes does c.mended_rows-mended.ensures.rows (λ t list stands filled i lt. did.holds c.in_default-refusal.is t list stands filled i (subst (λ (n : ℕ). i < n) same lt))))
     was.failed did.counts did.given (scope-same given a.backup did.given c.enter_behind-2.ensures.uuid c.enter_behind-2.ensures.given) c.enter_behind-2.ensures.first c.make_room.ensures.items
     (c.enter_behind-2.ensures.items ∙ ap (λ (b : List Sector). c.make_room.new.self.items ++ entries_of c.args.who end (losses_of roles spares ++ Read c.args.at b ∷ [])) (c.from_bytes-body.ensures ∙ ap sectors_of whole))
@@ -280,7 +280,7 @@ returns-clause-losses g c =
 pub returns-clause-ended : goal.returns-clause-ended
 returns-clause-ended g c =
     ended-behind (g.B.Bank.tape c.fetch-fetched.new.bank) c.enter_behind-2.new.epoch.first c.make_room.new.self.items c.args.who c.ops-end-2.result
-    (losses_of c.newly_vacant-roles.result c.fetch-fetched.result.spares) (Read c.args.at c.from_bytes-body.result) c.enter_behind-2.ensures.items c.ops-end-2.ensures
+    (losses_of c.newly_vacant-roles.result c.fetch-fetched.result.spares) (Read c.args.at c.from_bytes-body.result) c.enter_behind-2.ensures.items c.ops-end-2.ensures.count
 
 pub returns-clause-never_falls : goal.returns-clause-never_falls
 returns-clause-never_falls g c = rw (← c.self.view_is) c.fetch-fetched.ensures.counts

@@ -36,7 +36,7 @@ invariant_of-self-in-Some g c =
     let refusal = c.in-Some.refusal in
     let why = refused-here visible 0 a.work.resync AreTooMany a.members refusal (λ within. too-many-here visible a.work.resync a.members refusal) (refused-zero visible AreTooMany a.members refusal c.in-Some.ensures) in
     ready (entries_of c.args.who c.ops-end.result (Refused refusal ∷ []))
-    (kept-refused c.args.who c.ops-end.result was.kept (begins-open a.epoch.entries.items c.args.who number) c.requires.caller c.ops-end.ensures refusal why)
+    (kept-refused c.args.who c.ops-end.result was.kept (begins-open a.epoch.entries.items c.args.who number) c.requires.caller c.ops-end.ensures.count refusal why)
     was.failed (λ slot. omega arith) refl (scope-same given a.backup refl c.enter.ensures.uuid c.enter.ensures.given) c.enter.ensures.first c.make_room.ensures.items c.enter.ensures.items
     (omega (arith, c.enter.ensures.room, c.in-Ok.ensures.ok)) was.rows_fit was.buffer_fits
 
@@ -46,7 +46,7 @@ returns-in-Some-clause-answered g c =
 
 pub returns-in-Some-clause-ended : goal.returns-in-Some-clause-ended
 returns-in-Some-clause-ended g c =
-    ended-behind (g.B.Bank.tape c.self.inside.bank) c.enter.new.epoch.first c.make_room.new.self.items c.args.who c.ops-end.result [] (Refused c.in-Some.refusal) c.enter.ensures.items c.ops-end.ensures
+    ended-behind (g.B.Bank.tape c.self.inside.bank) c.enter.new.epoch.first c.make_room.new.self.items c.args.who c.ops-end.result [] (Refused c.in-Some.refusal) c.enter.ensures.items c.ops-end.ensures.count
 
 pub invariant_of-self-in-Some-refusal : goal.invariant_of-self-in-Some-refusal
 invariant_of-self-in-Some-refusal g c =
@@ -66,9 +66,9 @@ invariant_of-self-in-Some-refusal g c =
     let refusal = c.in-Some-refusal.refusal in
     let many = too-many-of m c.settle-settled.result.refusal refusal c.in-Some-refusal.is did.refused in
     ready (entries_of c.args.who end (losses_of roles spares ++ Refused refusal ∷ []))
-    (degraded-refused c.args.who end was.kept (begins-open a.epoch.entries.items c.args.who number) c.requires.caller c.ops-end-2.ensures did.moved did.grows roles spares before after since refusal
+    (degraded-refused c.args.who end was.kept (begins-open a.epoch.entries.items c.args.who number) c.requires.caller c.ops-end-2.ensures.count did.moved did.grows roles spares before after since refusal
     (too-many-here (list_size (places_of a.members)) a.work.resync m refusal many) did.others
-    (leaves-refused c.args.who end was.kept (begins-open a.epoch.entries.items c.args.who number) c.requires.caller c.ops-end-2.ensures did.moved did.grows roles spares before after since did.rise c.is_some.result (all-mended a.members a.work.resync c.is_some.result c.is_some.ensures) did.safe refusal many))
+    (leaves-refused c.args.who end was.kept (begins-open a.epoch.entries.items c.args.who number) c.requires.caller c.ops-end-2.ensures.count did.moved did.grows roles spares before after since did.rise c.is_some.result (all-mended a.members a.work.resync c.is_some.result c.is_some.ensures) did.safe refusal many))
     was.failed did.counts did.given (scope-same given a.backup did.given c.enter_behind.ensures.uuid c.enter_behind.ensures.given) c.enter_behind.ensures.first c.make_room.ensures.items c.enter_behind.ensures.items
     (omega (arith, c.enter_behind.ensures.room, c.in-Ok.ensures.ok)) was.rows_fit was.buffer_fits
 
@@ -99,7 +99,7 @@ returns-in-Some-refusal-clause-losses g c =
 pub returns-in-Some-refusal-clause-ended : goal.returns-in-Some-refusal-clause-ended
 returns-in-Some-refusal-clause-ended g c =
     ended-behind (g.B.Bank.tape c.settle-settled.new.bank) c.enter_behind.new.epoch.first c.make_room.new.self.items c.args.who c.ops-end-2.result (losses_of c.newly_vacant-roles.result c.settle-settled.result.spares)
-    (Refused c.in-Some-refusal.refusal) c.enter_behind.ensures.items c.ops-end-2.ensures
+    (Refused c.in-Some-refusal.refusal) c.enter_behind.ensures.items c.ops-end-2.ensures.count
 
 pub returns-in-Some-refusal-clause-same : goal.returns-in-Some-refusal-clause-same
 returns-in-Some-refusal-clause-same g c =
@@ -134,8 +134,8 @@ invariant_of-self-2 g c =
     c.vacant_roles-before.ensures c.newly_vacant-roles.ensures in
     let settles = settles-of c.args.event c.requires.event in
     ready (entries_of c.args.who end (losses_of roles spares ++ c.args.event ∷ []))
-    (degraded-settled c.args.who end was.kept (begins-open a.epoch.entries.items c.args.who number) c.requires.caller c.ops-end-2.ensures did.moved did.grows roles spares before after since c.args.event settles did.others
-    (leaves-flushed c.args.who end was.kept (begins-open a.epoch.entries.items c.args.who number) c.requires.caller c.ops-end-2.ensures did.moved did.grows roles spares before after since did.rise c.is_some.result
+    (degraded-settled c.args.who end was.kept (begins-open a.epoch.entries.items c.args.who number) c.requires.caller c.ops-end-2.ensures.count did.moved did.grows roles spares before after since c.args.event settles did.others
+    (leaves-flushed c.args.who end was.kept (begins-open a.epoch.entries.items c.args.who number) c.requires.caller c.ops-end-2.ensures.count did.moved did.grows roles spares before after since did.rise c.is_some.result
     (all-mended a.members a.work.resync c.is_some.result c.is_some.ensures) did.safe c.args.event settles c.is_some.ensures did.stays (did.clean c.in_default-refusal.is) (did.settled c.in_default-refusal.is)))
     was.failed did.counts did.given (scope-same given a.backup did.given c.enter_behind-2.ensures.uuid c.enter_behind-2.ensures.given) c.enter_behind-2.ensures.first c.make_room.ensures.items c.enter_behind-2.ensures.items
     (omega (arith, c.enter_behind-2.ensures.room, c.in-Ok.ensures.ok)) was.rows_fit was.buffer_fits
@@ -186,7 +186,7 @@ returns-clause-losses g c =
 pub returns-clause-ended : goal.returns-clause-ended
 returns-clause-ended g c =
     ended-behind (g.B.Bank.tape c.settle-settled.new.bank) c.enter_behind-2.new.epoch.first c.make_room.new.self.items c.args.who c.ops-end-2.result (losses_of c.newly_vacant-roles.result c.settle-settled.result.spares)
-    c.args.event c.enter_behind-2.ensures.items c.ops-end-2.ensures
+    c.args.event c.enter_behind-2.ensures.items c.ops-end-2.ensures.count
 
 pub returns-clause-same : goal.returns-clause-same
 returns-clause-same g c =

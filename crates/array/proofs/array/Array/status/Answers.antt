@@ -17,10 +17,10 @@ invariant_of-self-2 g c =
     let number : c.args.who.number ≡ next_number c.args.who.caller a.epoch.entries.items = c.requires.next ∙ ap (λ p. next_number c.args.who.caller p.entries) (sym c.self.view_is) in
     let steps : c.in-Ok.shown.left ≡ left_of a.work a.members = c.in-Ok.ensures.left ∙ ap (λ p. left_of p.work p.members) (sym c.self.view_is) in
     ready (entries_of c.args.who c.ops-end.result (Shown c.in-Ok.shown ∷ []))
-    (kept-shown c.args.who c.ops-end.result was.kept (begins-open a.epoch.entries.items c.args.who number) c.requires.caller c.ops-end.ensures c.in-Ok.shown steps)
+    (kept-shown c.args.who c.ops-end.result was.kept (begins-open a.epoch.entries.items c.args.who number) c.requires.caller c.ops-end.ensures.count c.in-Ok.shown steps)
     was.failed (λ slot. omega arith) refl (scope-same given a.backup refl c.enter.ensures.uuid c.enter.ensures.given) c.enter.ensures.first c.make_room.ensures.items c.enter.ensures.items
     (omega (arith, c.enter.ensures.room, c.in-Ok-make_room.ensures.ok)) was.rows_fit was.buffer_fits
 
 pub returns-clause-ended : goal.returns-clause-ended
 returns-clause-ended g c =
-    ended-behind (g.B.Bank.tape c.self.inside.bank) c.enter.new.epoch.first c.make_room.new.self.items c.args.who c.ops-end.result [] (Shown c.in-Ok.shown) c.enter.ensures.items c.ops-end.ensures
+    ended-behind (g.B.Bank.tape c.self.inside.bank) c.enter.new.epoch.first c.make_room.new.self.items c.args.who c.ops-end.result [] (Shown c.in-Ok.shown) c.enter.ensures.items c.ops-end.ensures.count

@@ -40,7 +40,7 @@ invariant_of-self g c =
     let some : 1 ≤ a.steps = subst (λ p. 1 ≤ p.steps) (sym c.self.view_is) c.requires.room in
     let refusal = c.in-Some.refusal in
     ready (entries_of c.args.who c.ops-end.result (Refused refusal ∷ []))
-    (kept-refused c.args.who c.ops-end.result was.kept opens c.requires.caller c.ops-end.ensures refusal
+    (kept-refused c.args.who c.ops-end.result was.kept opens c.requires.caller c.ops-end.ensures.count refusal
     (refused-here (list_size (places_of a.members)) 0 a.work.resync AreTooMany a.members refusal (λ within many. too-many-here (list_size (places_of a.members)) a.work.resync a.members refusal many)
     (refused-zero (list_size (places_of a.members)) AreTooMany a.members refusal c.in-Some.ensures)))
     was.failed (λ s. omega arith) refl (scope-same (g.B.Bank.given a.bank) a.backup refl c.enter.ensures.uuid c.enter.ensures.given) c.enter.ensures.first refl c.enter.ensures.items
@@ -56,7 +56,7 @@ returns-in-Some-clause-open g c =
 
 pub returns-in-Some-clause-ended : goal.returns-in-Some-clause-ended
 returns-in-Some-clause-ended g c =
-    ended-behind (g.B.Bank.tape c.self.inside.bank) c.enter.new.epoch.first c.self.inside.epoch.entries.items c.args.who c.ops-end.result [] (Refused c.in-Some.refusal) c.enter.ensures.items c.ops-end.ensures
+    ended-behind (g.B.Bank.tape c.self.inside.bank) c.enter.new.epoch.first c.self.inside.epoch.entries.items c.args.who c.ops-end.result [] (Refused c.in-Some.refusal) c.enter.ensures.items c.ops-end.ensures.count
 
 -- ---- the spare gets the role
 
@@ -103,7 +103,7 @@ invariant_of-self-2 g c =
     ready (entries_of c.args.who end (losses_of roles spares ++ Step RebuildTaken c.steps_left-left.result ∷ []))
     (subst (λ (w : Work). IsKept g.B.Bank.tells given (g.B.Bank.tape c.give_role-spares.new.bank) (scope_in given a.epoch.uuid a.epoch.given a.backup) a.epoch.first (a.epoch.entries.items ++ entries_of c.args.who end (losses_of roles spares ++ Step RebuildTaken c.steps_left-left.result ∷ [])) m w)
     (sym c.set_rebuilt.ensures.work)
-    (kept-taken c.args.who end was.kept opens c.requires.caller c.ops-end-2.ensures c.args.role c.args.slot below vacant spare did.moved did.grows roles spares before after since does did.others did.rise did.clean did.safe
+    (kept-taken c.args.who end was.kept opens c.requires.caller c.ops-end-2.ensures.count c.args.role c.args.slot below vacant spare did.moved did.grows roles spares before after since does did.others did.rise did.clean did.safe
     c.set_rebuilt.ensures.known c.steps_left-left.result (c.steps_left-left.ensures ∙ ap (λ (w : Work). left_of w m) c.set_rebuilt.ensures.work)))
     was.failed did.counts did.given (scope-same given a.backup did.given c.enter_behind.ensures.uuid c.enter_behind.ensures.given) c.enter_behind.ensures.first refl c.enter_behind.ensures.items
     (omega (arith, c.enter_behind.ensures.room, was.room_left, some)) was.rows_fit was.buffer_fits
@@ -264,7 +264,7 @@ returns-clause-losses g c =
 pub returns-clause-ended : goal.returns-clause-ended
 returns-clause-ended g c =
     ended-behind (g.B.Bank.tape c.give_role-spares.new.bank) c.enter_behind.new.epoch.first c.self.inside.epoch.entries.items c.args.who c.ops-end-2.result
-    (losses_of c.newly_vacant-roles.result c.give_role-spares.result) (Step RebuildTaken c.steps_left-left.result) c.enter_behind.ensures.items c.ops-end-2.ensures
+    (losses_of c.newly_vacant-roles.result c.give_role-spares.result) (Step RebuildTaken c.steps_left-left.result) c.enter_behind.ensures.items c.ops-end-2.ensures.count
 
 pub returns-clause-never_falls : goal.returns-clause-never_falls
 returns-clause-never_falls g c =

@@ -39,7 +39,7 @@ invariant_of-self-in-Some g c =
     let why = refused-here size to a.work.resync (IsUnwritten synced) a.members c.in-Some.refusal
     (λ within. unwritten-here size a.work.resync synced a.members c.in-Some.refusal (pending-of a.members a.work.resync to within)) c.in-Some.ensures in
     ready (entries_of c.args.who c.ops-end.result (Refused c.in-Some.refusal ∷ []))
-    (kept-refused c.args.who c.ops-end.result was.kept (begins-open a.epoch.entries.items c.args.who number) c.requires.caller c.ops-end.ensures c.in-Some.refusal why)
+    (kept-refused c.args.who c.ops-end.result was.kept (begins-open a.epoch.entries.items c.args.who number) c.requires.caller c.ops-end.ensures.count c.in-Some.refusal why)
     was.failed (λ slot. omega arith) refl (scope-same (g.B.Bank.given a.bank) a.backup refl c.enter.ensures.uuid c.enter.ensures.given) c.enter.ensures.first c.make_room.ensures.items c.enter.ensures.items
     (omega (arith, c.enter.ensures.room, c.in-Ok-make_room.ensures.ok)) was.rows_fit was.buffer_fits
 
@@ -59,7 +59,7 @@ returns-in-Some-clause-answered g c =
 
 pub returns-in-Some-clause-ended : goal.returns-in-Some-clause-ended
 returns-in-Some-clause-ended g c =
-    ended-behind (g.B.Bank.tape c.self.inside.bank) c.enter.new.epoch.first c.make_room.new.self.items c.args.who c.ops-end.result [] (Refused c.in-Some.refusal) c.enter.ensures.items c.ops-end.ensures
+    ended-behind (g.B.Bank.tape c.self.inside.bank) c.enter.new.epoch.first c.make_room.new.self.items c.args.who c.ops-end.result [] (Refused c.in-Some.refusal) c.enter.ensures.items c.ops-end.ensures.count
 
 pub returns-in-Some-clause-caused : goal.returns-in-Some-clause-caused
 returns-in-Some-clause-caused g c = rw (← c.self.view_is) c.in-Some.ensures
@@ -94,7 +94,7 @@ invariant_of-self-in-Some-refusal g c =
     let since : AreLostSince a.members m roles spares before after = lost-since given a.members m c.shape_in-shape.result.disks c.vacant_roles-before.result roles spares before after was.kept.placed did.moved did.failed
     (ap (λ (s : Shape). s.disks) c.shape_in-shape.ensures) c.vacant_roles-before.ensures c.newly_vacant-roles.ensures in
     ready (entries_of c.args.who end (failure_events roles spares torn c.args.at body refusal))
-    (kept-unwritten c.args.who end was.kept (begins-open a.epoch.entries.items c.args.who number) c.requires.caller c.ops-end-2.ensures did.moved did.grows roles spares before after since c.shape_in-shape.result c.shape_in-shape.ensures c.args.at c.args.from.now c.in_default.ensures.0 does torn synced asked did.rise did.stays did.safe refusal
+    (kept-unwritten c.args.who end was.kept (begins-open a.epoch.entries.items c.args.who number) c.requires.caller c.ops-end-2.ensures.count did.moved did.grows roles spares before after since c.shape_in-shape.result c.shape_in-shape.ensures c.args.at c.args.from.now c.in_default.ensures.0 does torn synced asked did.rise did.stays did.safe refusal
     (some-of (IsUnwritten synced m) c.put-done.result.refusal refusal c.in-Some-refusal.is did.refused)
     (λ begun. some-of (AreTooMany m) c.put-done.result.refusal refusal c.in-Some-refusal.is (did.torn begun)) did.untouched)
     was.failed did.counts did.given (scope-same given a.backup did.given c.enter_failure.ensures.uuid c.enter_failure.ensures.given) c.enter_failure.ensures.first c.make_room.ensures.items
@@ -166,7 +166,7 @@ returns-in-Some-refusal-clause-losses g c =
 pub returns-in-Some-refusal-clause-ended : goal.returns-in-Some-refusal-clause-ended
 returns-in-Some-refusal-clause-ended g c =
     ended-failure (g.B.Bank.tape c.put-done.new.bank) c.enter_failure.new.epoch.first c.make_room.new.self.items c.args.who c.ops-end-2.result c.newly_vacant-roles.result c.put-done.result.spares c.put-done.result.begun
-    c.args.at c.in-Ok.body c.in-Some-refusal.refusal c.enter_failure.ensures.items c.ops-end-2.ensures
+    c.args.at c.in-Ok.body c.in-Some-refusal.refusal c.enter_failure.ensures.items c.ops-end-2.ensures.count
 
 pub returns-in-Some-refusal-clause-never_falls : goal.returns-in-Some-refusal-clause-never_falls
 returns-in-Some-refusal-clause-never_falls g c = rw (← c.self.view_is) c.put-done.ensures.counts
@@ -212,7 +212,7 @@ invariant_of-self-4 g c =
     let since : AreLostSince a.members m roles spares before after = lost-since given a.members m c.shape_in-shape.result.disks c.vacant_roles-before.result roles spares before after was.kept.placed did.moved did.failed
     (ap (λ (s : Shape). s.disks) c.shape_in-shape.ensures) c.vacant_roles-before.ensures c.newly_vacant-roles.ensures in
     ready (entries_of c.args.who end (losses_of roles spares ++ Wrote c.args.at body ∷ []))
-    (kept-wrote c.args.who end was.kept (begins-open a.epoch.entries.items c.args.who number) c.requires.caller c.ops-end-2.ensures did.moved did.grows roles spares before after since c.shape_in-shape.result c.shape_in-shape.ensures c.args.at c.args.from.now c.in_default.ensures.0 does c.put-done.result.begun synced asked did.rise did.stays did.safe
+    (kept-wrote c.args.who end was.kept (begins-open a.epoch.entries.items c.args.who number) c.requires.caller c.ops-end-2.ensures.count did.moved did.grows roles spares before after since c.shape_in-shape.result c.shape_in-shape.ensures c.args.at c.args.from.now c.in_default.ensures.0 does c.put-done.result.begun synced asked did.rise did.stays did.safe
     c.requires.whole bytes (did.put done) (λ t list more written. did.good done t list more written bytes) (did.rebuilt done))
     was.failed did.counts did.given (scope-same given a.backup did.given c.enter_behind.ensures.uuid c.enter_behind.ensures.given) c.enter_behind.ensures.first c.make_room.ensures.items
     (c.enter_behind.ensures.items ∙ ap (λ (b : List Sector). c.make_room.new.self.items ++ entries_of c.args.who end (losses_of roles spares ++ Wrote c.args.at b ∷ [])) c.in-Ok.ensures)
@@ -260,7 +260,7 @@ returns-clause-losses g c =
 pub returns-clause-ended : goal.returns-clause-ended
 returns-clause-ended g c =
     ended-behind (g.B.Bank.tape c.put-done.new.bank) c.enter_behind.new.epoch.first c.make_room.new.self.items c.args.who c.ops-end-2.result
-    (losses_of c.newly_vacant-roles.result c.put-done.result.spares) (Wrote c.args.at c.in-Ok.body) c.enter_behind.ensures.items c.ops-end-2.ensures
+    (losses_of c.newly_vacant-roles.result c.put-done.result.spares) (Wrote c.args.at c.in-Ok.body) c.enter_behind.ensures.items c.ops-end-2.ensures.count
 
 pub returns-clause-never_falls : goal.returns-clause-never_falls
 returns-clause-never_falls g c = rw (← c.self.view_is) c.put-done.ensures.counts
