@@ -21,7 +21,7 @@ use Rattle.bank.specs.Given.{Given, sizes}
 use Rattle.superblocks.specs.declared.members.Members.{Members}
 use Rattle.superblocks.specs.Reading.{Reading, reading_of, reading_by, newest_of, newer, holder_from, spares_from, holds_role, is_fresh, is_recovering, is_spare, entry_of, role_count, shape_of, lies_within, is_whole}
 use Rattle.superblocks.specs.Reads.{held_in}
-use Rattle.superblocks.specs.Verdict.{fresh_from, unsupported, bad_field, is_bad_size, is_bad_entry, is_holder, two_holders, members_missing, is_missing, missing_count, members_refusal, members_verdict, first_of_all}
+use Rattle.superblocks.specs.Verdict.{fresh_from, unsupported, bad_field, is_bad_size, is_bad_entry, is_late_entry, is_role, is_holder, two_holders, members_missing, is_missing, missing_count, members_refusal, members_verdict, first_of_all}
 use Rattle.superblocks.specs.Election.{IsElected}
 use Rattle.superblocks.proofs.ReadLists.{holder-step, none-fresh, none-unsupported, none-shared}
 use Rattle.superblocks.proofs.Searches.{any_below-none}
@@ -248,13 +248,13 @@ module _ (bank : Given) (backup : Option ℕ) (spec : CreateSpec) (room : HasRoo
       entries : list_any (λ s. nat_lt s.0.max_dev 128) slots ≡ false
       entries = none-fresh N sec (λ s. nat_lt s.0.max_dev 128) 0 X (λ k sb at fresh. ap (λ n. nat_lt n 128) (most k sb at))
 
-      good-entry : (k : ℕ) → k < 128 → is_bad_entry N k ≡ false
-      good-entry k h = elim (cases_lt k disks) [
+      good-entry : (k : ℕ) → is_bad_entry N k ≡ false
+      good-entry k = elim (cases_lt k disks) [
         | inl role ↦ three (nat_lt (entry_of N k) 0xfffe) (nat_le (role_count N) (entry_of N k)) (any_below k (λ before. entry_of N before == entry_of N k)) (nat_le 128 k)
             (ap₂ (λ a b. nat_le a b) (max-same disks) (entry-role k role) ∙ not_most disks k role)
             (any_below-none k (λ before. entry_of N before == entry_of N k) (λ j lt.
             ap₂ (λ a b. a == b) (entry-role j (omega (arith, lt, role))) (entry-role k role) ∙ differ j k (λ e. absurd (omega (arith, e, lt)))))
-            (not_most 128 k h)
+            (not_most 128 k (omega (arith, role, room.disks)))
         | inr past ↦ ap (λ n. nat_lt n 0xfffe && (nat_le (role_count N) n || any_below k (λ before. entry_of N before == n) || nat_le 128 k)) (entry-none k past)
       ]
         where
@@ -263,6 +263,21 @@ module _ (bank : Given) (backup : Option ℕ) (spec : CreateSpec) (room : HasRoo
 
           not_most : (a b : ℕ) → b < a → nat_le a b ≡ false
           not_most a b h = grind (arith, nat_tests, h)
+
+      none-late : (j : ℕ) → is_late_entry slots j ≡ false
+      none-late j = elim (cases_lt j 128) [
+        | inl lt ↦ never (list_any (λ s. is_role (entry_of s.0 j)) slots) (nat_le 128 j) (before j lt)
+        | inr past ↦ ap (λ b. b && nat_le 128 j) (none-fresh N sec (λ s. is_role (entry_of s.0 j)) 0 X (λ k sb at fresh.
+            ap (λ s. is_role (entry_of s j)) (is k sb at).1.made
+            ∙ ap (λ b. is_role (cond b (get_or (created_sb spec k (sec k) (is k sb at).1.second).dev_roles j 0xfffe) 0xfffe)) (not_below j 128 past)))
+      ]
+        where
+          before : (a : ℕ) → a < 128 → nat_le 128 a ≡ false
+          before a h = grind (arith, nat_tests, h)
+
+          never : (a b : Bool) → b ≡ false → (a && b) ≡ false
+          never true b is = is
+          never false b is = refl
 
       limits : (is_level spec.shape.level ≡ true) × (is_layout spec.shape.level spec.shape.layout ≡ true) × (is_chunk spec.shape.chunk ≡ true) × (is_disk_count spec.shape.level spec.shape.disks ≡ true)
       limits = four (is_level spec.shape.level) (is_layout spec.shape.level spec.shape.layout) (is_chunk spec.shape.chunk) (is_disk_count spec.shape.level spec.shape.disks) room.valid
@@ -284,7 +299,7 @@ module _ (bank : Given) (backup : Option ℕ) (spec : CreateSpec) (room : HasRoo
       good-fields =
           ap₂ (λ a b. option_or (option_map (λ (f : ℕ × Bool). BadField f.0) a) (option_map (λ index. BadField (256 + 2 * index)) b))
           (none-bad (ap not limits.0) (ap not limits.1) good-size (ap not limits.2) (ap not limits.3) refl refl refl refl refl within refl entries)
-          (least_below-none 128 (is_bad_entry N) good-entry)
+          (least_below-none 384 (λ k. is_late_entry slots k || is_bad_entry N k) (λ k below. ap₂ (λ a b. a || b) (none-late k) (good-entry k)))
 
       apart : two_holders slots ≡ None
       apart = ap (λ o. option_map (λ dev. TwoHolders dev) o) (none-shared N sec 0 X

@@ -19,7 +19,7 @@ use Rattle.sb1.specs.declared.sb.Sb.{Sb}
 use Rattle.bank.specs.Given.{Given, sizes}
 use Rattle.superblocks.specs.declared.members.Members.{Members}
 use Rattle.superblocks.specs.Reading.{Reading, reading_by, newest_of, holder_from, spares_from, holds_role, state_of, is_fresh, is_spare, is_recovering, lies_within, is_reshaping, entry_of, role_count, shape_of, target_of, role_state, holder, data_offset_of}
-use Rattle.superblocks.specs.Verdict.{members_refusal, bad_field, judged_fields, is_bad_entry, is_bad_size}
+use Rattle.superblocks.specs.Verdict.{members_refusal, bad_field, judged_fields, first_bad_entry, is_bad_size}
 use Rattle.superblocks.specs.Election.{reading_in, IsElected}
 use Rattle.superblocks.specs.Update.{is_held_by, is_live}
 use Rattle.superblocks.specs.Writing.{IsMember, AreWritable}
@@ -172,7 +172,7 @@ third-fails x y z false false false rest e = refl
 good-size : (N : Sb) → bad_field N [] ≡ None → is_bad_size N ≡ false
 good-size N e = third-fails 72 76 80 (not (is_level N.level)) (not (is_layout N.level N.layout)) (is_bad_size N) (drop 3 (judged_fields N []))
     (none-first (option_map (λ (f : ℕ × Bool). BadField f.0) (find (λ (f : ℕ × Bool). f.1) (judged_fields N [])))
-    (option_map (λ (index : ℕ). BadField (256 + 2 * index)) (least_below N.max_dev (is_bad_entry N))) e)
+    (option_map (λ (index : ℕ). BadField (256 + 2 * index)) (first_bad_entry N [])) e)
 
 size-parts : (n : ℕ) (multiple rest : Bool) → not (nat_le 1 n && nat_le n (2 ^ 48) && multiple && rest) ≡ false → (n ≤ 2 ^ 48) × (multiple ≡ true)
 size-parts n multiple rest e = by (nat_le 1 n) (nat_le n (2 ^ 48)) multiple rest (is_at_most n (2 ^ 48)) e

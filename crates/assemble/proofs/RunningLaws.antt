@@ -132,11 +132,9 @@ module _ {tells : Type 0} (bank : Given) (tape : List Operation) (backup : Optio
       none sb e = absurd (cc)
 
   new-like : tells → AreLikeNewest (scope_of bank backup opened.given opened.members.newest.set_uuid) opened.members.newest (contents bank.start tape (length tape))
-  new-like told = record {
-    level = λ s sb here same. made-alike spec 0 s (bank.sectors 0) (bank.sectors s) opened.members.newest sb (made-of 0 opened.members.newest new.members.newest)
-        (made-of s sb (own-found bank tape backup (Some spec.uuid) opened told is inside s sb here));
-    late = λ s sb here. entry-late spec s (bank.sectors s) sb (made-of s sb (own-found bank tape backup (Some spec.uuid) opened told is inside s sb here));
-  }
+  new-like told s sb here same =
+      made-alike spec 0 s (bank.sectors 0) (bank.sectors s) opened.members.newest sb (made-of 0 opened.members.newest new.members.newest)
+      (made-of s sb (own-found bank tape backup (Some spec.uuid) opened told is inside s sb here))
 
   new-alike : tells → OpensAlike (world_in bank tape (scope_of bank backup opened.given opened.members.newest.set_uuid) (length tape))
   unfolding reading_at

@@ -30,8 +30,8 @@ OpeningsAreSafe = (bank : Given) (tape : List Operation) (backup : Option ℕ) (
     → ((s : ℕ) → IsTrue (has_slot live s) → IsTrue (has_slot opened.given s))
     → IsKeptAt (world_of bank tape backup opened) [] live (length tape) × IsSafeAt (world_of bank tape backup opened) [] (length tape)
 
--- And the superblocks are held there, as the next update needs it, where those that are as new as the newest say the same, none has a
--- role for a device number from 128 on, and each stands in two sectors of bytes.
+-- And the superblocks are held there, as the next update needs it, where those that are as new as the newest say the same, and each stands
+-- in two sectors of bytes.
 abbrev pub OpeningsAreHeld : Type 0
 OpeningsAreHeld = (bank : Given) (tape : List Operation) (backup : Option ℕ) (asked : Option (List ℕ)) (opened : Opened) → bank.slots ≤ 32
     → IsOpened ⊤ bank (contents bank.start tape (length tape)) backup asked opened

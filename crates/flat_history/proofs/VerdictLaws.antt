@@ -16,7 +16,7 @@ use Rattle.flat_history.specs.declared.events.StepKind.TheVariants.{TakenOver}
 use Rattle.flat_history.specs.declared.events.Entry.{Entry}
 use Rattle.flat_history.specs.World.{World, reading_at}
 use Rattle.flat_history.specs.Losses.{takes, gone_surely, gone_perhaps, is_gone, gone_count}
-use Rattle.superblocks.specs.Verdict.{first_of_all, missing_count, too_many, members_missing, unsupported, bad_field, fresh_from, two_holders, shared_dev, dirty_degraded, off_unit, judged_fields, is_bad_entry, is_missing, holds_data, unit_of, members_refusal}
+use Rattle.superblocks.specs.Verdict.{first_of_all, missing_count, too_many, members_missing, unsupported, bad_field, fresh_from, two_holders, shared_dev, dirty_degraded, off_unit, judged_fields, first_bad_entry, is_missing, holds_data, unit_of, members_refusal}
 use Rattle.sb1.specs.Features.{refused_bits}
 use Rattle.flat_history.specs.Stands.{verdict, refusal_of, backup_absent, has_room, reach_of}
 use Rattle.flat_history.specs.CrashSafe.{made_by, IsJudged, IsRefusedRightly}
@@ -25,27 +25,27 @@ use Rattle.flat_history.specs.Images.{keeps_roles, WithoutLossAllAssemble}
 -- ---- a refusal for missing members tells more than are tolerated
 
 -- one of these is this refusal
-IsAmong : List (Option Refusal) → Refusal → Type 0
+unfoldable pub IsAmong : List (Option Refusal) → Refusal → Type 0
 IsAmong [] refusal = ⊥
 IsAmong (found ∷ more) refusal = (found ≡ Some refusal) ⊎ IsAmong more refusal
 
-first-among : (found : List (Option Refusal)) (refusal : Refusal) → first_of_all found ≡ Some refusal → IsAmong found refusal
+pub first-among : (found : List (Option Refusal)) (refusal : Refusal) → first_of_all found ≡ Some refusal → IsAmong found refusal
 unfolding IsAmong
 first-among [] refusal e = absurd (cc)
 first-among (Some one ∷ more) refusal e = inl e
 first-among (None ∷ more) refusal e = inr (first-among more refusal e)
 
 -- refusals of another kind
-mapped-apart : {X : Type 0} (make : X → Refusal) (found : Option X) (refusal : Refusal) → ((x : X) → make x ≢ refusal)
+pub mapped-apart : {X : Type 0} (make : X → Refusal) (found : Option X) (refusal : Refusal) → ((x : X) → make x ≢ refusal)
     → option_map make found ≢ Some refusal
 mapped-apart make None refusal apart e = absurd (cc)
 mapped-apart make (Some x) refusal apart e = apart x (cc)
 
-or-apart : (a b : Option Refusal) (refusal : Refusal) → a ≢ Some refusal → b ≢ Some refusal → option_or a b ≢ Some refusal
+pub or-apart : (a b : Option Refusal) (refusal : Refusal) → a ≢ Some refusal → b ≢ Some refusal → option_or a b ≢ Some refusal
 or-apart None b refusal left right e = right e
 or-apart (Some x) b refusal left right e = left e
 
-unless-apart : (test : Bool) (found : Option Refusal) (refusal : Refusal) → found ≢ Some refusal → cond test None found ≢ Some refusal
+pub unless-apart : (test : Bool) (found : Option Refusal) (refusal : Refusal) → found ≢ Some refusal → cond test None found ≢ Some refusal
 unless-apart true found refusal apart e = absurd (cc)
 unless-apart false found refusal apart e = apart e
 
@@ -73,7 +73,7 @@ module _ (r : Reading) (count tolerated : ℕ) where
   missing-above : members_missing r.newest r.roles ≡ Some (MembersMissing count tolerated) → tolerated < count
   missing-above e = by_shape (find (too_many r.roles) (shapes_in_force r.newest)) refl e
 
-or-either : (a b : Option Refusal) (refusal : Refusal) → option_or a b ≡ Some refusal → (a ≡ Some refusal) ⊎ (b ≡ Some refusal)
+pub or-either : (a b : Option Refusal) (refusal : Refusal) → option_or a b ≡ Some refusal → (a ≡ Some refusal) ⊎ (b ≡ Some refusal)
 or-either None b refusal e = inr e
 or-either (Some x) b refusal e = inl e
 
@@ -94,9 +94,9 @@ module _ (scope : Scope) (count tolerated : ℕ) where
   by_kind r (inl bits) = absurd (mapped-apart (λ s. Unsupported (refused_bits s.0.feature_map)) (find (λ s. not (refused_bits s.0.feature_map == 0)) (slots r)) judged (λ s e. absurd (cc)) bits)
   by_kind r (inr (inl field)) =
       absurd (or-apart (option_map (λ f. BadField f.0) (find (λ f. f.1) (judged_fields r.newest (slots r))))
-      (option_map (λ index. BadField (256 + 2 * index)) (least_below r.newest.max_dev (is_bad_entry r.newest))) judged
+      (option_map (λ index. BadField (256 + 2 * index)) (first_bad_entry r.newest (slots r))) judged
       (mapped-apart (λ f. BadField f.0) (find (λ f. f.1) (judged_fields r.newest (slots r))) judged (λ f e. absurd (cc)))
-      (mapped-apart (λ index. BadField (256 + 2 * index)) (least_below r.newest.max_dev (is_bad_entry r.newest)) judged (λ index e. absurd (cc))) field)
+      (mapped-apart (λ index. BadField (256 + 2 * index)) (first_bad_entry r.newest (slots r)) judged (λ index e. absurd (cc))) field)
   by_kind r (inr (inr (inl two))) = absurd (mapped-apart (λ dev. TwoHolders dev) (shared_dev (slots r)) judged (λ dev e. absurd (cc)) two)
   by_kind r (inr (inr (inr (inl missing)))) = missing-above r count tolerated missing
   by_kind r (inr (inr (inr (inr (inl dirty))))) =

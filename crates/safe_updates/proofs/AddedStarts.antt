@@ -163,6 +163,7 @@ module _ (newest : Sb) (uuid : List ℕ) (number offset sectors : ℕ) (second :
     bits = λ fresh. bits-new;
     room = λ fresh. omega arith;
     within = λ fresh holds. lies-new behind within;
+    late = λ fresh. late-new;
   }
 
 -- ---- the start, where slots may be lost that aren't named yet, but not this one

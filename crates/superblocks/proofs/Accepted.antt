@@ -5,13 +5,13 @@ use Rattle.std.specs.Option.{option_or}
 use Rattle.std.specs.List.{list_any}
 use Rattle.std.proofs.lemmas.Bool.{cases_lt}
 use Rattle.std.proofs.lemmas.Bool.Decides.{nat_tests}
-use Rattle.md_base.specs.Search.{least_below, any_below}
+use Rattle.md_base.proofs.Least.{least_below-none}
 use Rattle.md_base.specs.declared.answers.Refusal.{Refusal}
 use Rattle.md_base.specs.declared.answers.Refusal.TheVariants.{BadField, TwoHolders}
 use Rattle.sb1.specs.declared.sb.Sb.{Sb}
 use Rattle.sb1.specs.Features.{refused_bits}
 use Rattle.superblocks.specs.Reading.{reading_by, is_fresh, entry_of, lies_within, role_count}
-use Rattle.superblocks.specs.Verdict.{members_refusal, members_missing, dirty_degraded, off_unit, first_of_all, unsupported, bad_field, judged_fields, is_bad_entry, is_role, is_holder, fresh_from, two_holders, shared_dev, has_dev, lower}
+use Rattle.superblocks.specs.Verdict.{members_refusal, members_missing, dirty_degraded, off_unit, first_of_all, unsupported, bad_field, judged_fields, is_bad_entry, is_late_entry, first_bad_entry, is_role, is_holder, fresh_from, two_holders, shared_dev, has_dev, lower}
 use Rattle.superblocks.proofs.ReadLists.{Own}
 use Rattle.superblocks.proofs.ReadAlike.{none_below, fields-alone}
 
@@ -95,7 +95,8 @@ pub record IsAccepted (sectors : ℕ → ℕ) (newest : Sb) (X : Own) : Type 0 w
   pub within : (s : ℕ) (sb : Sb) → get_or X s None ≡ Some sb → is_fresh newest sb ≡ true → is_holder newest sb ≡ true → lies_within newest (sectors s) sb ≡ true
   pub apart : (s t : ℕ) (a b : Sb) → s ≢ t → get_or X s None ≡ Some a → get_or X t None ≡ Some b → is_fresh newest a ≡ true → is_fresh newest b ≡ true → a.dev_number ≢ b.dev_number
   pub fields : bad_field newest [] ≡ None
-  pub entries : (j : ℕ) → is_bad_entry newest j ≡ false
+  pub entries : (j : ℕ) → j < 384 → is_bad_entry newest j ≡ false
+  pub late : (s : ℕ) (sb : Sb) → get_or X s None ≡ Some sb → is_fresh newest sb ≡ true → (j : ℕ) → 128 ≤ j → j < 384 → is_role (entry_of sb j) ≡ false
 
 both_none : {A : Type 0} (a b : Option A) → option_or a b ≡ None → (a ≡ None) × (b ≡ None)
 both_none None b e = (refl, e)
@@ -136,12 +137,12 @@ module _ (sectors : ℕ → ℕ) (newest : Sb) (X : Own) (none : members_refusal
   bits : list_any (λ s. not (refused_bits s.0.feature_map == 0)) (fresh_from newest sectors 0 X) ≡ false
   bits = none-found (λ s. not (refused_bits s.0.feature_map == 0)) slots (no_map _ (find (λ s. not (refused_bits s.0.feature_map == 0)) slots) first.0)
 
-  parts : (find (λ (f : ℕ × Bool). f.1) (judged_fields newest (fresh_from newest sectors 0 X)) ≡ None) × (least_below newest.max_dev (is_bad_entry newest) ≡ None)
+  parts : (find (λ (f : ℕ × Bool). f.1) (judged_fields newest (fresh_from newest sectors 0 X)) ≡ None) × (first_bad_entry newest (fresh_from newest sectors 0 X) ≡ None)
   parts =
       let p = both_none (option_map (λ (f : ℕ × Bool). BadField f.0) (find (λ (f : ℕ × Bool). f.1) (judged_fields newest slots)))
-      (option_map (λ (index : ℕ). BadField (256 + 2 * index)) (least_below newest.max_dev (is_bad_entry newest))) first.1 in (
+      (option_map (λ (index : ℕ). BadField (256 + 2 * index)) (first_bad_entry newest slots)) first.1 in (
         no_map (λ (f : ℕ × Bool). BadField f.0) (find (λ (f : ℕ × Bool). f.1) (judged_fields newest slots)) p.0,
-        no_map (λ (index : ℕ). BadField (256 + 2 * index)) (least_below newest.max_dev (is_bad_entry newest)) p.1,
+        no_map (λ (index : ℕ). BadField (256 + 2 * index)) (first_bad_entry newest slots) p.1,
       )
 
   lies : list_any (λ s. is_holder newest s.0 && not (lies_within newest s.1 s.0)) (fresh_from newest sectors 0 X) ≡ false
@@ -161,15 +162,23 @@ module _ (sectors : ℕ → ℕ) (newest : Sb) (X : Own) (none : members_refusal
   so true false e h = absurd (cc)
   so false b e h = absurd (cc)
 
-  entry-fine : (j : ℕ) → is_bad_entry newest j ≡ false
-  entry-fine j = elim (cases_lt j newest.max_dev) [
-    | inl below ↦ none_below newest.max_dev (is_bad_entry newest) j below parts.1
-    | inr past ↦ ap (λ b. is_role (cond b (get_or newest.dev_roles j 0xfffe) 0xfffe)
-        && (nat_le (role_count newest) (entry_of newest j) || any_below j (λ before. entry_of newest before == entry_of newest j) || nat_le 128 j)) (not-below j newest.max_dev past)
-  ]
+  entry-fine : (j : ℕ) → j < 384 → (is_late_entry (fresh_from newest sectors 0 X) j ≡ false) × (is_bad_entry newest j ≡ false)
+  entry-fine j below = neither (is_late_entry slots j) (is_bad_entry newest j) (none_below 384 (λ k. is_late_entry slots k || is_bad_entry newest k) j below parts.1)
     where
-      not-below : (a b : ℕ) → b ≤ a → nat_lt a b ≡ false
-      not-below a b h = grind (arith, nat_tests)
+      neither : (a b : Bool) → (a || b) ≡ false → (a ≡ false) × (b ≡ false)
+      neither true b e = absurd (cc)
+      neither false b e = (refl, e)
+
+  late-fine : (j : ℕ) → 128 ≤ j → j < 384 → list_any (λ s. is_role (entry_of s.0 j)) (fresh_from newest sectors 0 X) ≡ false
+  late-fine j past below = alone (list_any (λ s. is_role (entry_of s.0 j)) slots) (nat_le 128 j) (at-least j past) (entry-fine j below).0
+    where
+      at-least : (n : ℕ) → 128 ≤ n → nat_le 128 n ≡ true
+      at-least n h = grind (arith, nat_tests)
+
+      alone : (a b : Bool) → b ≡ true → (a && b) ≡ false → a ≡ false
+      alone true true is e = absurd (cc)
+      alone true false is e = absurd (cc)
+      alone false b is e = refl
 
   pub is-accepted : IsAccepted sectors newest X
   is-accepted = record {
@@ -182,6 +191,7 @@ module _ (sectors : ℕ → ℕ) (newest : Sb) (X : Own) (none : members_refusal
         (each-fresh newest sectors (λ s. is_holder newest s.0 && not (lies_within newest s.1 s.0)) 0 X lies s sb is fresh)) holds;
     apart = each-apart newest sectors X (no_map (λ (dev : ℕ). TwoHolders dev) (shared_dev slots) first.2);
     fields = ap₂ (λ (f : Option (ℕ × Bool)) (e : Option ℕ). option_or (option_map (λ (g : ℕ × Bool). BadField g.0) f) (option_map (λ (index : ℕ). BadField (256 + 2 * index)) e))
-        (fields-alone newest slots lies room parts.0) parts.1;
-    entries = entry-fine;
+        (fields-alone newest slots lies room parts.0) (least_below-none 384 (is_bad_entry newest) (λ j below. (entry-fine j below).1));
+    entries = λ j below. (entry-fine j below).1;
+    late = λ s sb is fresh j past below. each-fresh newest sectors (λ s. is_role (entry_of s.0 j)) 0 X (late-fine j past below) s sb is fresh;
   }

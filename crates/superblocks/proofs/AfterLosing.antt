@@ -99,7 +99,7 @@ module _ (scope : Scope) (known lost gone lost' left rest taken left' slot : ℕ
 
   half_fitting : (csum : ℕ) → IsFitting next (scope.sizes.sectors slot) (record Half { sb_csum = csum })
   half_fitting csum = planned-fitting scope former (own_in own slot) slot d (base.each slot (l.round.within slot l.is_left)) newest next (give_of gives slot) csum
-      (omega (arith, l.events, fit'.later)) (fit'.size ∙ l.fit.size)
+      (omega (arith, (fit scope known lost gone left rest slot former newest named gives own own' rest_own d l).table)) (omega (arith, l.events, fit'.later)) (fit'.size ∙ l.fit.size)
 
   half_idle : (role csum : ℕ) → role < 16 → held_in next role slot (Some (record Half { sb_csum = csum })) ≡ None
   half_idle role csum h = let k = base.each slot (l.round.within slot l.is_left) in n.faulty k.sb role k.own h
@@ -154,7 +154,7 @@ module _ (scope : Scope) (known lost gone lost' left rest taken left' slot : ℕ
         next_of s is p = new_of scope rest lost' named rest_own Mid mid_held left' sub' level' next gives' fit' next_own n.kept s is (c s) p
             (subst (λ (x : List Sector). IsIn x (c s 9)) (sym (put_ninth slot (d slot 8) m s)) (stage.ninth s (c s 9) (drawn s).1))
 
-        outside : IsOutside scope rest lost' named rest_own Mid mid_held next gives' left' fit' sub' next_own n.kept level' next refl fit'.devices slot c
+        outside : IsOutside scope rest lost' named rest_own Mid mid_held next gives' left' fit' sub' next_own n.kept level' next refl (omega (arith, fit'.table)) fit'.devices slot c
         outside = record {
           out = out';
           lost = over.more slot l.is_gone;
@@ -181,12 +181,12 @@ module _ (scope : Scope) (known lost gone lost' left rest taken left' slot : ℕ
         Changed s = (has_slot left' s ≡ true) × IsPlanned next (give_of gives' s) (own_in rest_own s) (c s 8)
 
         later : (t : ℕ) → Changed t → ((s : ℕ) → s < t → Kept s) → IsReadAs scope lost' (said_by scope left' next_own next) c
-        later t (is, p) below = mixed-reads scope rest lost' named rest_own Mid mid_held next gives' left' fit' sub' next_own n.kept level' next refl fit'.devices slot c (inr outside)
+        later t (is, p) below = mixed-reads scope rest lost' named rest_own Mid mid_held next gives' left' fit' sub' next_own n.kept level' next refl (omega (arith, fit'.table)) fit'.devices slot c (inr outside)
             (λ s there differ. ⊎_elim (λ was. inl (old_of s differ was)) (λ w. inr (w.0, next_of s w.0 w.1)) (stage.values s (c s 8) (drawn s).0))
             (λ s differ is'. n.none s is') (t, is, next_of t is p)
             (λ s sb low reads. elim (cases_eq s slot) [
               | inl same ↦ half_less sb (subst (λ (x : ℕ). own_at scope x (c x) ≡ Some sb) same reads)
-              | inr differ ↦ old-less scope rest lost' named rest_own Mid mid_held next gives' left' fit' sub' next_own n.kept level' next refl fit'.devices slot c s sb
+              | inr differ ↦ old-less scope rest lost' named rest_own Mid mid_held next gives' left' fit' sub' next_own n.kept level' next refl (omega (arith, fit'.table)) fit'.devices slot c s sb
                   (let there = (mid_held.each t (sub' t is)).there in omega (arith, low, there)) (old_of s differ (below s low)) reads
             ])
 
@@ -232,7 +232,7 @@ module _ (scope : Scope) (known lost gone lost' left rest taken left' slot : ℕ
         let f = half_fitting csum in
         let k = base.each slot (l.round.within slot l.is_left) in
         let events : Half.events ≡ newest.events = (planned-of newest k.sb (give_of gives slot)).events in
-        record { events = f.events; as_new = λ same. absurd (omega (arith, same, events, l.events, fit'.later)); bits = f.bits; room = f.room; within = f.within }
+        record { events = f.events; as_new = λ same. absurd (omega (arith, same, events, l.events, fit'.later)); bits = f.bits; room = f.room; within = f.within; late = f.late }
 
     module _ (lost'' taken' : ℕ) (whole : AreTaken next gives' rest_own taken' e) (some : (s : ℕ) × (has_slot taken' s ≡ true)) (within : (s : ℕ) → has_slot taken' s ≡ true → has_slot left' s ≡ true)
         (more : (s : ℕ) → has_slot lost' s ≡ true → has_slot lost'' s ≡ true) where

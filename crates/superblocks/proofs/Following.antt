@@ -83,6 +83,7 @@ known-stamped scope newest held held' s d k y = record {
       refused = b.refused;
       recovering = b.recovering;
       offset = b.offset;
+      late = b.late;
     }
 
 stamped_stored : (sb : Sb) (stored : Option Sb) → IsStored sb stored → IsStamped sb stored

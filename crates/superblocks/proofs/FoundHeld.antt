@@ -19,7 +19,7 @@ use Rattle.sb1.proofs.SuperblockLaws.{length-dev_roles, others-stand}
 use Rattle.bank.specs.Tape.{Contents, IsIn}
 use Rattle.superblocks.specs.declared.members.Members.{Members}
 use Rattle.superblocks.specs.Reading.{Scope, reading_by, superblocks, newest_of, is_seen, of_array, is_fresh, entry_of, holds_role, state_of, is_spare, lies_within, is_recovering, role_count, holder, holder_from, spares_from}
-use Rattle.superblocks.specs.Verdict.{is_role}
+use Rattle.superblocks.specs.Verdict.{is_role, is_bad_entry}
 use Rattle.superblocks.specs.Update.{own_in, is_live, is_held_by, role_from}
 use Rattle.superblocks.specs.Outcome.{set_of}
 use Rattle.superblocks.specs.Reads.{HasNoLateRoles, IsSuited, IsSound, held_in, spare_in, has_spare}
@@ -177,24 +177,37 @@ module _ (scope : Scope) (c : Contents) (d : ℕ → ℕ → List Sector) (m : M
 
   -- ---- the newest one
 
-  late-top : HasNoLateRoles N
-  late-top dev h = not_role (is_role (entry_of N dev)) (nat_le (role_count N) (entry_of N dev)) (any_below dev (λ before. entry_of N before == entry_of N dev)) (nat_le 128 dev) (accepted.entries dev) (at_least dev h)
-    where
-      at_least : (n : ℕ) → 128 ≤ n → nat_le 128 n ≡ true
-      at_least n h = grind (arith, nat_tests)
+  table-of : (s : ℕ) (sb : Sb) → own_at scope s (c s) ≡ Some sb → length sb.dev_roles ≡ 384
+  table-of s sb is = ap (λ (z : Sb). length z.dev_roles) (found-of scope s (c s) sb is).is ∙ length-dev_roles (c s 8 ++ c s 9) (in-bytes s sb is)
 
-      not_role : (a x y z : Bool) → (a && (x || y || z)) ≡ false → z ≡ true → a ≡ false
-      not_role false x y z e is = refl
-      not_role true true y z e is = absurd (cc)
-      not_role true false true z e is = absurd (cc)
-      not_role true false false true e is = absurd (cc)
-      not_role true false false false e is = absurd (cc)
+  table : length N.dev_roles ≡ 384
+  table = table-of top.slot N top-at
+
+  none-past : (sb : Sb) → length sb.dev_roles ≡ 384 → (dev : ℕ) → 384 ≤ dev → entry_of sb dev ≡ 0xfffe
+  none-past sb long dev h = by (nat_lt dev sb.max_dev)
+    where
+      by : (b : Bool) → cond b (get_or sb.dev_roles dev 0xfffe) 0xfffe ≡ 0xfffe
+      by true = get_or_past sb.dev_roles dev 0xfffe (omega (arith, h, long))
+      by false = refl
+
+  entries : (j : ℕ) → is_bad_entry N j ≡ false
+  entries j = elim (cases_lt j 384) [
+    | inl below ↦ accepted.entries j below
+    | inr past ↦ ap (λ e. is_role e && (nat_le (role_count N) e || any_below j (λ before. entry_of N before == e) || nat_le 128 j)) (none-past N table j past)
+  ]
+
+  -- no fresh one has a role from 128 on
+  late-is : (s : ℕ) (sb : Sb) → own_at scope s (c s) ≡ Some sb → is_fresh N sb ≡ true → HasNoLateRoles sb
+  late-is s sb is fresh dev h = elim (cases_lt dev 384) [
+    | inl below ↦ accepted.late s sb (in-list s sb is) fresh dev h below
+    | inr past ↦ ap is_role (none-past sb (table-of s sb is) dev past)
+  ]
+
+  late-top : HasNoLateRoles N
+  late-top = late-is top.slot N top-at fresh-top
 
   sound : IsSound N
   sound = record { fields = accepted.fields; room = accepted.room top.slot N top.there fresh-top; late = late-top }
-
-  table : length N.dev_roles ≡ 384
-  table = ap (λ (z : Sb). length z.dev_roles) (found-of scope top.slot (c top.slot) N top-at).is ∙ length-dev_roles (c top.slot 8 ++ c top.slot 9) (in-bytes top.slot N top-at)
 
   few-are : role_count N ≤ 16
   few-are = few-roles N (valid-shapes N [] accepted.fields)
@@ -202,16 +215,17 @@ module _ (scope : Scope) (c : Contents) (d : ℕ → ℕ → List Sector) (m : M
   suited : (s : ℕ) (sb : Sb) → own_at scope s (c s) ≡ Some sb → IsSuited N (scope.sizes.sectors s) sb
   suited s sb is = record {
     events = top.most s sb (in-list s sb is);
-    as_new = alike.level s sb is;
+    as_new = alike s sb is;
     bits = accepted.bits s sb (in-list s sb is);
     room = accepted.room s sb (in-list s sb is);
     within = accepted.within s sb (in-list s sb is);
+    late = λ fresh. late-is s sb is fresh;
   }
 
   -- ---- a role has one device, and so one slot
 
   below-count : (j r : ℕ) → r < 16 → entry_of N j ≡ r → r < role_count N
-  below-count j r h is = of (is_role (entry_of N j)) (nat_le (role_count N) (entry_of N j)) (any_below j (λ before. entry_of N before == entry_of N j)) (nat_le 128 j) refl (accepted.entries j)
+  below-count j r h is = of (is_role (entry_of N j)) (nat_le (role_count N) (entry_of N j)) (any_below j (λ before. entry_of N before == entry_of N j)) (nat_le 128 j) refl (entries j)
       (is-below (entry_of N j) 0xfffe (omega (arith, is, h)))
     where
       past : nat_le (role_count m.newest) (entry_of m.newest j) ≡ false → r < role_count m.newest
@@ -226,7 +240,7 @@ module _ (scope : Scope) (c : Contents) (d : ℕ → ℕ → List Sector) (m : M
       of false x y z is e so = absurd (cc)
 
   no-twin : (i j r : ℕ) → r < 16 → i < j → entry_of N i ≡ r → entry_of N j ≡ r → ⊥
-  no-twin i j r h lt is is' = of (is_role (entry_of N j)) (nat_le (role_count N) (entry_of N j)) (any_below j (λ before. entry_of N before == entry_of N j)) (nat_le 128 j) (accepted.entries j)
+  no-twin i j r h lt is is' = of (is_role (entry_of N j)) (nat_le (role_count N) (entry_of N j)) (any_below j (λ before. entry_of N before == entry_of N j)) (nat_le 128 j) (entries j)
       (is-below (entry_of N j) 0xfffe (omega (arith, is', h)))
       (any-here j (λ before. entry_of N before == entry_of N j) i lt (self (entry_of N i) (entry_of N j) (is ∙ sym is')))
     where
@@ -379,7 +393,7 @@ module _ (scope : Scope) (c : Contents) (d : ℕ → ℕ → List Sector) (m : M
     (sb.sb_csum, sym (read-is s found r) ∙ is),
     record {
       events = top.most s sb (in-list s sb is);
-      as_new = alike.level s sb is;
+      as_new = alike s sb is;
       fresh = fresh;
       number = refl;
       start = refl;
@@ -387,6 +401,7 @@ module _ (scope : Scope) (c : Contents) (d : ℕ → ℕ → List Sector) (m : M
       refused = refl;
       recovering = refl;
       offset = λ recovers. refl;
+      late = late-is s sb is fresh;
     },
   )
 
@@ -419,7 +434,7 @@ module _ (scope : Scope) (c : Contents) (d : ℕ → ℕ → List Sector) (m : M
         array = f.array;
         fresh = g.fresh;
         number = g.number;
-        late = alike.late s p.0 p.1;
+        late = late-is s p.0 p.1 g.fresh;
         lies = g.lies;
         suited = suited s p.0 p.1;
       }

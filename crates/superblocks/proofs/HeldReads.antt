@@ -80,7 +80,7 @@ stamped-part newest len lost slot csum sb = record {
 }
 
 pub fitting : (newest : Sb) (len : ℕ) (sb : Sb) → IsSuited newest len sb → IsFitting newest len sb
-fitting newest len sb s = record { events = s.events; bits = s.bits; room = s.room; within = s.within }
+fitting newest len sb s = record { events = s.events; bits = s.bits; room = s.room; within = s.within; late = s.late }
 
 pub stamped-suited : (newest : Sb) (len csum : ℕ) (sb : Sb) → IsSuited newest len sb → IsSuited newest len (record sb { sb_csum = csum })
 stamped-suited newest len csum sb s = record {
@@ -89,6 +89,7 @@ stamped-suited newest len csum sb s = record {
   bits = s.bits;
   room = s.room;
   within = s.within;
+  late = s.late;
 }
   where
     says : SaysSame newest sb → SaysSame newest (record sb { sb_csum = csum })

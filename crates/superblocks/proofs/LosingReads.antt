@@ -116,17 +116,17 @@ module _ (scope : Scope) (known lost gone left rest slot : ℕ) (former newest n
 
       -- where it is the lowest that is as new, the slot recovers
       recovering : ((s : ℕ) → s < slot → Kept s) → IsReadAs scope gone (said_by scope left own' newest) c
-      recovering below = mixed-reads scope known gone former own d held newest gives left fit l.round.within own' l.round.kept l.round.level named l.events
+      recovering below = mixed-reads scope known gone former own d held newest gives left fit l.round.within own' l.round.kept l.round.level named l.events (omega (arith, l.fit.table))
           (λ s sb is own_is none. l.fit.devices s sb (l.others s (λ same. absurd (let r = subst (λ (t : ℕ). is_recovery (give_of gives t) ≡ false) same none in let both = sym l.recovery ∙ r in cc)) ∙ is) own_is none)
           slot c (inl (l.is_left, new_here))
           (λ s there differ. ⊎_elim (λ was. inl (old_of s was)) (λ w. inr (rest_left s w.0, left_of s w.0 w.1)) (stage.values s (c s 8) differ (drawn s).0))
           still (slot, l.is_left, new_here)
-          (λ s sb low reads. old-less scope known gone former own d held newest gives left fit l.round.within own' l.round.kept l.round.level named l.events
+          (λ s sb low reads. old-less scope known gone former own d held newest gives left fit l.round.within own' l.round.kept l.round.level named l.events (omega (arith, l.fit.table))
           (λ s sb is own_is none. l.fit.devices s sb (l.others s (λ same. absurd (let r = subst (λ (t : ℕ). is_recovery (give_of gives t) ≡ false) same none in let both = sym l.recovery ∙ r in cc)) ∙ is) own_is none)
           slot c s sb (let there = slot_there in omega (arith, low, there)) (old_of s (below s low).1) reads)
 
       -- else it is named
-      outside : IsOutside scope known gone former own d held named gives rest l.fit rest_sub rest_own l.kept rest_level named refl l.fit.devices slot c
+      outside : IsOutside scope known gone former own d held named gives rest l.fit rest_sub rest_own l.kept rest_level named refl (omega (arith, l.fit.table)) l.fit.devices slot c
       outside =
           let k = held.each slot (l.round.within slot l.is_left) in
           let p : Sb = planned newest (give_of gives slot) k.sb in
@@ -136,7 +136,7 @@ module _ (scope : Scope) (known lost gone left rest slot : ℕ) (former newest n
             fits = λ sb reads.
                 let same : record p { sb_csum = new_here.0 } ≡ sb = (let both : Some (record p { sb_csum = new_here.0 }) ≡ Some sb = sym new_here.1 ∙ reads in cc) in
                 subst (λ (z : Sb). IsFitting named (scope.sizes.sectors slot) z) same
-                (planned-fitting scope former (own_in own slot) slot d k newest named (give_of gives slot) new_here.0 (omega (arith, l.events)) l.fit.size);
+                (planned-fitting scope former (own_in own slot) slot d k newest named (give_of gives slot) new_here.0 (omega (arith, fit.table)) (omega (arith, l.events)) l.fit.size);
             role = λ role h. ap (held_in named role slot) new_here.1 ∙ l.faulty k.sb role k.own h;
             apart = λ sb reads t b differ shown fresh number.
                 let same : record p { sb_csum = new_here.0 } ≡ sb = (let both : Some (record p { sb_csum = new_here.0 }) ≡ Some sb = sym new_here.1 ∙ reads in cc) in
@@ -145,10 +145,10 @@ module _ (scope : Scope) (known lost gone left rest slot : ℕ) (former newest n
           }
 
       without : (t : ℕ) (is : has_slot rest t ≡ true) → IsPlanned named (give_of gives t) (own_in own t) (c t 8) → ((s : ℕ) → s < t → Kept s) → IsReadAs scope gone (said_by scope rest rest_own named) c
-      without t is p below = mixed-reads scope known gone former own d held named gives rest l.fit rest_sub rest_own l.kept rest_level named refl l.fit.devices slot c (inr outside)
+      without t is p below = mixed-reads scope known gone former own d held named gives rest l.fit rest_sub rest_own l.kept rest_level named refl (omega (arith, l.fit.table)) l.fit.devices slot c (inr outside)
           (λ s there differ. ⊎_elim (λ was. inl (old_of s was)) (λ w. inr (w.0, rest_of s w.0 w.1)) (stage.values s (c s 8) differ (drawn s).0))
           (λ s differ is'. still s differ (rest_left s is')) (t, is, rest_of t is p)
-          (λ s sb low reads. old-less scope known gone former own d held named gives rest l.fit rest_sub rest_own l.kept rest_level named refl l.fit.devices slot c s sb
+          (λ s sb low reads. old-less scope known gone former own d held named gives rest l.fit rest_sub rest_own l.kept rest_level named refl (omega (arith, l.fit.table)) l.fit.devices slot c s sb
           (let there = (held.each t (rest_sub t is)).there in omega (arith, low, there)) (old_of s (below s low).1) reads)
 
       pub new-reads : IsReadAs scope gone (said_by scope left own' newest) c ⊎ IsReadAs scope gone (said_by scope rest rest_own named) c

@@ -14,7 +14,7 @@ use Rattle.superblocks.specs.Held.{own_at, MayRead, IsStamped, IsKnown, Shows, A
 use Rattle.superblocks.specs.Stages.{IsDeviceKept, IsFitPlan, AreKept}
 use Rattle.superblocks.proofs.ReadLists.{by_bool}
 use Rattle.superblocks.proofs.HeldReads.{AreLike, read-like, fitting, stamped-suited, known_at, no-part}
-use Rattle.superblocks.proofs.PlannedSb.{planned-of}
+use Rattle.superblocks.proofs.PlannedSb.{planned-of, planned-late}
 use Rattle.superblocks.proofs.PlanFits.{shown-of}
 use Rattle.superblocks.proofs.UpdateReads.{part-of, fresh_less, fresh_back, before-later, before-planned, planned-suited, known_suited, other_suited}
 
@@ -36,8 +36,8 @@ least-or-all (suc n) P Q each = of (least-or-all n P Q (λ s h. each s (omega (a
 
 -- what is planned by one newest superblock fits another one that isn't older
 pub planned-fitting : (scope : Scope) (former : Sb) (held : Option Sb) (slot : ℕ) (d : Disk) (k : IsKnown scope former held slot d) (other newest : Sb) (g : Give) (csum : ℕ)
-    → other.events ≤ newest.events → newest.size ≡ former.size → IsFitting newest (scope.sizes.sectors slot) (record (planned other g k.sb) { sb_csum = csum })
-planned-fitting scope former held slot d k other newest g csum le size =
+    → 128 ≤ length other.dev_roles → other.events ≤ newest.events → newest.size ≡ former.size → IsFitting newest (scope.sizes.sectors slot) (record (planned other g k.sb) { sb_csum = csum })
+planned-fitting scope former held slot d k other newest g csum wide le size =
     let p = planned-of other k.sb g in
     let enough = k.suited.room k.fresh in
     record {
@@ -45,12 +45,13 @@ planned-fitting scope former held slot d k other newest g csum le size =
       bits = λ fresh. p.refused ∙ k.suited.bits k.fresh;
       room = λ fresh. omega (arith, enough, p.table);
       within = λ fresh holds. (λ i. nat_le 10 (p.start i) && nat_le (p.start i + size i) (scope.sizes.sectors slot)) ∙ k.lies;
+      late = λ fresh. planned-late other k.sb (planned other g k.sb) p wide k.late;
     }
 
 module _ (scope : Scope) (known gone : ℕ) (former : Sb) (own : List (Option Sb)) (d : Disk) (held : AreHeld scope known gone former own d)
     (newest : Sb) (gives : List Give) (left : ℕ) (fit : IsFitPlan scope gone former newest gives own left d) (sub : (s : ℕ) → has_slot left s ≡ true → has_slot known s ≡ true)
     (own' : List (Option Sb)) (kept : AreKept newest gives own left own') (level : AreLevel scope left former d)
-    (other : Sb) (as_late : other.events ≡ newest.events)
+    (other : Sb) (as_late : other.events ≡ newest.events) (wide : 128 ≤ length other.dev_roles)
     (devices : (s : ℕ) (sb : Sb) → has_slot left s ≡ true → own_in own s ≡ Some sb → is_recovery (give_of gives s) ≡ false → IsDeviceKept other (give_of gives s) sb)
     (r : ℕ) (c : Contents) where
   -- what is planned by one of the newest superblocks
@@ -103,11 +104,11 @@ module _ (scope : Scope) (known gone : ℕ) (former : Sb) (own : List (Option Sb
         (λ none. fitting newest (scope.sizes.sectors s) sb (other_suited scope known gone former own d held newest gives left fit sub own' kept s sb there none (subst (MayRead scope d s) reads old)))
         (by_bool (has_slot left s))
 
-    by_suited : (by : Sb) (s : ℕ) (is : has_slot left s ≡ true) (sb : Sb) → by.events ≡ newest.events → own_at scope s (c s) ≡ Some sb → By by s is → IsFitting newest (scope.sizes.sectors s) sb
-    by_suited by s is sb late reads b =
+    by_suited : (by : Sb) (s : ℕ) (is : has_slot left s ≡ true) (sb : Sb) → 128 ≤ length by.dev_roles → by.events ≡ newest.events → own_at scope s (c s) ≡ Some sb → By by s is → IsFitting newest (scope.sizes.sectors s) sb
+    by_suited by s is sb wide_by late reads b =
         let k = held.each s (sub s is) in
         subst (IsFitting newest (scope.sizes.sectors s)) (stamped_is (planned by (give_of gives s) k.sb) sb s b reads)
-        (planned-fitting scope former (own_in own s) s d k by newest (give_of gives s) b.0 (omega (arith, late)) fit.size)
+        (planned-fitting scope former (own_in own s) s d k by newest (give_of gives s) b.0 wide_by (omega (arith, late)) fit.size)
 
     suited : (s : ℕ) (sb : Sb) → s < scope.sizes.slots → own_at scope s (c s) ≡ Some sb → IsFitting newest (scope.sizes.sectors s) sb
     suited s sb there reads = elim (cases_eq s r) [
@@ -116,11 +117,11 @@ module _ (scope : Scope) (known gone : ℕ) (former : Sb) (own : List (Option Sb
     ]
       where
         at_r : own_at scope r (c r) ≡ Some sb → IsFitting newest (scope.sizes.sectors r) sb
-        at_r it = ⊎_elim (λ b. by_suited newest r b.0 sb refl it b.1) (λ o. o.fits sb it) special
+        at_r it = ⊎_elim (λ b. by_suited newest r b.0 sb table refl it b.1) (λ o. o.fits sb it) special
 
         at_s : Old s ⊎ ((is : has_slot left s ≡ true) × By other s is) → IsFitting newest (scope.sizes.sectors s) sb
         at_s (inl old) = old_suited s sb there reads old
-        at_s (inr (is, b)) = by_suited other s is sb as_late reads b
+        at_s (inr (is, b)) = by_suited other s is sb wide as_late reads b
 
     as_new : (s : ℕ) (sb : Sb) → s < scope.sizes.slots → s ≤ top.0 → own_at scope s (c s) ≡ Some sb → sb.events ≡ newest.events → IsNewestLike newest sb
     as_new s sb there low reads same = elim (cases_lt s top.0) [

@@ -417,7 +417,7 @@ module _ (scope : Scope) (known lost gone left wide before : ℕ) (members : Mem
   sound : IsSound newest
   sound = record {
     fields = ap₂ (λ (f : Option (ℕ × Bool)) (e : Option ℕ). option_or (option_map (λ (g : ℕ × Bool). BadField g.0) f) (option_map (λ (index : ℕ). BadField (256 + 2 * index)) e))
-        next.fields (least_below-none newest.max_dev (is_bad_entry newest) (λ j h. good_entry j));
+        next.fields (least_below-none 384 (is_bad_entry newest) (λ j h. good_entry j));
     room = omega (arith, held.sound.room, next.room);
     late = late;
   }

@@ -187,6 +187,11 @@ planned-of N own (give.Role role None) =
     planned-with N own (bit_and map (2 ^ 32 - 1 - 2)) 0 (clear_bit map 2 1 refl ∙ no_less (bit_at map 2) (bit_at-lt map 2) ∙ bit-2 own.feature_map N.feature_map)
     (clear_bit map 5 1 refl ∙ no_less (bit_at map 5) (bit_at-lt map 5) ∙ bit-5 own.feature_map N.feature_map) (clear-refused map ∙ shared-refused own.feature_map N.feature_map)
 
+-- its role entries from 128 on are its own
+pub planned-late : (N own sb : Sb) → IsPlannedOf N own sb → 128 ≤ length N.dev_roles → HasNoLateRoles own → HasNoLateRoles sb
+planned-late N own sb p long late dev h =
+    ap is_role ((λ i. cond (nat_lt dev (p.table i)) (get_or (p.roles i) dev 0xfffe) 0xfffe) ∙ ap (λ e. cond (nat_lt dev own.max_dev) e 0xfffe) (joined_back N.dev_roles own.dev_roles dev long h)) ∙ late dev h
+
 -- as the newest it would say the same
 pub planned-new : (N own sb : Sb) → IsPlannedOf N own sb → 128 ≤ length N.dev_roles → 128 ≤ N.max_dev → 128 ≤ own.max_dev → HasNoLateRoles own → IsNewestLike N sb
 planned-new N own sb p long room room' late = record {
@@ -195,7 +200,7 @@ planned-new N own sb p long room room' late = record {
       ap (λ b. cond b (get_or N.dev_roles dev 0xfffe) 0xfffe) (is_below dev N.max_dev (omega (arith, h, room)))
       ∙ sym (joined_front N.dev_roles own.dev_roles dev long h) ∙ (λ i. get_or (sym p.roles i) dev 0xfffe)
       ∙ sym (ap (λ b. cond b (get_or sb.dev_roles dev 0xfffe) 0xfffe) (is_below dev sb.max_dev (omega (arith, h, p.table, room'))));
-  late = λ dev h. ap is_role ((λ i. cond (nat_lt dev (p.table i)) (get_or (p.roles i) dev 0xfffe) 0xfffe) ∙ ap (λ e. cond (nat_lt dev own.max_dev) e 0xfffe) (joined_back N.dev_roles own.dev_roles dev long h)) ∙ late dev h;
+  late = planned-late N own sb p long late;
 }
   where
     is_below : (a b : ℕ) → a < b → nat_lt a b ≡ true

@@ -20,7 +20,7 @@ use Rattle.sb1.specs.Features.{refused_bits}
 use Rattle.geometry.specs.Geometry.{unit}
 use Rattle.layout.specs.Layout.{is_parity_only}
 use Rattle.superblocks.specs.Reading.{Reading, reading_by, reading_of, role_state, holder, is_reshaping, shape_of, target_of, final_shape, shapes_in_force, role_count, list_length, count_of, is_fresh, entry_of, holds_role, state_of, holder_from, spares_from, is_recovering, lies_within}
-use Rattle.superblocks.specs.Verdict.{members_missing, dirty_degraded, off_unit, unit_of, first_of_all, bad_field, judged_fields, is_bad_entry, is_bad_size, is_role, is_holder, fresh_from, two_holders, too_many, missing_count, is_missing}
+use Rattle.superblocks.specs.Verdict.{members_missing, dirty_degraded, off_unit, unit_of, first_of_all, bad_field, judged_fields, is_bad_entry, is_late_entry, first_bad_entry, is_bad_size, is_role, is_holder, fresh_from, two_holders, too_many, missing_count, is_missing}
 use Rattle.superblocks.specs.Reads.{SaysSame, IsNewestLike, HaveSameDevice, has_spare, held_in, spare_in, roles_refusal, IsSound, AreReadLike, IsSameReading}
 use Rattle.superblocks.proofs.ReadLists.{Own, IsTop, has-newest, held-here, holder-same, spares-at, none-fresh, none-unsupported, none-shared}
 use Rattle.superblocks.proofs.ValidFields.{valid-shapes, few-roles}
@@ -222,7 +222,7 @@ module _ (M N : Sb) (sound : IsSound M) (events : N.events ≡ M.events) (new : 
   -- no role entry is bad
   entry-good : (j : ℕ) → is_bad_entry N j ≡ false
   entry-good j = elim (cases_lt j 128) [
-    | inl below ↦ sym (same j below) ∙ none_below M.max_dev (is_bad_entry M) j (omega (arith, below, sound.room)) (no_entry (find (λ (f : ℕ × Bool). f.1) (judged_fields M [])) (least_below M.max_dev (is_bad_entry M)) sound.fields)
+    | inl below ↦ sym (same j below) ∙ none_below 384 (is_bad_entry M) j (omega (arith, below)) (no_entry (find (λ (f : ℕ × Bool). f.1) (judged_fields M [])) (first_bad_entry M []) sound.fields)
     | inr past ↦ ap (λ b. b && (nat_le (role_count N) (entry_of N j) || any_below j (λ before. entry_of N before == entry_of N j) || nat_le 128 j)) (new.late j past)
   ]
     where
@@ -271,12 +271,25 @@ module _ (sectors : ℕ → ℕ) (lost : ℕ) (M N : Sb) (X Y : Own) (sound : Is
       fails true b h = ap not (h refl)
       fails false b h = refl
 
+  none-late : (j : ℕ) → is_late_entry (fresh_from N sectors 0 X) j ≡ false
+  none-late j = elim (cases_lt j 128) [
+    | inl below ↦ never (list_any (λ s. is_role (entry_of s.0 j)) (fresh_from N sectors 0 X)) (nat_le 128 j) (before j below)
+    | inr past ↦ ap (λ b. b && nat_le 128 j) (none-fresh N sectors (λ s. is_role (entry_of s.0 j)) 0 X (λ k sb is fresh. (like.suited k sb is).late (fresh-by sb fresh) j past))
+  ]
+    where
+      before : (j : ℕ) → j < 128 → nat_le 128 j ≡ false
+      before j h = grind (arith, nat_tests)
+
+      never : (a b : Bool) → b ≡ false → (a && b) ≡ false
+      never true b is = is
+      never false b is = refl
+
   no_field : bad_field N (fresh_from N sectors 0 X) ≡ None
   no_field =
       let fields = fields-same M N new.array (ap (λ (n : ℕ). nat_lt n (2 ^ 62)) (sym events)) (list_any (λ s. is_holder N s.0 && not (lies_within N s.1 s.0)) (fresh_from N sectors 0 X)) (list_any (λ s. nat_lt s.0.max_dev 128) (fresh_from N sectors 0 X)) lies has_room in
       ap₂ (λ f e. option_or (option_map (λ (f : ℕ × Bool). BadField f.0) f) (option_map (λ (index : ℕ). BadField (256 + 2 * index)) e))
-      (sym fields ∙ none (find (λ (f : ℕ × Bool). f.1) (judged_fields M [])) (option_map (λ (index : ℕ). BadField (256 + 2 * index)) (least_below M.max_dev (is_bad_entry M))) sound.fields)
-      (least_below-none N.max_dev (is_bad_entry N) (λ j h. entry-good M N sound events new j))
+      (sym fields ∙ none (find (λ (f : ℕ × Bool). f.1) (judged_fields M [])) (option_map (λ (index : ℕ). BadField (256 + 2 * index)) (first_bad_entry M [])) sound.fields)
+      (least_below-none 384 (λ j. is_late_entry (fresh_from N sectors 0 X) j || is_bad_entry N j) (λ j h. ap₂ (λ a b. a || b) (none-late j) (entry-good M N sound events new j)))
     where
       none : (a : Option (ℕ × Bool)) (b : Option Refusal) → option_or (option_map (λ (f : ℕ × Bool). BadField f.0) a) b ≡ None → a ≡ None
       none None b e = refl

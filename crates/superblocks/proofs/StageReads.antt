@@ -15,7 +15,7 @@ use Rattle.superblocks.specs.Held.{AreDrawn, own_at, MayRead, IsStamped, IsKnown
 use Rattle.superblocks.specs.Stages.{IsCatchingUp, IsTaking, AreTaken, IsFitPlan, AreKept}
 use Rattle.superblocks.proofs.ReadLists.{by_bool}
 use Rattle.superblocks.proofs.HeldReads.{drawn-may_read, stamped-suited}
-use Rattle.superblocks.proofs.PlannedSb.{planned-of, planned-new, joined_drop}
+use Rattle.superblocks.proofs.PlannedSb.{planned-of, planned-new, planned-late, joined_drop}
 use Rattle.superblocks.proofs.UpdateReads.{ReadsLevel, caught-reads, new-reads, some-or-all, before-reads, later-reads, planned-suited, before-planned, fresh_less, other_suited, other_shows}
 
 abbrev Disk : Type 0
@@ -237,6 +237,7 @@ module _ (scope : Scope) (known lost : ℕ) (former : Sb) (own : List (Option Sb
             refused = refl;
             recovering = refl;
             offset = λ recovers. refl;
+            late = planned-late newest k.sb p of (omega (arith, fit.table)) k.late;
           }
 
       level-before : (s : ℕ) (is : has_slot left s ≡ true) (csum : ℕ) (found : Option Sb) → is_recovery (give_of gives s) ≡ false → ReadsLevel former (held.each s (sub s is)).sb found
@@ -257,6 +258,7 @@ module _ (scope : Scope) (known lost : ℕ) (former : Sb) (own : List (Option Sb
               refused = l.2.refused ∙ sym of.refused;
               recovering = one.recovering;
               offset = one.offset;
+              late = l.2.late;
             },
           )
 

@@ -18,7 +18,7 @@ use Rattle.superblocks.specs.Held.{own_at, MayRead, IsStamped, IsKnown, IsBefore
 use Rattle.superblocks.specs.Stages.{IsDeviceKept, IsFitPlan, AreKept}
 use Rattle.superblocks.proofs.ReadLists.{by_bool}
 use Rattle.superblocks.proofs.HeldReads.{AreLike, read-like, fitting, stamped-suited, known_at, no-part}
-use Rattle.superblocks.proofs.PlannedSb.{planned-of, planned-new, recovering-same}
+use Rattle.superblocks.proofs.PlannedSb.{planned-of, planned-new, planned-late, recovering-same}
 use Rattle.superblocks.proofs.WrittenReads.{planned-stamped}
 use Rattle.superblocks.proofs.ValidFields.{valid-shapes, few-roles}
 
@@ -73,6 +73,7 @@ module _ (scope : Scope) (former : Sb) (held : Option Sb) (slot : ℕ) (d : Disk
         refused = p.refused;
         recovering = recovering-same former k.sb;
         offset = λ recovers. refl;
+        late = planned-late former k.sb (planned former Same k.sb) p (omega (arith, long)) k.late;
       }
 
   lies-before : (newest sb : Sb) → newest.size ≡ former.size → sb.data_offset ≡ k.sb.data_offset → lies_within newest (scope.sizes.sectors slot) sb ≡ true
@@ -86,6 +87,7 @@ module _ (scope : Scope) (former : Sb) (held : Option Sb) (slot : ℕ) (d : Disk
     bits = λ fresh. b.refused ∙ k.suited.bits k.fresh;
     room = λ fresh. let h = k.suited.room k.fresh in omega (arith, h, b.table);
     within = λ fresh holds. lies-before former sb refl b.start;
+    late = λ fresh. b.late;
   }
 
   pub before-later : (newest sb : Sb) → newest.events ≡ former.events + 1 → newest.size ≡ former.size → IsBefore former k.sb sb → IsSuited newest (scope.sizes.sectors slot) sb
@@ -95,6 +97,7 @@ module _ (scope : Scope) (former : Sb) (held : Option Sb) (slot : ℕ) (d : Disk
     bits = λ fresh. b.refused ∙ k.suited.bits k.fresh;
     room = λ fresh. let h = k.suited.room k.fresh in omega (arith, h, b.table);
     within = λ fresh holds. lies-before newest sb size b.start;
+    late = λ fresh. b.late;
   }
 
   pub planned-suited : (newest : Sb) (g : Give) → newest.size ≡ former.size → 128 ≤ length newest.dev_roles → 128 ≤ newest.max_dev → IsSuited newest (scope.sizes.sectors slot) (planned newest g k.sb)
@@ -107,6 +110,7 @@ module _ (scope : Scope) (former : Sb) (held : Option Sb) (slot : ℕ) (d : Disk
         bits = λ fresh. p.refused ∙ k.suited.bits k.fresh;
         room = λ fresh. omega (arith, enough, p.table);
         within = λ fresh holds. lies-before newest (planned newest g k.sb) size p.start;
+        late = λ fresh. planned-late newest k.sb (planned newest g k.sb) p table k.late;
       }
 
   pub before-own : (sb : Sb) → IsBefore former k.sb sb → AreOneDevice former sb k.sb
@@ -138,6 +142,7 @@ other-later former newest len slot sb sound later idle s = record {
       absurd (let none = idle (entry_of newest sb.dev_number) (omega (arith, below, few)) in
       let some : held_in newest (entry_of newest sb.dev_number) slot (Some sb) ≡ Some (state_of slot sb) = (λ i. cond (fresh i && is_same (entry_of newest sb.dev_number) i) (Some (state_of slot sb)) None) in
       let both = sym none ∙ some in cc);
+  late = λ fresh. s.late (fresh_back newest.events former.events sb.events later fresh);
 }
   where
     is_less : (a b : ℕ) → nat_lt a b ≡ true → a < b

@@ -8,10 +8,9 @@ use Rattle.md_base.specs.declared.places.Shape.{Shape}
 use Rattle.md_base.specs.declared.answers.Refusal.{Refusal}
 use Rattle.md_base.specs.declared.answers.Refusal.TheVariants.{BadField}
 use Rattle.md_base.specs.Shapes.{is_level, is_layout, is_chunk, is_disk_count, is_valid_shape}
-use Rattle.md_base.specs.Search.{least_below}
 use Rattle.sb1.specs.declared.sb.Sb.{Sb}
 use Rattle.superblocks.specs.Reading.{is_reshaping, shape_of, final_shape, role_count, count_of}
-use Rattle.superblocks.specs.Verdict.{judged_fields, bad_field, is_bad_entry, AreValidShapes}
+use Rattle.superblocks.specs.Verdict.{judged_fields, bad_field, first_bad_entry, AreValidShapes}
 
 -- each test of the list fails
 AllFalse : List (ℕ × Bool) → Type 0
@@ -71,7 +70,7 @@ passed : (sb : Sb) (slots : List (Sb × ℕ)) → bad_field sb slots ≡ None �
 unfolding AllFalse
 passed sb slots e =
     let h : AllFalse (judged_fields sb slots) = all_false (judged_fields sb slots)
-    (found_none (find (λ f. f.1) (judged_fields sb slots)) (option_map (λ index. BadField (256 + 2 * index)) (least_below sb.max_dev (is_bad_entry sb))) e) in
+    (found_none (find (λ f. f.1) (judged_fields sb slots)) (option_map (λ index. BadField (256 + 2 * index)) (first_bad_entry sb slots)) e) in
     record {
       level = is_so (is_level sb.level) h.0;
       layout = is_so (is_layout sb.level sb.layout) h.1.0;
@@ -139,5 +138,5 @@ pub few-events : (sb : Sb) (slots : List (Sb × ℕ)) → bad_field sb slots ≡
 unfolding AllFalse
 few-events sb slots e =
     let h : AllFalse (judged_fields sb slots) = all_false (judged_fields sb slots)
-    (found_none (find (λ f. f.1) (judged_fields sb slots)) (option_map (λ index. BadField (256 + 2 * index)) (least_below sb.max_dev (is_bad_entry sb))) e) in
+    (found_none (find (λ f. f.1) (judged_fields sb slots)) (option_map (λ index. BadField (256 + 2 * index)) (first_bad_entry sb slots)) e) in
     is_less sb.events (2 ^ 62) h.1.1.1.1.1.1.1.1.1.1.1.0

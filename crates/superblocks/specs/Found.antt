@@ -5,13 +5,12 @@ use Rattle.sb1.specs.declared.sb.Sb.{Sb}
 use Rattle.bank.specs.Tape.{Contents}
 use Rattle.superblocks.specs.Reading.{Scope}
 use Rattle.superblocks.specs.Update.{own_in}
-use Rattle.superblocks.specs.Reads.{HasNoLateRoles, IsNewestLike}
+use Rattle.superblocks.specs.Reads.{IsNewestLike}
 use Rattle.superblocks.specs.Held.{own_at}
 
--- One that is as new as the newest says the same, and none has a role for a device number from 128 on.
-pub record AreLikeNewest (scope : Scope) (newest : Sb) (c : Contents) : Type 0 where
-  pub level : (s : ℕ) (sb : Sb) → own_at scope s (c s) ≡ Some sb → sb.events ≡ newest.events → IsNewestLike newest sb
-  pub late : (s : ℕ) (sb : Sb) → own_at scope s (c s) ≡ Some sb → HasNoLateRoles sb
+-- Each that is as new as the newest says the same.
+abbrev pub AreLikeNewest : Scope → Sb → Contents → Type 0
+AreLikeNewest scope newest c = (s : ℕ) (sb : Sb) → own_at scope s (c s) ≡ Some sb → sb.events ≡ newest.events → IsNewestLike newest sb
 
 -- two sectors of bytes
 pub record IsInSectors (at : ℕ → Sector) : Type 0 where

@@ -30,8 +30,8 @@ pub record MayRead (scope : Scope) (d : ℕ → ℕ → List Sector) (slot : ℕ
 abbrev pub IsStamped : Sb → Option Sb → Type 0
 IsStamped sb found = (csum : ℕ) × (found ≡ Some (record sb { sb_csum = csum }))
 
--- A superblock beside the one that is kept of its slot: fresh, not newer than the newest and saying the same where it is as new, and with
--- the same fields of the device.
+-- A superblock beside the one that is kept of its slot: fresh, not newer than the newest and saying the same where it is as new, with the
+-- same fields of the device, and no role for a device number from 128 on.
 pub record IsBefore (newest own sb : Sb) : Type 0 where
   pub events : sb.events ≤ newest.events
   pub as_new : sb.events ≡ newest.events → IsNewestLike newest sb
@@ -42,6 +42,7 @@ pub record IsBefore (newest own sb : Sb) : Type 0 where
   pub refused : refused_bits sb.feature_map ≡ refused_bits own.feature_map
   pub recovering : is_recovering sb ≡ is_recovering own
   pub offset : is_recovering own ≡ true → sb.recovery_offset ≡ own.recovery_offset
+  pub late : HasNoLateRoles sb
 
 -- such a one, but for its checksum
 abbrev pub ReadsBefore : Sb → Sb → Option Sb → Type 0

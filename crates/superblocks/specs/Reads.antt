@@ -82,6 +82,7 @@ pub record IsSuited (newest : Sb) (slot_length : ℕ) (sb : Sb) : Type 0 where
   pub bits : is_fresh newest sb ≡ true → refused_bits sb.feature_map ≡ 0
   pub room : is_fresh newest sb ≡ true → 128 ≤ sb.max_dev
   pub within : is_fresh newest sb ≡ true → is_holder newest sb ≡ true → lies_within newest slot_length sb ≡ true
+  pub late : is_fresh newest sb ≡ true → HasNoLateRoles sb
 
 -- Such a one, whatever it says where it is as new.
 pub record IsFitting (newest : Sb) (slot_length : ℕ) (sb : Sb) : Type 0 where
@@ -89,6 +90,7 @@ pub record IsFitting (newest : Sb) (slot_length : ℕ) (sb : Sb) : Type 0 where
   pub bits : is_fresh newest sb ≡ true → refused_bits sb.feature_map ≡ 0
   pub room : is_fresh newest sb ≡ true → 128 ≤ sb.max_dev
   pub within : is_fresh newest sb ≡ true → is_holder newest sb ≡ true → lies_within newest slot_length sb ≡ true
+  pub late : is_fresh newest sb ≡ true → HasNoLateRoles sb
 
 -- two slots that by this newest one have the same part in the array
 pub record HaveSamePart (newest : Sb) (slot_length lost slot : ℕ) (x y : Option Sb) : Type 0 where

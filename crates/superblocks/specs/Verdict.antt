@@ -44,6 +44,14 @@ is_bad_entry newest index =
     || any_below index (λ before. entry_of newest before == entry_of newest index)
     || nat_le 128 index)
 
+-- of these superblocks one has a role for this device number, from 128 on
+abbrev pub is_late_entry : List (Sb × ℕ) → ℕ → Bool
+is_late_entry slots index = list_any (λ s. is_role (entry_of s.0 index)) slots && nat_le 128 index
+
+-- the first of 384 role entries that can't be: in the newest superblock, or from 128 on in that of any fresh slot
+abbrev pub first_bad_entry : Sb → List (Sb × ℕ) → Option ℕ
+first_bad_entry newest slots = least_below 384 (λ index. is_late_entry slots index || is_bad_entry newest index)
+
 -- the size is within its limits, and a multiple of each chunk in force
 abbrev pub is_bad_size : Sb → Bool
 is_bad_size sb =
@@ -71,7 +79,7 @@ judged_fields sb slots =
 abbrev pub bad_field : Sb → List (Sb × ℕ) → Option Refusal
 bad_field sb slots =
     option_or (option_map (λ f. BadField f.0) (find (λ f. f.1) (judged_fields sb slots)))
-    (option_map (λ index. BadField (256 + 2 * index)) (least_below sb.max_dev (is_bad_entry sb)))
+    (option_map (λ index. BadField (256 + 2 * index)) (first_bad_entry sb slots))
 
 abbrev pub has_dev : ℕ → List (Sb × ℕ) → Bool
 has_dev dev slots = list_any (λ s. s.0.dev_number == dev) slots

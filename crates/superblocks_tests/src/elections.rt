@@ -91,6 +91,7 @@ struct Said {
     events: u64,
     resync: u64,
     entry: u16,
+    late: u16,
 }
 
 const PLAIN: Said = Said {
@@ -102,13 +103,16 @@ const PLAIN: Said = Said {
     events: 9,
     resync: u64::MAX,
     entry: 0xfffe,
+    late: 0xfffe,
 };
 
 fn superblock(said: &Said) -> Sb {
     let plain = reshaping();
     let mut roles = plain.dev_roles;
     roles[3] = said.entry;
+    roles[130] = said.late;
     Sb {
+        max_dev: 384,
         dev_number: said.number,
         feature_map: said.features,
         size: said.size,
@@ -138,7 +142,7 @@ const UNEVEN: Said = Said {
 };
 
 // Two superblocks, each in a slot of 144 sectors, and what is answered.
-const OF_TWO: [(Said, Said, Answer); 10] = [
+const OF_TWO: [(Said, Said, Answer); 12] = [
     // each refusal of the roles where those before it don't come
     (PLAIN, SECOND, Ok((9, &[A, B, NONE], 0))),
     (
@@ -162,6 +166,9 @@ const OF_TWO: [(Said, Said, Answer); 10] = [
     (RECOVERING, PLAIN, Err(Refusal::TwoHolders(0))),
     // each refusal of the slots, with two slots of one number
     (ENTERED, PLAIN, Err(Refusal::BadField(262))),
+    // a role from 128 on counts in either of the two
+    (Said { late: 2, ..PLAIN }, PLAIN, Err(Refusal::BadField(516))),
+    (PLAIN, Said { late: 2, ..PLAIN }, Err(Refusal::BadField(516))),
     (
         ENTERED,
         Said {

@@ -6,7 +6,6 @@ use Rattle.std.specs.Option.{option_or}
 use Rattle.std.proofs.lemmas.Bool.Decides.{nat_tests}
 use Rattle.md_base.specs.Sectors.{Sector}
 use Rattle.md_base.specs.Shapes.{has_slot}
-use Rattle.md_base.specs.Search.{least_below}
 use Rattle.md_base.specs.declared.answers.Refusal.{Refusal}
 use Rattle.md_base.specs.declared.answers.Refusal.TheVariants.{BadField}
 use Rattle.md_base.specs.declared.status.Role.{Role}
@@ -17,7 +16,7 @@ use Rattle.superblocks.specs.declared.change.Give.TheVariants.{Same}
 use Rattle.superblocks.specs.declared.change.Change.{Change}
 use Rattle.superblocks.specs.declared.members.Members.{Members}
 use Rattle.superblocks.specs.Reading.{Scope, role_count, holder}
-use Rattle.superblocks.specs.Verdict.{judged_fields, bad_field, is_bad_entry}
+use Rattle.superblocks.specs.Verdict.{judged_fields, bad_field, first_bad_entry}
 use Rattle.superblocks.specs.Update.{give_of, is_held_by, is_recovery, planned_role, is_planned_spare}
 use Rattle.superblocks.specs.Updating.{planned_newest}
 use Rattle.superblocks.specs.Outcome.{live_set}
@@ -103,7 +102,7 @@ module _ (newest : Sb) (resync : ℕ) where
       (is-below newest.events (2 ^ 62) now ∙ sym (is-below events (2 ^ 62) less)) none
 
 pub none-judged : (newest : Sb) → bad_field newest [] ≡ None → find (λ f. f.1) (judged_fields newest []) ≡ None
-none-judged newest e = found_none (find (λ f. f.1) (judged_fields newest [])) (option_map (λ (index : ℕ). BadField (256 + 2 * index)) (least_below newest.max_dev (is_bad_entry newest))) e
+none-judged newest e = found_none (find (λ f. f.1) (judged_fields newest [])) (option_map (λ (index : ℕ). BadField (256 + 2 * index)) (first_bad_entry newest [])) e
   where
     found_none : (a : Option (ℕ × Bool)) (b : Option Refusal) → option_or (option_map (λ (f : ℕ × Bool). BadField f.0) a) b ≡ None → a ≡ None
     found_none None b e = refl

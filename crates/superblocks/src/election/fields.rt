@@ -1,11 +1,11 @@
 //! Fields outside their limits.
 
-ghost use Rattle.std.specs.Prelude.{◌≡◌, ◌==◌, ◌&&◌, ◌^◌, not, nat_le, nat_lt, find, option_map};
+ghost use Rattle.std.specs.Prelude.{◌≡◌, ◌==◌, ◌&&◌, ◌||◌, ◌^◌, not, nat_le, nat_lt, find, option_map};
 ghost use Rattle.std.specs.List.{list_any};
-ghost use Rattle.md_base.specs.Search.{any_below, least_below};
+ghost use Rattle.md_base.specs.Search.{any_below};
 ghost use Rattle.md_base.specs.Shapes.{is_layout, is_chunk, is_disk_count};
 ghost use Rattle.superblocks.specs.Reading.{entry_of, is_reshaping, lies_within, list_length, shape_of};
-ghost use Rattle.superblocks.specs.Verdict.{is_bad_size, is_bad_entry, is_holder, judged_fields, bad_field};
+ghost use Rattle.superblocks.specs.Verdict.{is_bad_size, is_bad_entry, is_late_entry, first_bad_entry, is_holder, is_role, judged_fields, bad_field};
 
 use crate::election::fresh::lies_within;
 use crate::says::{entry_of, is_reshaping, list_length, old_disks, role_count};
@@ -20,7 +20,7 @@ pub fn bad_field(newest: &Sb, fresh: &[(Sb, u64)]) -> Option<Refusal>
     if let Some(offset) = bad_offset(newest, fresh) {
         return Some(Refusal::BadField(offset));
     }
-    match bad_entry(newest) {
+    match bad_entry(newest, fresh) {
         None => None,
         Some(index) => Some(Refusal::BadField(256 + 2 * u64::from(index))),
     }
@@ -119,16 +119,35 @@ fn has_short_table(fresh: &[(Sb, u64)]) -> bool
     fresh.iter().any(|(sb, _)| sb.max_dev < 128)
 }
 
-// The index of the first role entry that can't be.
-fn bad_entry(newest: &Sb) -> Option<u32>
-    ensures { result ≡ least_below newest.now.max_dev (is_bad_entry newest.now) }
+// The index of the first role entry that can't be, in the newest superblock or, from 128 on, in any.
+fn bad_entry(newest: &Sb, fresh: &[(Sb, u64)]) -> Option<u32>
+    ensures { result ≡ first_bad_entry newest.now fresh.now }
 {
-    for index in 0..newest.max_dev {
-        if is_bad_entry(newest, index) {
+    for index in 0..384 {
+        if is_out(newest, fresh, index) {
             return Some(index);
         }
     }
     None
+}
+
+fn is_out(newest: &Sb, fresh: &[(Sb, u64)], index: u32) -> bool
+    ensures { result ≡ (is_late_entry fresh.now index || is_bad_entry newest.now index) }
+{
+    is_late_entry(fresh, index) || is_bad_entry(newest, index)
+}
+
+// Whether one of the superblocks has a role for this device number, from 128 on.
+fn is_late_entry(fresh: &[(Sb, u64)], index: u32) -> bool
+    ensures { result ≡ is_late_entry fresh.now index }
+{
+    has_role_at(fresh, index) && index >= 128
+}
+
+fn has_role_at(fresh: &[(Sb, u64)], index: u32) -> bool
+    ensures { result ≡ list_any (λ s. is_role (entry_of s.0 index)) fresh.now }
+{
+    fresh.iter().any(|(sb, _)| entry_of(sb, index) < 0xfffe)
 }
 
 fn is_bad_entry(newest: &Sb, index: u32) -> bool
