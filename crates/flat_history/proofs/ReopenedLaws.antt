@@ -4,7 +4,7 @@ use Rattle.std.specs.Prelude.{slice_index_or, IfSome}
 use Rattle.std.proofs.lemmas.List.Sums.{fold-append}
 use Rattle.std.proofs.lemmas.Bool.{le-leb}
 use Rattle.md_base.specs.Sectors.{Sector}
-use Rattle.bank.specs.Tape.{Contents, IsImage, IsIn}
+use Rattle.bank.specs.Tape.{Contents, contents, IsImage, IsIn}
 use Rattle.bank.proofs.Images.{drawn-image, disk-some}
 use Rattle.flat_history.specs.declared.events.Event.{Event}
 use Rattle.flat_history.specs.declared.events.Event.TheVariants.{Flushed, Stopped}
@@ -16,7 +16,8 @@ use Rattle.flat_history.specs.CrashSafe.{made_by, last_resized, MayBeJudgedBy, S
 use Rattle.flat_history.specs.Growing.{EndBy}
 use Rattle.flat_history.specs.Opened.{IsSound, OpensSound}
 use Rattle.superblocks.specs.Reading.{reading}
-use Rattle.flat_history.specs.Reopened.{OpensAccepted, IsReopened, EndsSettled, OpensWith, SettledListsAreFound, SoundArraysAreFound}
+use Rattle.flat_history.proofs.FewerSlots.{accepted-roles, found-same, not-missing, not-degraded}
+use Rattle.flat_history.specs.Reopened.{OpensAccepted, IsReopened, IsSameArray, IsFoundLater, EndsSettled, OpensWith, SettledListsAreFound, SoundArraysAreFound}
 
 -- the contents at a mark are an image there
 contents-image : (world : World) (mark : ℕ) → mark ≤ length world.tape → IsImage world.start world.tape mark (contents_at world mark)
@@ -51,8 +52,8 @@ settled-values list entries x settled =
 
 -- what is judged there is judged by all entries
 judged-all : (world : World) (entries : List Entry) (mark : ℕ) (c : Contents) → last_resized entries ≡ None
-    → EndBy mark entries → verdict world.scope c ≡ None → IsJudged world entries mark c → StandsFor world entries c
-judged-all world entries mark c same ends accepted judged = by_kind judged.judgement
+    → EndBy mark entries → ((k j : ℕ) → IsRefusedRightly world entries k j c → ⊥) → IsJudged world entries mark c → StandsFor world entries c
+judged-all world entries mark c same ends unrefused judged = by_kind judged.judgement
   where
     made : made_by mark entries ≡ length entries
     made = all-made mark entries ends
@@ -69,19 +70,15 @@ judged-all world entries mark c same ends accepted judged = by_kind judged.judge
         let some : last_resized entries ≡ Some out.0 = subst (λ es. last_resized es ≡ Some out.0) all out.1.last in
         absurd (cc)
 
-    refused : (k j : ℕ) → IsRefusedRightly world entries k j c → ⊥
-    refused k j (inl dirty) = let is = dirty.refused in absurd (cc)
-    refused k j (inr missing) = let is = missing.refused in absurd (cc)
-
     by_kind : ((js : List Entry) × MayBeJudgedBy world entries (made_by mark entries) judged.j js × StandsFor world js c)
         ⊎ IsRefusedRightly world entries (made_by mark entries) judged.j c → StandsFor world entries c
     by_kind (inl found) = subst (λ js. StandsFor world js c) (by_list found.0 found.1) found.2
-    by_kind (inr wrong) = absurd (refused (made_by mark entries) judged.j wrong)
+    by_kind (inr wrong) = absurd (unrefused (made_by mark entries) judged.j wrong)
 
-opens-with : (world next : World) (entries : List Entry) → next.start ≡ world.start → next.tape ≡ world.tape → next.scope ≡ world.scope
+opens-with : (world next : World) (entries : List Entry) → opening_list next ≡ stands world.scope (contents_at world next.first)
     → EndsSettled entries → StandsFor world entries (contents_at world next.first) → OpensWith next (opening_list world) entries
 unfolding opening_list
-opens-with world next entries start tape scope settled found = record {
+opens-with world next entries same settled found = record {
   count = ap length same ∙ found.sized;
   each = λ x below.
       let short : x < length (stands world.scope (contents_at world next.first)) = subst (λ l. x < length l) same below in
@@ -91,21 +88,26 @@ opens-with world next entries start tape scope settled found = record {
       (subst (λ vs. IsIn vs (slice_index_or (stands world.scope (contents_at world next.first)) x [])) value.1 (found.sectors x short))
       ∙ ap (λ vs. slice_index_or vs 0 []) (sym value.1);
 }
-  where
-    same : opening_list next ≡ stands world.scope (contents_at world next.first)
-    same = rw scope (rw start (rw tape refl))
 
 -- what the next epoch opens with is refused for nothing in the former one's world too
 accepted-before : (world next : World) (entries : List Entry) → IsReopened world entries next → OpensAccepted next → verdict world.scope (contents_at world next.first) ≡ None
 accepted-before world next entries again accepted = sym (rw again.scope (rw again.start (rw again.tape refl))) ∙ accepted
 
 pub settled-found : SettledListsAreFound
+unfolding opening_list
 settled-found world next entries last resized safe by_last again accepted settled =
     let c : Contents = contents_at world next.first in
     let image : IsImage world.start world.tape next.first c = contents-image world next.first again.within in
     let at = safe next.first again.later by_last again.flushes in
-    opens-with world next entries again.start again.tape again.scope settled
-    (judged-all world entries next.first c resized again.made (accepted-before world next entries again accepted) (at c image))
+    let there : contents_at next next.first ≡ c = (λ i. contents (again.start i) (again.tape i) next.first) in
+    let here : verdict next.scope c ≡ None = sym (ap (verdict next.scope) there) ∙ accepted in
+    let found : StandsFor world entries c = judged-all world entries next.first c resized again.made (unrefused world next entries c again.array here) (at c image) in
+    let r = accepted-roles world.scope c found.assembles in
+    opens-with world next entries (ap (stands next.scope) there ∙ found-same world.scope next.scope c again.array here r.0 r.1) settled found
+  where
+    unrefused : (world next : World) (entries : List Entry) (c : Contents) → IsSameArray world.scope next.scope c → verdict next.scope c ≡ None → (k j : ℕ) → IsRefusedRightly world entries k j c → ⊥
+    unrefused world next entries c same here k j (inl dirty) = not-degraded world.scope next.scope c same here dirty.role dirty.refused
+    unrefused world next entries c same here k j (inr missing) = not-missing world.scope next.scope c same here missing.count missing.tolerance missing.refused
 
 -- what the former one's contents there are, the next one opens with
 opens-sound : (world next : World) → next.start ≡ world.start → next.tape ≡ world.tape → next.scope ≡ world.scope

@@ -56,7 +56,7 @@ one_kept given tape backup former next legal opened safe later made within fills
     let world = world_of given tape backup former in
     let keeps = entries_keep (opening_in world) (length tape) [] former.entries.items (legal.legal fills) in
     settled-found world (world_of given tape backup next) former.entries.items (length tape) keeps (safe fills room alike).0 within
-    (reopened given tape backup former next later made within again.again) opened.accepted again.settled
+    (record { start = refl; tape = refl; array = again.array; later = later; within = within; made = made; flushes = again.flushes }) opened.accepted again.settled
 
 sound_kept : (given : Given) (tape : List Operation) (backup : Option ℕ) (former next : Epoch) → IsLegalEpoch given tape backup next → IsSafeEpoch given tape backup former
     → former.first ≤ next.first → EndBy next.first former.entries.items → next.first ≤ length tape → IsSoundKept given tape backup former next

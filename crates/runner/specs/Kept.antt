@@ -1,12 +1,12 @@
 -- What an array leaves is what the next one opens with.
 use Rattle.std.specs.Prelude.{◌≡◌, ℕ, List, [], ◌∷◌, Option, ⊤}
 use Rattle.bank.specs.Given.{Given}
-use Rattle.bank.specs.Tape.{OnlyFlushesBetween}
+use Rattle.bank.specs.Tape.{contents, OnlyFlushesBetween}
 use Rattle.bank.specs.declared.bank.Operation.{Operation}
 use Rattle.flat_history.specs.declared.events.Epoch.{Epoch}
 use Rattle.flat_history.specs.Epochs.{world_of, HasRoomForEvents, OpensAlike}
 use Rattle.flat_history.specs.Opened.{OpensSound}
-use Rattle.flat_history.specs.Reopened.{EndsSettled, OpensWith}
+use Rattle.flat_history.specs.Reopened.{EndsSettled, OpensWith, IsSameArray}
 use Rattle.flat_history.specs.Sound.{OpensFit}
 use Rattle.flat_history.specs.Transfers.{last_end_from}
 use Rattle.flat_history.specs.World.{opening_list}
@@ -18,16 +18,18 @@ pub record IsOpenedAgain (tape : List Operation) (former next : Epoch) : Type 0 
   pub slots : next.given ≡ former.given
   pub flushes : OnlyFlushesBetween tape (last_end_from former.first former.entries.items) next.first
 
--- It is, and the former epoch ends with a flush or a stop.
-pub record IsFoundAgain (tape : List Operation) (former next : Epoch) : Type 0 where
+-- The former epoch ends with a flush or a stop, and the next one is of the same array, behind nothing but flushes: in the same slots, or in
+-- fewer, where by what they hold those that lack, as failed ones do, have no part in it any more.
+pub record IsFoundAgain (given : Given) (tape : List Operation) (backup : Option ℕ) (former next : Epoch) : Type 0 where
   pub settled : EndsSettled former.entries.items
-  pub again : IsOpenedAgain tape former next
+  pub array : IsSameArray (world_of given tape backup former).scope (world_of given tape backup next).scope (contents given.start tape next.first)
+  pub flushes : OnlyFlushesBetween tape (last_end_from former.first former.entries.items) next.first
 
 -- Where what the former epoch filled in is right and it is found again, the next one opens with the list that the former left, sector by
 -- sector, also where members were lost.
 abbrev pub IsListKept : Given → List Operation → Option ℕ → Epoch → Epoch → Type 0
 IsListKept given tape backup former next =
-    IfFilledRight given tape backup former (IsFoundAgain tape former next
+    IfFilledRight given tape backup former (IsFoundAgain given tape backup former next
     → OpensWith (world_of given tape backup next) (opening_list (world_of given tape backup former)) former.entries.items)
 
 -- Where the former epoch opened fit, with room for its events and superblocks that are alike, and is opened again, the next one opens
