@@ -167,8 +167,16 @@ const OF_TWO: [(Said, Said, Answer); 12] = [
     // each refusal of the slots, with two slots of one number
     (ENTERED, PLAIN, Err(Refusal::BadField(262))),
     // a role from 128 on counts in either of the two
-    (Said { late: 2, ..PLAIN }, PLAIN, Err(Refusal::BadField(516))),
-    (PLAIN, Said { late: 2, ..PLAIN }, Err(Refusal::BadField(516))),
+    (
+        Said { late: 2, ..PLAIN },
+        PLAIN,
+        Err(Refusal::BadField(516)),
+    ),
+    (
+        PLAIN,
+        Said { late: 2, ..PLAIN },
+        Err(Refusal::BadField(516)),
+    ),
     (
         ENTERED,
         Said {
