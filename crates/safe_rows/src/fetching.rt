@@ -1,6 +1,6 @@
 //! Reads of an array that may lack members.
 
-ghost use Rattle.std.specs.Prelude.{◌≡◌, ◌⊎◌, ◌+◌, ◌*◌, ◌/◌, ◌^◌, ◌<◌, ◌≤◌, ℕ, false, length, None, OnOk, MatchOption, IsTrue, ⊤};
+ghost use Rattle.std.specs.Prelude.{◌≡◌, ◌⊎◌, ◌+◌, ◌*◌, ◌/◌, ◌^◌, ◌<◌, ◌≤◌, ℕ, false, length, None, Some, OnOk, MatchOption, IsTrue, ⊤};
 ghost use Rattle.bank.specs.Given.{NeverFalls};
 ghost use Rattle.md_base.specs.Sectors.{Sector, IsWhole};
 ghost use Rattle.md_base.specs.Shapes.{is_multiple};
@@ -14,6 +14,7 @@ ghost use Rattle.views.specs.Rebuilding.{AreSparesFree};
 ghost use Rattle.views.specs.Marking.{AreOthersPresent};
 ghost use Rattle.views.specs.Moving.{Grows, IsMoved};
 ghost use Rattle.views.specs.Lacking.{HaveFailedSince, IsAskedBeyond, IsUnread, ListStands, RowsStandBelow};
+ghost use Rattle.safe_updates.specs.First.{read_refusal};
 ghost use Rattle.flat_history.specs.World.{World};
 ghost use Rattle.views.specs.Safety.{HasRoomLeft, IsRisen};
 ghost use Rattle.views.specs.Views.{Ledger};
@@ -23,7 +24,7 @@ use bank::Bank;
 use list_io::{Outcome, read_list};
 use md_base::{Refusal, Shape};
 use safe_updates::naming::name_missing;
-use safe_updates::refusing::refused_by;
+use safe_updates::refusing::unread;
 use safe_updates::roles::list_length;
 use superblocks::Members;
 
@@ -99,6 +100,7 @@ pub fn fetch<B: Bank>(
     ensures moved { IsMoved (B.given bank.old) members.old members.new }
     ensures failed { HaveFailedSince members.old members.new result.spares (B.faults_of bank.old) (B.faults_of bank.new) }
     ensures refused { MatchOption result.refusal ⊤ (IsUnread mended first (length into.old / 512) members.new) }
+    ensures first { MatchOption result.refusal ⊤ (λ refusal. read_refusal mended first (length into.old / 512) members.new ≡ Some refusal) }
     ensures grows { Grows B.tells (B.tape bank.old) (B.tape bank.new) }
     ensures others { B.tells → AreOthersPresent (present (B.given bank.old) (B.tape bank.old)) (present (B.given bank.old) (B.tape bank.new)) }
     ensures holds { result.refusal ≡ None → B.tells → (list : ℕ → Sector) → ListStands members.old (present (B.given bank.old) (B.tape bank.old)) list
@@ -114,9 +116,10 @@ pub fn fetch<B: Bank>(
     ensures given { B.given bank.new ≡ B.given bank.old }
     ensures counts { NeverFalls (B.faults_of bank.old) (B.faults_of bank.new) }
 {
+    let count = (into.len() / 512) as u64;
     let read = read_parts(members, bank, shape, first, into, scratch, mended);
-    let refusal = refused_by(read.answer, members);
-    if refusal.is_some() {
+    if read.answer.is_err() {
+        let refusal = unread(members, first, count, mended);
         return Fetched { spares: 0, refusal };
     }
     let spares = name_missing(members, bank);

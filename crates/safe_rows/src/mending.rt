@@ -1,6 +1,6 @@
 //! The parity of stripes is made to fit their data.
 
-ghost use Rattle.std.specs.Prelude.{◌≡◌, ◌<◌, ◌≤◌, ℕ, true, false, length, vec_capacity, None, MatchOption, IfSome, IsTrue, ⊤};
+ghost use Rattle.std.specs.Prelude.{◌≡◌, ◌<◌, ◌≤◌, ℕ, true, false, length, vec_capacity, None, Some, MatchOption, IfSome, IsTrue, ⊤};
 ghost use Rattle.bank.specs.Given.{NeverFalls};
 ghost use Rattle.md_base.specs.Sectors.{Sector};
 ghost use Rattle.md_base.specs.Shapes.{is_valid_shape, is_multiple};
@@ -15,6 +15,7 @@ ghost use Rattle.views.specs.Moving.{Grows, IsMoved};
 ghost use Rattle.views.specs.Safety.{HasRoomLeft, IsRisen};
 ghost use Rattle.views.specs.Status.{stripes_of};
 ghost use Rattle.views.specs.Lacking.{HaveFailedSince, DoesWithout, IsUnwritten, ListStands, IsOfStripe, mended_rows};
+ghost use Rattle.safe_updates.specs.First.{write_refusal};
 ghost use Rattle.flat_history.specs.World.{World};
 ghost use Rattle.views.specs.Views.{Ledger};
 ghost use Rattle.views.specs.Steady.{IsSafeOver, KeepsSafe, AreGoneTold, AreWritesAllowed};
@@ -81,6 +82,7 @@ pub fn mend<B: Bank>(
     ensures moved { IsMoved (B.given bank.old) members.old members.new }
     ensures failed { HaveFailedSince members.old members.new result.spares (B.faults_of bank.old) (B.faults_of bank.new) }
     ensures refused { MatchOption result.refusal ⊤ (IsUnwritten false members.new) }
+    ensures first { MatchOption result.refusal ⊤ (λ refusal. write_refusal false members.new ≡ Some refusal) }
     ensures grows { Grows B.tells (B.tape bank.old) (B.tape bank.new) }
     ensures dirty { is_clean members.new.newest ≡ false }
     ensures mended { result.refusal ≡ None → B.tells → (list : ℕ → Sector) → ListStands members.old (present (B.given bank.old) (B.tape bank.old)) list

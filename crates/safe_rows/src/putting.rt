@@ -1,6 +1,6 @@
 //! Writes of an array that may lack members.
 
-ghost use Rattle.std.specs.Prelude.{◌≡◌, ◌≢◌, ◌⊎◌, ◌+◌, ◌*◌, ◌/◌, ◌^◌, ◌<◌, ◌≤◌, ℕ, List, true, false, length, slice_index, Contains, vec_capacity, None, MatchOption, ⊤};
+ghost use Rattle.std.specs.Prelude.{◌≡◌, ◌≢◌, ◌⊎◌, ◌+◌, ◌*◌, ◌/◌, ◌^◌, ◌<◌, ◌≤◌, ℕ, List, true, false, length, slice_index, Contains, vec_capacity, None, Some, MatchOption, ⊤};
 ghost use Rattle.bank.specs.Given.{NeverFalls};
 ghost use Rattle.bank.specs.Tape.{EachMark, disk};
 ghost use Rattle.md_base.specs.Sectors.{Sector, IsWhole};
@@ -17,6 +17,7 @@ ghost use Rattle.views.specs.Whole.{list_size};
 ghost use Rattle.views.specs.Marking.{AreOthersPresent};
 ghost use Rattle.views.specs.Safety.{HasMarkRoom, HasRoomLeft, IsRisen};
 ghost use Rattle.views.specs.Lacking.{HaveFailedSince, AreTooMany, IsUnwritten, ListStands, RowsStandAmong, AreBytes, AreRowsRead, AreRowsWritten, IsListPut};
+ghost use Rattle.safe_updates.specs.First.{write_refusal};
 ghost use Rattle.flat_history.specs.World.{World};
 ghost use Rattle.views.specs.Views.{Ledger};
 ghost use Rattle.views.specs.Steady.{IsSafeOver, KeepsSafe, AreGoneTold, AreWritesAllowed};
@@ -25,7 +26,7 @@ use bank::Bank;
 use list_io::{read_touched, write_touched};
 use md_base::{Refusal, Shape};
 use safe_updates::naming::{name_missing, raise};
-use safe_updates::refusing::{refused_by, too_many};
+use safe_updates::refusing::{refused_by, too_many, unwritten};
 use superblocks::Members;
 
 // The first row that isn't written, and why the rows weren't all written.
@@ -250,6 +251,7 @@ fn prepare<B: Bank>(
     ensures moved { IsMoved (B.given bank.old) members.old members.new }
     ensures failed { HaveFailedSince members.old members.new result.spares (B.faults_of bank.old) (B.faults_of bank.new) }
     ensures refused { MatchOption result.refusal ⊤ (IsUnwritten synced members.new) }
+    ensures first { MatchOption result.refusal ⊤ (λ refusal. write_refusal synced members.new ≡ Some refusal) }
     ensures grows { Grows B.tells (B.tape bank.old) (B.tape bank.new) }
     ensures others { B.tells → AreOthersPresent (present (B.given bank.old) (B.tape bank.old)) (present (B.given bank.old) (B.tape bank.new)) }
     ensures read { result.refusal ≡ None → B.tells → AreRowsRead shape.now synced members.old members.new (present (B.given bank.old) (B.tape bank.old)) rows.new.items buffer.new.items }
@@ -268,11 +270,10 @@ fn prepare<B: Bank>(
     ensures buffer { length buffer.new.items ≡ length buffer.old.items }
 {
     let read = read_touched(members, bank, shape, first, count, rows, buffer, synced);
-    let unread = refused_by(read.answer, members);
-    if unread.is_some() {
+    if read.answer.is_err() {
         return Prepared {
             spares: 0,
-            refusal: unread,
+            refusal: unwritten(members, synced),
         };
     }
     let spares = raise(members, bank);
@@ -320,6 +321,7 @@ pub fn put<B: Bank>(
     ensures moved { IsMoved (B.given bank.old) members.old members.new }
     ensures failed { HaveFailedSince members.old members.new result.spares (B.faults_of bank.old) (B.faults_of bank.new) }
     ensures refused { MatchOption result.refusal ⊤ (IsUnwritten synced members.new) }
+    ensures first { MatchOption result.refusal ⊤ (λ refusal. write_refusal synced members.new ≡ Some refusal) }
     ensures torn { result.begun ≡ true → MatchOption result.refusal ⊤ (AreTooMany members.new) }
     ensures grows { Grows B.tells (B.tape bank.old) (B.tape bank.new) }
     ensures put { result.refusal ≡ None → B.tells → (list list' : ℕ → Sector) → IsWritten list list' first from.now

@@ -7,6 +7,7 @@ pub mod AddedStarts
 pub mod AddedUpdates
 pub mod RolesNamed
 pub mod NamedAll
+pub mod RefusingLaws
 pub mod SettledSafe
 pub mod GivenAway
 pub mod GivenMoved

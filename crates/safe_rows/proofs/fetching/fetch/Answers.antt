@@ -1,30 +1,23 @@
 use Rattle.std.proofs.Common.{◌≡◌, ◌/◌, ◌<◌, ◌≤◌, ℕ, List, length, false, inl, inr, refl, sym, ◌∙◌, ap, subst, arith}
-use Rattle.std.specs.Prelude.{Option, is_some, Result, Ok, Err, MatchOption, ⊤}
 use Rattle.md_base.specs.declared.places.Shape.{Shape}
-use Rattle.md_base.specs.Shapes.{tolerance}
-use Rattle.md_base.specs.declared.answers.Refusal.{Refusal}
 use Rattle.bank.specs.declared.bank.Operation.{Operation}
 use Rattle.bank.specs.Given.{Given}
 use Rattle.superblocks.specs.declared.members.Members.{Members}
 use Rattle.superblocks.specs.Reading.{shape_of}
-use Rattle.row_io.specs.Rows.{reading_of, missing_count}
-use Rattle.list_io.specs.declared.outcome.Unavailable.{Unavailable}
-use Rattle.list_io.specs.declared.outcome.Unavailable.TheVariants.{TooManyMissing, NotResynced}
-use Rattle.list_io.specs.Calls.{IsAnswer}
 use Rattle.views.specs.Placed.{AreWhole, IsPlaced, AreLost}
 use Rattle.views.specs.Rebuilding.{AreSparesFree}
-use Rattle.views.specs.Lacking.{IsAskedBeyond, IsUnread, refused_by}
 use Rattle.views.proofs.MovedLaws.{moved-lost, moved-then, lost-none, moved-from}
 use Rattle.views.proofs.LackingLaws.{since-lost, since-then, in-second}
-use Rattle.views.proofs.LackingWrites.{lost-of, ok-of}
+use Rattle.views.proofs.LackingWrites.{lost-of}
+use Rattle.safe_updates.proofs.RefusingLaws.{read-cause, read-told, told-first, told-why, not-err}
 use Rattle.flat_history.specs.Sound.{OpensFit}
 use Rattle.views.specs.Steady.{IsUncleanTold}
 use Rattle.views.proofs.SafeStretch.{safe-then, safe-lost, over-at, keeps-from}
 use Rattle.views.proofs.Risen.{risen-then, risen-lost, room-then}
 use Rattle.safe_rows.proofs.fetching.fetch.Goals as goal
 
-pub returns-then-is_some-clause-moved : goal.returns-then-is_some-clause-moved
-returns-then-is_some-clause-moved g c =
+pub returns-then-is_err-clause-moved : goal.returns-then-is_err-clause-moved
+returns-then-is_err-clause-moved g c =
     let m = c.args.members.now in
     let n = c.read_parts-read.new.members in
     let given = g.B.Bank.given c.args.bank.now in
@@ -34,8 +27,8 @@ returns-then-is_some-clause-moved g c =
     let shape = c.args.shape.now in
     moved-lost given shape m n r f0 f1 c.requires.placed (lost-of given shape m n r f0 f1 c.requires.placed c.read_parts-read.ensures.lost) c.requires.unlost
 
-pub returns-then-is_some-clause-kept : goal.returns-then-is_some-clause-kept
-returns-then-is_some-clause-kept g c = λ whole.
+pub returns-then-is_err-clause-kept : goal.returns-then-is_err-clause-kept
+returns-then-is_err-clause-kept g c = λ whole.
     let m = c.args.members.now in
     let n = c.read_parts-read.new.members in
     let given = g.B.Bank.given c.args.bank.now in
@@ -107,30 +100,24 @@ returns-clause-failed g c =
     since-then m n c.name_missing-spares.new.members 0 c.name_missing-spares.result c.name_missing-spares.result f0 f1 f2 c.read_parts-read.ensures.lost.never_falls c.name_missing-spares.ensures.counts
     (since-lost given shape m n r f0 f1 (lost-of given shape m n r f0 f1 c.requires.placed c.read_parts-read.ensures.lost)) c.name_missing-spares.ensures.failed (in-second c.name_missing-spares.result)
 
--- why the sectors weren't read
-unread : (shape : Shape) (n : Members) (mended first count : ℕ) (answer : Result (Unit {0}) Unavailable) → shape ≡ shape_of n.newest
-    → IsAnswer shape false (reading_of n) (IsAskedBeyond shape mended first count) answer → MatchOption (refused_by n answer) ⊤ (IsUnread mended first count n)
-unread shape n mended first count (Ok done) same is = tt
-unread shape n mended first count (Err TooManyMissing) same is = inl (record {
-  above = subst (λ (s : Shape). tolerance s < missing_count (reading_of n) s) same is;
-  told = refl;
-})
-unread shape n mended first count (Err (NotResynced role)) same is =
-    inr (role, refl, is.2, subst (λ (s : Shape). IsAskedBeyond s mended first count role) same is.3)
+pub returns-then-is_err-clause-first : goal.returns-then-is_err-clause-first
+returns-then-is_err-clause-first g c = told-first c.unread-refusal.result c.unread-refusal.ensures
 
-pub returns-then-is_some-clause-refused : goal.returns-then-is_some-clause-refused
-returns-then-is_some-clause-refused g c =
+pub returns-then-is_err-clause-refused : goal.returns-then-is_err-clause-refused
+returns-then-is_err-clause-refused g c =
+    told-why c.unread-refusal.result (read-cause c.args.mended c.args.first (length c.args.into.now / 512) c.read_parts-read.new.members) (told-first c.unread-refusal.result c.unread-refusal.ensures)
+
+pub returns-then-is_err-clause-holds : goal.returns-then-is_err-clause-holds
+returns-then-is_err-clause-holds g c = λ none.
     let n = c.read_parts-read.new.members in
     let did = c.read_parts-read.ensures in
-    subst (λ (o : Option Refusal). MatchOption o ⊤ (IsUnread c.args.mended c.args.first (length c.args.into.now / 512) n)) (sym c.refused_by-refusal.ensures)
-    (unread c.args.shape.now n c.args.mended c.args.first (length c.args.into.now / 512) c.read_parts-read.result.answer
-    (c.requires.shape ∙ ap (λ (x : Members). shape_of x.newest) (sym did.lost.members)) did.answer)
+    absurd (read-told n c.args.shape.now c.args.mended c.args.first (length c.args.into.now / 512) c.read_parts-read.result.answer
+    (c.requires.shape ∙ ap (λ (x : Members). shape_of x.newest) (sym did.lost.members)) (sym c.is_err.ensures.value ∙ c.if-is_err.true) did.answer (sym c.unread-refusal.ensures ∙ none))
 
 pub returns-clause-holds : goal.returns-clause-holds
 returns-clause-holds g c = λ ok told list stands fills.
     let n = c.read_parts-read.new.members in
-    let done = ap (λ (o : Option Refusal). is_some o) (sym c.refused_by-refusal.ensures) ∙ sym c.is_some.ensures ∙ c.if-is_some.false in
-    ok-of n c.read_parts-read.result.answer done c.read_parts-read.ensures.sectors told list stands
+    not-err c.read_parts-read.result.answer (sym c.is_err.ensures.value ∙ c.if-is_err.false) c.read_parts-read.ensures.sectors told list stands
     (elim fills [ inl whole ↦ inl (c.name_missing-spares.ensures.moved.whole whole) | inr rows ↦ inr rows ])
 
 pub returns-clause-kept : goal.returns-clause-kept
@@ -150,8 +137,8 @@ returns-clause-kept g c = λ whole.
 still-long : (before after : List Operation) → after ≡ before → length before ≤ length after
 still-long before after same = subst (λ (l : List Operation). length before ≤ length l) (sym same) (omega arith)
 
-pub returns-then-is_some-clause-rise : goal.returns-then-is_some-clause-rise
-returns-then-is_some-clause-rise g c =
+pub returns-then-is_err-clause-rise : goal.returns-then-is_err-clause-rise
+returns-then-is_err-clause-rise g c =
     let tape0 = g.B.Bank.tape c.args.bank.now in
     let tape1 = g.B.Bank.tape c.read_parts-read.new.bank in
     let did = c.read_parts-read.ensures in
@@ -165,8 +152,8 @@ returns-clause-rise g c =
     risen-then (risen-lost c.args.members.now c.read_parts-read.new.members c.read_parts-read.result.lost tape0 tape1 did.lost.members (λ t. still-long tape0 tape1 (did.tape t)))
     c.name_missing-spares.ensures.rise
 
-pub returns-then-is_some-clause-safe : goal.returns-then-is_some-clause-safe
-returns-then-is_some-clause-safe g c = λ tell world size told room gone unclean now.
+pub returns-then-is_err-clause-safe : goal.returns-then-is_err-clause-safe
+returns-then-is_err-clause-safe g c = λ tell world size told room gone unclean now.
     let did = c.read_parts-read.ensures in
     safe-lost (OpensFit world) world.scope (g.B.Bank.given c.args.bank.now) size told c.args.members.now c.read_parts-read.new.members c.read_parts-read.result.lost
     (g.B.Bank.tape c.args.bank.now) (g.B.Bank.tape c.read_parts-read.new.bank) did.lost.members (did.tape tell) now

@@ -1,10 +1,9 @@
 use Rattle.std.proofs.Common.{◌<◌, ℕ, List, length, arith, refl, sym, ◌∙◌, ap, subst}
-use Rattle.std.specs.Prelude.{Option, is_some}
 use Rattle.md_base.specs.declared.places.Shape.{Shape}
-use Rattle.md_base.specs.declared.answers.Refusal.{Refusal}
 use Rattle.bank.specs.Given.{Given}
 use Rattle.bank.specs.declared.bank.Operation.{Operation}
 use Rattle.superblocks.specs.declared.members.Members.{Members}
+use Rattle.superblocks.specs.Reading.{shape_of}
 use Rattle.row_io.specs.Rows.{present, reading_of}
 use Rattle.list_io.specs.Buffers.{buffered}
 use Rattle.list_io.specs.Full.{DataStands, RowStands}
@@ -14,7 +13,8 @@ use Rattle.views.specs.Moving.{IsMoved}
 use Rattle.views.specs.Rebuilding.{AreSparesFree}
 use Rattle.views.proofs.MovedLaws.{moved-lost, moved-then, moved-from}
 use Rattle.views.proofs.LackingLaws.{since-lost, since-then, in-second}
-use Rattle.views.proofs.LackingWrites.{lost-of, ok-of, standing-later}
+use Rattle.views.proofs.LackingWrites.{lost-of, standing-later}
+use Rattle.safe_updates.proofs.RefusingLaws.{write-cause, write-told, told-first, told-why, many-told, not-err}
 use Rattle.flat_history.specs.Sound.{OpensFit}
 use Rattle.views.specs.Safety.{IsRisen}
 use Rattle.views.specs.Steady.{KeepsSafe}
@@ -22,8 +22,8 @@ use Rattle.views.proofs.Risen.{risen-then, risen-lost, room-then}
 use Rattle.views.proofs.SafeStretch.{safe-then, safe-lost, over-at, keeps-from}
 use Rattle.safe_rows.proofs.putting.prepare.Goals as goal
 
-pub returns-then-is_some-clause-moved : goal.returns-then-is_some-clause-moved
-returns-then-is_some-clause-moved g c =
+pub returns-then-is_err-clause-moved : goal.returns-then-is_err-clause-moved
+returns-then-is_err-clause-moved g c =
     let m = c.args.members.now in
     let n = c.read_touched-read.new.members in
     let given = g.B.Bank.given c.args.bank.now in
@@ -33,8 +33,8 @@ returns-then-is_some-clause-moved g c =
     let shape = c.args.shape.now in
     moved-lost given shape m n r f0 f1 c.requires.placed (lost-of given shape m n r f0 f1 c.requires.placed c.read_touched-read.ensures.lost) c.requires.unlost
 
-pub returns-then-is_some-clause-below : goal.returns-then-is_some-clause-below
-returns-then-is_some-clause-below g c row has = subst (λ (x : Members). row < x.newest.size) (sym c.read_touched-read.ensures.lost.members) (c.read_touched-read.ensures.below row has)
+pub returns-then-is_err-clause-below : goal.returns-then-is_err-clause-below
+returns-then-is_err-clause-below g c row has = subst (λ (x : Members). row < x.newest.size) (sym c.read_touched-read.ensures.lost.members) (c.read_touched-read.ensures.below row has)
 
 pub raise-spares-requires-clause-placed : goal.raise-spares-requires-clause-placed
 raise-spares-requires-clause-placed g c =
@@ -112,7 +112,7 @@ returns-clause-read g c = λ none told.
     let buffer = c.read_touched-read.new.buffer.items in
     let lost : AreLost given shape m n r f0 f1 = lost-of given shape m n r f0 f1 c.requires.placed did.lost in
     let moved : IsMoved given n c.raise-spares.new.members = moved-from given given1 n n c.raise-spares.new.members did.given refl c.raise-spares.ensures.moved in
-    let read = ok-of n c.read_touched-read.result.answer (ap (λ (o : Option Refusal). is_some o) (sym c.refused_by-unread.ensures) ∙ sym c.is_some.ensures ∙ c.if-is_some.false) did.read told in
+    let read = not-err c.read_touched-read.result.answer (sym c.is_err.ensures.value ∙ c.if-is_err.false) did.read told in
     record {
       held = λ i lt. standing-later given n c.raise-spares.new.members moved lost.placed c0 c0 (λ s k other. refl) shape _ (buffered buffer i) (read i lt).held;
       listed = λ list stands full. data_read 0 shape c.args.synced (reading_of m) (reading_of n) c0 list rows buffer read
@@ -124,15 +124,15 @@ pub returns-clause-below : goal.returns-clause-below
 returns-clause-below g c row has =
     subst (λ (n : ℕ). row < n) (sym c.raise-spares.ensures.moved.size) (subst (λ (x : Members). row < x.newest.size) (sym c.read_touched-read.ensures.lost.members) (c.read_touched-read.ensures.below row has))
 
-pub returns-then-is_some-clause-rise : goal.returns-then-is_some-clause-rise
-returns-then-is_some-clause-rise g c =
+pub returns-then-is_err-clause-rise : goal.returns-then-is_err-clause-rise
+returns-then-is_err-clause-rise g c =
     let tape0 = g.B.Bank.tape c.args.bank.now in
     let tape1 = g.B.Bank.tape c.read_touched-read.new.bank in
     risen-lost c.args.members.now c.read_touched-read.new.members c.read_touched-read.result.lost tape0 tape1 c.read_touched-read.ensures.lost.members
     (λ told. let same = ap (λ (l : List Operation). length l) (c.read_touched-read.ensures.tape told) in omega (arith, same))
 
-pub returns-then-is_some-clause-safe : goal.returns-then-is_some-clause-safe
-returns-then-is_some-clause-safe g c = λ told world size ledger room gone unclean safe.
+pub returns-then-is_err-clause-safe : goal.returns-then-is_err-clause-safe
+returns-then-is_err-clause-safe g c = λ told world size ledger room gone unclean safe.
     let did = c.read_touched-read.ensures in
     safe-lost (OpensFit world) world.scope (g.B.Bank.given c.args.bank.now) size ledger c.args.members.now c.read_touched-read.new.members c.read_touched-read.result.lost
     (g.B.Bank.tape c.args.bank.now) (g.B.Bank.tape c.read_touched-read.new.bank) did.lost.members (did.tape told) safe
@@ -162,3 +162,26 @@ returns-clause-safe g c = λ told world size ledger room gone unclean safe.
     safe-then (OpensFit world) world.scope given size ledger n c.raise-spares.new.members tape0 tape1 tape2 one
     (keeps-from world given given1 size ledger c.raise-spares.new.members tape1 tape2 did.given
     (c.raise-spares.ensures.safe told world size ledger (room-then tape2 told room risen) gone unclean (over-at world given given1 size ledger n tape1 did.given one.next)))
+
+pub returns-then-is_err-clause-first : goal.returns-then-is_err-clause-first
+returns-then-is_err-clause-first g c = told-first c.unwritten.result c.unwritten.ensures
+
+pub returns-then-is_err-clause-refused : goal.returns-then-is_err-clause-refused
+returns-then-is_err-clause-refused g c = told-why c.unwritten.result (write-cause c.args.synced c.read_touched-read.new.members) (told-first c.unwritten.result c.unwritten.ensures)
+
+pub returns-then-is_err-clause-read : goal.returns-then-is_err-clause-read
+returns-then-is_err-clause-read g c = λ none.
+    let n = c.read_touched-read.new.members in
+    let did = c.read_touched-read.ensures in
+    absurd (write-told n c.args.shape.now c.args.synced c.read_touched-read.result.answer (c.requires.shape ∙ ap (λ (x : Members). shape_of x.newest) (sym did.lost.members))
+    (sym c.is_err.ensures.value ∙ c.if-is_err.true) did.answer (sym c.unwritten.ensures ∙ none))
+
+pub returns-then-is_err-clause-dirty : goal.returns-then-is_err-clause-dirty
+returns-then-is_err-clause-dirty g c = λ none.
+    let n = c.read_touched-read.new.members in
+    let did = c.read_touched-read.ensures in
+    absurd (write-told n c.args.shape.now c.args.synced c.read_touched-read.result.answer (c.requires.shape ∙ ap (λ (x : Members). shape_of x.newest) (sym did.lost.members))
+    (sym c.is_err.ensures.value ∙ c.if-is_err.true) did.answer (sym c.unwritten.ensures ∙ none))
+
+pub returns-clause-first : goal.returns-clause-first
+returns-clause-first g c = many-told _ c.args.synced c.raise-spares.new.members c.too_many.result c.too_many.ensures

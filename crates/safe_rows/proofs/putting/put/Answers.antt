@@ -17,6 +17,7 @@ use Rattle.views.proofs.LackingLists.{list-written, row-written, rebuilt-written
 use Rattle.flat_history.specs.Sound.{OpensFit}
 use Rattle.views.proofs.Risen.{risen-then, room-first, room-then}
 use Rattle.views.proofs.SafeStretch.{gone-before, safe-then, allowed-later, grows-longer, over-at, keeps-from}
+use Rattle.safe_updates.proofs.RefusingLaws.{many-told}
 use Rattle.safe_rows.proofs.putting.put.Goals as goal
 
 pub put_rows-done-requires-clause-below : goal.put_rows-done-requires-clause-below
@@ -185,3 +186,6 @@ returns-clause-safe g c = λ told world size ledger room gone unclean list list'
     (keeps-from world given given2 size ledger m3 tape2 tape3 did1.given
     (did2.safe told world size ledger (room-then tape3 told room did1.rise) gone unclean (did1.dirty none) list list' w (λ t. has)
     (allowed-later given m m2 did1.moved ledger.values list' (allowed refl)) (over-at world given given2 size ledger m2 tape2 did1.given one.next)))
+
+pub returns-clause-first : goal.returns-clause-first
+returns-clause-first g c = many-told _ c.args.synced c.put_rows-done.new.members c.put_rows-done.result.refusal c.put_rows-done.ensures.refused

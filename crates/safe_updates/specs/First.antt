@@ -1,0 +1,44 @@
+-- The first refusal of a call, in order.
+use Rattle.std.specs.Prelude.{◌≡◌, ℕ, ◌+◌, ◌&&◌, Bool, nat_lt, nat_le, if◌then◌else◌, Option, Some, None, option_map, Result, Ok, Err, ⊤}
+use Rattle.md_base.specs.Search.{least_below}
+use Rattle.md_base.specs.Shapes.{tolerance}
+use Rattle.md_base.specs.declared.answers.Fault.{Fault}
+use Rattle.md_base.specs.declared.answers.Fault.TheVariants.{Refused as IsRefusedWith, NoMemory}
+use Rattle.md_base.specs.declared.answers.Refusal.{Refusal}
+use Rattle.md_base.specs.declared.answers.Refusal.TheVariants.{PastEnd, NotResynced}
+use Rattle.layout.specs.Layout.{place}
+use Rattle.superblocks.specs.declared.members.Members.{Members}
+use Rattle.superblocks.specs.Reading.{shape_of}
+use Rattle.row_io.specs.Rows.{reading_of, is_missing}
+use Rattle.views.specs.Lacking.{lacking, too_many}
+use Rattle.views.specs.Refusals.{lowest_missing}
+
+-- more are missing than the array can do without
+abbrev pub are_too_many : Members → Bool
+are_too_many m = nat_lt (tolerance (shape_of m.newest)) (lacking m)
+
+-- this sector of the list lies behind the mended rows, on a role that is missing
+abbrev pub is_lacking : Members → ℕ → ℕ → Bool
+is_lacking m mended x = nat_le mended (place (shape_of m.newest) x).row && is_missing (reading_of m) (place (shape_of m.newest) x).role
+
+-- the role of the first of so many sectors from this one on that does
+abbrev pub first_lacking : ℕ → ℕ → ℕ → Members → Option ℕ
+first_lacking mended first count m = option_map (λ i. (place (shape_of m.newest) (first + i)).role) (least_below count (λ i. is_lacking m mended (first + i)))
+
+-- why a read of so many sectors from this one on isn't done, the first of two causes: too many are missing; or the first sector that can't be had
+abbrev pub read_refusal : ℕ → ℕ → ℕ → Members → Option Refusal
+read_refusal mended first count m = if are_too_many m then Some (too_many m) else option_map (λ role. NotResynced role) (first_lacking mended first count m)
+
+-- why a write isn't done, the first of two causes: too many are missing; or the lowest that has data, where parity isn't to be relied on
+abbrev pub write_refusal : Bool → Members → Option Refusal
+write_refusal synced m = if are_too_many m then Some (too_many m) else if synced then None else option_map (λ role. NotResynced role) (lowest_missing m)
+
+-- why a call that ends at this place isn't done: it ends past the visible size; or else what its kind gives
+abbrev pub call_refusal : ℕ → ℕ → Option Refusal → Option Refusal
+call_refusal visible to why = if nat_lt visible to then Some (PastEnd visible) else why
+
+-- A call is answered Ok only where nothing refused it before; and where it is refused, it is with the first refusal by the members that it leaves.
+abbrev pub IsFirstRefused : {T : Type 0} → (Members → Option Refusal) → Members → Members → Result T Fault → Type 0
+IsFirstRefused why old new (Ok x) = why old ≡ None
+IsFirstRefused why old new (Err (IsRefusedWith refusal)) = why new ≡ Some refusal
+IsFirstRefused why old new (Err NoMemory) = ⊤
