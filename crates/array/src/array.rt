@@ -13,6 +13,7 @@ mod adding;
 mod adopting;
 mod asking;
 mod ending;
+mod examining;
 mod failing;
 mod reading;
 mod rebuilding;

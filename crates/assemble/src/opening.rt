@@ -13,11 +13,11 @@ ghost use Rattle.views.specs.Flushing.{OnlyFlushesAdded, OnlyItsSlotsFail};
 use crate::reshape::reshape_refusal;
 use crate::slots::{Found, look};
 use bank::Bank;
+use election::elect_seen;
+use election::reads::lengths;
 use md_base::Fault;
 use std::alloc::Global;
 use superblocks::Members;
-use election::elect_seen;
-use election::reads::lengths;
 
 /// What an array's superblocks say, and a bit for each slot of the bank that hasn't failed in the opening.
 #[derive(Drop)]

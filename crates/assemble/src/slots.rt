@@ -10,10 +10,10 @@ ghost use Rattle.assemble.specs.Opening.{scope_of, AreGiven, AreFlushed};
 ghost use Rattle.views.specs.Flushing.{OnlyFlushesAdded, OnlyItsSlotsFail};
 
 use bank::Bank;
+use election::reads::read_superblocks;
 use safe_updates::flush_slots;
 use std::alloc::{AllocError, Global};
 use superblocks::SbList;
-use election::reads::read_superblocks;
 use superblocks::sets::{contains, with};
 
 /// The superblocks that were found, whichever array's they are, and a bit for each slot of the bank: which ones failed,
