@@ -34,7 +34,7 @@ use Rattle.views.specs.Rebuilding.{HasNoRebuilt}
 use Rattle.views.specs.Moving.{Grows}
 use Rattle.array_kept.specs.Kept.{scope_in, world_in, IsReady, IsKept}
 use Rattle.flat_history.specs.Losses.{is_resync_end}
-use Rattle.flat_history.specs.Sound.{OpensFit, FillsRight}
+use Rattle.flat_history.specs.Sound.{OpensFit, FillsRight, LosesNoRole}
 use Rattle.array_kept.specs.Calls.{IsSettling}
 use Rattle.array_kept.proofs.MadeLaws.{opening-grown}
 use Rattle.array_kept.proofs.NowLaws.{sectors_of-at}
