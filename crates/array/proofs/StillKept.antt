@@ -8,7 +8,6 @@ use Rattle.superblocks.specs.Reading.{Scope}
 use Rattle.flat_history.specs.declared.events.Entry.{Entry}
 use Rattle.flat_history.specs.Epochs.{HasRoomForEvents, OpensAlike}
 use Rattle.flat_history.specs.Flat.{now}
-use Rattle.flat_history.specs.Opened.{OpensWhole}
 use Rattle.flat_history.specs.Sound.{FillsRight, OpensFit}
 use Rattle.flat_history.specs.World.{opening_list}
 use Rattle.row_io.specs.Rows.{present}
@@ -29,6 +28,7 @@ kept-still {given = given} {scope = scope} {first = first} {entries = entries} {
   unlost = was.unlost;
   free = was.free;
   told = was.told;
+  only = was.only;
   sized = was.sized;
   unlimited = was.unlimited;
   left = was.left;
@@ -40,7 +40,7 @@ kept-still {given = given} {scope = scope} {first = first} {entries = entries} {
   unclean = was.unclean;
   recorded = λ t. subst (λ (l : List Operation). IsRecorded (world_in given l scope first) (list_size (places_of members)) work.resync members entries) (sym (same t)) (was.recorded t);
   holds = λ t. subst (λ (l : List Operation). DoesWithout members → AreRebuildsRight (world_in given l scope first) entries → ListStands members (present given l) (now (opening_list (world_in given l scope first)) entries)) (sym (same t)) (was.holds t);
-  whole = λ t. subst (λ (l : List Operation). OpensWhole (world_in given l scope first) → AreSectorsWhole (list_size (places_of members)) (now (opening_list (world_in given l scope first)) entries)) (sym (same t)) (was.whole t);
+  whole = λ t. subst (λ (l : List Operation). AreSectorsWhole (list_size (places_of members)) (now (opening_list (world_in given l scope first)) entries)) (sym (same t)) (was.whole t);
   good = λ t. subst (λ (l : List Operation). DoesWithout members → OpensFit (world_in given l scope first) → RowsStandBelow (mended_rows work.resync members) members (present given l) (now (opening_list (world_in given l scope first)) entries)) (sym (same t)) (was.good t);
   rebuilt = λ t. subst (λ (l : List Operation). DoesWithout members → OpensFit (world_in given l scope first) → AreRebuilt work members (present given l) (now (opening_list (world_in given l scope first)) entries)) (sym (same t)) (was.rebuilt t);
   safe = λ t. subst (λ (l : List Operation). FillsRight (world_in given l scope first) entries → HasRoomForEvents (world_in given l scope first) → OpensAlike (world_in given l scope first)
