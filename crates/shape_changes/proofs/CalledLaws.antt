@@ -1,0 +1,28 @@
+-- A call's clauses are what the laws of an update start from.
+use Rattle.std.proofs.Common.{◌≡◌, true, false, sym, ap, subst}
+use Rattle.md_base.specs.Shapes.{has_slot}
+use Rattle.bank.specs.Tape.{EachMark, disk}
+use Rattle.superblocks.specs.declared.members.Members.{Members}
+use Rattle.superblocks.specs.Updating.{IsUpdate, IsWrittenBy, AreNamed, IsSomeLeft}
+use Rattle.superblocks.specs.Outcome.{with_added, live_set, is_left, AreStored}
+use Rattle.superblocks.specs.Rounds.{round_at}
+use Rattle.superblocks.specs.Losing.{IsInTurns, ArePastTurns}
+use Rattle.shape_changes.specs.Called.{UpdateIsChange}
+
+pub update-is-change : (tells : Type 0) → UpdateIsChange tells
+update-is-change tells given change old new before after faults faults' none did = record {
+  update = subst (λ (m : Members). IsUpdate tells (live_set old change) m.lost new.lost (IsWrittenBy m.newest change m.own) given.start before after) same did.update;
+  named = subst (λ (m : Members). IsSomeLeft (live_set old change) new.lost → AreNamed m change m.lost new.lost new.newest) same did.named;
+  newest = did.newest;
+  turns = subst (λ (m : Members). EachMark tells given.start before after (IsInTurns m change m.lost (live_set old change) new.lost new.newest.events (disk given.start before))) same did.turns;
+  turned = subst (λ (m : Members). tells → ArePastTurns m change m.lost (live_set old change) (disk given.start before) (round_at new.newest new.lost given.start after)) same did.turned;
+  rise = did.rise;
+  own = subst (λ (m : Members). AreStored new.newest change.gives (is_left (live_set old change) new.lost) m.own new.own) same did.own;
+  roles = did.roles;
+  spares = did.spares;
+  stay = λ s is. did.losses.stay s (subst (λ (m : Members). has_slot m.lost s ≡ true) (sym same) is);
+  live = λ s is isnt. did.losses.live s is (subst (λ (m : Members). has_slot m.lost s ≡ false) (sym same) isnt);
+}
+  where
+    same : with_added old change.added ≡ old
+    same = ap (with_added old) none

@@ -1,0 +1,18 @@
+-- A fit update makes a change that fits the superblocks that are held.
+use Rattle.std.proofs.Common.{◌≡◌, ◌&&◌, Bool, true, false, not, refl, sym, ◌∙◌}
+use Rattle.md_base.specs.Shapes.{has_slot}
+use Rattle.superblocks.specs.Outcome.{live_set}
+use Rattle.row_io.specs.Rows.{members_without}
+use Rattle.shape_changes.specs.Kinds.{FitUpdateIsFitChange}
+use Rattle.shape_changes.proofs.Started.{Lost, fits-of}
+
+not-lost : (a b : Bool) → (a && not b) ≡ true → b ≡ false
+not-lost true true e = absurd (cc)
+not-lost true false e = refl
+not-lost false b e = absurd (cc)
+
+pub fit-update-fits : FitUpdateIsFitChange
+fit-update-fits scope former gone left change d held fit shapes room are = (
+  fits-of scope former gone change d held fit shapes (Lost scope former gone change d held fit shapes) left (λ s is. is) are (members_without gone former).roles (members_without gone former).lost (λ s none. refl) room,
+  λ s sb is own none so. fit.spares s sb (not-lost (has_slot (live_set (members_without gone former) change) s) (has_slot (members_without gone former).lost s) (sym (are s) ∙ is)) own none so,
+)

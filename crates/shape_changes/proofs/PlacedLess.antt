@@ -1,0 +1,57 @@
+-- A view that places the list where another does is as right.
+use Rattle.std.proofs.Common.{◌≡◌, ℕ, ◌+◌, ◌<◌, Option, Some, sym, ◌∙◌, ap, ap₂, subst, arith}
+use Rattle.md_base.specs.declared.places.Shape.{Shape}
+use Rattle.md_base.specs.declared.places.Span.{Span}
+use Rattle.md_base.specs.Sectors.{Sector}
+use Rattle.bank.specs.Tape.{Contents, IsIn}
+use Rattle.layout.specs.Layout.{place}
+use Rattle.superblocks.specs.declared.members.Members.{Members}
+use Rattle.superblocks.specs.Reading.{Scope, list_length}
+use Rattle.row_io.specs.Rows.{reading_of, held_slot}
+use Rattle.list_io.specs.Full.{RowStands}
+use Rattle.flat_history.specs.Stands.{shape_for, covers}
+use Rattle.shape_views.specs.Regions.{backup_of, header_in, place_by}
+use Rattle.shape_views.specs.Views.{Disk, IsOutside}
+use Rattle.shape_changes.specs.Giving.{IsPlacedLess, PlacedLessIsRight}
+use Rattle.shape_views.proofs.Alike.{role-in-shape}
+
+module _ (scope : Scope) (m view : Members) (d : Disk) (less : IsPlacedLess scope m view d) where
+  outside-less : (header : Sector) → IsIn (d (backup_of scope) 0) header → (x : ℕ) → IsOutside scope view header x → IsOutside scope m header x
+  outside-less header may x out = record {
+    within = (let below = out.within in let w = less.within in omega (arith, below, w));
+    outside = ap (λ (o : Option Span). covers o x) (sym (less.opened header may)) ∙ out.outside;
+  }
+
+  row-less : (c : Contents) (list : ℕ → Sector) (x row : ℕ) → x < list_length view.newest → RowStands (reading_of m) c (shape_for view.newest x) list row → RowStands (reading_of view) c (shape_for view.newest x) list row
+  row-less c list x row below stands = record {
+    whole = stands.whole;
+    sectors = λ role slot lt part held. ap (λ (n : ℕ). c slot (n + row)) (less.offsets x role row slot below lt held) ∙ stands.sectors role slot lt part (less.held x role row slot below lt held);
+    parity = λ role slot lt part held. ap (λ (n : ℕ). c slot (n + row)) (less.offsets x role row slot below lt held) ∙ stands.parity role slot lt part (less.held x role row slot below lt held);
+  }
+
+pub placed-less-right : (sound : Type 0) → PlacedLessIsRight sound
+placed-less-right sound scope given told more m view d less placed gone tells right = record {
+  placed = placed;
+  sized = tells.sized;
+  gone = gone;
+  unclean = λ dirty. tells.unclean (right.unclean (sym less.clean ∙ dirty));
+  held = λ header may x slot outside holds v is. (
+      let below = outside.within in
+      let same = less.shapes x below in
+      let role = role-in-shape view.newest placed.fit x in
+      let holds' : held_slot (reading_of m) (place_by m.newest x).role (place_by m.newest x).row ≡ Some slot =
+      subst (λ (s : Shape). held_slot (reading_of m) (place s x).role (place s x).row ≡ Some slot) same (less.held x (place_by view.newest x).role (place_by view.newest x).row slot below role holds) in
+      tells.values x below v (right.held header may x slot (outside-less scope m view d less header may x outside) holds' v
+      (subst (λ (n : ℕ). IsIn (d slot n) v)
+      (ap₂ (λ (a b : ℕ). a + b) (less.offsets x (place_by view.newest x).role (place_by view.newest x).row slot below role holds) (ap (λ (s : Shape). (place s x).row) same)) is)));
+  sections = λ header may span active x low high v is. tells.sections header may span active x low high v (right.sections header may span (sym (less.opened header may) ∙ active) x low high v is);
+  settled = λ clean few premise. (
+      let s = right.settled (sym less.clean ∙ clean) (less.does few) premise in
+      record {
+        list = s.list;
+        allowed = λ x lt. tells.values x lt (s.list x) (s.allowed x (let w = less.within in omega (arith, lt, w)));
+        rows = λ c drawn x outside. row-less scope m view d less c s.list x (place_by view.newest x).row outside.within
+            (subst (λ (t : Shape). RowStands (reading_of m) c t s.list (place t x).row) (sym (less.shapes x outside.within))
+            (s.rows c drawn x (outside-less scope m view d less (header_in scope c) (drawn (backup_of scope) 0) x outside)));
+      });
+}

@@ -1,0 +1,47 @@
+-- The updates that begin and end a reshape.
+use Rattle.std.specs.Prelude.{◌≡◌, ◌⊎◌, ℕ, ◌≤◌, true, false, List, Option, ⊤}
+use Rattle.bank.specs.declared.bank.Operation.{Operation}
+use Rattle.bank.specs.Given.{Given}
+use Rattle.md_base.specs.Sectors.{Sector}
+use Rattle.bank.specs.Tape.{Contents, disk}
+use Rattle.superblocks.specs.declared.change.Give.TheVariants as give
+use Rattle.superblocks.specs.declared.change.Change.{Change}
+use Rattle.superblocks.specs.declared.members.Members.{Members}
+use Rattle.superblocks.specs.Reading.{Scope, is_reshaping, shape_of}
+use Rattle.superblocks.specs.Update.{give_of}
+use Rattle.shape_views.specs.Regions.{ArePlaced}
+use Rattle.shape_views.specs.Views.{Ledger}
+use Rattle.shape_views.specs.Windows.{HasNoSection, IsFlushedRight}
+use Rattle.shape_changes.specs.Updates.{planned_view, AreGoneTold, IsAtStart}
+use Rattle.shape_changes.specs.Changing.{HasLiveSlot, HasRoom, IsSteady, IsChanged, IsSafeStretch}
+use Rattle.shape_changes.specs.Kinds.{IsSafeNow, IsTaking, IsDropping}
+use Rattle.shape_changes.specs.Giving.{IsMoreTold}
+
+-- A reshape begins at its first position, with the same old shape and clean mark, and gives roles alone that are new.
+pub record IsBeginning (old : Members) (change : Change) : Type 0 where
+  pub taking : IsTaking old change
+  pub still : is_reshaping old.newest ≡ false
+  pub active : is_reshaping change.shared ≡ true
+  pub start : IsAtStart change.shared
+  pub shape : shape_of change.shared ≡ shape_of old.newest
+  pub clean : change.shared.resync_offset ≡ old.newest.resync_offset
+  pub fresh : (s role : ℕ) (recovery : Option ℕ) → give_of change.gives s ≡ give.Role role recovery → (shape_of old.newest).disks ≤ role
+
+-- It keeps the array safe, by the ledger before it or by the one with it, which may be of a shorter list: where the header was cleared, the planned members are
+-- placed, and the other ledger tells what the first does.
+abbrev pub BeginStaysSafe : (sound : Type 0) → Type 0
+BeginStaysSafe sound = (scope : Scope) (given : Given) (told more : Ledger) (change : Change) (old new : Members) (before after : List Operation)
+    → IsChanged ⊤ given change old new before after → IsBeginning old change → (HasLiveSlot old → HasRoom old before after)
+    → ArePlaced scope given (planned_view old change old.lost) → HasNoSection scope (planned_view old change old.lost) (disk given.start before)
+    → IsMoreTold scope (planned_view old change old.lost) (disk given.start before) told more → AreGoneTold told old → AreGoneTold more new
+    → IsSafeNow sound scope given told old (disk given.start before) → IsSafeStretch sound scope given told more new before after
+
+-- ---- an update behind a flush
+
+-- Where the holders of the planned members are flushed, and the list stands on them as planned, an update by which spares get roles, or holders become spares,
+-- keeps the array safe: the end of a reshape, a takeover, and a recovery offset that moves on.
+abbrev pub FlushedChangeStaysSafe : (sound : Type 0) → Type 0
+FlushedChangeStaysSafe sound = (scope : Scope) (given : Given) (told more : Ledger) (change : Change) (old new : Members) (before after : List Operation) (c : Contents) (list : ℕ → Sector)
+    → IsChanged ⊤ given change old new before after → IsTaking old change ⊎ IsDropping old change → (HasLiveSlot old → HasRoom old before after) → AreGoneTold more new
+    → (IsSteady sound scope given told old (disk given.start before) → IsFlushedRight sound scope given more (planned_view old change old.lost) c list (disk given.start before))
+    → IsSafeNow sound scope given told old (disk given.start before) → IsSafeStretch sound scope given told more new before after

@@ -1,0 +1,140 @@
+-- Kinds of updates, by what each owes of its change and of the view that it plans.
+use Rattle.std.specs.Prelude.{◌≡◌, ◌⊎◌, ℕ, ◌+◌, ◌-◌, ◌^◌, ◌<◌, ◌≤◌, Bool, true, false, List, replicate, if◌then◌else◌, slice_index_or, Option, Some, None, ⊤}
+use Rattle.md_base.specs.declared.places.Span.{Span}
+use Rattle.bank.specs.declared.bank.Operation.{Operation}
+use Rattle.bank.specs.Given.{Given}
+use Rattle.bank.specs.Tape.{disk}
+use Rattle.md_base.specs.Shapes.{has_slot}
+use Rattle.md_base.specs.declared.status.Role.TheVariants.{Whole, Missing}
+use Rattle.superblocks.specs.declared.change.Give.TheVariants.{Same, Spare}
+use Rattle.superblocks.specs.declared.change.Give.TheVariants as give
+use Rattle.superblocks.specs.declared.change.Change.{Change}
+use Rattle.superblocks.specs.declared.members.Members.{Members}
+use Rattle.superblocks.specs.Reading.{Scope, role_count, holder}
+use Rattle.superblocks.specs.Reads.{has_spare}
+use Rattle.superblocks.specs.Update.{give_of, is_recovery}
+use Rattle.superblocks.specs.Updating.{planned_newest}
+use Rattle.superblocks.specs.Outcome.{live_set, AreGivesOfLive}
+use Rattle.superblocks.specs.Stages.{AreLeft}
+use Rattle.superblocks.specs.Plans.{IsFitChange}
+use Rattle.superblock_reads.specs.Said.{AreSparesFit}
+use Rattle.row_io.specs.Rows.{members_without}
+use Rattle.shape_views.specs.Regions.{AreShapesFit, DoWithout}
+use Rattle.shape_views.specs.Views.{Disk, Ledger, IsSettled, IsViewRight}
+use Rattle.shape_views.specs.Windows.{moved_past}
+use Rattle.shape_changes.specs.Updates.{AreGoneTold}
+use Rattle.shape_changes.specs.Changing.{IsHeldBy, IsHeldSince, IsFitUpdate, HasLiveSlot, HasRoom, IsSteady, IsSpent, IsChanged, IsPlannedSafe, IsSafeStretch}
+
+-- ---- any update, from any state
+
+-- The superblocks are held and the view is right, or no live slot is left and each view is.
+abbrev pub IsSafeNow : Type 0 → Scope → Given → Ledger → Members → Disk → Type 0
+IsSafeNow sound scope given told members d = IsSteady sound scope given told members d ⊎ IsSpent sound scope given told told members d
+
+-- What an update owes is asked only where the superblocks are held and a live slot is left, and so is the room of the event count.
+abbrev pub SafeChangeStaysSafe : (sound : Type 0) → Type 0
+SafeChangeStaysSafe sound = (scope : Scope) (given : Given) (told more : Ledger) (change : Change) (old new : Members) (before after : List Operation)
+    → IsChanged ⊤ given change old new before after → change.added ≡ None → AreGivesOfLive old change → (HasLiveSlot old → HasRoom old before after)
+    → (IsSteady sound scope given told old (disk given.start before) → IsPlannedSafe sound scope given more change old new (disk given.start before))
+    → IsSafeNow sound scope given told old (disk given.start before) → IsSafeStretch sound scope given told more new before after
+
+-- ---- updates in which each slot stays what it is
+
+-- no slot is given anything, and there are as many roles as before
+pub record IsKeepingAll (old : Members) (change : Change) : Type 0 where
+  pub none : change.added ≡ None
+  pub size : change.shared.size ≡ old.newest.size
+  pub count : role_count change.shared ≡ role_count old.newest
+  pub same : (s : ℕ) → give_of change.gives s ≡ Same
+
+-- Such an update keeps the array safe where the members are a right view with what the change says of the array, and what is missing in the end is told.
+abbrev pub KeptStaysSafe : (sound : Type 0) → Type 0
+KeptStaysSafe sound = (scope : Scope) (given : Given) (told more : Ledger) (change : Change) (old new : Members) (before after : List Operation)
+    → IsChanged ⊤ given change old new before after → IsKeepingAll old change → (HasLiveSlot old → HasRoom old before after) → AreGoneTold more new
+    → (IsSteady sound scope given told old (disk given.start before) → IsViewRight sound scope given more (record old { newest = change.shared }) (disk given.start before))
+    → IsSafeNow sound scope given told old (disk given.start before) → IsSafeStretch sound scope given told more new before after
+
+-- ---- the mark
+
+-- resync_offset is all ones where the array is clean, and 0 where it is dirty
+abbrev pub resync_of : Bool → ℕ
+resync_of clean = if clean then 2 ^ 64 - 1 else 0
+
+-- the update that marks an array clean or dirty
+abbrev pub marking : Members → Bool → Change
+marking members clean = record { shared = record members.newest { resync_offset = resync_of clean }; gives = replicate 32 Same; added = None }
+
+-- What a mark needs besides: the roles that are missing at its end are told, a dirty mark is told unsettled, and at a clean one the rows are
+-- settled, where the array can do without the roles that it misses.
+pub record IsMarkable (sound : Type 0) (scope : Scope) (clean : Bool) (told : Ledger) (old new : Members) (d : Disk) : Type 0 where
+  pub gone : AreGoneTold told new
+  pub unclean : clean ≡ false → told.unclean ≡ true
+  pub settled : clean ≡ true → DoWithout old → sound → IsSettled scope old told.values d
+
+-- A mark, in which slots may be lost, keeps the array safe: of one shape or of two.
+abbrev pub MarkStaysSafe : (sound : Type 0) → Type 0
+MarkStaysSafe sound = (scope : Scope) (given : Given) (told : Ledger) (clean : Bool) (old new : Members) (before after : List Operation)
+    → IsChanged ⊤ given (marking old clean) old new before after → (HasLiveSlot old → HasRoom old before after) → IsMarkable sound scope clean told old new (disk given.start before)
+    → IsSafeNow sound scope given told old (disk given.start before) → IsSafeStretch sound scope given told told new before after
+
+-- ---- the position
+
+-- the update that records the position behind a window
+abbrev pub recording : Span → Members → Change
+recording span members = record { shared = (moved_past span members).newest; gives = replicate 32 Same; added = None }
+
+-- It keeps the array safe where the view that is held is right with the position moved, as the copied window leaves it.
+abbrev pub RecordStaysSafe : (sound : Type 0) → Type 0
+RecordStaysSafe sound = (scope : Scope) (given : Given) (told : Ledger) (span : Span) (old new : Members) (before after : List Operation)
+    → IsChanged ⊤ given (recording span old) old new before after → (HasLiveSlot old → HasRoom old before after) → AreGoneTold told new
+    → ((steady : IsSteady sound scope given told old (disk given.start before)) → IsViewRight sound scope given told (moved_past span steady.former) (disk given.start before))
+    → IsSafeNow sound scope given told old (disk given.start before) → IsSafeStretch sound scope given told told new before after
+
+-- ---- changes that are fit
+
+-- a spare gets a role that no slot holds but lost ones, whole or with a recovery offset
+abbrev pub IsGivenTo : Members → Change → ℕ → Type 0
+IsGivenTo old change s = (role : ℕ) × (recovery : Option ℕ) × (give_of change.gives s ≡ give.Role role recovery) × (has_spare old.spares s ≡ true) × (role < role_count change.shared)
+    × ((t : ℕ) → has_slot old.lost t ≡ false → holder (slice_index_or old.roles role Missing) ≡ Some t → ⊥)
+
+-- the holder of a role gets another recovery offset
+abbrev pub IsMovedOn : Members → Change → ℕ → Type 0
+IsMovedOn old change s = (role : ℕ) × (offset : ℕ) × (give_of change.gives s ≡ give.Role role (Some offset)) × (holder (slice_index_or old.roles role Missing) ≡ Some s)
+
+-- or it stays what it is
+abbrev pub IsTakenBy : Members → Change → ℕ → Type 0
+IsTakenBy old change s = (give_of change.gives s ≡ Same) ⊎ (IsGivenTo old change s ⊎ IsMovedOn old change s)
+
+-- Spares get vacant roles, each another one, of which one at most has a recovery offset; no role is dropped, and the size stays. So it is where the array
+-- is marked, where a position is recorded, where a reshape begins, where a rebuild begins and goes on, and in a takeover to level 6.
+pub record IsTaking (old : Members) (change : Change) : Type 0 where
+  pub none : change.added ≡ None
+  pub size : change.shared.size ≡ old.newest.size
+  pub count : role_count old.newest ≤ role_count change.shared
+  pub each : (s : ℕ) → IsTakenBy old change s
+  pub apart : (s t role : ℕ) (a b : Option ℕ) → give_of change.gives s ≡ give.Role role a → give_of change.gives t ≡ give.Role role b → s ≡ t
+  pub one : (s t : ℕ) → is_recovery (give_of change.gives s) ≡ true → is_recovery (give_of change.gives t) ≡ true → s ≡ t
+
+abbrev pub TakingIsFit : Type 0
+TakingIsFit = (scope : Scope) (former old : Members) (change : Change) (d : Disk) → IsHeldSince scope former old d → IsTaking old change → IsFitUpdate old change
+
+-- A slot stays what it is, or it becomes a spare, where it holds a role that is dropped and is whole.
+abbrev pub IsDroppedBy : Members → Change → ℕ → Type 0
+IsDroppedBy old change s = (give_of change.gives s ≡ Same) ⊎ ((give_of change.gives s ≡ Spare) × (role : ℕ) × (slice_index_or old.roles role Missing ≡ Whole s))
+
+-- Holders of roles become spares, and the roles of the others, of the slots that aren't lost, are below the new count. So it is where a reshape ends, and in a
+-- takeover to level 5.
+pub record IsDropping (old : Members) (change : Change) : Type 0 where
+  pub none : change.added ≡ None
+  pub size : change.shared.size ≡ old.newest.size
+  pub each : (s : ℕ) → IsDroppedBy old change s
+  pub below : (s role : ℕ) → has_slot old.lost s ≡ false → give_of change.gives s ≡ Same → holder (slice_index_or old.roles role Missing) ≡ Some s → role < role_count change.shared
+
+abbrev pub DroppingIsFit : Type 0
+DroppingIsFit = (scope : Scope) (former old : Members) (change : Change) (d : Disk) → IsHeldSince scope former old d → IsDropping old change → IsFitUpdate old change
+
+-- What is fit so makes a change that fits the superblocks that are held, for the slots that are left, and its new spares are fit.
+abbrev pub FitUpdateIsFitChange : Type 0
+FitUpdateIsFitChange = (scope : Scope) (former : Members) (gone left : ℕ) (change : Change) (d : Disk) (held : IsHeldBy scope former d) → IsFitUpdate (members_without gone former) change
+    → AreShapesFit (planned_newest change.shared former.newest) → former.newest.events + 1 < 2 ^ 62 → AreLeft (live_set (members_without gone former) change) (members_without gone former).lost left
+    → IsFitChange held.known (members_without gone former).lost left (members_without gone former) change × AreSparesFit left (members_without gone former) change

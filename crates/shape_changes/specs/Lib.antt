@@ -1,0 +1,7 @@
+pub mod Called
+pub mod Changing
+pub mod Flushed
+pub mod Giving
+pub mod Kinds
+pub mod Making
+pub mod Updates

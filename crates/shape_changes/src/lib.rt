@@ -1,0 +1,127 @@
+//! Laws of updates of the superblocks of an array of one shape or of two.
+//! Each function's contract is the law.
+#![tactic(auto)]
+
+ghost use Rattle.std.specs.Prelude.{⊤};
+ghost use Rattle.shape_changes.specs.Updates.{PlannedIsRead, LessStaysRight, UpdatesAreSeenRight, AlikeStands, EndsPlaceAll, PastWindowsArePlain, ZeroingStaysRight, PlansLoseRoles};
+ghost use Rattle.shape_changes.specs.Changing.{ChangeStaysSafe, SpentStaysSpent};
+ghost use Rattle.shape_changes.specs.Called.{UpdateIsChange};
+ghost use Rattle.shape_changes.specs.Kinds.{SafeChangeStaysSafe, KeptStaysSafe, MarkStaysSafe, RecordStaysSafe, TakingIsFit, DroppingIsFit, FitUpdateIsFitChange};
+ghost use Rattle.shape_changes.specs.Giving.{PlacedLessIsRight, GivingStaysSafe};
+ghost use Rattle.shape_changes.specs.Flushed.{BeginStaysSafe, FlushedChangeStaysSafe};
+ghost use Rattle.shape_changes.specs.Making.{MakingStaysSafe};
+
+/// What is read as an update plans is read of the members that it plans.
+pub fn planned_is_read()
+    ensures { PlannedIsRead }
+{}
+
+/// A view that loses roles stays right, if they are told.
+pub fn less_stays_right()
+    ensures { LessStaysRight ⊤ }
+{}
+
+/// Each image in an update is seen right, by what is told before it or by what is told with it.
+pub fn updates_are_seen_right()
+    ensures { UpdatesAreSeenRight ⊤ }
+{}
+
+/// A list stands on where each sector is placed as before.
+pub fn alike_lists_stand()
+    ensures { AlikeStands }
+{}
+
+/// At its first position a reshape places all by the old shape, and at its last by the new one.
+pub fn ends_place_all()
+    ensures { EndsPlaceAll }
+{}
+
+/// Behind a window its section isn't active.
+pub fn past_windows_are_plain()
+    ensures { PastWindowsArePlain }
+{}
+
+/// Rows past the end of the list may be written, once the reshape has gone through.
+pub fn written_rows_past_the_end_stay_right()
+    ensures { ZeroingStaysRight ⊤ }
+{}
+
+/// A plan in which more slots are named lost has no more.
+pub fn plans_lose_roles()
+    ensures { PlansLoseRoles }
+{}
+
+/// Any update of the superblocks keeps an array safe, whichever slots are lost in it.
+pub fn a_change_stays_safe()
+    ensures { ChangeStaysSafe ⊤ }
+{}
+
+/// Where no live slot is left, one writes nothing.
+pub fn a_spent_array_stays_spent()
+    ensures { SpentStaysSpent ⊤ }
+{}
+
+/// The same from any state, whether the superblocks are held or no live slot is left.
+pub fn a_safe_change_stays_safe()
+    ensures { SafeChangeStaysSafe ⊤ }
+{}
+
+/// An update in which each slot stays what it is keeps an array safe.
+pub fn a_kept_change_stays_safe()
+    ensures { KeptStaysSafe ⊤ }
+{}
+
+/// So does the clean or dirty mark.
+pub fn a_mark_stays_safe()
+    ensures { MarkStaysSafe ⊤ }
+{}
+
+/// And the record of a position.
+pub fn a_record_stays_safe()
+    ensures { RecordStaysSafe ⊤ }
+{}
+
+/// A change by which spares get vacant roles is fit.
+pub fn taking_is_fit()
+    ensures { TakingIsFit }
+{}
+
+/// And one by which holders become spares.
+pub fn dropping_is_fit()
+    ensures { DroppingIsFit }
+{}
+
+/// A view that places the list where another does is as right.
+pub fn a_view_placed_alike_is_right()
+    ensures { PlacedLessIsRight ⊤ }
+{}
+
+/// A vacant role is given to a spare, which recovers it from the first row on.
+pub fn giving_stays_safe()
+    ensures { GivingStaysSafe ⊤ }
+{}
+
+/// The clauses of a call that updates the superblocks are what these laws start from.
+pub fn an_update_is_a_change()
+    ensures { UpdateIsChange ⊤ }
+{}
+
+/// A reshape begins, by the ledger before it or by one of a shorter list.
+pub fn beginning_stays_safe()
+    ensures { BeginStaysSafe ⊤ }
+{}
+
+/// Behind a flush a reshape ends, a level is taken over, or a recovery offset moves on.
+pub fn a_flushed_change_stays_safe()
+    ensures { FlushedChangeStaysSafe ⊤ }
+{}
+
+/// A recovering slot is made whole.
+pub fn making_whole_stays_safe()
+    ensures { MakingStaysSafe ⊤ }
+{}
+
+/// What is fit so makes a change that fits the superblocks that are held.
+pub fn a_fit_update_is_a_fit_change()
+    ensures { FitUpdateIsFitChange }
+{}

@@ -1,0 +1,185 @@
+-- A window is copied, flushed and recorded: what is right and fits goes on so.
+use Rattle.std.proofs.Common.{◌≡◌, ◌⊎◌, inl, inr, ℕ, ◌-◌, ◌<◌, ◌≤◌, ◌&&◌, nat_lt, nat_le, Bool, true, false, cond, Option, Some, None, refl, sym, ◌∙◌, ap, subst, arith}
+use Rattle.std.proofs.lemmas.Bool.{and_parts}
+use Rattle.std.proofs.lemmas.Bool.Decides.{nat_tests}
+use Rattle.md_base.specs.declared.places.Shape.{Shape}
+use Rattle.md_base.specs.declared.places.Span.{Span}
+use Rattle.md_base.specs.declared.places.Side.TheVariants.{Old, New}
+use Rattle.md_base.specs.Sectors.{Sector}
+use Rattle.md_base.specs.Shapes.{has_slot}
+use Rattle.bank.specs.Given.{Given}
+use Rattle.bank.specs.Tape.{Contents, IsIn}
+use Rattle.geometry.specs.Geometry.{window, side, beyond}
+use Rattle.region_laws.proofs.RegionLaws.{forward-is, backward-is, new-ahead, new-behind}
+use Rattle.geometry.proofs.Valid.{bounded_pair}
+use Rattle.superblocks.specs.declared.members.Members.{Members}
+use Rattle.superblocks.specs.Reading.{Scope, is_reshaping, is_backward, shape_of, final_shape, next_window}
+use Rattle.backup.specs.Section.{is_header_of, names_span, has_section}
+use Rattle.flat_history.specs.ActiveSection.{section_for}
+use Rattle.shape_views.specs.Regions.{backup_of, open_by}
+use Rattle.shape_views.specs.Views.{Disk, Ledger}
+use Rattle.shape_views.specs.Windows.{moved_past, HasNoSection, IsFlushedRight}
+use Rattle.shape_ends.specs.Runs.{IsWindowStanding}
+use Rattle.shape_ends.specs.Fits.{IsHeaderFit, IsTailZero, IsSeenFit}
+use Rattle.shape_ends.specs.Copies.{FitHeadersArePlain, IsCopyRun, IsRightAndFit, CopiesStayFit, CopiesAreSeenFit, MovedIsRightAndFit, UpdatedIsRightAndFit}
+use Rattle.shape_views.proofs.UnderWay.{is-reshaping, window-is, under-way}
+use Rattle.shape_views.proofs.WindowLaws.{fewer-right, copying-right, updating-right}
+use Rattle.shape_views.proofs.Stands.{span-order, moved-stands, moved-rows-stand, moved-placed, flushed-right}
+use Rattle.shape_changes.proofs.PastWindows.{begins-apart}
+use Rattle.shape_ends.proofs.FitLaws.{backup-is, names-parts, fewer-fit, copying-fit, updating-fit, flushed-fit, moved-tails, updates-fit}
+use Rattle.shape_ends.proofs.FitLaws as fits
+
+-- ---- sides behind a window
+
+module _ (old new : Shape) (size : ℕ) (span : Span) (order : span.lo ≤ span.hi) where
+  -- what was new is
+  stays-new : (back : Bool) (position x : ℕ) → window old new size back position ≡ Some span → side back position x ≡ New → side back (beyond back span) x ≡ New
+  stays-new false position x is was =
+      let at = forward-is old new size position span is in
+      let below = new-ahead position x was in
+      ap (λ (b : Bool). cond b New Old) (less x span.hi (let a = at.1 in omega (arith, below, a, order)))
+    where
+      less : (a b : ℕ) → a < b → nat_lt a b ≡ true
+      less a b lt = grind (arith, nat_tests, lt)
+  stays-new true position x is was =
+      let at = backward-is old new size position span is in
+      let above = new-behind position x was in
+      ap (λ (b : Bool). cond b New Old) (more span.lo x (let a = at.2 in omega (arith, above, a, order)))
+    where
+      more : (a b : ℕ) → a ≤ b → nat_le a b ≡ true
+      more a b le = grind (arith, nat_tests, le)
+
+  -- the window after it wasn't new
+  then-old : (back : Bool) (position : ℕ) (then : Span) → window old new size back position ≡ Some span → window old new size back (beyond back span) ≡ Some then → then.lo < then.hi
+      → ((x : ℕ) → then.lo ≤ x → x < then.hi → side back position x ≡ New) → ⊥
+  then-old false position then is next filled all =
+      let at = forward-is old new size position span is in
+      let behind = forward-is old new size span.hi then next in
+      let below = new-ahead position then.lo (all then.lo (omega arith) filled) in
+      absurd (let a = at.1 in let b = behind.1 in omega (arith, a, b, below, order))
+  then-old true position then is next filled all =
+      let at = backward-is old new size position span is in
+      let behind = backward-is old new size span.lo then next in
+      let above = new-behind position (then.hi - 1) (all (then.hi - 1) (omega (arith, filled)) (omega (arith, filled))) in
+      absurd (let a = at.2 in let b = behind.2 in omega (arith, a, b, above, order, filled))
+
+pub fit-headers-plain : FitHeadersArePlain
+fit-headers-plain scope given m span header placed next fit = (of scope.backup (next_window (moved_past span m).newest) refl, fits-behind)
+  where
+    active : is_reshaping m.newest ≡ true
+    active = is-reshaping m.newest span next
+
+    order : span.lo ≤ span.hi
+    order = span-order m.newest placed.fit span next
+
+    some-only : (a b : Span) → ◌≡◌ {A = Option Span} (Some a) (Some b) → a ≡ b
+    some-only a b e = cc
+
+    other : (then : Span) → next_window (moved_past span m).newest ≡ Some then → is_header_of scope.uuid header ≡ true → names_span header then ≡ true → ⊥
+    other then is own names = elim (fit then (λ i. own i && names i)) [
+      | inl same ↦ begins-apart (shape_of m.newest) (final_shape m.newest) m.newest.size span then (bounded_pair (shape_of m.newest) (final_shape m.newest) m.newest.size (under-way m.newest placed.fit active).force).some_unit
+          (is_backward m.newest) m.newest.reshape_position (window-is m.newest span next) (window-is (moved_past span m).newest then is)
+          (ap (λ (s : Span). s.lo) (some-only then span (sym same ∙ next)))
+      | inr new ↦ then-old (shape_of m.newest) (final_shape m.newest) m.newest.size span order (is_backward m.newest) m.newest.reshape_position then (window-is m.newest span next)
+          (window-is (moved_past span m).newest then is) (names-parts header then names).2 new
+    ]
+
+    chosen : (b : ℕ) (then : Span) (t : Bool) → (has_slot scope.given b && has_section scope.uuid (scope.sizes.sectors b) (λ k. header) then) ≡ t → next_window (moved_past span m).newest ≡ Some then
+        → ◌≡◌ {A = Option Span} (cond t (Some then) None) None
+    chosen b then true is here =
+        let both = and_parts _ _ (and_parts _ _ (and_parts _ _ is).1).0 in
+        absurd (other then here both.0 both.1)
+    chosen b then false is here = refl
+
+    of : (backup : Option ℕ) (w : Option Span) → next_window (moved_past span m).newest ≡ w → section_for scope (λ s k. header) backup (next_window (moved_past span m).newest) ≡ None
+    of None w is = refl
+    of (Some b) None is = ap (section_for scope (λ s k. header) (Some b)) is
+    of (Some b) (Some then) is = ap (section_for scope (λ s k. header) (Some b)) is ∙ chosen b then (has_slot scope.given b && has_section scope.uuid (scope.sizes.sectors b) (λ k. header) then) refl is
+
+    fits-behind : IsHeaderFit scope (moved_past span m).newest header
+    fits-behind other is = elim (fit other is) [
+      | inl same ↦ (
+          let e : other ≡ span = some-only other span (sym same ∙ next) in
+          inr (λ x low high. fits.new-behind (is_backward m.newest) span x (subst (λ (s : Span). s.lo ≤ x) e low) (subst (λ (s : Span). x < s.hi) e high)))
+      | inr new ↦ inr (λ x low high. stays-new (shape_of m.newest) (final_shape m.newest) m.newest.size span order (is_backward m.newest) m.newest.reshape_position x (window-is m.newest span next) (new x low high))
+    ]
+
+-- ---- the run
+
+module _ (sound : Type 0) (scope : Scope) (given : Given) (told : Ledger) (m : Members) (span : Span) (start copied flushed : Disk)
+    (run : IsCopyRun scope m span start copied flushed) (first : IsRightAndFit sound scope given told m start) where
+  at-copied : IsRightAndFit sound scope given told m copied
+  at-copied = record {
+    right = copying-right sound scope given told m span start copied run.some.0 run.able run.copying first.right;
+    fit = copying-fit sound scope given told m span start copied run.some.0 first.right.placed run.able run.copying first.fit;
+  }
+
+  pub at-flushed : IsRightAndFit sound scope given told m flushed
+  at-flushed = record {
+    right = fewer-right sound scope given told m copied flushed run.flushed_is at-copied.right;
+    fit = fewer-fit sound scope told m copied flushed run.flushed_is at-copied.fit;
+  }
+
+  pub copies : IsRightAndFit sound scope given told m copied × IsRightAndFit sound scope given told m flushed
+  copies = (at-copied, at-flushed)
+
+  -- a header that a stop leaves then fits, where there is a backup
+  behind : (backup : ℕ) (header : Sector) → scope.backup ≡ Some backup → IsIn (flushed backup 0) header
+      → (open_by scope (moved_past span m).newest header ≡ None) × IsHeaderFit scope (moved_past span m).newest header
+  behind backup header here may = fit-headers-plain scope given m span header first.right.placed run.able.next
+      (λ other named. at-flushed.fit.headers backup header other here may named)
+
+  plain-behind : HasNoSection scope (moved_past span m) flushed
+  plain-behind header may = of scope.backup refl
+    where
+      of : (backup : Option ℕ) → scope.backup ≡ backup → open_by scope (moved_past span m).newest header ≡ None
+      of (Some b) is = (behind b header is (subst (λ (s : ℕ). IsIn (flushed s 0) header) (backup-is scope b is) may)).0
+      of None is = ap (λ (backup : Option ℕ). section_for scope (λ s k. header) backup (next_window (moved_past span m).newest)) is
+
+  module _ (c : Contents) (list : ℕ → Sector) (stands : IsWindowStanding sound told m span c list flushed) (zeros : IsTailZero (moved_past span m).newest list) where
+    moved : IsFlushedRight sound scope given told (moved_past span m) c list flushed
+    moved = record {
+      placed = moved-placed scope given m span first.right.placed run.able.next;
+      sized = first.right.sized;
+      flushed = stands.flushed;
+      allowed = stands.allowed;
+      stands = moved-stands scope given m span c list first.right.placed run.able.next stands.window stands.list_is;
+      rows = λ clean few premise. moved-rows-stand scope given m span c list first.right.placed run.able.next (stands.parity clean (record { old = few.old; final = few.final }) premise) (stands.rows_are clean (record { old = few.old; final = few.final }) premise);
+      plain = plain-behind;
+      missing = first.right.gone;
+      unclean = first.right.unclean;
+    }
+
+    moved-both : IsRightAndFit sound scope given told (moved_past span m) flushed
+    moved-both = record {
+      right = flushed-right sound scope given told (moved_past span m) c list flushed moved;
+      fit = flushed-fit sound scope given told (moved_past span m) c list flushed (record {
+        right = moved;
+        headers = λ backup header here may. (behind backup header here may).1;
+        zeros = zeros;
+        tail = moved-tails scope given m span c list first.right.placed run.able.next stands.window;
+      });
+    }
+
+pub copies-fit : (sound : Type 0) → CopiesStayFit sound
+copies-fit sound scope given told m span start copied flushed run first = copies sound scope given told m span start copied flushed run first
+
+pub moved-fits-too : (sound : Type 0) → MovedIsRightAndFit sound
+moved-fits-too sound scope given told m span start copied flushed c list run first stands zeros =
+    (moved-both sound scope given told m span start copied flushed run first c list stands zeros, plain-behind sound scope given told m span start copied flushed run first)
+
+pub updated-fits-too : (sound : Type 0) → UpdatedIsRightAndFit sound
+updated-fits-too sound scope given told m d e some updating (both, plain) = (
+  record { right = updating-right sound scope given told m d e some updating both.right; fit = updating-fit sound scope given told m d e some both.right.placed updating both.fit },
+  λ header may. plain header (elim (updating (backup_of scope) 0) [ inl less ↦ less header may | inr (eighth, other) ↦ absurd (omega (arith, eighth)) ]),
+)
+
+pub copies-seen : (sound : Type 0) → CopiesAreSeenFit sound
+copies-seen sound scope given told m span start copied flushed c list last image run first stands zeros updating reads =
+    let then = at-flushed sound scope given told m span start copied flushed run first in
+    let moved = moved-both sound scope given told m span start copied flushed run first c list stands zeros in
+    either (updates-fit sound scope given told told m (moved_past span m) flushed last image run.some.1 updating then.right moved.right (λ active. then.fit) (λ active. moved.fit) reads)
+  where
+    either : IsSeenFit sound scope given told last image ⊎ IsSeenFit sound scope given told last image → IsSeenFit sound scope given told last image
+    either (inl seen) = seen
+    either (inr seen) = seen

@@ -1,0 +1,13 @@
+pub mod CopyRuns
+pub mod EndLaws
+pub mod FitLaws
+pub mod GrownLaws
+pub mod GrownStanding
+pub mod LessPlaced
+pub mod PlanPlaced
+pub mod PlanRoles
+pub mod RunFits
+pub mod RunLaws
+pub mod Tails
+pub mod TakenShapes
+pub mod Takeovers

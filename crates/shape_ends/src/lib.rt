@@ -1,0 +1,247 @@
+//! Laws of how a reshape goes: whole windows, its begin and its end, and takeovers of a level.
+//! Each function's contract is the law.
+#![tactic(auto)]
+
+ghost use Rattle.std.specs.Prelude.{⊤};
+ghost use Rattle.shape_ends.specs.Runs.{WindowsStayRight, RecordsAreSeenRight};
+ghost use Rattle.shape_ends.specs.Fits.{NextHeadersFit, FewerStayFit, StoringStaysFit, NamingStaysFit, CopyingStaysFit, UpdatingStaysFit, PuttingStaysFit, ZeroingStaysFit, LessStaysFit, FlushedIsFit, MovedTailsStand, ViewsLeaveSound, UpdatesAreSeenFit, WindowsStayFit, RecordsAreSeenFit};
+ghost use Rattle.shape_ends.specs.Copies.{FitHeadersArePlain, CopiesStayFit, MovedIsRightAndFit, CopiesAreSeenFit, UpdatedIsRightAndFit};
+ghost use Rattle.shape_ends.specs.Ends.{PlacesAlikeStand, ResizedTells, AlikePlansAreRight, ClearedIsPlain, BegunIsPlacedAlike, BeginsAreRight, BeginsAreSeenFit, EndsAreRight, EndsAreSeenFit};
+ghost use Rattle.shape_ends.specs.Grown.{GrownStands, GrownDoesWithout, ResizedIsTold};
+ghost use Rattle.shape_ends.specs.Takeovers.{TakenUpIsPlacedAlike, TakeoversPlaceAlike, TakeoversAreRight, TakeoversAreSeenFit};
+ghost use Rattle.shape_ends.specs.Plans.{PlansKeepRoles, PlannedIsBegun, PlannedIsEnded, PlannedIsTakenUp, PlannedIsTakenDown, LessIsPlaced, PlannedIsSeen, FlushedIsZeroed, PlannedIsPlaced};
+
+/// A view stays right through each stretch of a critical window.
+pub fn windows_stay_right()
+    ensures { WindowsStayRight ⊤ }
+{}
+
+/// Each image in the update that records the window is seen right.
+pub fn records_are_seen_right()
+    ensures { RecordsAreSeenRight ⊤ }
+{}
+
+/// A header that names a window fits before it and behind it.
+pub fn next_headers_fit()
+    ensures { NextHeadersFit }
+{}
+
+/// A flush leaves a view that fits.
+pub fn fewer_values_stay_fit()
+    ensures { FewerStayFit ⊤ }
+{}
+
+/// So does a section that is stored.
+pub fn a_stored_section_stays_fit()
+    ensures { StoringStaysFit ⊤ }
+{}
+
+/// And one that is named by a header that fits.
+pub fn a_named_section_stays_fit()
+    ensures { NamingStaysFit ⊤ }
+{}
+
+/// And a window that is copied.
+pub fn a_copied_window_stays_fit()
+    ensures { CopyingStaysFit ⊤ }
+{}
+
+/// And superblocks that are written.
+pub fn written_superblocks_stay_fit()
+    ensures { UpdatingStaysFit ⊤ }
+{}
+
+/// And rows of one region that are written in a dirty array, by a list that is zero in the tail.
+pub fn written_rows_stay_fit()
+    ensures { PuttingStaysFit ⊤ }
+{}
+
+/// And rows past the end of the list.
+pub fn written_rows_past_the_end_stay_fit()
+    ensures { ZeroingStaysFit ⊤ }
+{}
+
+/// A view that loses roles fits as before.
+pub fn less_stays_fit()
+    ensures { LessStaysFit ⊤ }
+{}
+
+/// Flushed members fit where their headers do, and their tail stands, of zeros.
+pub fn flushed_members_fit()
+    ensures { FlushedIsFit ⊤ }
+{}
+
+/// Where the rows of the last window stand, the tail behind it does.
+pub fn moved_tails_stand()
+    ensures { MovedTailsStand }
+{}
+
+/// Where each image is read as a view that is right and fits, the mark leaves only sound ones.
+pub fn views_leave_sound()
+    ensures { ViewsLeaveSound }
+{}
+
+/// Each image in an update is seen right and fits.
+pub fn updates_are_seen_fit()
+    ensures { UpdatesAreSeenFit ⊤ }
+{}
+
+/// A view fits through each stretch of a critical window.
+pub fn windows_stay_fit()
+    ensures { WindowsStayFit ⊤ }
+{}
+
+/// Each image in the update that records the window is seen right and fits.
+pub fn records_are_seen_fit()
+    ensures { RecordsAreSeenFit ⊤ }
+{}
+
+/// A list stands on where each sector has its place as before, whatever the shape that gives it.
+pub fn alike_places_stand()
+    ensures { PlacesAlikeStand }
+{}
+
+/// A change of the length leaves the values of each sector that stays.
+pub fn a_changed_length_is_told()
+    ensures { ResizedTells }
+{}
+
+/// A plan that places all alike is right where the members before it were.
+pub fn alike_plans_are_right()
+    ensures { AlikePlansAreRight ⊤ }
+{}
+
+/// A cleared header has no active section, and fits.
+pub fn a_cleared_header_is_plain()
+    ensures { ClearedIsPlain }
+{}
+
+/// Where a reshape begins each sector has its place as before.
+pub fn a_begun_reshape_places_alike()
+    ensures { BegunIsPlacedAlike }
+{}
+
+/// The planned view of a reshape that begins is right, and fits.
+pub fn begins_are_right()
+    ensures { BeginsAreRight ⊤ }
+{}
+
+/// Each image in the update that begins a reshape is seen right and fits.
+pub fn begins_are_seen_fit()
+    ensures { BeginsAreSeenFit ⊤ }
+{}
+
+/// The planned view of a reshape that ends is right, with zeros behind the former end.
+pub fn ends_are_right()
+    ensures { EndsAreRight ⊤ }
+{}
+
+/// Each image in the update that ends a reshape is seen right and fits.
+pub fn ends_are_seen_fit()
+    ensures { EndsAreSeenFit ⊤ }
+{}
+
+/// Level 6 over level 5 places each sector alike, and has the same P.
+pub fn taken_shapes_place_alike()
+    ensures { TakenUpIsPlacedAlike }
+{}
+
+/// A takeover places each sector of the list alike.
+pub fn takeovers_place_alike()
+    ensures { TakeoversPlaceAlike }
+{}
+
+/// The planned view of a takeover is right.
+pub fn takeovers_are_right()
+    ensures { TakeoversAreRight ⊤ }
+{}
+
+/// Each image in the update of a takeover is seen right and fits.
+pub fn takeovers_are_seen_fit()
+    ensures { TakeoversAreSeenFit ⊤ }
+{}
+
+/// Behind a window no header that fitted has an active section.
+pub fn fit_headers_are_plain_behind()
+    ensures { FitHeadersArePlain }
+{}
+
+/// A view stays right and fit while a window is copied and flushed, critical or not.
+pub fn copies_stay_fit()
+    ensures { CopiesStayFit ⊤ }
+{}
+
+/// So do the members with the position behind it.
+pub fn moved_members_are_right_and_fit()
+    ensures { MovedIsRightAndFit ⊤ }
+{}
+
+/// Each image in the update that records such a window is seen right and fits.
+pub fn copies_are_seen_fit()
+    ensures { CopiesAreSeenFit ⊤ }
+{}
+
+/// The roles that a plan doesn't give are what they were.
+pub fn plans_keep_roles()
+    ensures { PlansKeepRoles }
+{}
+
+/// A change that begins a reshape.
+pub fn a_planned_begin_is_one()
+    ensures { PlannedIsBegun }
+{}
+
+/// A change that ends a reshape.
+pub fn a_planned_end_is_one()
+    ensures { PlannedIsEnded }
+{}
+
+/// A change that takes level 5 over to level 6.
+pub fn a_planned_takeover_up_is_one()
+    ensures { PlannedIsTakenUp }
+{}
+
+/// A change that takes level 6 over to level 5.
+pub fn a_planned_takeover_down_is_one()
+    ensures { PlannedIsTakenDown }
+{}
+
+/// A view that has no more than one that is placed is placed.
+pub fn less_is_placed()
+    ensures { LessIsPlaced }
+{}
+
+/// What reads as planned by a round of an update is read so in it.
+pub fn planned_is_seen()
+    ensures { PlannedIsSeen }
+{}
+
+/// Rows past the list that stand as zeros, flushed, are zeroed.
+pub fn flushed_rows_are_zeroed()
+    ensures { FlushedIsZeroed }
+{}
+
+/// The list stands on as the longer one, with zeros behind it.
+pub fn a_grown_list_stands()
+    ensures { GrownStands }
+{}
+
+/// Forward the old shape misses no more than the new one.
+pub fn a_grown_array_does_without()
+    ensures { GrownDoesWithout }
+{}
+
+/// What is told with a change of the length, and without it.
+pub fn a_change_of_length_is_told()
+    ensures { ResizedIsTold }
+{}
+
+/// The planned members are placed where what the change gives fits.
+pub fn planned_members_are_placed()
+    ensures { PlannedIsPlaced }
+{}
+
+/// An update leaves a view right and fit, and no section active.
+pub fn updated_members_are_right_and_fit()
+    ensures { UpdatedIsRightAndFit ⊤ }
+{}

@@ -1,0 +1,5 @@
+pub mod Backups
+pub mod Regions
+pub mod Sound
+pub mod Views
+pub mod Windows

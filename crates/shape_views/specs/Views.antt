@@ -1,0 +1,102 @@
+-- What a stop may leave of an array of one shape or two: each image is read as some view of it, and each view is right.
+use Rattle.std.specs.Prelude.{◌≡◌, ◌⊎◌, ℕ, ◌+◌, ◌-◌, ◌<◌, ◌≤◌, Bool, true, false, List, length, Some}
+use Rattle.md_base.specs.declared.places.Span.{Span}
+use Rattle.md_base.specs.Sectors.{Sector}
+use Rattle.bank.specs.Given.{Given, sizes}
+use Rattle.bank.specs.Tape.{Contents, IsDrawn, IsIn}
+use Rattle.superblocks.specs.declared.members.Members.{Members}
+use Rattle.superblocks.specs.Reading.{Scope, Reading, reading, is_clean, role_count, list_length, data_offset_of}
+use Rattle.row_io.specs.Rows.{reading_of, is_missing, held_slot}
+use Rattle.list_io.specs.Full.{RowStands}
+use Rattle.flat_history.specs.declared.events.Entry.{Entry}
+use Rattle.flat_history.specs.World.{World, opening_list, may_hold}
+use Rattle.flat_history.specs.Flat.{values_of, length_of}
+use Rattle.flat_history.specs.Losses.{is_gone, is_unclean}
+use Rattle.flat_history.specs.CrashSafe.{made_by, may_be_made, MayBeJudgedBy, IsSafeAt}
+use Rattle.flat_history.specs.Sound.{OpensFit}
+use Rattle.flat_history.specs.Stands.{shape_for, covers}
+use Rattle.shape_views.specs.Regions.{backup_of, header_in, open_by, place_by, ArePlaced, DoWithout, IsReadOf}
+
+abbrev pub Disk : Type 0
+Disk = ℕ → ℕ → List Sector
+
+-- What is told of an array, by which a view is judged: how long its list is and the values that each of its sectors may have, the roles that are
+-- gone, and whether a write may be unsettled.
+pub record Ledger : Type 0 where
+  pub size : ℕ
+  pub values : ℕ → List Sector
+  pub gone : ℕ → Bool
+  pub unclean : Bool
+
+-- a sector of the list that no active section covers, by this header
+pub record IsOutside (scope : Scope) (m : Members) (header : Sector) (x : ℕ) : Type 0 where
+  pub within : x < list_length m.newest
+  pub outside : covers (open_by scope m.newest header) x ≡ false
+
+-- each such sector that a slot holds may have only allowed values there, whichever header a stop leaves
+abbrev pub AreHeldAllowed : Scope → Members → (ℕ → List Sector) → Disk → Type 0
+AreHeldAllowed scope m values d = (header : Sector) → IsIn (d (backup_of scope) 0) header → (x slot : ℕ) → IsOutside scope m header x
+    → held_slot (reading_of m) (place_by m.newest x).role (place_by m.newest x).row ≡ Some slot
+    → (v : Sector) → IsIn (d slot (data_offset_of (reading_of m) slot + (place_by m.newest x).row)) v → IsIn (values x) v
+
+-- an active section has only allowed values
+abbrev pub AreSectionsAllowed : Scope → Members → (ℕ → List Sector) → Disk → Type 0
+AreSectionsAllowed scope m values d = (header : Sector) → IsIn (d (backup_of scope) 0) header → (span : Span) → open_by scope m.newest header ≡ Some span
+    → (x : ℕ) → span.lo ≤ x → x < span.hi → (v : Sector) → IsIn (d (backup_of scope) (8 + (x - span.lo))) v → IsIn (values x) v
+
+-- Whatever is drawn, the row of each sector that no active section covers stands as a list of allowed values.
+pub record IsSettled (scope : Scope) (m : Members) (values : ℕ → List Sector) (d : Disk) : Type 0 where
+  pub list : ℕ → Sector
+  pub allowed : (x : ℕ) → x < list_length m.newest → IsIn (values x) (list x)
+  pub rows : (c : Contents) → IsDrawn d c → (x : ℕ) → IsOutside scope m (header_in scope c) x
+      → RowStands (reading_of m) c (shape_for m.newest x) list (place_by m.newest x).row
+
+-- A view is right: each role that it misses is told gone; it is dirty only where a write may be unsettled; what slots hold is allowed, and what an
+-- active section has; and where it is clean, and can do without what it misses, the rows are settled, so that this can be filled in.
+pub record IsViewRight (sound : Type 0) (scope : Scope) (given : Given) (told : Ledger) (m : Members) (d : Disk) : Type 0 where
+  pub placed : ArePlaced scope given m
+  pub sized : list_length m.newest ≡ told.size
+  pub gone : (role : ℕ) → role < role_count m.newest → is_missing (reading_of m) role ≡ true → told.gone role ≡ true
+  pub unclean : is_clean m.newest ≡ false → told.unclean ≡ true
+  pub held : AreHeldAllowed scope m told.values d
+  pub sections : AreSectionsAllowed scope m told.values d
+  pub settled : is_clean m.newest ≡ true → DoWithout m → sound → IsSettled scope m told.values d
+
+-- an image is read as a view that is right
+pub record IsSeenRight (sound : Type 0) (scope : Scope) (given : Given) (told : Ledger) (d : Disk) (c : Contents) : Type 0 where
+  pub found : Reading
+  pub is : reading scope c ≡ Some found
+  pub view : Members
+  pub same : IsReadOf scope view found
+  pub right : IsViewRight sound scope given told view d
+
+-- What judges an image: these entries, the first j, perhaps without a Resized that no slot kept, where the first k were made.
+pub record IsJudgedBy (world : World) (given : Given) (entries : List Entry) (mark j : ℕ) (judged : List Entry) : Type 0 where
+  pub sizes_are : world.scope.sizes ≡ sizes given
+  pub made : made_by mark entries ≤ j
+  pub running : j ≤ may_be_made entries (made_by mark entries)
+  pub by : MayBeJudgedBy world entries (made_by mark entries) j judged
+  pub fills : ((role : ℕ) → is_gone world entries (made_by mark entries) j role ≡ false) ⊎ OpensFit world
+
+-- what they tell
+abbrev pub ledger_of : World → List Entry → ℕ → ℕ → List Entry → Ledger
+ledger_of world entries k j judged = record {
+  size = length_of (length (opening_list world)) judged;
+  values = values_of (opening_list world) judged;
+  gone = is_gone world entries k j;
+  unclean = is_unclean world entries k j;
+}
+
+-- The values bound what a stop may leave at the mark, and each image that is drawn of them is seen right by entries that judge it. These may differ
+-- from image to image: those before a Resized judge what is read as before, and those with it what is read as planned.
+pub record IsEachSeenRight (world : World) (given : Given) (entries : List Entry) (mark : ℕ) (d : Disk) (c : Contents) : Type 0 where
+  pub j : ℕ
+  pub judged : List Entry
+  pub by : IsJudgedBy world given entries mark j judged
+  pub seen : IsSeenRight (OpensFit world) world.scope given (ledger_of world entries (made_by mark entries) j judged) d c
+
+-- Where it is so, the mark is safe.
+abbrev pub ViewsAreSafe : Type 0
+ViewsAreSafe = (world : World) (given : Given) (entries : List Entry) (mark : ℕ) (d : Disk) → mark ≤ length world.tape
+    → ((s k : ℕ) (v : Sector) → IsIn (may_hold world mark s k) v → IsIn (d s k) v)
+    → ((c : Contents) → IsDrawn d c → IsEachSeenRight world given entries mark d c) → IsSafeAt world entries mark
