@@ -35,15 +35,15 @@ use Rattle.views.specs.Placed.{places_of}
 use Rattle.views.specs.Flushing.{OnlyFlushesAdded}
 use Rattle.call_entries.specs.Losing.{losses_of}
 use Rattle.views.specs.Lacking.{AreLostSince, ListStands, RowsStandBelow, mended_rows}
-use Rattle.views.specs.Marking.{AreOthersPresent}
+use Rattle.shape_changes.specs.Marking.{AreOthersPresent}
 use Rattle.views.specs.Moving.{Grows}
-use Rattle.views.specs.Safety.{HasLiveSlot, HasRoomLeft, IsRisen}
+use Rattle.shape_changes.specs.Safety.{HasLiveSlot, HasRoomLeft, IsRisen}
 use Rattle.views.specs.Numbers.{is_carried, IsOfScope, free_number}
 use Rattle.views.specs.Rebuilding.{AreRebuilt, HasNoRebuilt, with_spare, MayHold}
 use Rattle.array_kept.specs.Calls.{IsUnaddable, IsTaken}
 use Rattle.views.specs.Status.{left_of}
-use Rattle.views.specs.Views.{Ledger, AreViewsRight}
-use Rattle.views.specs.Steady.{IsSafeOver, IsSafeStretch, KeepsSafe, AreGoneTold, IsUncleanTold, IsMoreTold, with_number}
+use Rattle.shape_views.specs.Views.{Ledger}
+use Rattle.shape_changes.specs.Steady.{AreViewsRight, IsSafeOver, IsSafeStretch, KeepsSafe, AreGoneTold, IsUncleanTold, IsMoreTold, with_number}
 use Rattle.array_kept.specs.Kept.{world_in, ledger_now, AreTold, IsKept, IsSafe, AreOnlyTold}
 use Rattle.array_kept.proofs.AddedLosses.{IsAddDone, with-placed, stays-added, does-added, told-added, left-refused, left-carried, left-added, spares-added}
 use Rattle.views.proofs.AddedRows.{list-with, among-with, rebuilt-with}

@@ -23,16 +23,16 @@ use Rattle.flat_history.specs.Legal.{told_left, left_after}
 use Rattle.flat_history.specs.Plain.{entries_of}
 use Rattle.flat_history.specs.OneShape.{is_gone_now}
 use Rattle.views.specs.declared.work.Work.{Work}
-use Rattle.views.specs.Placed.{IsPlaced, AreUnlost}
+use Rattle.views.specs.Placed.{IsPlaced}
+use Rattle.shape_changes.specs.Steady.{AreUnlost}
 use Rattle.call_entries.specs.Losing.{losses_of}
 use Rattle.views.specs.Lacking.{DoesWithout, HaveFailedSince, AreLostSince}
-use Rattle.views.specs.Marking.{AreOthersPresent}
+use Rattle.shape_changes.specs.Marking.{AreOthersPresent}
 use Rattle.views.specs.Moving.{Grows, IsMoved}
-use Rattle.views.specs.Safety.{IsRisen}
+use Rattle.shape_changes.specs.Safety.{IsRisen}
 use Rattle.views.specs.Numbers.{IsSpareSb}
 use Rattle.views.specs.Status.{resync_left, left_of, vacant_count, spare_count, stripes_of}
-use Rattle.views.specs.Rebuilding.{MayHold}
-use Rattle.views.specs.Rebuilding.{AreSparesFree, with_spare}
+use Rattle.views.specs.Rebuilding.{MayHold, AreSparesFree, with_spare}
 use Rattle.array_kept.specs.Kept.{AreTold}
 use Rattle.views.proofs.AddedMembers.{placed-with, free-with, spares-with}
 use Rattle.call_entries.proofs.CallLaws.{AreLossEvents, GivesNone, gives-losses, losses-are, told-losses}

@@ -15,7 +15,8 @@ use Rattle.superblocks.specs.Update.{own_in}
 use Rattle.superblocks.proofs.Searches.{any_below-some}
 use Rattle.layout.proofs.Limits.{limited}
 use Rattle.views.specs.declared.work.Work.{Work}
-use Rattle.views.specs.Numbers.{is_carried, AreCarried}
+use Rattle.views.specs.Numbers.{is_carried}
+use Rattle.shape_changes.specs.Carried.{AreCarried}
 use Rattle.views.specs.Rebuilding.{AreRebuilt, HasNoRebuilt}
 use Rattle.md_base.specs.Sectors.{Sector}
 use Rattle.bank.specs.Given.{Given}
@@ -40,8 +41,8 @@ use Rattle.flat_history.specs.Losses.{was_dirty, is_unsynced}
 use Rattle.flat_history.specs.Epochs.{OpensAlike}
 use Rattle.views.specs.Whole.{list_size}
 use Rattle.views.specs.Placed.{places_of}
-use Rattle.views.specs.Views.{AreHeldAllowed, IsViewRight, AreViewsRight}
-use Rattle.views.specs.Steady.{IsSafeOver}
+use Rattle.shape_views.specs.Views.{AreHeldAllowed, IsViewRight}
+use Rattle.shape_changes.specs.Steady.{AreViewsRight, IsSafeOver}
 use Rattle.views.specs.Lacking.{ListStands, RowsStand, RowsStandBelow, mended_rows}
 use Rattle.array_kept.specs.Kept.{world_in, ledger_now, IsReady, IsKept, IsRecorded, IsSafe, AreTold, AreSectorsWhole}
 use Rattle.array_kept.specs.Adopting.{opener, found_losses, stripes_held, found_stripes, is_number_of, found_work, AreNumbersKept, IsAdoptable}

@@ -41,7 +41,7 @@ use Rattle.views.proofs.HeldRows.{missing-moved, missing-before, vacant-missing,
 use Rattle.views.proofs.LackingLaws.{since-missing}
 use Rattle.call_entries.specs.Losing.{losses_of}
 use Rattle.views.specs.Moving.{Grows, IsMoved}
-use Rattle.views.specs.Marking.{AreOthersPresent}
+use Rattle.shape_changes.specs.Marking.{AreOthersPresent}
 use Rattle.array_kept.specs.Kept.{world_in, AreTold, AreFillsRight, AreRebuildsRight, AreSectorsWhole, IsKept}
 use Rattle.views.specs.Status.{rebuilt_of, left_of}
 use Rattle.views.specs.Lacking.{AreLostSince, AreTooMany, IsUnread, IsUnwritten, DoesWithout, ListStands, RowsStandBelow, mended_rows, are_mended}
@@ -51,9 +51,9 @@ use Rattle.array_kept.proofs.StepsLeft.{left-moved}
 use Rattle.views.proofs.LackingWrites.{recovering-before, full-later}
 use Rattle.array_kept.proofs.LedgerLaws.{OnlyAdd, add-none, add-one, add-losses, ends-nothing, pending-more}
 use Rattle.views.proofs.Steady.{safe-is-seen}
-use Rattle.views.specs.Safety.{IsRisen}
-use Rattle.views.specs.Views.{Ledger, AreViewsRight}
-use Rattle.views.specs.Steady.{IsSafeOver, KeepsSafe}
+use Rattle.shape_changes.specs.Safety.{IsRisen}
+use Rattle.shape_views.specs.Views.{Ledger}
+use Rattle.shape_changes.specs.Steady.{AreViewsRight, IsSafeOver, KeepsSafe}
 use Rattle.bank.proofs.Marks.{each_mark-along}
 use Rattle.flat_history.specs.Losses.{was_dirty, is_resync_end, is_unsynced, settles}
 use Rattle.flat_history.specs.Sound.{OpensFit, LosesNoRole}

@@ -20,7 +20,7 @@ use Rattle.flat_history.specs.Plain.{entries_of}
 use Rattle.flat_history.specs.OneShape.{opening_in, IsCallOpen}
 use Rattle.views.specs.Placed.{IsPlaced}
 use Rattle.call_entries.specs.Losing.{losses_of}
-use Rattle.views.specs.Marking.{AreOthersPresent}
+use Rattle.shape_changes.specs.Marking.{AreOthersPresent}
 use Rattle.views.specs.Moving.{Grows, IsMoved}
 use Rattle.views.specs.declared.work.Work.{Work}
 use Rattle.views.specs.Rebuilding.{HasNoRebuilt}

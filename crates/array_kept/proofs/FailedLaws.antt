@@ -11,15 +11,15 @@ use Rattle.superblocks.specs.declared.members.Members.{Members}
 use Rattle.superblocks.specs.Reading.{is_clean, role_state, holder}
 use Rattle.row_io.specs.Rows.{reading_of, role_without, members_without}
 use Rattle.row_io.proofs.Losses.{state_after}
-use Rattle.views.specs.Placed.{is_vacant, IsPlaced, AreUnlost}
+use Rattle.views.specs.Placed.{is_vacant, IsPlaced}
+use Rattle.shape_changes.specs.Steady.{AreUnlost, IsSafeOver}
 use Rattle.views.specs.Moving.{IsMoved}
 use Rattle.views.proofs.MemberLaws.{placed-without, unlost-without}
 use Rattle.views.proofs.MovedLaws.{moved-without}
 use Rattle.bank.specs.Tape.{disk}
 use Rattle.bank.specs.declared.bank.Operation.{Operation}
 use Rattle.flat_history.specs.Sound.{OpensFit}
-use Rattle.views.specs.Safety.{HasLiveSlot, IsRisen}
-use Rattle.views.specs.Steady.{IsSafeOver}
+use Rattle.shape_changes.specs.Safety.{HasLiveSlot, IsRisen}
 use Rattle.array_kept.proofs.KeptLaws.{NamesSafe}
 use Rattle.views.proofs.LackingLaws.{holder-without}
 use Rattle.views.proofs.Steady.{losing-stays-safe}

@@ -33,12 +33,12 @@ use Rattle.flat_history.proofs.OneShapeGone.{keep-both}
 use Rattle.flat_history.proofs.SoundLaws.{fit-before}
 use Rattle.views.specs.declared.work.Work.{Work}
 use Rattle.views.specs.Whole.{list_size}
-use Rattle.views.specs.Placed.{places_of, AreWhole, IsPlaced, AreUnlost}
+use Rattle.views.specs.Placed.{places_of, AreWhole, IsPlaced}
+use Rattle.shape_changes.specs.Steady.{AreUnlost, IsSafeOver, KeepsSafe, AreGoneTold, IsUncleanTold}
 use Rattle.call_entries.specs.Losing.{losses_of}
 use Rattle.views.specs.Moving.{Grows}
-use Rattle.views.specs.Safety.{HasRoomLeft, IsRisen}
-use Rattle.views.specs.Views.{Ledger}
-use Rattle.views.specs.Steady.{IsSafeOver, KeepsSafe, AreGoneTold, IsUncleanTold}
+use Rattle.shape_changes.specs.Safety.{HasRoomLeft, IsRisen}
+use Rattle.shape_views.specs.Views.{Ledger}
 use Rattle.views.specs.Status.{stripes_of, left_of}
 use Rattle.views.specs.Rebuilding.{AreSparesFree, AreRebuilt, is_rebuilt, HasNoRebuilt}
 use Rattle.views.specs.Lacking.{DoesWithout, ListStands, RowsStandBelow, mended_rows}

@@ -28,8 +28,8 @@ use Rattle.flat_history.proofs.OneShapeGrowing.{gone-more}
 use Rattle.array_kept.specs.Kept.{ledger_now}
 use Rattle.views.specs.declared.work.Work.{Work}
 use Rattle.views.specs.Numbers.{is_carried}
-use Rattle.views.specs.Views.{Ledger, ledger_of}
-use Rattle.views.specs.Steady.{IsSafeNow, IsMoreTold, settled_ledger}
+use Rattle.shape_views.specs.Views.{Ledger, ledger_of}
+use Rattle.shape_changes.specs.Steady.{IsSafeNow, IsMoreTold, settled_ledger}
 use Rattle.call_entries.proofs.CallLaws.{AreLossEvents, GivesNone}
 use Rattle.views.proofs.LackingLists.{row-sector}
 use Rattle.call_entries.proofs.LosingLaws.{entries-both}

@@ -30,12 +30,12 @@ use Rattle.views.specs.Whole.{list_size}
 use Rattle.views.specs.Placed.{places_of, IsPlaced}
 use Rattle.call_entries.specs.Losing.{losses_of}
 use Rattle.views.specs.Moving.{Grows, IsMoved}
-use Rattle.views.specs.Safety.{HasRoomLeft, IsRisen}
+use Rattle.shape_changes.specs.Safety.{HasRoomLeft, IsRisen}
 use Rattle.views.specs.declared.work.Work.{Work}
 use Rattle.views.specs.Rebuilding.{AreRebuilt, HasNoRebuilt}
 use Rattle.views.specs.Status.{stripes_of, rebuilt_of, left_of}
-use Rattle.views.specs.Views.{Ledger}
-use Rattle.views.specs.Steady.{IsSafeOver, KeepsSafe, AreGoneTold, AreWritesAllowed}
+use Rattle.shape_views.specs.Views.{Ledger}
+use Rattle.shape_changes.specs.Steady.{IsSafeOver, KeepsSafe, AreGoneTold, AreWritesAllowed}
 use Rattle.views.specs.Lacking.{AreLostSince, DoesWithout, IsUnwritten, IsOfStripe, ListStands, mended_rows}
 use Rattle.array_kept.specs.Kept.{world_in, AreRebuildsRight, AreSectorsWhole, IsKept}
 use Rattle.array_kept.specs.Calls.{HasStripeLeft, IsRefusedHere}

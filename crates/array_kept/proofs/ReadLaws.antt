@@ -22,9 +22,9 @@ use Rattle.views.specs.Whole.{list_size}
 use Rattle.views.specs.Rows.{row_sector}
 use Rattle.views.specs.Placed.{places_of, AreWhole}
 use Rattle.call_entries.specs.Losing.{losses_of}
-use Rattle.views.specs.Marking.{AreOthersPresent}
+use Rattle.shape_changes.specs.Marking.{AreOthersPresent}
 use Rattle.views.specs.Moving.{Grows, IsMoved}
-use Rattle.views.specs.Safety.{IsRisen}
+use Rattle.shape_changes.specs.Safety.{IsRisen}
 use Rattle.views.specs.Lacking.{AreLostSince, IsUnread, DoesWithout, ListStands, RowsStandBelow, mended_rows}
 use Rattle.array_kept.specs.Kept.{world_in, AreFillsRight, IsKept}
 use Rattle.array_kept.proofs.NowLaws.{visible-is}

@@ -37,7 +37,7 @@ use Rattle.flat_history.specs.Transfers.{last_end_from}
 use Rattle.views.specs.Whole.{list_size}
 use Rattle.views.specs.Placed.{places_of, is_vacant, IsPlaced}
 use Rattle.views.specs.Moving.{Grows, IsMoved}
-use Rattle.views.specs.Safety.{IsRisen}
+use Rattle.shape_changes.specs.Safety.{IsRisen}
 use Rattle.views.specs.Status.{stripes_of, rebuilt_of, left_of}
 use Rattle.views.specs.Rebuilding.{AreRebuilt, IsFilledAmong}
 use Rattle.views.specs.Lacking.{AreLostSince, AreTooMany, DoesWithout, RowsStandBelow, IsOfStripe, mended_rows}

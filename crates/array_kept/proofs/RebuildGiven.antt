@@ -16,9 +16,10 @@ use Rattle.row_io.specs.Rows.{reading_of, held_slot, is_missing}
 use Rattle.row_io.proofs.Losses.{holder-of}
 use Rattle.list_io.specs.Full.{full_sector}
 use Rattle.views.specs.declared.work.Work.{Work}
-use Rattle.views.specs.Placed.{is_vacant, IsPlaced, AreUnlost}
+use Rattle.views.specs.Placed.{is_vacant, IsPlaced}
+use Rattle.shape_changes.specs.Steady.{AreUnlost}
 use Rattle.views.specs.Status.{rebuilt_of}
-use Rattle.views.specs.Rebuilding.{AreSparesFree, AreRebuilt, AreRowsFull}
+use Rattle.views.specs.Rebuilding.{AreSparesFree, AreRebuilt, AreRowsFull, MayHold}
 use Rattle.views.specs.Lacking.{ListStands, RowsStandAmong}
 use Rattle.views.proofs.GivenMembers.{IsReceiver, W, state-here, state-other, holder-then, offset-same, recovered-here, rows-other, spare-before}
 use Rattle.views.proofs.HeldRows.{recovered_of}
@@ -26,7 +27,6 @@ use Rattle.views.proofs.MarkLaws.{few-below}
 use Rattle.views.proofs.Spent.{any-holder}
 use Rattle.views.specs.Moving.{IsMoved}
 use Rattle.array_kept.specs.Calls.{IsHeldOrGiven, IsRecoveredOrLost}
-use Rattle.views.specs.Rebuilding.{MayHold}
 use Rattle.md_base.specs.Shapes.{has_slot}
 use Rattle.superblocks.proofs.SlotSets.{none_there, none_above}
 

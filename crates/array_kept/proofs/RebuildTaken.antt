@@ -24,15 +24,15 @@ use Rattle.views.specs.declared.work.Work.{Work}
 use Rattle.call_entries.specs.Losing.{losses_of}
 use Rattle.views.specs.Whole.{list_size}
 use Rattle.views.specs.Placed.{places_of, is_vacant, IsPlaced}
-use Rattle.views.specs.Marking.{AreOthersPresent}
+use Rattle.shape_changes.specs.Marking.{AreOthersPresent}
 use Rattle.views.specs.Moving.{Grows, IsMoved}
-use Rattle.views.specs.Safety.{HasRoomLeft, IsRisen}
+use Rattle.shape_changes.specs.Safety.{HasRoomLeft, IsRisen}
 use Rattle.views.specs.Status.{left_of}
 use Rattle.views.specs.Rebuilding.{with_recovering, MayHold}
 use Rattle.views.specs.Lacking.{AreLostSince, DoesWithout, RowsStandBelow, mended_rows}
 use Rattle.array_kept.specs.Kept.{world_in, AreTold, IsKept, AreOnlyTold}
-use Rattle.views.specs.Views.{Ledger}
-use Rattle.views.specs.Steady.{IsSafeOver, KeepsSafe, AreGoneTold, IsUncleanTold}
+use Rattle.shape_views.specs.Views.{Ledger}
+use Rattle.shape_changes.specs.Steady.{IsSafeOver, KeepsSafe, AreGoneTold, IsUncleanTold}
 use Rattle.array_kept.specs.Calls.{with_rebuilt}
 use Rattle.call_entries.proofs.CallLaws.{losses-are, last_end-behind, told-losses}
 use Rattle.array_kept.proofs.DegradedLaws.{rebuilt-moved}

@@ -33,15 +33,15 @@ use Rattle.views.specs.declared.work.Work.{Work}
 use Rattle.call_entries.specs.Losing.{losses_of}
 use Rattle.views.specs.Whole.{list_size}
 use Rattle.views.specs.Placed.{places_of, is_vacant, IsPlaced}
-use Rattle.views.specs.Marking.{AreOthersPresent}
+use Rattle.shape_changes.specs.Marking.{AreOthersPresent}
 use Rattle.views.specs.Moving.{Grows, IsMoved}
-use Rattle.views.specs.Safety.{HasRoomLeft, IsRisen}
+use Rattle.shape_changes.specs.Safety.{HasRoomLeft, IsRisen}
 use Rattle.views.specs.Status.{stripes_of, rebuilt_of, left_of}
 use Rattle.views.specs.Rebuilding.{AreRowsFull, HasNoRebuilt, is_rebuilt, with_whole, MayHold}
 use Rattle.views.specs.Lacking.{AreLostSince, DoesWithout, RowsStand, RowsStandBelow, mended_rows}
 use Rattle.array_kept.specs.Kept.{world_in, ledger_now, AreTold, AreRebuildsRight, IsKept, AreOnlyTold}
-use Rattle.views.specs.Views.{Ledger}
-use Rattle.views.specs.Steady.{IsSafeOver, KeepsSafe, IsMoreTold, AreGoneTold, IsUncleanTold, AreWritesAllowed, given_back}
+use Rattle.shape_views.specs.Views.{Ledger}
+use Rattle.shape_changes.specs.Steady.{IsSafeOver, KeepsSafe, IsMoreTold, AreGoneTold, IsUncleanTold, AreWritesAllowed, given_back}
 use Rattle.call_entries.proofs.CallLaws.{losses-are, last_end-behind, length-losses, limit-losses, values-losses, ends-losses, told-losses}
 use Rattle.array_kept.proofs.DegradedLaws.{rebuilt-moved, told-behind, work-behind, only-behind}
 use Rattle.views.proofs.GivenMembers.{IsReceiver, state-here, placed-given, state-other, spare-before}

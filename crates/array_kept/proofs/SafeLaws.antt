@@ -28,12 +28,12 @@ use Rattle.flat_history.specs.OneShape.{ShapeOpening, is_lost, is_gone_now, is_g
 use Rattle.flat_history.specs.Plain.{entries_of}
 use Rattle.flat_history.proofs.GrowingLaws.{calls-owe}
 use Rattle.flat_history.proofs.OneShapeLegal.{opening-grown as shape-grown}
-use Rattle.views.specs.Safety.{HasLiveSlot, HasRoomLeft, IsRisen}
+use Rattle.shape_changes.specs.Safety.{HasLiveSlot, HasRoomLeft, IsRisen}
 use Rattle.views.specs.declared.work.Work.{Work}
 use Rattle.views.specs.Numbers.{is_carried}
 use Rattle.array_kept.specs.Kept.{world_in, ledger_now, IsRecorded, IsCounted, IsSafe}
-use Rattle.views.specs.Views.{Ledger, ledger_of, AreViewsRight, IsJudgedBy}
-use Rattle.views.specs.Steady.{IsSafeNow, IsSafeOver, KeepsSafe}
+use Rattle.shape_views.specs.Views.{Ledger, ledger_of, IsJudgedBy}
+use Rattle.shape_changes.specs.Steady.{AreViewsRight, IsSafeNow, IsSafeOver, KeepsSafe}
 use Rattle.views.proofs.Judged.{views-are-safe}
 use Rattle.call_entries.proofs.LosingLaws.{entries-both}
 use Rattle.call_entries.proofs.CallLaws.{GivesNone}

@@ -30,9 +30,9 @@ use Rattle.flat_history.specs.Plain.{entries_of}
 use Rattle.views.specs.Placed.{places_of, IsPlaced}
 use Rattle.call_entries.specs.Losing.{losses_of}
 use Rattle.views.specs.Moving.{Grows, IsMoved}
-use Rattle.views.specs.Safety.{HasRoomLeft, IsRisen}
-use Rattle.views.specs.Views.{Ledger}
-use Rattle.views.specs.Steady.{IsSafeOver, KeepsSafe, AreGoneTold, IsUncleanTold, AreWritesAllowed, settled_ledger}
+use Rattle.shape_changes.specs.Safety.{HasRoomLeft, IsRisen}
+use Rattle.shape_views.specs.Views.{Ledger}
+use Rattle.shape_changes.specs.Steady.{IsSafeOver, KeepsSafe, AreGoneTold, IsUncleanTold, AreWritesAllowed, settled_ledger}
 use Rattle.views.specs.Lacking.{AreTooMany, DoesWithout, ListStands, RowsStand, AreLostSince, AreHoldersFlushed, mended_rows}
 use Rattle.array_kept.specs.Kept.{world_in, ledger_now, AreTold, IsKept}
 use Rattle.array_kept.specs.Calls.{AreLeftFlushed}

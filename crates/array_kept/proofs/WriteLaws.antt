@@ -35,24 +35,23 @@ use Rattle.views.specs.Rebuilding.{AreRebuilt}
 use Rattle.views.specs.Whole.{list_size}
 use Rattle.views.specs.Placed.{places_of, AreWhole, IsPlaced}
 use Rattle.call_entries.specs.Losing.{losses_of, failure_events}
-use Rattle.views.specs.Marking.{AreOthersPresent}
+use Rattle.shape_changes.specs.Marking.{AreOthersPresent}
 use Rattle.views.specs.Moving.{Grows, IsMoved}
-use Rattle.views.specs.Safety.{HasRoomLeft, IsRisen}
-use Rattle.views.specs.Views.{Ledger}
-use Rattle.views.specs.Steady.{IsSafeOver, KeepsSafe, AreGoneTold, AreWritesAllowed}
+use Rattle.shape_changes.specs.Safety.{HasRoomLeft, IsRisen}
+use Rattle.shape_views.specs.Views.{Ledger}
+use Rattle.shape_changes.specs.Steady.{IsSafeOver, KeepsSafe, AreGoneTold, AreWritesAllowed}
 use Rattle.views.specs.Lacking.{AreLostSince, AreTooMany, AreBytes, IsUnwritten, DoesWithout, ListStands, RowsStandAmong, RowsStandBelow, are_mended, mended_rows, lacking, too_many}
 use Rattle.array_kept.specs.Kept.{world_in, AreTold, IsKept}
 use Rattle.array_kept.specs.Calls.{IsRefusedHere}
 use Rattle.call_entries.proofs.CallLaws.{losses-are, length-losses, limit-losses, values-losses}
 use Rattle.views.proofs.LackingLists.{sectors-whole}
-use Rattle.views.proofs.LackingWrites.{list-with, list-with-is}
+use Rattle.views.proofs.LackingWrites.{list-with, list-with-is, recovering-before}
 use Rattle.array_kept.proofs.LedgerLaws.{told_by, HasNewest, OnlyAdd, add-none, add-one, add-losses, wrote-adds, torn-adds, wrote-in, torn-in, written-allowed, unsettles-behind}
 use Rattle.array_kept.proofs.NowLaws.{values-more}
 use Rattle.call_entries.proofs.PlainLaws.{one}
 use Rattle.array_kept.proofs.RecordLaws.{AreSilent, whole-told}
 use Rattle.array_kept.proofs.ReadyLaws.{silent-behind}
 use Rattle.array_kept.proofs.KeptLaws.{LeavesSafe, newest-old, holds-before, mended-are, leaves-unsettled}
-use Rattle.views.proofs.LackingWrites.{recovering-before}
 use Rattle.array_kept.proofs.DegradedLaws.{stays-moved, rows-same, too-many-here, pending-of, unwritten-here, told-behind, degraded-refused, degraded-torn, degraded-wrote}
 use Rattle.views.proofs.Stripes.{stripes-multiple}
 use Rattle.views.proofs.HeldRows.{without-before}

@@ -20,10 +20,10 @@ use Rattle.flat_history.specs.Epochs.{HasRoomForEvents, OpensAlike}
 use Rattle.flat_history.specs.Growing.{EndBy, IsSafeThroughout}
 use Rattle.flat_history.specs.OneShape.{opening_in, is_gone_now, is_spare_now, is_unsettled, IsOneShapeLegal, is_used_now}
 use Rattle.views.specs.Whole.{list_size}
-use Rattle.views.specs.Views.{Ledger}
-use Rattle.views.specs.Steady.{IsSafeOver}
-use Rattle.views.specs.Placed.{places_of, AreWhole, IsPlaced, AreUnlost}
-use Rattle.views.specs.Safety.{HasLiveSlot}
+use Rattle.shape_views.specs.Views.{Ledger}
+use Rattle.shape_changes.specs.Steady.{IsSafeOver, AreUnlost}
+use Rattle.views.specs.Placed.{places_of, AreWhole, IsPlaced}
+use Rattle.shape_changes.specs.Safety.{HasLiveSlot}
 use Rattle.views.specs.declared.work.Work.{Work}
 use Rattle.views.specs.Status.{stripes_of, left_of}
 use Rattle.views.specs.Numbers.{is_carried}

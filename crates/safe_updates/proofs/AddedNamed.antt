@@ -15,13 +15,13 @@ use Rattle.superblocks.specs.Stages.{AreLeft}
 use Rattle.superblock_reads.proofs.StageReads.{held-reads}
 use Rattle.superblock_reads.proofs.RoundsRead.{more-held}
 use Rattle.row_io.specs.Rows.{role_without, members_without}
-use Rattle.views.specs.Held.{IsHeldBy}
+use Rattle.shape_changes.specs.Held.{IsHeldBy}
 use Rattle.views.specs.Lacking.{AreUnnamed}
-use Rattle.views.specs.Marking.{marking}
-use Rattle.views.specs.Placed.{IsPlaced, AreUnlost}
+use Rattle.shape_changes.specs.Marking.{marking}
+use Rattle.views.specs.Placed.{IsPlaced}
+use Rattle.shape_changes.specs.Steady.{AreUnlost, IsSteady, IsNamedNow}
 use Rattle.views.specs.Rebuilding.{AreSparesFree}
-use Rattle.views.specs.Views.{Ledger}
-use Rattle.views.specs.Steady.{IsSteady, IsNamedNow}
+use Rattle.shape_views.specs.Views.{Ledger}
 use Rattle.safe_updates.proofs.RolesNamed.{unnamed-named}
 use Rattle.views.proofs.Without.{in-both, any-holds, live-is}
 

@@ -1,7 +1,7 @@
 -- An update that makes a slot a spare keeps an array safe: each image is seen as before it, or without the slots that were lost, and at its end it
 -- is held, or no live slot is left.
 use Rattle.std.proofs.Common.{◌≡◌, ◌⊎◌, inl, inr, ⊎_elim, ℕ, ◌+◌, ◌^◌, ◌<◌, ◌≤◌, ◌==◌, ◌||◌, ◌&&◌, Bool, true, false, not, cond, nat_lt, bit_or, take, take_all, le_refl, List, length, Option, Some, None, replicate, refl, sym, ◌∙◌, ap, subst, arith}
-use Rattle.std.specs.Prelude.{⊤}
+use Rattle.std.specs.Prelude.{⊤, bytes_eq}
 use Rattle.std.specs.List.{list_any}
 use Rattle.std.proofs.lemmas.Bool.{cases_eq, cases_lt}
 use Rattle.std.proofs.lemmas.Bool.Decides.{nat_tests}
@@ -15,29 +15,26 @@ use Rattle.bank.specs.Given.{Given}
 use Rattle.bank.specs.Tape.{Contents, IsIn, disk}
 use Rattle.layout.specs.Layout.{place}
 use Rattle.superblocks.specs.declared.members.Members.{Members}
-use Rattle.superblocks.specs.Reading.{Scope, is_clean, shape_of, role_state, holder}
-use Rattle.superblocks.specs.Update.{own_in}
+use Rattle.superblocks.specs.Reading.{Scope, is_clean, shape_of, role_state, holder, Reading, reading_by}
+use Rattle.superblocks.specs.Update.{own_in, planned, give_of, is_held_by}
 use Rattle.superblocks.specs.Updating.{IsSomeLeft}
-use Rattle.superblocks.specs.Outcome.{live_set, with_added}
+use Rattle.superblocks.specs.Outcome.{live_set, with_added, IsStored, IsPlannedOwn, is_in_update, is_left}
 use Rattle.superblocks.specs.Crash.{IsWithin}
 use Rattle.row_io.specs.Rows.{reading_of, is_missing, members_without}
 use Rattle.row_io.proofs.Losses.{holder-of}
-use Rattle.views.specs.Placed.{IsPlaced, AreUnlost, AreLess}
+use Rattle.views.specs.Placed.{IsPlaced, AreLess}
+use Rattle.shape_changes.specs.Steady.{AreUnlost, AreGoneTold, with_number, IsSteady, IsSpent, IsSafeStretch, AreViewsRight}
 use Rattle.views.specs.Lacking.{AreUnnamed}
-use Rattle.views.specs.Marking.{adding, marking}
+use Rattle.shape_changes.specs.Marking.{adding, marking}
 use Rattle.views.specs.Numbers.{IsSpareSb, IsOfScope}
 use Rattle.views.specs.Moving.{IsMoved}
 use Rattle.views.specs.Rebuilding.{with_spare, AreSparesFree}
-use Rattle.views.specs.Views.{Ledger, IsViewRight}
-use Rattle.std.specs.Prelude.{bytes_eq}
+use Rattle.shape_views.specs.Views.{Ledger, IsViewRight}
 use Rattle.sb1.specs.Superblock.{checksum}
 use Rattle.superblocks.specs.declared.change.Give.{Give}
 use Rattle.superblocks.specs.declared.change.Give.TheVariants.{Same}
-use Rattle.superblocks.specs.Reading.{Reading, reading_by}
-use Rattle.superblocks.specs.Update.{planned, give_of, is_held_by}
-use Rattle.superblocks.specs.Outcome.{IsStored, IsPlannedOwn, is_in_update, is_left}
-use Rattle.superblocks.specs.Reads.{has_spare}
-use Rattle.superblocks.specs.Held.{IsStamped, IsSecondHalf}
+use Rattle.superblocks.specs.Reads.{has_spare, IsReadAs}
+use Rattle.superblocks.specs.Held.{IsStamped, IsSecondHalf, AreDrawn, said_by}
 use Rattle.superblocks.specs.Stages.{AreLeft, AreKept}
 use Rattle.superblocks.specs.Rounds.{round_at}
 use Rattle.superblock_reads.specs.Following.{AreHeldAlone}
@@ -46,20 +43,16 @@ use Rattle.superblock_reads.proofs.Following.{next-held}
 use Rattle.superblock_reads.proofs.RoundReads.{left_set, left-are}
 use Rattle.superblocks.proofs.SlotSets.{has-set_of, none_there}
 use Rattle.superblock_reads.proofs.StageReads.{held-reads}
-use Rattle.superblocks.specs.Reads.{IsReadAs}
-use Rattle.superblocks.specs.Held.{AreDrawn, said_by}
 use Rattle.superblocks.specs.Adding.{IsReadAsPlannedBut, IsReadInAdding, IsReadyToAdd}
 use Rattle.superblocks.proofs.ReadAlike.{tabulate-same}
 use Rattle.superblocks.proofs.HeldReads.{known_at}
 use Rattle.superblock_reads.proofs.UpTo.{rounds-parts, end-room}
 use Rattle.superblock_laws.proofs.AddedReads.{added-before, added-fit}
 use Rattle.superblock_laws.proofs.AddedRounds.{in-first-reads, rounds-read, rounds-end, wider}
-use Rattle.views.specs.Held.{IsHeldBy}
-use Rattle.views.specs.Numbers.{AreCarried}
+use Rattle.shape_changes.specs.Held.{IsHeldBy}
+use Rattle.shape_changes.specs.Carried.{AreCarried}
 use Rattle.views.specs.Readings.{IsReadAmong, AreReadAmong}
-use Rattle.views.specs.Safety.{HasMarkRoom}
-use Rattle.views.specs.Steady.{AreGoneTold, with_number, IsSteady, IsSpent, IsSafeStretch}
-use Rattle.views.specs.Views.{AreViewsRight}
+use Rattle.shape_changes.specs.Safety.{HasMarkRoom}
 use Rattle.views.proofs.AddedMembers.{own-here, own-other, live-with, placed-with}
 use Rattle.safe_updates.proofs.AddedNamed.{named-held}
 use Rattle.views.proofs.AddedRows.{offset-with, held-with, data-with, parity-with}

@@ -42,8 +42,8 @@ use Rattle.superblock_laws.proofs.AddedReads.{put, put_ninth, of_put, none_read,
 use Rattle.superblocks.proofs.UpdateReads.{fresh_less}
 use Rattle.superblock_reads.proofs.Tied.{IsPlannedNewest, planned-said, held-other}
 use Rattle.row_io.specs.Rows.{reading_of, role_without, members_without}
-use Rattle.views.specs.Held.{IsHeldBy}
-use Rattle.views.specs.Marking.{adding}
+use Rattle.shape_changes.specs.Held.{IsHeldBy}
+use Rattle.shape_changes.specs.Marking.{adding}
 use Rattle.views.specs.Numbers.{IsSpareSb}
 use Rattle.views.specs.Placed.{IsPlaced}
 use Rattle.views.specs.Rebuilding.{with_spare}

@@ -40,9 +40,10 @@ use Rattle.superblock_reads.proofs.RoundReads.{left_set, left-are}
 use Rattle.superblock_reads.proofs.RoundsRead.{more-held}
 use Rattle.superblock_laws.proofs.AddingStarts.{adding-ready}
 use Rattle.row_io.specs.Rows.{role_without, members_without}
-use Rattle.views.specs.Held.{IsHeldBy}
-use Rattle.views.specs.Marking.{adding, marking}
-use Rattle.views.specs.Numbers.{AreCarried, IsSpareSb, IsOfScope, spare_sb}
+use Rattle.shape_changes.specs.Held.{IsHeldBy}
+use Rattle.shape_changes.specs.Marking.{adding, marking}
+use Rattle.shape_changes.specs.Carried.{AreCarried}
+use Rattle.views.specs.Numbers.{IsSpareSb, IsOfScope, spare_sb}
 use Rattle.views.specs.Placed.{IsPlaced}
 use Rattle.views.specs.Rebuilding.{AreSparesFree, with_spare}
 use Rattle.views.proofs.AddedMembers.{lost-with, live-here}

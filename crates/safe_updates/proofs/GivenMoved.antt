@@ -24,8 +24,9 @@ use Rattle.superblocks.proofs.PlannedSb.{planned-of}
 use Rattle.superblock_reads.proofs.SaidSlots.{has-slots_below}
 use Rattle.row_io.specs.Rows.{reading_of, is_missing, role_without}
 use Rattle.views.specs.Flushing.{AreHolders}
-use Rattle.views.specs.Placed.{IsPlaced, AreUnlost, AreLess}
-use Rattle.views.specs.Marking.{giving}
+use Rattle.views.specs.Placed.{IsPlaced, AreLess}
+use Rattle.shape_changes.specs.Steady.{AreUnlost}
+use Rattle.shape_changes.specs.Marking.{giving}
 use Rattle.views.specs.Moving.{IsMoved}
 use Rattle.views.specs.Lacking.{HaveFailedSince}
 use Rattle.views.specs.Rebuilding.{AreSparesFree}

@@ -30,14 +30,15 @@ use Rattle.row_io.specs.Rows.{reading_of, present, held_slot, role_without, memb
 use Rattle.row_io.proofs.Losses.{holder-of, state_kept, state_after}
 use Rattle.list_io.specs.Full.{full_sector}
 use Rattle.list_io.proofs.FullLaws.{places-are-full, standing-is-full}
-use Rattle.views.specs.Placed.{IsPlaced, AreUnlost}
-use Rattle.views.specs.Held.{IsHeldBy}
+use Rattle.views.specs.Placed.{IsPlaced}
+use Rattle.shape_changes.specs.Steady.{AreUnlost, IsSteady, AreGoneTold, AreWritesAllowed, given_back}
+use Rattle.shape_changes.specs.Held.{IsHeldBy}
 use Rattle.views.specs.Lacking.{DoesWithout, RowsStand}
-use Rattle.views.specs.Marking.{giving}
+use Rattle.shape_changes.specs.Marking.{giving}
 use Rattle.views.specs.Rebuilding.{IsFlushedFull}
-use Rattle.views.specs.Views.{Ledger, AreRowsSettled, IsViewRight}
+use Rattle.shape_views.specs.Views.{Ledger, IsViewRight}
+use Rattle.views.specs.Views.{AreRowsSettled}
 use Rattle.views.specs.Flushing.{AreHolders}
-use Rattle.views.specs.Steady.{IsSteady, AreGoneTold, AreWritesAllowed, given_back}
 use Rattle.views.proofs.MarkEnds.{count-is}
 use Rattle.views.proofs.MarkLaws.{give_of-same, roles-kept, role_from-found, held-holder, holder-held}
 use Rattle.views.proofs.PlacedLaws.{state-without}
@@ -46,9 +47,9 @@ use Rattle.views.proofs.Spent.{any-holder}
 use Rattle.views.proofs.ViewsKept.{missing-more, missing-without}
 use Rattle.views.proofs.Gives.{give-here, give-other}
 use Rattle.views.proofs.GivenMembers.{IsReceiver, W, state-here, state-other, holder-then, offset-same, rows-other, placed-given}
-use Rattle.update_laws.specs.Plans.{planned_view, IsLessView}
-use Rattle.update_laws.specs.Changing.{IsChanged}
-use Rattle.update_laws.specs.Making.{IsMakable}
+use Rattle.shape_changes.specs.Updates.{planned_view, IsLessView}
+use Rattle.shape_changes.specs.Changing.{IsChanged}
+use Rattle.shape_changes.specs.Making.{IsMakable}
 use Rattle.update_laws.proofs.ChangeViews.{placed-less, planned-live}
 use Rattle.update_laws.proofs.Fields.{fields-held}
 use Rattle.update_laws.proofs.GivenPlan.{given-state, given-less, given-placed}

@@ -18,7 +18,7 @@ use Rattle.superblock_reads.proofs.PlanFits.{length-any, roles-at, entry-is}
 use Rattle.superblock_reads.proofs.SaidLists.{role-holder}
 use Rattle.row_io.specs.Rows.{role_without}
 use Rattle.safe_updates.specs.Named.{AreNamedMissing}
-use Rattle.views.specs.Marking.{marking}
+use Rattle.shape_changes.specs.Marking.{marking}
 use Rattle.views.specs.Placed.{IsPlaced, AreLess}
 use Rattle.views.proofs.MarkLaws.{give_of-same}
 use Rattle.views.proofs.PlacedLaws.{state-without}

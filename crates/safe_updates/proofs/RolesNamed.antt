@@ -18,11 +18,11 @@ use Rattle.superblocks.specs.Held.{known_of, IsKnown}
 use Rattle.superblocks.proofs.ReadLists.{held-here}
 use Rattle.superblock_reads.proofs.SaidSlots.{below-length, role-below, role-known, role-said}
 use Rattle.row_io.specs.Rows.{role_without, members_without}
-use Rattle.views.specs.Held.{IsHeldBy}
+use Rattle.shape_changes.specs.Held.{IsHeldBy}
 use Rattle.views.specs.Lacking.{IsNamed, AreUnnamed}
 use Rattle.views.specs.Placed.{IsPlaced}
-use Rattle.views.specs.Views.{Ledger}
-use Rattle.views.specs.Steady.{IsSteady, IsNamedNow}
+use Rattle.shape_views.specs.Views.{Ledger}
+use Rattle.shape_changes.specs.Steady.{IsSteady, IsNamedNow}
 use Rattle.views.proofs.PlacedLaws.{state-without, kept-roles}
 
 -- a slot's superblock that holds a role has the role's entry

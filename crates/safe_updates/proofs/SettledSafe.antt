@@ -15,8 +15,8 @@ use Rattle.list_io.proofs.FullLaws.{data_here, full-data}
 use Rattle.views.specs.Whole.{list_size}
 use Rattle.views.specs.Placed.{places_by, IsPlaced}
 use Rattle.views.specs.Lacking.{DoesWithout, AreHoldersFlushed, ListStands, RowsStand}
-use Rattle.views.specs.Views.{Ledger, AreHeldAllowed, IsSettled}
-use Rattle.views.specs.Steady.{IsSafeNow, IsNamedNow, settled_ledger}
+use Rattle.shape_views.specs.Views.{Ledger, AreHeldAllowed, IsSettled}
+use Rattle.shape_changes.specs.Steady.{IsSafeNow, IsNamedNow, settled_ledger}
 use Rattle.views.proofs.Steady.{flushed-is-settled}
 
 -- a sector that a slot holds has the list's value alone

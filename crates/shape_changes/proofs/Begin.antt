@@ -36,8 +36,9 @@ use Rattle.flat_history.specs.ActiveSection.{section_for}
 use Rattle.flat_history.specs.Stands.{shape_at, shape_for}
 use Rattle.shape_views.specs.Views.{Disk, Ledger, IsViewRight}
 use Rattle.shape_views.specs.Windows.{HasNoSection, IsFlushedRight}
-use Rattle.shape_changes.specs.Updates.{planned_view, AreGoneTold}
-use Rattle.shape_changes.specs.Changing.{IsSteady, IsChanged, IsFitUpdate, IsPlannedSafe}
+use Rattle.shape_changes.specs.Updates.{planned_view}
+use Rattle.shape_changes.specs.Steady.{AreGoneTold, IsSteady}
+use Rattle.shape_changes.specs.Changing.{IsChanged, IsFitUpdate, IsPlannedSafe}
 use Rattle.shape_changes.specs.Giving.{IsPlacedLess}
 use Rattle.shape_changes.specs.Flushed.{IsBeginning, BeginStaysSafe, FlushedChangeStaysSafe}
 use Rattle.shape_views.proofs.Alike.{shape-alike, length-alike, placing-alike}

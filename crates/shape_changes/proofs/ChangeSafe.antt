@@ -38,8 +38,11 @@ use Rattle.shape_views.specs.Regions.{IsReadOf}
 use Rattle.shape_views.specs.Views.{Disk, Ledger, IsViewRight, IsSeenRight}
 use Rattle.shape_views.specs.Windows.{IsSomewhere, IsUpdating}
 use Rattle.shape_changes.specs.Updates.{planned_view, IsReadInUpdate, HasOneHolder}
-use Rattle.shape_changes.specs.Changing.{still, IsHeldBy, HasLiveSlot, HasRoom, AreDrawnSuperblocks, AreViewsRight, IsSteady, IsSpent, IsChanged, IsPlannedSafe, IsSafeStretch, ChangeStaysSafe, SpentStaysSpent}
-use Rattle.shape_changes.specs.Kinds.{SafeChangeStaysSafe}
+use Rattle.shape_changes.specs.Marking.{marking}
+use Rattle.shape_changes.specs.Held.{IsHeldBy}
+use Rattle.shape_changes.specs.Safety.{HasLiveSlot, HasMarkRoom}
+use Rattle.shape_changes.specs.Steady.{AreDrawnSuperblocks, AreViewsRight, IsSteady, IsSpent, IsSafeStretch}
+use Rattle.shape_changes.specs.Changing.{IsChanged, IsPlannedSafe, ChangeStaysSafe, SpentStaysSpent, SafeChangeStaysSafe}
 use Rattle.shape_changes.proofs.LessViews.{less-right, updates-seen}
 use Rattle.shape_views.proofs.WindowLaws.{updating-right}
 use Rattle.shape_changes.proofs.UpdateViews.{planned-is-read}
@@ -96,7 +99,7 @@ some-left live lost small = ⊎_elim (λ found. inl (found.0, found.2.0, found.2
 -- ---- from where the superblocks are held
 
 module _ (sound : Type 0) (scope : Scope) (given : Given) (told more : Ledger) (change : Change) (former : Members) (gone : ℕ) (new : Members) (before after : List Operation)
-    (m : IsChanged ⊤ given change (members_without gone former) new before after) (room : HasRoom (members_without gone former) before after)
+    (m : IsChanged ⊤ given change (members_without gone former) new before after) (room : HasMarkRoom (members_without gone former) before after)
     (safe : IsPlannedSafe sound scope given more change (members_without gone former) new (disk given.start before))
     (held : IsHeldBy scope former (disk given.start before)) (right : IsViewRight sound scope given told former (disk given.start before)) where
   abbrev Old : Members
@@ -169,7 +172,7 @@ module _ (sound : Type 0) (scope : Scope) (given : Given) (told more : Ledger) (
         first false b e = absurd (cc)
 
         small-of : (s : ℕ) → has_slot held.known s ≡ true → s < 32
-        small-of s known = below (sym (live-of former (still former) refl s) ∙ first (has_slot (live_set former (still former)) s) (has_slot former.lost s) (sym (held.live s) ∙ known))
+        small-of s known = below (sym (live-of former (marking former false) refl s) ∙ first (has_slot (live_set former (marking former false)) s) (has_slot former.lost s) (sym (held.live s) ∙ known))
           where
             below : (nat_lt s 32 && is_live former.roles former.spares s) ≡ true → s < 32
             below e = of (nat_lt s 32) refl e
@@ -243,9 +246,9 @@ module _ (sound : Type 0) (scope : Scope) (given : Given) (told more : Ledger) (
         kept : (s : ℕ) → has_slot new.lost s ≡ false → has_slot Old.lost s ≡ false
         kept s none = ⊎_elim (λ is. absurd (let e = m.stay s is in let both = sym e ∙ none in cc)) (λ isnt. isnt) (by_bool (has_slot Old.lost s))
 
-    live-new : AreLeft (live_set new (still new)) new.lost Rest
+    live-new : AreLeft (live_set new (marking new false)) new.lost Rest
     live-new s = rest-are s ∙ ⊎_elim
-        (λ is. ap (λ (b : Bool). has_slot Lives s && not b) is ∙ nothing (has_slot Lives s) (has_slot (live_set new (still new)) s) ∙ sym (ap (λ (b : Bool). has_slot (live_set new (still new)) s && not b) is))
+        (λ is. ap (λ (b : Bool). has_slot Lives s && not b) is ∙ nothing (has_slot Lives s) (has_slot (live_set new (marking new false)) s) ∙ sym (ap (λ (b : Bool). has_slot (live_set new (marking new false)) s && not b) is))
         (λ none. ap (λ (b : Bool). b && not (has_slot new.lost s)) (sym (live-same Old new change safe.fit.gives m.roles m.spares safe.fit.none one-then
         (λ t role kept has. safe.fit.below t role (⊎_elim (λ is. absurd (let e = m.stay t is in let both = sym e ∙ kept in cc)) (λ isnt. isnt) (by_bool (has_slot Old.lost t))) has) s none)))
         (by_bool (has_slot new.lost s))
@@ -303,7 +306,7 @@ module _ (sound : Type 0) (scope : Scope) (given : Given) (told more : Ledger) (
 
 pub change-safe : (sound : Type 0) → ChangeStaysSafe sound
 change-safe sound scope given told more change old new before after m room safe steady =
-    subst (λ (o : Members). IsChanged ⊤ given change o new before after → HasRoom o before after → IsPlannedSafe sound scope given more change o new (disk given.start before)
+    subst (λ (o : Members). IsChanged ⊤ given change o new before after → HasMarkRoom o before after → IsPlannedSafe sound scope given more change o new (disk given.start before)
     → IsSafeStretch sound scope given told more new before after) (sym steady.since.since)
     (λ m room safe. stretch sound scope given told more change steady.former steady.since.gone new before after m room safe steady.since.held steady.right) m room safe
 
@@ -312,7 +315,7 @@ change-safe sound scope given told more change old new before after m room safe 
 module _ (sound : Type 0) (scope : Scope) (given : Given) (told more : Ledger) (change : Change) (old new : Members) (before after : List Operation)
     (m : IsChanged ⊤ given change old new before after) (none : change.added ≡ None) (gives : AreGivesOfLive old change) (spent : IsSpent sound scope given told more old (disk given.start before)) where
   none-before : IsSomeLeft (live_set old change) old.lost → ⊥
-  none-before some = spent.none (some.0, live-of old (still old) refl some.0 ∙ sym (live-of old change none some.0) ∙ some.1, some.2)
+  none-before some = spent.none (some.0, live-of old (marking old false) refl some.0 ∙ sym (live-of old change none some.0) ∙ some.1, some.2)
 
   nothing-at : (n : ℕ) → length before ≤ n → n ≤ length after → (s k : ℕ) → disk given.start (take n after) s k ≡ disk given.start before s k
   nothing-at n low high s k = by (has_slot (live_set old change) s) refl (has_slot old.lost s) refl
@@ -363,12 +366,12 @@ safe-change sound scope given told more change old new before after m none gives
     (λ steady. ⊎_elim
     (λ some. change-safe sound scope given told more change old new before after m (room some) (owed steady) steady)
     (λ no. spent (record { right = wider sound scope given told more (disk given.start before) (steady-seen sound scope given told old before steady); none = no }))
-    (some-left (live_set old (still old)) old.lost (small old)))
+    (some-left (live_set old (marking old false)) old.lost (small old)))
     (λ was. spent (record { right = wider sound scope given told more (disk given.start before) was.right; none = was.none }))
     safe
   where
-    small : (o : Members) (s : ℕ) → has_slot (live_set o (still o)) s ≡ true → s < 32
-    small o s is = of (nat_lt s 32) refl (sym (live-of o (still o) refl s) ∙ is)
+    small : (o : Members) (s : ℕ) → has_slot (live_set o (marking o false)) s ≡ true → s < 32
+    small o s is = of (nat_lt s 32) refl (sym (live-of o (marking o false) refl s) ∙ is)
       where
         of : (b : Bool) → nat_lt s 32 ≡ b → (b && is_live o.roles o.spares s) ≡ true → s < 32
         of true lt e = grind (arith, nat_tests, lt)

@@ -26,7 +26,8 @@ use Rattle.row_io.specs.Rows.{reading_of, is_missing}
 use Rattle.flat_history.specs.Stands.{backup_absent}
 use Rattle.shape_views.specs.Regions.{AreShapesFit, ArePlaced, IsReadOf}
 use Rattle.shape_views.specs.Views.{Ledger}
-use Rattle.shape_changes.specs.Updates.{planned_view, IsLessView, AreGoneTold, HasOneHolder}
+use Rattle.shape_changes.specs.Updates.{planned_view, IsLessView, HasOneHolder}
+use Rattle.shape_changes.specs.Steady.{AreGoneTold}
 use Rattle.shape_changes.proofs.UpdateViews.{offset-given, recovery-given, said-recovering}
 use Rattle.shape_changes.proofs.PlansLose.{plans-lose}
 use Rattle.shape_changes.proofs.PlannedRoles.{gets-live, held-planned}

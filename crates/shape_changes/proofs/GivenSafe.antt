@@ -31,10 +31,12 @@ use Rattle.row_io.proofs.Losses.{holder-of}
 use Rattle.flat_history.specs.ActiveSection.{section_for}
 use Rattle.shape_views.specs.Regions.{ArePlaced}
 use Rattle.shape_views.specs.Views.{Disk, Ledger, IsViewRight}
-use Rattle.shape_changes.specs.Updates.{planned_view, AreGoneTold}
-use Rattle.shape_changes.specs.Changing.{IsSteady, IsChanged, IsFitUpdate, IsPlannedSafe}
+use Rattle.shape_changes.specs.Updates.{planned_view}
+use Rattle.shape_changes.specs.Steady.{AreGoneTold, IsSteady}
+use Rattle.shape_changes.specs.Changing.{IsChanged, IsFitUpdate, IsPlannedSafe}
 use Rattle.shape_changes.specs.Kinds.{IsTaking}
-use Rattle.shape_changes.specs.Giving.{IsPlacedLess, giving, IsReceiver, GivingStaysSafe}
+use Rattle.shape_changes.specs.Giving.{IsPlacedLess, IsReceiver, GivingStaysSafe}
+use Rattle.shape_changes.specs.Marking.{giving}
 use Rattle.shape_views.proofs.Alike.{shape-alike, final-alike, length-alike, window-alike, placing-alike}
 use Rattle.shape_changes.proofs.LessViews.{more-pass}
 use Rattle.shape_changes.proofs.PlannedRoles.{says-shared, count-planned, planned-holds}

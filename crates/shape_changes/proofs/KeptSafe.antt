@@ -25,9 +25,11 @@ use Rattle.flat_history.specs.Stands.{backup_absent}
 use Rattle.shape_views.specs.Regions.{AreShapesFit, ArePlaced}
 use Rattle.shape_views.specs.Views.{Disk, Ledger, IsViewRight}
 use Rattle.shape_views.specs.Windows.{moved_past}
-use Rattle.shape_changes.specs.Updates.{planned_view, IsLessView, AreGoneTold}
-use Rattle.shape_changes.specs.Changing.{IsSteady, IsChanged, IsPlannedSafe, IsFitUpdate}
-use Rattle.shape_changes.specs.Kinds.{IsKeepingAll, KeptStaysSafe, resync_of, marking, IsMarkable, MarkStaysSafe, recording, RecordStaysSafe}
+use Rattle.shape_changes.specs.Updates.{planned_view, IsLessView}
+use Rattle.shape_changes.specs.Steady.{AreGoneTold, IsSteady}
+use Rattle.shape_changes.specs.Changing.{IsChanged, IsPlannedSafe, IsFitUpdate}
+use Rattle.shape_changes.specs.Kinds.{IsKeepingAll, KeptStaysSafe, IsMarkable, MarkStaysSafe, recording, RecordStaysSafe}
+use Rattle.shape_changes.specs.Marking.{resync_of, marking}
 use Rattle.shape_changes.proofs.LessViews.{less-right}
 use Rattle.shape_views.proofs.Alike.{shape-alike, final-alike, length-alike, backup-alike}
 use Rattle.shape_changes.proofs.PlansLose.{plans-lose}

@@ -45,7 +45,11 @@ use Rattle.shape_views.specs.Regions.{AreShapesFit}
 use Rattle.shape_views.specs.Views.{Disk, Ledger, IsViewRight, IsSeenRight}
 use Rattle.shape_views.specs.Windows.{IsUpdating}
 use Rattle.shape_changes.specs.Updates.{planned_view, HasOneHolder}
-use Rattle.shape_changes.specs.Changing.{still, IsHeldBy, HasRoom, AreViewsRight, IsSteady, IsChanged, IsFitUpdate, IsSafeStretch}
+use Rattle.shape_changes.specs.Marking.{marking}
+use Rattle.shape_changes.specs.Held.{IsHeldBy}
+use Rattle.shape_changes.specs.Safety.{HasMarkRoom}
+use Rattle.shape_changes.specs.Steady.{AreViewsRight, IsSteady, IsSafeStretch}
+use Rattle.shape_changes.specs.Changing.{IsChanged, IsFitUpdate}
 use Rattle.shape_changes.specs.Making.{IsMade, IsMakable, MakingStaysSafe}
 use Rattle.shape_changes.proofs.LessViews.{less-right}
 use Rattle.shape_views.proofs.WindowLaws.{updating-right}
@@ -75,7 +79,7 @@ or-rest true b e none = absurd (cc)
 or-rest false b e none = e
 
 module _ (sound : Type 0) (scope : Scope) (given : Given) (told more : Ledger) (change : Change) (slot role : ℕ) (former : Members) (gone : ℕ) (new : Members) (before after : List Operation)
-    (made : IsMade ⊤ given change (members_without gone former) new before after) (room : HasRoom (members_without gone former) before after)
+    (made : IsMade ⊤ given change (members_without gone former) new before after) (room : HasMarkRoom (members_without gone former) before after)
     (safe : IsMakable sound scope given told more change slot role (members_without gone former) new (disk given.start before))
     (held : IsHeldBy scope former (disk given.start before)) (right : IsViewRight sound scope given told former (disk given.start before)) where
   abbrev Old : Members
@@ -348,9 +352,9 @@ module _ (sound : Type 0) (scope : Scope) (given : Given) (told more : Ledger) (
     kept-then : (s : ℕ) → has_slot new.lost s ≡ false → has_slot Old.lost s ≡ false
     kept-then s none = ⊎_elim (λ is. absurd (let e = m.stay s is in let both = sym e ∙ none in cc)) (λ isnt. isnt) (by_bool (has_slot Old.lost s))
 
-    live-new : AreLeft (live_set new (still new)) new.lost Rest
+    live-new : AreLeft (live_set new (marking new false)) new.lost Rest
     live-new s = rest-are s ∙ ⊎_elim
-        (λ is. ap (λ (b : Bool). has_slot Lives s && not b) is ∙ nothing (has_slot Lives s) (has_slot (live_set new (still new)) s) ∙ sym (ap (λ (b : Bool). has_slot (live_set new (still new)) s && not b) is))
+        (λ is. ap (λ (b : Bool). has_slot Lives s && not b) is ∙ nothing (has_slot Lives s) (has_slot (live_set new (marking new false)) s) ∙ sym (ap (λ (b : Bool). has_slot (live_set new (marking new false)) s && not b) is))
         (λ none. ap (λ (b : Bool). b && not (has_slot new.lost s)) (sym (live-same Old new change safe.gives m.roles m.spares safe.making.none
         (λ t u r kept kept' is is'. one-holder t u r (kept-then t kept) (kept-then u kept') is is')
         (λ t r kept has. fit.below t r (kept-then t kept) (sym (role-stays t) ∙ has)) s none)))
@@ -405,6 +409,6 @@ module _ (sound : Type 0) (scope : Scope) (given : Given) (told more : Ledger) (
 
 pub making-safe : (sound : Type 0) → MakingStaysSafe sound
 making-safe sound scope given told more change slot role old new before after made room safe steady =
-    subst (λ (o : Members). IsMade ⊤ given change o new before after → HasRoom o before after → IsMakable sound scope given told more change slot role o new (disk given.start before)
+    subst (λ (o : Members). IsMade ⊤ given change o new before after → HasMarkRoom o before after → IsMakable sound scope given told more change slot role o new (disk given.start before)
     → IsSafeStretch sound scope given told more new before after) (sym steady.since.since)
     (λ made room safe. made-stretch sound scope given told more change slot role steady.former steady.since.gone new before after made room safe steady.since.held steady.right) made room safe

@@ -26,7 +26,7 @@ use Rattle.superblock_reads.proofs.SaidLists.{role-holder}
 use Rattle.superblock_reads.proofs.SaidSlots.{below-length, has-slots_below}
 use Rattle.superblocks.proofs.SlotSets.{some_role}
 use Rattle.row_io.specs.Rows.{role_without}
-use Rattle.shape_changes.specs.Changing.{still}
+use Rattle.shape_changes.specs.Marking.{marking}
 use Rattle.shape_changes.specs.Updates.{HasOneHolder}
 use Rattle.shape_changes.proofs.PlansLose.{found-passes, same-role}
 use Rattle.shape_changes.proofs.Without.{from-without, any-holds, any-held, state-without, without-holder, live-of, in-live}
@@ -171,9 +171,9 @@ module _ (old new : Members) (change : Change) (gives : AreGivesOfLive old chang
       ∙ has-slots_below (λ slot. not (has_slot new.lost slot) && is_planned_spare old.spares change.added (give_of change.gives slot) slot) s 32
 
   -- a slot that is live at the end was live in the update, and isn't lost
-  pub live-before : (s : ℕ) → has_slot (live_set new (still new)) s ≡ true → (has_slot (live_set old change) s ≡ true) × (has_slot new.lost s ≡ false)
+  pub live-before : (s : ℕ) → has_slot (live_set new (marking new false)) s ≡ true → (has_slot (live_set old change) s ≡ true) × (has_slot new.lost s ≡ false)
   live-before s is =
-      let parts = both-of (nat_lt s 32) (is_live new.roles new.spares s) (sym (live-of new (still new) refl s) ∙ is) in
+      let parts = both-of (nat_lt s 32) (is_live new.roles new.spares s) (sym (live-of new (marking new false) refl s) ∙ is) in
       let lt = less-of s 32 parts.0 in
       ⊎_elim
       (λ holds.
@@ -224,12 +224,12 @@ module _ (old new : Members) (change : Change) (gives : AreGivesOfLive old chang
         by Spare is = by-spare (ap (λ (g : Give). is_planned_spare old.spares change.added g s) is)
 
     -- so the slots that are left are live at the end
-    pub live-same : (s : ℕ) → has_slot new.lost s ≡ false → has_slot (live_set new (still new)) s ≡ has_slot (live_set old change) s
+    pub live-same : (s : ℕ) → has_slot new.lost s ≡ false → has_slot (live_set new (marking new false)) s ≡ has_slot (live_set old change) s
     live-same s kept = ⊎_elim
         (λ is.
         let parts = both-of (nat_lt s 32) (is_live old.roles old.spares s) (sym (live-of old change none s) ∙ is) in
-        live-of new (still new) refl s ∙ (λ i. parts.0 i && live-then s (less-of s 32 parts.0) kept parts.1 i) ∙ sym is)
-        (λ isnt. ⊎_elim (λ is. absurd (let was = (live-before s is).0 in let both = sym was ∙ isnt in cc)) (λ no. no ∙ sym isnt) (by_bool (has_slot (live_set new (still new)) s)))
+        live-of new (marking new false) refl s ∙ (λ i. parts.0 i && live-then s (less-of s 32 parts.0) kept parts.1 i) ∙ sym is)
+        (λ isnt. ⊎_elim (λ is. absurd (let was = (live-before s is).0 in let both = sym was ∙ isnt in cc)) (λ no. no ∙ sym isnt) (by_bool (has_slot (live_set new (marking new false)) s)))
         (by_bool (has_slot (live_set old change) s))
 
 -- ---- where slots were lost before it

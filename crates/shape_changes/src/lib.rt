@@ -4,9 +4,9 @@
 
 ghost use Rattle.std.specs.Prelude.{⊤};
 ghost use Rattle.shape_changes.specs.Updates.{PlannedIsRead, LessStaysRight, UpdatesAreSeenRight, AlikeStands, EndsPlaceAll, PastWindowsArePlain, ZeroingStaysRight, PlansLoseRoles};
-ghost use Rattle.shape_changes.specs.Changing.{ChangeStaysSafe, SpentStaysSpent};
+ghost use Rattle.shape_changes.specs.Changing.{ChangeStaysSafe, SpentStaysSpent, SafeChangeStaysSafe};
 ghost use Rattle.shape_changes.specs.Called.{UpdateIsChange};
-ghost use Rattle.shape_changes.specs.Kinds.{SafeChangeStaysSafe, KeptStaysSafe, MarkStaysSafe, RecordStaysSafe, TakingIsFit, DroppingIsFit, FitUpdateIsFitChange};
+ghost use Rattle.shape_changes.specs.Kinds.{KeptStaysSafe, MarkStaysSafe, RecordStaysSafe, TakingIsFit, DroppingIsFit, FitUpdateIsFitChange};
 ghost use Rattle.shape_changes.specs.Giving.{PlacedLessIsRight, GivingStaysSafe};
 ghost use Rattle.shape_changes.specs.Flushed.{BeginStaysSafe, FlushedChangeStaysSafe};
 ghost use Rattle.shape_changes.specs.Making.{MakingStaysSafe};

@@ -21,12 +21,13 @@ abbrev pub Disk : Type 0
 Disk = ℕ → ℕ → List Sector
 
 -- What is told of an array, by which a view is judged: how long its list is and the values that each of its sectors may have, the roles that are
--- gone, and whether a write may be unsettled.
+-- gone, whether a write may be unsettled, and the device numbers that its superblocks may bear.
 pub record Ledger : Type 0 where
   pub size : ℕ
   pub values : ℕ → List Sector
   pub gone : ℕ → Bool
   pub unclean : Bool
+  pub carried : ℕ → Bool
 
 -- a sector of the list that no active section covers, by this header
 pub record IsOutside (scope : Scope) (m : Members) (header : Sector) (x : ℕ) : Type 0 where
@@ -78,13 +79,14 @@ pub record IsJudgedBy (world : World) (given : Given) (entries : List Entry) (ma
   pub by : MayBeJudgedBy world entries (made_by mark entries) j judged
   pub fills : ((role : ℕ) → is_gone world entries (made_by mark entries) j role ≡ false) ⊎ OpensFit world
 
--- what they tell
+-- what they tell; of numbers it is nothing
 abbrev pub ledger_of : World → List Entry → ℕ → ℕ → List Entry → Ledger
 ledger_of world entries k j judged = record {
   size = length_of (length (opening_list world)) judged;
   values = values_of (opening_list world) judged;
   gone = is_gone world entries k j;
   unclean = is_unclean world entries k j;
+  carried = λ number. true;
 }
 
 -- The values bound what a stop may leave at the mark, and each image that is drawn of them is seen right by entries that judge it. These may differ

@@ -18,7 +18,7 @@ use Rattle.views.specs.Whole.{list_size}
 use Rattle.views.specs.Placed.{places_of}
 use Rattle.views.specs.Lacking.{DoesWithout}
 use Rattle.views.specs.Refusals.{lowest_missing}
-use Rattle.views.specs.Views.{Ledger, IsSettled, IsViewRight}
+use Rattle.shape_views.specs.Views.{Ledger, IsSettled, IsViewRight}
 use Rattle.views.proofs.HeldRows.{held-or-lacking, sector-held}
 use Rattle.views.proofs.Standing.{standing_at}
 

@@ -25,9 +25,9 @@ use Rattle.superblocks.specs.Held.{MayRead, IsSecondHalf, IsKnown}
 use Rattle.superblocks.proofs.PlannedSb.{planned-of}
 use Rattle.superblocks.proofs.SlotSets.{has-set_of}
 use Rattle.superblocks.proofs.WrittenReads.{planned-stamped}
-use Rattle.views.specs.Marking.{marking}
-use Rattle.views.specs.Rounds.{IsHeldSince}
-use Rattle.views.specs.Numbers.{AreCarried}
+use Rattle.shape_changes.specs.Marking.{marking}
+use Rattle.shape_changes.specs.Rounds.{IsHeldSince}
+use Rattle.shape_changes.specs.Carried.{AreCarried}
 use Rattle.views.proofs.Without.{in-both, live-before}
 
 abbrev Disk : Type 0

@@ -20,13 +20,13 @@ use Rattle.row_io.proofs.Losses.{holder-of}
 use Rattle.list_io.specs.Full.{full_sector, AreWholeIn, RowStands}
 use Rattle.list_io.specs.Buffers.{AreTouched, IsTouched}
 use Rattle.list_io.specs.Writing.{HasFull}
-use Rattle.views.specs.Placed.{IsPlaced, AreUnlost}
-use Rattle.views.specs.Marking.{AreOthersPresent}
+use Rattle.views.specs.Placed.{IsPlaced}
+use Rattle.shape_changes.specs.Steady.{AreUnlost, IsSafeNow, IsSafeStretch}
+use Rattle.shape_changes.specs.Marking.{AreOthersPresent}
 use Rattle.views.specs.Moving.{IsMoved}
 use Rattle.views.specs.Lacking.{IsOfStripe, ListStands}
 use Rattle.views.specs.Rebuilding.{IsUnheld, IsFilling, IsFilledAmong}
-use Rattle.views.specs.Views.{Ledger}
-use Rattle.views.specs.Steady.{IsSafeNow, IsSafeStretch}
+use Rattle.shape_views.specs.Views.{Ledger}
 use Rattle.views.proofs.Steady.{safe-is-seen}
 use Rattle.views.proofs.FillingSafe.{filling-stays-safe}
 use Rattle.views.proofs.LackingWrites.{recovering-before}

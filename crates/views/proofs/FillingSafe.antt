@@ -15,8 +15,9 @@ use Rattle.row_io.specs.Rows.{reading_of, held_slot, role_without, members_witho
 use Rattle.row_io.proofs.Losses.{holder-of, state_after}
 use Rattle.views.specs.Placed.{IsPlaced}
 use Rattle.views.specs.Rebuilding.{IsUnheld, IsFilling}
-use Rattle.views.specs.Views.{Ledger, AreRowsSettled, IsViewRight}
-use Rattle.views.specs.Steady.{IsSteady, FillingStaysSafe}
+use Rattle.shape_views.specs.Views.{Ledger, IsViewRight}
+use Rattle.views.specs.Views.{AreRowsSettled}
+use Rattle.shape_changes.specs.Steady.{IsSteady, FillingStaysSafe}
 use Rattle.views.proofs.Carried.{carried-fewer}
 use Rattle.views.proofs.HeldAlike.{held-alike}
 use Rattle.views.proofs.ReadOf.{disk-somewhere}

@@ -18,7 +18,8 @@ use Rattle.superblocks.specs.Update.{own_in, with_recovery, is_held_by, is_live}
 use Rattle.superblocks.specs.Writing.{IsMember}
 use Rattle.superblock_reads.proofs.SaidSlots.{has-slots_below}
 use Rattle.row_io.specs.Rows.{reading_of, IsHolder}
-use Rattle.views.specs.Placed.{IsPlaced, AreUnlost}
+use Rattle.views.specs.Placed.{IsPlaced}
+use Rattle.shape_changes.specs.Steady.{AreUnlost}
 use Rattle.views.proofs.HeldRows.{recovered_of}
 use Rattle.views.proofs.Without.{any-holds}
 use Rattle.views.proofs.Spent.{any-holder}

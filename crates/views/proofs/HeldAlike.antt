@@ -7,7 +7,7 @@ use Rattle.superblocks.specs.declared.members.Members.{Members}
 use Rattle.superblocks.specs.Reading.{Scope}
 use Rattle.superblocks.specs.Update.{own_in}
 use Rattle.superblocks.specs.Held.{AreDrawn, MayRead, IsKnown, Shows, AreHeld}
-use Rattle.views.specs.Held.{IsHeldBy}
+use Rattle.shape_changes.specs.Held.{IsHeldBy}
 
 module _ (scope : Scope) (d e : ℕ → ℕ → List Sector) (eighth : (s : ℕ) → e s 8 ≡ d s 8) (ninth : (s : ℕ) → e s 9 ≡ d s 9) where
   was-eighth : (s : ℕ) (v : Sector) → IsIn (e s 8) v → IsIn (d s 8) v

@@ -16,8 +16,8 @@ use Rattle.superblocks.specs.Held.{MayRead, IsKnown, Shows, AreHeld, said_by}
 use Rattle.superblocks.specs.Crash.{EachReads}
 use Rattle.flat_history.specs.Same.{IsElsewhere}
 use Rattle.flat_history.proofs.SameLaws.{read-same}
-use Rattle.views.specs.Whole.{AreDrawnSuperblocks}
-use Rattle.views.specs.Held.{IsHeldBy, AreElsewhere}
+use Rattle.shape_changes.specs.Steady.{AreDrawnSuperblocks}
+use Rattle.shape_changes.specs.Held.{IsHeldBy, AreElsewhere}
 use Rattle.views.proofs.ReadWhole.{IsSomewhere, filled, filled-drawn, filled-same}
 
 -- the superblocks' sectors of the slots that are looked at have no new values

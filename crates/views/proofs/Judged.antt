@@ -29,7 +29,7 @@ use Rattle.views.specs.Placed.{places_of}
 use Rattle.views.specs.Lacking.{lacking, DoesWithout}
 use Rattle.flat_history.specs.Sound.{OpensFit}
 use Rattle.views.specs.Refusals.{lowest_missing}
-use Rattle.views.specs.Views.{ledger_of, IsSeenRight, IsJudgedBy, ViewsAreSafe}
+use Rattle.shape_views.specs.Views.{ledger_of, IsSeenRight, IsJudgedBy, ViewsAreSafe}
 use Rattle.views.proofs.Allowed.{sector-allowed}
 use Rattle.views.proofs.Standing.{read-length, read-at, read-refused}
 

@@ -11,11 +11,11 @@ use Rattle.layout.proofs.Limits.{limited}
 use Rattle.superblocks.specs.declared.members.Members.{Members}
 use Rattle.superblocks.specs.Reading.{Scope, is_whole, shape_of, role_state, holder}
 use Rattle.row_io.specs.Rows.{reading_of, is_missing}
-use Rattle.views.specs.Placed.{IsPlaced, AreUnlost}
+use Rattle.views.specs.Placed.{IsPlaced}
+use Rattle.shape_changes.specs.Steady.{AreUnlost, IsSteady, IsSafeNow}
 use Rattle.views.specs.Lacking.{DoesWithout}
-use Rattle.views.specs.Safety.{HasLiveSlot}
-use Rattle.views.specs.Views.{Ledger}
-use Rattle.views.specs.Steady.{IsSteady, IsSafeNow}
+use Rattle.shape_changes.specs.Safety.{HasLiveSlot}
+use Rattle.shape_views.specs.Views.{Ledger}
 use Rattle.views.proofs.Spent.{live-holder}
 
 -- a test that fails somewhere, or passes everywhere

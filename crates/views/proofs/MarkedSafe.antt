@@ -8,11 +8,12 @@ use Rattle.bank.specs.Tape.{EachMark, disk}
 use Rattle.superblocks.specs.declared.members.Members.{Members}
 use Rattle.superblocks.specs.Reading.{Scope, is_clean}
 use Rattle.row_io.specs.Rows.{reading_of, present, members_without}
-use Rattle.views.specs.Placed.{IsPlaced, AreUnlost}
+use Rattle.views.specs.Placed.{IsPlaced}
+use Rattle.shape_changes.specs.Steady.{AreUnlost, IsSteady, IsSafeNow, IsSafeStretch, AreGoneTold, IsUncleanTold, AreWritesAllowed}
 use Rattle.views.specs.Lacking.{DoesWithout, AreHoldersFlushed, RowsStand}
 use Rattle.views.specs.Flushing.{OnlyFlushesAdded}
-use Rattle.views.specs.Views.{Ledger, IsSettled}
-use Rattle.views.specs.Steady.{IsSteady, IsSafeNow, IsSafeStretch, IsMarkable, AreGoneTold, IsUncleanTold, AreWritesAllowed}
+use Rattle.shape_views.specs.Views.{Ledger, IsSettled}
+use Rattle.shape_changes.specs.Kinds.{IsMarkable}
 use Rattle.views.proofs.MemberLaws.{less-without}
 use Rattle.views.proofs.LiveLeft.{without-left, left-steady}
 use Rattle.views.proofs.Steady.{safe-is-seen, losing-stays-safe, flushes-stay-safe, flushed-is-settled}

@@ -20,8 +20,9 @@ use Rattle.superblocks.specs.Outcome.{AreLive, AreStored, IsPlannedOwn, planned_
 use Rattle.superblocks.proofs.SlotSets.{none_there}
 use Rattle.superblocks.proofs.PlannedSb.{planned-of}
 use Rattle.row_io.specs.Rows.{reading_of, role_without, IsHolder}
-use Rattle.views.specs.Placed.{places_of, IsPlaced, AreUnlost, AreLess}
-use Rattle.views.specs.Marking.{resync_of, marking}
+use Rattle.views.specs.Placed.{places_of, IsPlaced, AreLess}
+use Rattle.shape_changes.specs.Steady.{AreUnlost}
+use Rattle.shape_changes.specs.Marking.{resync_of, marking}
 use Rattle.views.proofs.MarkLaws.{give_of-same, roles-kept}
 use Rattle.views.proofs.HeldRows.{rows-same}
 

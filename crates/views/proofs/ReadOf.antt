@@ -21,9 +21,10 @@ use Rattle.superblock_reads.proofs.SaidLists.{state-here}
 use Rattle.superblock_reads.proofs.SaidSlots.{below-length, read-own, role-said, role-known}
 use Rattle.row_io.specs.Rows.{reading_of}
 use Rattle.flat_history.proofs.SameLaws.{read-same}
-use Rattle.views.specs.Held.{IsHeldBy}
+use Rattle.shape_changes.specs.Held.{IsHeldBy}
 use Rattle.views.proofs.ReadWhole.{IsSomewhere, filled, filled-drawn, filled-same}
-use Rattle.views.specs.Readings.{IsReadOf, IsReadAmong, AreReadAmong, HeldIsRead}
+use Rattle.shape_views.specs.Regions.{IsReadOf}
+use Rattle.views.specs.Readings.{IsReadAmong, AreReadAmong, HeldIsRead}
 
 -- a reading of superblocks says what these members do
 pub record IsSaidOf (m : Members) (q : Reading) : Type 0 where

@@ -22,7 +22,8 @@ use Rattle.superblocks.proofs.ReadAlike.{shape-same}
 use Rattle.superblock_reads.proofs.SaidSlots.{read-own}
 use Rattle.flat_history.specs.Stands.{has_room, reach_of}
 use Rattle.flat_history.proofs.SameLaws.{HaveSameMembers, read-same}
-use Rattle.views.specs.Whole.{Places, IsReadWhole, AreDrawnSuperblocks}
+use Rattle.views.specs.Whole.{Places, IsReadWhole}
+use Rattle.shape_changes.specs.Steady.{AreDrawnSuperblocks}
 
 -- a reading says every role whole at these places
 pub record IsSaidWhole (p : Places) (q : Reading) : Type 0 where

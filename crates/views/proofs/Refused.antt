@@ -18,7 +18,7 @@ use Rattle.row_io.specs.Rows.{reading_of}
 use Rattle.row_io.specs.Rows as rows
 use Rattle.flat_history.specs.Stands.{refusal_of, has_room, reach_of, backup_absent}
 use Rattle.views.specs.Lacking.{lacking}
-use Rattle.views.specs.Readings.{IsReadOf}
+use Rattle.shape_views.specs.Regions.{IsReadOf}
 use Rattle.views.specs.Refusals.{lowest_missing, refusal_for, RefusedForMissing}
 
 -- ---- tests that agree below a number

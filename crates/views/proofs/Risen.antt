@@ -4,7 +4,7 @@ use Rattle.md_base.specs.Shapes.{has_slot}
 use Rattle.bank.specs.declared.bank.Operation.{Operation}
 use Rattle.superblocks.specs.declared.members.Members.{Members}
 use Rattle.row_io.specs.Rows.{members_without}
-use Rattle.views.specs.Safety.{HasRoomLeft, IsRisen}
+use Rattle.shape_changes.specs.Safety.{HasRoomLeft, IsRisen}
 use Rattle.views.proofs.Without.{in-both, live-before}
 
 module _ {tells : Type 0} where

@@ -11,12 +11,12 @@ use Rattle.superblocks.specs.declared.members.Members.{Members}
 use Rattle.superblocks.specs.Reading.{Scope, is_clean}
 use Rattle.row_io.specs.Rows.{members_without}
 use Rattle.flat_history.specs.World.{World}
-use Rattle.views.specs.Placed.{IsPlaced, AreUnlost}
+use Rattle.views.specs.Placed.{IsPlaced}
+use Rattle.shape_changes.specs.Steady.{AreUnlost, IsSafeNow, IsSafeStretch, IsSafeOver, KeepsSafe, AreGoneTold, AreWritesAllowed}
 use Rattle.views.proofs.HeldRows.{missing-moved}
 use Rattle.views.specs.Moving.{Grows, IsMoved}
 use Rattle.views.specs.Lacking.{IsListPut}
-use Rattle.views.specs.Views.{Ledger}
-use Rattle.views.specs.Steady.{IsSafeNow, IsSafeStretch, IsSafeOver, KeepsSafe, AreGoneTold, AreWritesAllowed}
+use Rattle.shape_views.specs.Views.{Ledger}
 use Rattle.views.proofs.Steady.{safe-is-seen, losing-stays-safe}
 use Rattle.views.proofs.WriteSafe.{writes-stay-safe}
 use Rattle.views.proofs.LackingWrites.{marks-here}

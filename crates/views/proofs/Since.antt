@@ -8,9 +8,9 @@ use Rattle.superblocks.specs.declared.members.Members.{Members}
 use Rattle.superblocks.specs.Reading.{Scope}
 use Rattle.superblocks.proofs.SlotSets.{same_set, none_there}
 use Rattle.row_io.specs.Rows.{role_without, members_without}
-use Rattle.views.specs.Held.{IsHeldBy}
+use Rattle.shape_changes.specs.Held.{IsHeldBy}
 use Rattle.views.proofs.PlacedLaws.{none-lost}
-use Rattle.views.specs.Rounds.{IsHeldSince}
+use Rattle.shape_changes.specs.Rounds.{IsHeldSince}
 use Rattle.views.proofs.Without.{in-both}
 
 -- where none was lost, they are held as the members say

@@ -36,10 +36,11 @@ use Rattle.flat_history.proofs.SoundLaws.{fit-before, leaves-drawn, throughout-g
 use Rattle.views.specs.Whole.{list_size}
 use Rattle.views.specs.Placed.{places_of, IsPlaced}
 use Rattle.views.specs.Lacking.{lacking, DoesWithout}
-use Rattle.views.specs.Readings.{IsReadOf}
+use Rattle.shape_views.specs.Regions.{IsReadOf}
 use Rattle.views.specs.Refusals.{lowest_missing}
-use Rattle.views.specs.Views.{Ledger, IsSettled, IsSeenRight, ViewsAreSound}
-use Rattle.views.specs.Steady.{IsSafeOver, KeepsSafe}
+use Rattle.shape_views.specs.Views.{Ledger, IsSettled, IsSeenRight}
+use Rattle.views.specs.Views.{ViewsAreSound}
+use Rattle.shape_changes.specs.Steady.{IsSafeOver, KeepsSafe}
 use Rattle.views.proofs.Steady.{safe-is-seen}
 use Rattle.views.proofs.Standing.{length-is, shape-is, held-same, read-refused}
 

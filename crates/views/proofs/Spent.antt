@@ -16,8 +16,9 @@ use Rattle.superblocks.specs.Outcome.{live_set}
 use Rattle.superblocks.specs.Reads.{has_spare}
 use Rattle.row_io.specs.Rows.{reading_of}
 use Rattle.list_io.specs.Writing.{MayHaveFull, IsPutting}
-use Rattle.views.specs.Placed.{IsPlaced, AreUnlost}
-use Rattle.views.specs.Marking.{marking}
+use Rattle.views.specs.Placed.{IsPlaced}
+use Rattle.shape_changes.specs.Steady.{AreUnlost}
+use Rattle.shape_changes.specs.Marking.{marking}
 use Rattle.views.proofs.MarkLaws.{holder-held}
 use Rattle.views.proofs.Without.{live-is}
 

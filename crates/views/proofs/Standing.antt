@@ -24,7 +24,7 @@ use Rattle.flat_history.specs.Stands.{stands, verdict, refusal_of, held_sector, 
 use Rattle.flat_history.proofs.SameLaws.{stands-is}
 use Rattle.views.specs.Whole.{list_size}
 use Rattle.views.specs.Placed.{places_of, IsPlaced}
-use Rattle.views.specs.Readings.{IsReadOf}
+use Rattle.shape_views.specs.Regions.{IsReadOf}
 use Rattle.views.specs.Refusals.{refusal_for}
 use Rattle.views.proofs.Refused.{final-is, refused-for}
 

@@ -16,12 +16,13 @@ use Rattle.row_io.specs.Rows.{reading_of, present, held_slot, members_without}
 use Rattle.row_io.proofs.Losses.{holder-of}
 use Rattle.views.specs.Whole.{list_size}
 use Rattle.views.specs.Placed.{places_of}
-use Rattle.views.specs.Marking.{marking}
+use Rattle.shape_changes.specs.Marking.{marking}
 use Rattle.views.proofs.ReadWhole.{IsSomewhere}
 use Rattle.views.proofs.HeldKept.{held-fewer}
-use Rattle.views.specs.Readings.{IsReadOf}
-use Rattle.views.specs.Views.{Ledger, IsViewRight, AreViewsRight}
-use Rattle.views.specs.Steady.{IsSafeNow, SafeIsSeen, IsMoreTold, LosingStaysSafe, FlushesStaySafe, FlushedIsSettled}
+use Rattle.shape_views.specs.Regions.{IsReadOf}
+use Rattle.shape_views.specs.Views.{Ledger, IsViewRight}
+use Rattle.shape_changes.specs.Steady.{AreViewsRight, IsSafeNow, SafeIsSeen, IsMoreTold, LosingStaysSafe, FlushesStaySafe}
+use Rattle.views.specs.Steady.{FlushedIsSettled}
 use Rattle.views.proofs.ReadOf.{held-read, disk-somewhere}
 use Rattle.views.proofs.Without.{in-both, live-before}
 use Rattle.views.proofs.Since.{since-more}

@@ -22,7 +22,8 @@ use Rattle.views.specs.Lacking.{DoesWithout}
 use Rattle.views.proofs.HeldRows.{held-less}
 use Rattle.views.proofs.PlacedLaws.{state-without}
 use Rattle.views.proofs.ReadWhole.{IsSomewhere}
-use Rattle.views.specs.Views.{Ledger, AreHeldAllowed, AreRowsSettled, IsSettled, IsViewRight}
+use Rattle.shape_views.specs.Views.{Ledger, AreHeldAllowed, IsSettled, IsViewRight}
+use Rattle.views.specs.Views.{AreRowsSettled}
 use Rattle.views.proofs.Counts.{count-implied}
 
 abbrev Disk : Type 0

@@ -11,9 +11,9 @@ use Rattle.row_io.proofs.Losses.{holder-of, holder-after}
 use Rattle.list_io.specs.Full.{full_sector}
 use Rattle.list_io.specs.Writing.{MayHaveFull, IsPutting, AreSuperblocksKept}
 use Rattle.list_io.proofs.FullLaws.{places-are-full}
-use Rattle.views.specs.Placed.{IsPlaced, AreUnlost}
-use Rattle.views.specs.Views.{Ledger, AreHeldAllowed, IsViewRight}
-use Rattle.views.specs.Steady.{IsSteady, IsSafeNow, AreWritesAllowed, WritesStaySafe}
+use Rattle.views.specs.Placed.{IsPlaced}
+use Rattle.shape_changes.specs.Steady.{AreUnlost, IsSteady, IsSafeNow, AreWritesAllowed, WritesStaySafe}
+use Rattle.shape_views.specs.Views.{Ledger, AreHeldAllowed, IsViewRight}
 use Rattle.views.proofs.Steady.{losing-stays-safe}
 use Rattle.views.proofs.HeldAlike.{held-alike}
 use Rattle.views.proofs.Carried.{carried-fewer}

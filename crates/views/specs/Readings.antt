@@ -9,9 +9,9 @@ use Rattle.superblocks.specs.Reading.{Scope, Reading, reading, is_reshaping, is_
 use Rattle.superblocks.specs.Verdict.{members_refusal}
 use Rattle.superblocks.specs.Reads.{roles_refusal}
 use Rattle.row_io.specs.Rows.{reading_of}
-use Rattle.views.specs.Whole.{AreDrawnSuperblocks}
+use Rattle.shape_changes.specs.Steady.{AreDrawnSuperblocks}
 use Rattle.views.specs.Placed.{IsPlaced}
-use Rattle.views.specs.Held.{IsHeldBy}
+use Rattle.shape_changes.specs.Held.{IsHeldBy}
 
 -- The reading says what these members do: no reshape is active, and the shape, the size, the clean mark, the state of each role, the rows that
 -- are held of it and the data offset of the slot that holds it are theirs. It is refused for the roles alone.

@@ -10,7 +10,7 @@ use Rattle.superblocks.specs.Reading.{Scope, Reading, is_clean, shape_of}
 use Rattle.row_io.specs.Rows.{reading_of, is_missing}
 use Rattle.flat_history.specs.Stands.{refusal_of}
 use Rattle.views.specs.Lacking.{lacking}
-use Rattle.views.specs.Readings.{IsReadOf}
+use Rattle.shape_views.specs.Regions.{IsReadOf}
 
 -- the lowest missing role that holds data
 abbrev pub lowest_missing : Members → Option ℕ

@@ -14,13 +14,14 @@ use Rattle.list_io.specs.Writing.{IsPutting, AreSuperblocksKept}
 use Rattle.flat_history.specs.World.{World}
 use Rattle.flat_history.specs.Sound.{OpensFit}
 use Rattle.views.specs.Whole.{list_size}
-use Rattle.views.specs.Placed.{places_of, IsPlaced, AreUnlost}
+use Rattle.views.specs.Placed.{places_of, IsPlaced}
+use Rattle.shape_changes.specs.Steady.{AreUnlost, AreViewsRight}
 use Rattle.views.specs.Lacking.{DoesWithout, AreHoldersFlushed, RowsStand}
-use Rattle.views.specs.Marking.{marking}
-use Rattle.views.specs.Rounds.{IsHeldSince}
-use Rattle.views.specs.Numbers.{AreCarried}
+use Rattle.shape_changes.specs.Marking.{marking}
+use Rattle.shape_changes.specs.Rounds.{IsHeldSince}
+use Rattle.shape_changes.specs.Carried.{AreCarried}
 use Rattle.views.specs.Rebuilding.{IsFilling}
-use Rattle.views.specs.Views.{Ledger, IsSettled, IsViewRight, AreViewsRight}
+use Rattle.shape_views.specs.Views.{Ledger, IsSettled, IsViewRight}
 
 -- The superblocks are held as former members had it, of which slots may have been lost since, that view is right, and the device numbers
 -- are told.

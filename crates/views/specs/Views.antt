@@ -14,11 +14,12 @@ use Rattle.flat_history.specs.Flat.{values_of, length_of}
 use Rattle.flat_history.specs.Losses.{is_unsynced}
 use Rattle.flat_history.specs.CrashSafe.{made_by, may_be_made, IsSafeAt}
 use Rattle.flat_history.specs.OneShape.{is_gone_by, is_written, KeepShape}
-use Rattle.views.specs.Whole.{AreDrawnSuperblocks, list_size}
+use Rattle.shape_changes.specs.Steady.{AreDrawnSuperblocks}
+use Rattle.views.specs.Whole.{list_size}
 use Rattle.views.specs.Placed.{places_of, IsPlaced}
 use Rattle.views.specs.Lacking.{DoesWithout}
 use Rattle.flat_history.specs.Sound.{LosesNoRole, OpensFit, LeavesSound}
-use Rattle.views.specs.Readings.{IsReadOf}
+use Rattle.shape_views.specs.Regions.{IsReadOf}
 
 -- What is told of an array, by which a view is judged: the values that each sector of the list may have, the roles that are gone, whether
 -- a write may be unsettled, and the device numbers that its superblocks may bear.

@@ -1,10 +1,12 @@
 //! Laws of an array's superblocks, and of what a stop leaves of it.
 
-ghost use Rattle.views.specs.Held.{HeldStays};
+ghost use Rattle.shape_changes.specs.Held.{HeldStays};
 ghost use Rattle.views.specs.Readings.{HeldIsRead};
 ghost use Rattle.views.specs.Refusals.{RefusedForMissing};
-ghost use Rattle.views.specs.Views.{ViewsAreSafe, ViewsAreSound};
-ghost use Rattle.views.specs.Steady.{SafeIsSeen, LosingStaysSafe, FlushesStaySafe, FlushedIsSettled, WritesStaySafe, FillingStaysSafe};
+ghost use Rattle.shape_views.specs.Views.{ViewsAreSafe};
+ghost use Rattle.views.specs.Views.{ViewsAreSound};
+ghost use Rattle.shape_changes.specs.Steady.{SafeIsSeen, LosingStaysSafe, FlushesStaySafe, WritesStaySafe, FillingStaysSafe};
+ghost use Rattle.views.specs.Steady.{FlushedIsSettled};
 ghost use Rattle.std.specs.Prelude.{⊤};
 
 /// What is written elsewhere than in the superblocks leaves them held.

@@ -12,7 +12,7 @@ ghost use Rattle.flat_history.specs.declared.events.Event.TheVariants.{Read};
 ghost use Rattle.flat_history.specs.declared.events.Request.TheVariants.{Read as AsksRead};
 ghost use Rattle.views.specs.Whole.{list_size};
 ghost use Rattle.views.specs.Placed.{places_of, AreWhole, AreStillHeld};
-ghost use Rattle.views.specs.Marking.{AreOthersPresent};
+ghost use Rattle.shape_changes.specs.Marking.{AreOthersPresent};
 ghost use Rattle.views.specs.Moving.{Grows};
 ghost use Rattle.views.specs.Lacking.{HaveRolesFailed, IsUnread, mended_rows};
 ghost use Rattle.array_kept.specs.Kept.{AreFillsRight};

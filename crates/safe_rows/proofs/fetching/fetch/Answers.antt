@@ -11,7 +11,7 @@ use Rattle.views.proofs.LackingLaws.{since-lost, since-then, in-second}
 use Rattle.views.proofs.LackingWrites.{lost-of}
 use Rattle.safe_updates.proofs.RefusingLaws.{read-cause, read-told, told-first, told-why, not-err}
 use Rattle.flat_history.specs.Sound.{OpensFit}
-use Rattle.views.specs.Steady.{IsUncleanTold}
+use Rattle.shape_changes.specs.Steady.{IsUncleanTold}
 use Rattle.views.proofs.SafeStretch.{safe-then, safe-lost, over-at, keeps-from}
 use Rattle.views.proofs.Risen.{risen-then, risen-lost, room-then}
 use Rattle.safe_rows.proofs.fetching.fetch.Goals as goal

@@ -6,12 +6,12 @@ use Rattle.superblocks.specs.Reading.{is_clean, role_state, rows_held}
 use Rattle.row_io.specs.Rows.{reading_of, present}
 use Rattle.list_io.specs.Writing.{HasFull}
 use Rattle.views.specs.Moving.{Grows, IsMoved}
-use Rattle.views.specs.Safety.{HasRoomLeft, IsRisen}
+use Rattle.shape_changes.specs.Safety.{HasRoomLeft, IsRisen}
 use Rattle.views.specs.Lacking.{HaveFailedSince, ListStands, RowsStandAmong, IsOfStripe}
 use Rattle.flat_history.specs.World.{World}
 use Rattle.views.specs.Rebuilding.{IsFilledAmong}
-use Rattle.views.specs.Views.{Ledger}
-use Rattle.views.specs.Steady.{IsSafeOver, KeepsSafe, AreGoneTold, IsUncleanTold}
+use Rattle.shape_views.specs.Views.{Ledger}
+use Rattle.shape_changes.specs.Steady.{IsSafeOver, KeepsSafe, AreGoneTold, IsUncleanTold}
 use Rattle.views.proofs.MendedParts.{IsInParts}
 use Rattle.safe_rows.proofs.filling.fill.Given as goal
 

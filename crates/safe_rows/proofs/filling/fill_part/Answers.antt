@@ -14,12 +14,12 @@ use Rattle.list_io.specs.Writing.{AreDataFrom, HasFull}
 use Rattle.list_io.proofs.BufferLaws.{data_read}
 use Rattle.flat_history.specs.Sound.{OpensFit}
 use Rattle.views.specs.Placed.{AreLost, IsPlaced}
-use Rattle.views.specs.Marking.{AreOthersPresent}
+use Rattle.shape_changes.specs.Marking.{AreOthersPresent}
 use Rattle.views.specs.Moving.{Grows, IsMoved}
-use Rattle.views.specs.Safety.{IsRisen}
+use Rattle.shape_changes.specs.Safety.{IsRisen}
 use Rattle.views.specs.Lacking.{HaveFailedSince}
 use Rattle.views.specs.Rebuilding.{AreSparesFree, IsFilledAmong}
-use Rattle.views.specs.Steady.{KeepsSafe, AreGoneTold, IsUncleanTold}
+use Rattle.shape_changes.specs.Steady.{KeepsSafe, AreGoneTold, IsUncleanTold}
 use Rattle.views.proofs.MovedLaws.{moved-lost, moved-then, moved-from, grows-none, grows-then}
 use Rattle.views.proofs.LackingLaws.{since-lost, since-then, in-second, in-either}
 use Rattle.views.proofs.LackingLists.{none-of}

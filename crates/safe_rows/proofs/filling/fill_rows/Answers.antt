@@ -12,11 +12,11 @@ use Rattle.list_io.specs.Writing.{AreSuperblocksKept}
 use Rattle.list_io.proofs.LossLaws.{slot_lost, recovering-after}
 use Rattle.flat_history.specs.Sound.{OpensFit}
 use Rattle.views.specs.Placed.{AreLost, IsPlaced}
-use Rattle.views.specs.Marking.{AreOthersPresent}
+use Rattle.shape_changes.specs.Marking.{AreOthersPresent}
 use Rattle.views.specs.Moving.{IsMoved}
-use Rattle.views.specs.Safety.{IsRisen}
+use Rattle.shape_changes.specs.Safety.{IsRisen}
 use Rattle.views.specs.Rebuilding.{AreSparesFree}
-use Rattle.views.specs.Steady.{KeepsSafe, IsUncleanTold}
+use Rattle.shape_changes.specs.Steady.{KeepsSafe, IsUncleanTold}
 use Rattle.views.proofs.MovedLaws.{moved-lost, moved-then, moved-from, grows-then}
 use Rattle.views.proofs.LackingLaws.{since-lost, since-then, in-second}
 use Rattle.views.proofs.LackingWrites.{marks-here, lost-of, recovering-before}

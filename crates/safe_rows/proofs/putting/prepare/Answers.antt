@@ -16,8 +16,8 @@ use Rattle.views.proofs.LackingLaws.{since-lost, since-then, in-second}
 use Rattle.views.proofs.LackingWrites.{lost-of, standing-later}
 use Rattle.safe_updates.proofs.RefusingLaws.{write-cause, write-told, told-first, told-why, many-told, not-err}
 use Rattle.flat_history.specs.Sound.{OpensFit}
-use Rattle.views.specs.Safety.{IsRisen}
-use Rattle.views.specs.Steady.{KeepsSafe}
+use Rattle.shape_changes.specs.Safety.{IsRisen}
+use Rattle.shape_changes.specs.Steady.{KeepsSafe}
 use Rattle.views.proofs.Risen.{risen-then, risen-lost, room-then}
 use Rattle.views.proofs.SafeStretch.{safe-then, safe-lost, over-at, keeps-from}
 use Rattle.safe_rows.proofs.putting.prepare.Goals as goal

@@ -8,9 +8,9 @@ use Rattle.views.specs.Placed.{AreWhole}
 use Rattle.views.specs.Moving.{Grows, IsMoved}
 use Rattle.views.specs.Lacking.{HaveFailedSince, AreRowsWritten}
 use Rattle.flat_history.specs.World.{World}
-use Rattle.views.specs.Safety.{HasRoomLeft, IsRisen}
-use Rattle.views.specs.Views.{Ledger}
-use Rattle.views.specs.Steady.{IsSafeOver, KeepsSafe, AreGoneTold, AreWritesAllowed}
+use Rattle.shape_changes.specs.Safety.{HasRoomLeft, IsRisen}
+use Rattle.shape_views.specs.Views.{Ledger}
+use Rattle.shape_changes.specs.Steady.{IsSafeOver, KeepsSafe, AreGoneTold, AreWritesAllowed}
 use Rattle.safe_rows.proofs.putting.put_rows.Given as goal
 
 abbrev pub decreases-loop-next : goal.decreases-loop-next

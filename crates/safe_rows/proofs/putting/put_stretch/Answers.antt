@@ -1,7 +1,7 @@
 use Rattle.std.proofs.Common.{refl, sym, subst}
 use Rattle.bank.specs.Given.{Given}
 use Rattle.row_io.specs.Rows.{present}
-use Rattle.views.specs.Marking.{AreOthersPresent}
+use Rattle.shape_changes.specs.Marking.{AreOthersPresent}
 use Rattle.views.specs.Rebuilding.{AreSparesFree}
 use Rattle.views.proofs.MovedLaws.{moved-then, moved-from}
 use Rattle.views.proofs.LackingLaws.{since-then, in-second}

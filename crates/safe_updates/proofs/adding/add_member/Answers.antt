@@ -16,8 +16,9 @@ use Rattle.superblocks.specs.Reads.{has_spare}
 use Rattle.superblocks.specs.Stages.{AreFirstKept}
 use Rattle.superblocks.specs.Rounds.{round_at, IsInRounds, ArePast}
 use Rattle.superblocks.proofs.SlotSets.{none_above}
-use Rattle.views.specs.Marking.{adding}
-use Rattle.views.specs.Placed.{IsPlaced, AreUnlost}
+use Rattle.shape_changes.specs.Marking.{adding}
+use Rattle.views.specs.Placed.{IsPlaced}
+use Rattle.shape_changes.specs.Steady.{AreUnlost}
 use Rattle.views.specs.Rebuilding.{with_spare, AreSparesFree}
 use Rattle.views.proofs.AddedMembers.{addable, placed-with, unlost-roles, free-with, spare-with, live-here}
 use Rattle.safe_updates.proofs.AddedSafe.{adding-safe}

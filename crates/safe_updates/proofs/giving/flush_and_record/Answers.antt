@@ -8,12 +8,12 @@ use Rattle.row_io.specs.Rows.{present}
 use Rattle.flat_history.specs.World.{World}
 use Rattle.flat_history.specs.Sound.{OpensFit}
 use Rattle.views.specs.Flushing.{OnlyFlushesAdded}
-use Rattle.views.specs.Marking.{AreOthersPresent}
+use Rattle.shape_changes.specs.Marking.{AreOthersPresent}
 use Rattle.views.specs.Lacking.{RowsStand}
 use Rattle.views.specs.Rebuilding.{with_whole, AreRowsFull, IsFlushedFull}
-use Rattle.views.specs.Safety.{HasRoomLeft}
-use Rattle.views.specs.Views.{Ledger}
-use Rattle.views.specs.Steady.{IsSafeOver, KeepsSafe, IsUncleanTold, given_back}
+use Rattle.shape_changes.specs.Safety.{HasRoomLeft}
+use Rattle.shape_views.specs.Views.{Ledger}
+use Rattle.shape_changes.specs.Steady.{IsSafeOver, KeepsSafe, IsUncleanTold, given_back}
 use Rattle.views.proofs.Flushed.{contents-added}
 use Rattle.views.proofs.MarkedSafe.{flushed-safe, lost-safe, added-longer}
 use Rattle.views.proofs.MovedLaws.{grows-then}

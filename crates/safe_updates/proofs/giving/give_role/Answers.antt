@@ -9,13 +9,13 @@ use Rattle.superblocks.specs.Update.{IsRoleGive, give_of}
 use Rattle.superblocks.specs.Outcome.{AreLive, AreGivesOfLive, is_in_update, with_added}
 use Rattle.superblocks.proofs.SlotSets.{none_above}
 use Rattle.flat_history.specs.Sound.{OpensFit}
-use Rattle.views.specs.Marking.{giving}
+use Rattle.shape_changes.specs.Marking.{giving}
 use Rattle.views.proofs.MarkedLaws.{grows-marks, others-of}
 use Rattle.views.proofs.Gives.{gives_of, give-here, give-other}
 use Rattle.views.proofs.GivenMembers.{IsReceiver}
 use Rattle.safe_updates.proofs.GivenMoved.{moved-given, failed-given, holders-more}
 use Rattle.safe_updates.proofs.GivingDone.{given-left, losses-done}
-use Rattle.update_laws.specs.Changing.{IsChanged}
+use Rattle.shape_changes.specs.Changing.{IsChanged}
 use Rattle.update_laws.proofs.CalledLaws.{changed-by}
 use Rattle.update_laws.proofs.ChangeSafe.{told-changed, risen-changed}
 use Rattle.update_laws.proofs.GivenPlan.{gives-live}

@@ -18,19 +18,19 @@ use Rattle.flat_history.specs.Sound.{OpensFit}
 use Rattle.row_io.specs.Rows.{present}
 use Rattle.views.specs.Lacking.{DoesWithout, RowsStand}
 use Rattle.views.specs.Rebuilding.{IsFlushedFull}
-use Rattle.views.specs.Views.{Ledger}
-use Rattle.views.specs.Safety.{HasRoomLeft}
-use Rattle.views.specs.Steady.{IsSafeOver, AreGoneTold, AreWritesAllowed, given_back}
+use Rattle.shape_views.specs.Views.{Ledger}
+use Rattle.shape_changes.specs.Safety.{HasRoomLeft}
+use Rattle.shape_changes.specs.Steady.{IsSafeOver, AreGoneTold, AreWritesAllowed, given_back}
 use Rattle.views.proofs.LiveLeft.{holder-left}
-use Rattle.views.specs.Marking.{giving}
+use Rattle.shape_changes.specs.Marking.{giving}
 use Rattle.views.proofs.MarkedLaws.{grows-marks, others-of}
 use Rattle.views.proofs.Gives.{gives_of, give-here, give-other}
 use Rattle.views.proofs.GivenMembers.{IsReceiver}
 use Rattle.safe_updates.proofs.GivenMoved.{moved-given, failed-given, holders-more}
 use Rattle.safe_updates.proofs.GivingDone.{given-left, losses-done}
 use Rattle.safe_updates.proofs.MadeWhole.{holder-receives, held-already, IsMoreBack, back-same, back-given, makable}
-use Rattle.update_laws.specs.Changing.{IsChanged, IsSafeChange}
-use Rattle.update_laws.specs.Making.{IsMade}
+use Rattle.shape_changes.specs.Changing.{IsChanged, IsSafeChange}
+use Rattle.shape_changes.specs.Making.{IsMade}
 use Rattle.update_laws.proofs.CalledLaws.{changed-by}
 use Rattle.update_laws.proofs.ChangeSafe.{told-changed, told-marks, risen-changed, one-stretch, change-named}
 use Rattle.update_laws.proofs.GivenPlan.{gives-live}

@@ -8,7 +8,7 @@ use Rattle.superblocks.specs.Outcome.{live_set}
 use Rattle.superblocks.proofs.SlotSets.{none_above}
 use Rattle.row_io.specs.Rows.{reading_of}
 use Rattle.views.specs.Placed.{IsPlaced}
-use Rattle.views.specs.Marking.{marking}
+use Rattle.shape_changes.specs.Marking.{marking}
 use Rattle.safe_updates.specs.Named.{AreDataKept}
 use Rattle.views.proofs.MarkLaws.{few-planned, give_of-same}
 use Rattle.views.proofs.MovedLaws.{moved-less}

@@ -4,7 +4,7 @@ use Rattle.bank.specs.Tape.{Contents}
 use Rattle.superblocks.specs.Reading.{shape_of, is_clean}
 use Rattle.row_io.specs.Rows.{present, reading_of}
 use Rattle.views.specs.Placed.{AreWhole, AreLost, IsPlaced}
-use Rattle.views.specs.Marking.{AreOthersPresent}
+use Rattle.shape_changes.specs.Marking.{AreOthersPresent}
 use Rattle.views.specs.Rebuilding.{AreSparesFree}
 use Rattle.views.proofs.Flushed.{contents-added}
 use Rattle.views.proofs.MemberLaws.{are_lost}
@@ -12,7 +12,7 @@ use Rattle.views.proofs.MovedLaws.{moved-lost, moved-then, lost-none, moved-from
 use Rattle.views.proofs.LackingLaws.{since-lost, since-then, in-second, holders-flushed, holders-fewer, holders-at}
 use Rattle.flat_history.specs.Sound.{OpensFit}
 use Rattle.superblocks.specs.declared.members.Members.{Members}
-use Rattle.views.specs.Steady.{IsNamedOver, IsUncleanTold}
+use Rattle.shape_changes.specs.Steady.{IsNamedOver, IsUncleanTold}
 use Rattle.views.proofs.MarkedSafe.{lost-safe, added-longer}
 use Rattle.views.proofs.SafeStretch.{safe-then, over-at, keeps-from}
 use Rattle.views.proofs.Risen.{risen-lost, risen-then, room-then}

@@ -5,9 +5,10 @@ use Rattle.bank.specs.Given.{Given}
 use Rattle.bank.specs.Tape.{disk}
 use Rattle.flat_history.specs.Sound.{OpensFit}
 use Rattle.views.specs.Lacking.{DoesWithout, AreTooMany, RowsStand}
-use Rattle.views.specs.Marking.{AreOthersPresent}
+use Rattle.shape_changes.specs.Marking.{AreOthersPresent}
 use Rattle.views.specs.Rebuilding.{AreSparesFree}
-use Rattle.views.specs.Steady.{IsMarkable, IsNamedOver}
+use Rattle.shape_changes.specs.Kinds.{IsMarkable}
+use Rattle.shape_changes.specs.Steady.{IsNamedOver}
 use Rattle.views.proofs.HeldRows.{without-before}
 use Rattle.views.proofs.LackingLists.{list-moved, rows-moved}
 use Rattle.views.proofs.LiveLeft.{without-left, holder-left}

@@ -11,7 +11,7 @@ use Rattle.superblocks.specs.Stages.{AreLeft}
 use Rattle.superblocks.specs.Crash.{IsUpdatedTo}
 use Rattle.superblock_reads.specs.Said.{AreSaid}
 use Rattle.flat_history.specs.Same.{IsElsewhere}
-use Rattle.views.specs.Marking.{marking}
+use Rattle.shape_changes.specs.Marking.{marking}
 
 -- The superblocks of the live slots that weren't lost are known, whatever a stop leaves: each image reads as they say, the next
 -- update may start, and the members have the roles and the spares that they say.
