@@ -95,7 +95,7 @@ carries-only newest number work free n is = elim (cases_eq n number) [
 
 -- a ledger with the number tells no more than one with the work's numbers
 with-number : (size number : ℕ) (world : World) (work : Work) (entries added : List Entry)
-    → IsMoreTold size (with_number number (told_by world work entries added)) (told_by world (with_carried number work) entries added)
+    → IsMoreTold (with_number number (told_by world work entries added)) (told_by world (with_carried number work) entries added)
 with-number size number world work entries added = record {
   values = λ x lt v may. may;
   gone = λ role is. is;
@@ -112,19 +112,19 @@ with-number size number world work entries added = record {
     by n false false was here is = absurd (cc)
 
 -- more is told of a stretch
-stretch-told : (sound : Type 0) (scope : Scope) (given : Given) (size : ℕ) (told more : Ledger) (members : Members) (before after : List Operation) → IsMoreTold size told more
-    → IsSafeStretch sound scope given size told members before after → IsSafeStretch sound scope given size more members before after
-stretch-told sound scope given size told more members before after is stretch = record {
-  marks = each_mark-map (AreViewsRight sound scope given size more) (λ t d. views-told sound given size told more is scope d) stretch.marks;
-  next = more-safe sound scope given size told more members (disk given.start after) is stretch.next;
+stretch-told : (sound : Type 0) (scope : Scope) (given : Given) (told more : Ledger) (members : Members) (before after : List Operation) → IsMoreTold told more
+    → IsSafeStretch sound scope given told members before after → IsSafeStretch sound scope given more members before after
+stretch-told sound scope given told more members before after is stretch = record {
+  marks = each_mark-map (AreViewsRight sound scope given more) (λ t d. views-told sound given told more is scope d) stretch.marks;
+  next = more-safe sound scope given told more members (disk given.start after) is stretch.next;
 }
 
 -- what a slot that is made a spare keeps safe
 abbrev pub AddsSafe : Type 0 → Given → ℕ → Sb → Members → Members → List Operation → List Operation → Type 0
-AddsSafe tells given slot sb old new before after = tells → (world : World) → (size : ℕ) → (told : Ledger) → HasRoomLeft old before after
+AddsSafe tells given slot sb old new before after = tells → (world : World) → (told : Ledger) → HasRoomLeft old before after
     → AreGoneTold told new → IsUncleanTold told old → IsOfScope world.scope given slot sb → told.carried sb.dev_number ≡ false
     → ((sector : Sector) → IsIn (disk given.start before slot 9) sector → IsSecondHalf sb sector) → HasLiveSlot old
-    → IsSafeOver world given size told old before → KeepsSafe world given size (with_number sb.dev_number told) new before after
+    → IsSafeOver world given told old before → KeepsSafe world given (with_number sb.dev_number told) new before after
 
 -- ---- a call that makes a slot a spare
 
@@ -163,19 +163,19 @@ module _ {tells : Type 0} {given : Given} {tape mid_tape tape' : List Operation}
     added = entries_of who end events
 
     -- by what it tells, and the numbers that were known before
-    stretch : (t : tells) → HasRoomLeft members tape tape' → IsSafe world given size members work entries → KeepsSafe world given size (told_by world work' entries added) members' tape tape'
+    stretch : (t : tells) → HasRoomLeft members tape tape' → IsSafe world given members work entries → KeepsSafe world given (told_by world work' entries added) members' tape tape'
     stretch t room old =
         let told_old = told_by world work entries added in
         let told_all = told_by world work' entries added in
-        let began = more-safe (OpensFit world) scope given size (ledger_now world work entries) told_old members (disk given.start tape) (more-told world size work work (λ n is. is) entries added adds) old.now in
-        let flushed = flushed-safe (OpensFit world) scope given size told_old members tape mid_tape (looked t) began in
+        let began = more-safe (OpensFit world) scope given (ledger_now world work entries) told_old members (disk given.start tape) (more-told world size work work (λ n is. is) entries added adds) old.now in
+        let flushed = flushed-safe (OpensFit world) scope given told_old members tape mid_tape (looked t) began in
         let longer = added-longer tape mid_tape (looked t) in
         let unclean : IsUncleanTold told_old members = λ dirty. told-unclean world size work work (λ n is. is) entries added adds (is_some work.resync) (was.recorded t).dirty (was.unclean dirty) in
         let done = safe t world size told_old (λ some. let r = room some in omega (arith, r, longer)) told unclean of_scope unknown (second t) live flushed.next in
-        safe-then (OpensFit world) scope given size told_all members members' tape mid_tape tape'
-        (stretch-told (OpensFit world) scope given size told_old told_all members tape mid_tape
+        safe-then (OpensFit world) scope given told_all members members' tape mid_tape tape'
+        (stretch-told (OpensFit world) scope given told_old told_all members tape mid_tape
         (record { values = λ x lt v may. may; gone = λ role is. is; unclean = λ is. is; carried = carries-number sb.dev_number work }) flushed)
-        (stretch-told (OpensFit world) scope given size (with_number sb.dev_number told_old) told_all members' mid_tape tape' (with-number size sb.dev_number world work entries added) done)
+        (stretch-told (OpensFit world) scope given (with_number sb.dev_number told_old) told_all members' mid_tape tape' (with-number size sb.dev_number world work entries added) done)
 
     pub leaves-added : LeavesSafe tells given tape' scope first (entries ++ added) members' work'
     leaves-added = record {
@@ -321,7 +321,7 @@ module _ {tells : Type 0} {given : Given} {tape tape' : List Operation} {scope :
       (λ x values. refl) told (only-more members entries (entries_of who end refused) (λ role. refl) (λ s spare is. inl is) was.only) (λ t fills. (tt, tt, tt)) looked-others
       (leaves-named who end was opens caller at_end moved looked-grows refused silent (add-one (one who end (Refused (SlotFault slot))) [] (λ x values v may. may) refl refl (λ role. refl) add-none)
       (record { left = λ live. live; events = λ t live. let longer = added-longer tape tape' (looked t) in omega (arith, longer) }) told refl
-      (λ t world size told room gone unclean safe. flushed-safe (OpensFit world) world.scope given size told members tape tape' (looked t) safe))
+      (λ t world told room gone unclean safe. flushed-safe (OpensFit world) world.scope given told members tape tape' (looked t) safe))
 
 -- ---- where it is refused before anything is done
 

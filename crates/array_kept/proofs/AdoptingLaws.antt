@@ -190,7 +190,7 @@ module _ {tells : Type 0} {given : Given} {tape : List Operation} {scope : Scope
       and_true true = refl
       and_true false = refl
 
-  found-right : IsViewRight (OpensFit world) given size (ledger_now world work entries) members (disk given.start tape)
+  found-right : IsViewRight (OpensFit world) scope given (ledger_now world work entries) members (disk given.start tape)
   found-right = record {
     placed = is.placed;
     sized = refl;
@@ -202,22 +202,22 @@ module _ {tells : Type 0} {given : Given} {tape : List Operation} {scope : Scope
         (is.good t (has t) (record { clean = is.dirty t ∙ ap not clean; sound = fit })) found-allowed;
   }
 
-  found-safe : OpensAlike world → IsSafeOver world given size (ledger_now world work entries) members tape
+  found-safe : OpensAlike world → IsSafeOver world given (ledger_now world work entries) members tape
   found-safe alike = inl (record { former = members; since = since-none scope members (disk given.start tape) (is.next t alike); right = found-right; numbers = found-carried members long (is.numbers t) })
 
-  found-seen : OpensAlike world → AreViewsRight (OpensFit world) scope given size (ledger_now world work entries) (disk given.start tape)
-  found-seen alike = safe-is-seen (OpensFit world) scope given size (ledger_now world work entries) members tape (found-safe alike)
+  found-seen : OpensAlike world → AreViewsRight (OpensFit world) scope given (ledger_now world work entries) (disk given.start tape)
+  found-seen alike = safe-is-seen (OpensFit world) scope given (ledger_now world work entries) members tape (found-safe alike)
 
-  pub safe-adopted : FillsRight world entries → OpensAlike world → IsSafe world given size members work entries
+  pub safe-adopted : FillsRight world entries → OpensAlike world → IsSafe world given members work entries
   unfolding reading_at
   safe-adopted fills alike = record {
     past = λ mark low high.
         let at : mark ≡ length tape = omega (arith, low, high) in
         subst (λ (n : ℕ). IsSafeAt world entries n) (sym at)
-        (safe-last world given size entries refl is.sizes_are (ends-at opener (length tape) (found_losses (reading_of members)))
+        (safe-last world given entries refl is.sizes_are (ends-at opener (length tape) (found_losses (reading_of members)))
         (absents-length opener (length tape) (length list) (found_losses (reading_of members)) (absents-are (reading_of members) (shape_of members.newest).disks) ∙ is.opened t)
         (absents-keep opener (length tape) (found_losses (reading_of members)) (absents-are (reading_of members) (shape_of members.newest).disks)) fills work (found-seen alike));
-    sound = throughout-opening world given size (ledger_now world work entries) members refl refl (found-safe alike);
+    sound = throughout-opening world given (ledger_now world work entries) members refl refl (found-safe alike);
     now = found-safe alike;
     counted = λ live. let newest = is.newest t in record { found = newest.0; is = newest.1; events = let few = newest.2 in omega (arith, few) };
   }

@@ -71,10 +71,10 @@ use Rattle.array_kept.proofs.IdleLaws.{nothing-left}
 use Rattle.superblocks.specs.Reads.{has_spare}
 
 -- nothing is done
-keeps-still : (world : World) (given : Given) (size : ℕ) (told : Ledger) (members : Members) (tape : List Operation) → IsSafeOver world given size told members tape → KeepsSafe world given size told members tape tape
-keeps-still world given size told members tape safe = record {
-  marks = subst (λ (l : List Operation). EachMark ⊤ given.start tape l (AreViewsRight (OpensFit world) world.scope given size told)) (append-nil tape)
-      (each_mark-along ⊤ given.start tape [] (AreViewsRight (OpensFit world) world.scope given size told) (safe-is-seen (OpensFit world) world.scope given size told members tape safe));
+keeps-still : (world : World) (given : Given) (told : Ledger) (members : Members) (tape : List Operation) → IsSafeOver world given told members tape → KeepsSafe world given told members tape tape
+keeps-still world given told members tape safe = record {
+  marks = subst (λ (l : List Operation). EachMark ⊤ given.start tape l (AreViewsRight (OpensFit world) world.scope given told)) (append-nil tape)
+      (each_mark-along ⊤ given.start tape [] (AreViewsRight (OpensFit world) world.scope given told) (safe-is-seen (OpensFit world) world.scope given told members tape safe));
   next = safe;
 }
 
@@ -530,7 +530,7 @@ module _ {tells : Type 0} {given : Given} {tape : List Operation} {scope : Scope
       (told-more members entries (entries_of who end (event ∷ [])) none was.told) (only-more members entries (entries_of who end (event ∷ [])) loses makes was.only) call (λ t s k apart. refl)
       (leaves-named who end was opens caller at_end moved grows (event ∷ []) silent (add-one (one who end event) [] adds settles keeps none add-none) (risen-still members tape)
       (told-more members entries (entries_of who end (event ∷ [])) none was.told) refl
-      (λ t world size told room gone unclean safe. keeps-still world given size told members tape safe))
+      (λ t world told room gone unclean safe. keeps-still world given told members tape safe))
 
   -- all of the list is visible
   seen-before : tells → visible_of (length (opening_list (world_in given tape scope first))) entries ≡ list_size (places_of members)

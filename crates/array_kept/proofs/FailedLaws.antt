@@ -93,9 +93,9 @@ module _ (m mid : Members) (lost : ℕ) (is : mid ≡ members_without lost m) wh
 
   -- the array is as safe as it was before its slot was taken out
   pub named-out : {tells : Type 0} (given : Given) (new : Members) (before after : List Operation) → NamesSafe tells given mid new before after → NamesSafe tells given m new before after
-  named-out given new before after named t world size told room gone unclean safe =
-      named t world size told
+  named-out given new before after named t world told room gone unclean safe =
+      named t world told
       (λ live. subst (λ (x : Members). x.newest.events + length after < 2 ^ 62 + length before) (sym is) (room (live-out live))) gone
       (λ dirty. unclean (sym clean-out ∙ dirty))
-      (subst (λ (x : Members). IsSafeOver world given size told x before) (sym is)
-      (losing-stays-safe (OpensFit world) world.scope given size lost told told m (disk given.start before) (record { values = λ x lt v may. may; gone = λ role lost. lost; unclean = λ dirty. dirty; carried = λ number told. told }) safe))
+      (subst (λ (x : Members). IsSafeOver world given told x before) (sym is)
+      (losing-stays-safe (OpensFit world) world.scope given lost told told m (disk given.start before) (record { values = λ x lt v may. may; gone = λ role lost. lost; unclean = λ dirty. dirty; carried = λ number told. told }) safe))

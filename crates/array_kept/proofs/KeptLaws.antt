@@ -85,8 +85,8 @@ pub record LeavesWork (old new : Work) (members : Members) (entries added : List
 
 -- what names the missing members keeps an array safe
 abbrev pub NamesSafe : Type 0 → Given → Members → Members → List Operation → List Operation → Type 0
-NamesSafe tells given old new before after = tells → (world : World) → (size : ℕ) → (told : Ledger) → HasRoomLeft old before after → AreGoneTold told new → IsUncleanTold told old
-    → IsSafeOver world given size told old before → KeepsSafe world given size told new before after
+NamesSafe tells given old new before after = tells → (world : World) → (told : Ledger) → HasRoomLeft old before after → AreGoneTold told new → IsUncleanTold told old
+    → IsSafeOver world given told old before → KeepsSafe world given told new before after
 
 -- ---- roles that were rebuilt
 
@@ -263,12 +263,12 @@ module _ {tells : Type 0} {given : Given} {tape tape' : List Operation} {scope :
   module _ (work' : Work) (carries : CarriesMore work work') (early late : List Event) (silent-early : AreSilent who end early) (silent : AreSilent who end (early ++ late)) (adds : OnlyAdd (entries_of who end early))
       (keep : KeepShape (entries_of who end (early ++ late))) (rise : IsRisen tells members members' tape tape') where
     abbrev pub IsTold : Ledger → Members → List Operation → Type 0
-    IsTold told m l = IsSafeOver (world_in given tape scope first) given (list_size (places_of members)) told m l
+    IsTold told m l = IsSafeOver (world_in given tape scope first) given told m l
 
     -- A call whose marks are seen right by the history and the first of its entries, and its end by all of them.
     pub safe-by : ((t : tells) → FillsRight (world_in given tape scope first) (entries ++ entries_of who end (early ++ late)) → HasRoomLeft members tape tape'
         → IsTold (told_by (world_in given tape scope first) work' entries (entries_of who end early)) members tape
-        → KeepsSafe (world_in given tape scope first) given (list_size (places_of members)) (told_by (world_in given tape scope first) work' entries (entries_of who end early)) members' tape tape')
+        → KeepsSafe (world_in given tape scope first) given (told_by (world_in given tape scope first) work' entries (entries_of who end early)) members' tape tape')
         → ((t : tells) → FillsRight (world_in given tape scope first) (entries ++ entries_of who end (early ++ late)) → HasRoomLeft members tape tape'
         → IsTold (told_by (world_in given tape scope first) work' entries (entries_of who end early)) members tape
         → IsTold (ledger_now (world_in given tape scope first) work' (entries ++ entries_of who end (early ++ late))) members' tape')
@@ -283,7 +283,7 @@ module _ {tells : Type 0} {given : Given} {tape tape' : List Operation} {scope :
         let here = fills-here (entries ++ added) t fills in
         let left = room-left added t fills room alike in
         let told = told_by world work' entries (entries_of who end early) in
-        let began = more-safe (OpensFit world) scope given size (ledger_now world work entries) told members (disk given.start tape) (more-told world size work work' carries entries (entries_of who end early) adds) old.now in
+        let began = more-safe (OpensFit world) scope given (ledger_now world work entries) told members (disk given.start tape) (more-told world size work work' carries entries (entries_of who end early) adds) old.now in
         subst (λ (n : ℕ). IsSafe (world_in given tape' scope first) given n members' work' (entries ++ added)) (sym size-is)
         (safe-called given tape scope first size entries members members' work work' who early late g.0 tape' end g.1 (at_end t ∙ ap (λ (l : List Operation). length l) g.1) was.sizes_are (begun-of world (was.recorded t)) old
         (length-more size entries (entries_of who end early) was.sized (silent-early.length size)) (length-more size entries added was.sized (silent.length size))
@@ -293,8 +293,8 @@ module _ {tells : Type 0} {given : Given} {tape tape' : List Operation} {scope :
   -- a call that settles nothing
   module _ (work' : Work) (carries : CarriesMore work work') (events : List Event) (silent : AreSilent who end events) (adds : OnlyAdd (entries_of who end events)) (rise : IsRisen tells members members' tape tape')
       (stretch : (t : tells) → FillsRight (world_in given tape scope first) (entries ++ entries_of who end events) → HasRoomLeft members tape tape'
-      → IsSafeOver (world_in given tape scope first) given (list_size (places_of members)) (told_by (world_in given tape scope first) work' entries (entries_of who end events)) members tape
-      → KeepsSafe (world_in given tape scope first) given (list_size (places_of members)) (told_by (world_in given tape scope first) work' entries (entries_of who end events)) members' tape tape') where
+      → IsSafeOver (world_in given tape scope first) given (told_by (world_in given tape scope first) work' entries (entries_of who end events)) members tape
+      → KeepsSafe (world_in given tape scope first) given (told_by (world_in given tape scope first) work' entries (entries_of who end events)) members' tape tape') where
     no_more : events ++ [] ≡ events
     no_more = append-nil events
 
@@ -308,8 +308,8 @@ module _ {tells : Type 0} {given : Given} {tape tape' : List Operation} {scope :
         → IsSafe (world_in given tape' scope first) given (list_size (places_of members')) members' work' (entries ++ entries_of who end l)) no_more
         (safe-by work' carries events [] silent (subst (AreSilent who end) (sym no_more) silent) adds (subst (λ (l : List Event). KeepShape (entries_of who end l)) (sym no_more) adds.keep) rise
         (λ t fills. stretch t (subst (λ (l : List Event). FillsRight world (entries ++ entries_of who end l)) no_more fills))
-        (λ t fills room began. subst (λ (l : List Event). IsSafeOver world given size (ledger_now world work' (entries ++ entries_of who end l)) members' tape') (sym no_more)
-        (more-safe (OpensFit world) scope given size told (ledger_now world work' (entries ++ entries_of who end events)) members' (disk given.start tape') (told-now world size work work' carries entries (entries_of who end events) adds)
+        (λ t fills room began. subst (λ (l : List Event). IsSafeOver world given (ledger_now world work' (entries ++ entries_of who end l)) members' tape') (sym no_more)
+        (more-safe (OpensFit world) scope given told (ledger_now world work' (entries ++ entries_of who end events)) members' (disk given.start tape') (told-now world size work work' carries entries (entries_of who end events) adds)
         (stretch t (subst (λ (l : List Event). FillsRight world (entries ++ entries_of who end l)) no_more fills) room began).next)) t)
 
     -- and leaves the mark and the resync as they are
@@ -487,7 +487,7 @@ leaves-as {given = given} {tape = tape} {scope = scope} {first = first} {entries
       record {
         past = safe.past;
         sound = safe.sound;
-        now = subst (λ (l : List Bool). IsSafeOver world given (list_size (places_of members)) (ledger_now world (record work { carried = l }) entries) members tape) (sym carried) safe.now;
+        now = subst (λ (l : List Bool). IsSafeOver world given (ledger_now world (record work { carried = l }) entries) members tape) (sym carried) safe.now;
         counted = safe.counted;
       };
 }

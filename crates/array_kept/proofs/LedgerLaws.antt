@@ -52,7 +52,7 @@ told_by world work entries more = record {
 abbrev pub any_carried : Ledger → Ledger
 any_carried told = record told { carried = λ number. true }
 
-pub any-carried : (size : ℕ) (told : Ledger) → IsMoreTold size told (any_carried told)
+pub any-carried : (told : Ledger) → IsMoreTold told (any_carried told)
 any-carried size told = record { values = λ x lt v may. may; gone = λ role is. is; unclean = λ is. is; carried = λ number is. refl }
 
 -- superblocks of the array bear no fewer numbers
@@ -248,7 +248,7 @@ none-lost-before entries more none role = (neither (is_lost entries role) (is_lo
 
 module _ (world : World) (size : ℕ) (old work : Work) (carries : CarriesMore old work) (entries more : List Entry) (adds : OnlyAdd more) where
   -- a call tells more than the history before it
-  pub told-more : IsMoreTold size (ledger_now world old entries) (told_by world work entries more)
+  pub told-more : IsMoreTold (ledger_now world old entries) (told_by world work entries more)
   told-more = record {
     values = λ x lt v may. subst (λ (l : List Sector). IsIn l v) (sym (values-more (opening_list world) entries more x)) (adds.values x (values_of (opening_list world) entries x) v may);
     gone = λ role is. gone-more role entries more (adds.gives role) is;
@@ -261,7 +261,7 @@ module _ (world : World) (size : ℕ) (old work : Work) (carries : CarriesMore o
       by false b e = or_left b (list_any (λ e. unsettles e.event) more) e
 
   -- and its end no less than the call
-  pub told-now : IsMoreTold size (told_by world work entries more) (ledger_now world work (entries ++ more))
+  pub told-now : IsMoreTold (told_by world work entries more) (ledger_now world work (entries ++ more))
   told-now = record {
     values = λ x lt v may. may;
     gone = λ role is. is;
@@ -274,10 +274,10 @@ module _ (world : World) (size : ℕ) (old work : Work) (carries : CarriesMore o
   told-unclean unsynced same is = told-more.unclean (ap (λ (b : Bool). b || is_unsettled entries) same ∙ is)
 
 -- what is told of an array is told if more is
-pub more-safe : (sound : Type 0) (scope : Scope) (given : Given) (size : ℕ) (told more : Ledger) (members : Members) (d : ℕ → ℕ → List Sector) → IsMoreTold size told more
-    → IsSafeNow sound scope given size told members d → IsSafeNow sound scope given size more members d
-more-safe sound scope given size told more members d is safe =
-    subst (λ (m : Members). IsSafeNow sound scope given size more m d) (without-none members) (losing-stays-safe sound scope given size 0 told more members d is safe)
+pub more-safe : (sound : Type 0) (scope : Scope) (given : Given) (told more : Ledger) (members : Members) (d : ℕ → ℕ → List Sector) → IsMoreTold told more
+    → IsSafeNow sound scope given told members d → IsSafeNow sound scope given more members d
+more-safe sound scope given told more members d is safe =
+    subst (λ (m : Members). IsSafeNow sound scope given more m d) (without-none members) (losing-stays-safe sound scope given 0 told more members d is safe)
 
 -- ---- the newest value of a sector
 
@@ -362,7 +362,7 @@ torn-in at body x values has is = subst (λ (b : Bool). IsIn (cond b (behind (se
 -- A flush or a stop behind the call's losses leaves each sector its newest value, and so does the end of a resync.
 pub settled-now : (world : World) (size : ℕ) (work : Work) (unsynced : Bool) (entries more rest : List Entry) → is_unsynced world (entries ++ (more ++ rest)) ≡ unsynced
     → ((x : ℕ) → x < size → IsIn (values_of (opening_list world) (entries ++ (more ++ rest)) x) (now (opening_list world) entries x)) → GivesNone rest
-    → IsMoreTold size (settled_ledger unsynced (now (opening_list world) entries) (told_by world work entries more)) (ledger_now world work (entries ++ (more ++ rest)))
+    → IsMoreTold (settled_ledger unsynced (now (opening_list world) entries) (told_by world work entries more)) (ledger_now world work (entries ++ (more ++ rest)))
 settled-now world size work unsynced entries more rest dirty newest none = record {
   values = λ x lt v only. elim only [ inl same ↦ subst (λ (w : Sector). IsIn (values_of (opening_list world) (entries ++ (more ++ rest)) x) w) (sym same) (newest x lt) | inr none ↦ absurd none ];
   gone = λ role is. subst (λ (l : List Entry). is_gone_now l role ≡ true) (append_assoc entries more rest) (gone-more role (entries ++ more) rest (none role) is);

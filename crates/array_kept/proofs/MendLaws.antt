@@ -78,8 +78,8 @@ module _ {tells : Type 0} {given : Given} {tape tape' : List Operation} {scope :
     (rebuilds : DoesWithout members' → tells → (list : ℕ → Sector) → ListStands members (present given tape) list → (role slot row : ℕ) → role < shape.disks
     → role_state (reading_of members') role ≡ Recovering slot → row < members.newest.size
     → HasFull (reading_of members) (present given tape) shape list row role slot → HasFull (reading_of members') (present given tape') shape list row role slot)
-    (safe : tells → (world : World) → (size : ℕ) → (told : Ledger) → HasRoomLeft members tape tape' → AreGoneTold told members' → told.unclean ≡ true → (list : ℕ → Sector) → ListStands members (present given tape) list
-    → AreWritesAllowed members told.values list → IsSafeOver world given size told members tape → KeepsSafe world given size told members' tape tape') where
+    (safe : tells → (world : World) → (told : Ledger) → HasRoomLeft members tape tape' → AreGoneTold told members' → told.unclean ≡ true → (list : ℕ → Sector) → ListStands members (present given tape) list
+    → AreWritesAllowed members told.values list → IsSafeOver world given told members tape → KeepsSafe world given told members' tape tape') where
   abbrev losses : List Event
   losses = losses_of roles spares
 
@@ -121,8 +121,8 @@ module _ {tells : Type 0} {given : Given} {tape tape' : List Operation} {scope :
         (λ none. absurd (let no = sym (ap (λ (o : Option ℕ). is_some o) pending) ∙ none in cc))
       where
         stretch : (t : tells) → FillsRight (world_in given tape scope first) (entries ++ entries_of who end events) → HasRoomLeft members tape tape'
-            → IsSafeOver (world_in given tape scope first) given (list_size (places_of members)) (told_by (world_in given tape scope first) work entries (entries_of who end events)) members tape
-            → KeepsSafe (world_in given tape scope first) given (list_size (places_of members)) (told_by (world_in given tape scope first) work entries (entries_of who end events)) members' tape tape'
+            → IsSafeOver (world_in given tape scope first) given (told_by (world_in given tape scope first) work entries (entries_of who end events)) members tape
+            → KeepsSafe (world_in given tape scope first) given (told_by (world_in given tape scope first) work entries (entries_of who end events)) members' tape tape'
         stretch t fills room began =
             let world = world_in given tape scope first in
             let size = list_size (places_of members) in

@@ -60,8 +60,8 @@ module _ {tells : Type 0} {given : Given} {tape tape' : List Operation} {scope :
     (roles spares : ℕ) (before after : ℕ → ℕ) (since : AreLostSince (with_recovering role slot members) members' roles spares before after)
     (does : DoesWithout members) (others : tells → AreOthersPresent (present given tape) (present given tape'))
     (rise : IsRisen tells members members' tape tape') (clean : is_clean members'.newest ≡ is_clean members.newest)
-    (safe : tells → (world : World) (size : ℕ) (told : Ledger) → HasRoomLeft members tape tape' → AreGoneTold told members' → told.gone role ≡ true → IsUncleanTold told members
-    → IsSafeOver world given size told members tape → KeepsSafe world given size told members' tape tape')
+    (safe : tells → (world : World) (told : Ledger) → HasRoomLeft members tape tape' → AreGoneTold told members' → told.gone role ≡ true → IsUncleanTold told members
+    → IsSafeOver world given told members tape → KeepsSafe world given told members' tape tape')
     (known : role < length work.rebuilt) (steps : ℕ) (steps_are : steps ≡ left_of (with_rebuilt role 0 work) members') where
   abbrev W : World
   W = world_in given tape scope first

@@ -73,9 +73,9 @@ module _ {tells : Type 0} {given : Given} {tape tape' : List Operation} {scope :
     (roles spares : ℕ) (before after : ℕ → ℕ) (since : AreLostSince (with_whole role slot members) members' roles spares before after)
     (does : DoesWithout members) (others : tells → AreOthersPresent (present given tape) (present given tape'))
     (rise : IsRisen tells members members' tape tape') (clean : is_clean members'.newest ≡ is_clean members.newest)
-    (safe : tells → (world : World) (size : ℕ) (told : Ledger) → HasRoomLeft members tape tape' → AreGoneTold told members' → told.gone role ≡ true → IsUncleanTold told members → OpensFit world → DoesWithout members
+    (safe : tells → (world : World) (told : Ledger) → HasRoomLeft members tape tape' → AreGoneTold told members' → told.gone role ≡ true → IsUncleanTold told members → OpensFit world → DoesWithout members
     → (list : ℕ → Sector) → RowsStand members (present given tape) list → AreWritesAllowed members told.values list → AreRowsFull members role slot list (present given tape)
-    → IsSafeOver world given size told members tape → KeepsSafe world given size told members' tape tape') where
+    → IsSafeOver world given told members tape → KeepsSafe world given told members' tape tape') where
   abbrev W : World
   W = world_in given tape scope first
 
@@ -148,7 +148,7 @@ module _ {tells : Type 0} {given : Given} {tape tape' : List Operation} {scope :
     allowed added t fills x lt = (more-told W size work work (λ number is. is) entries (entries_of who end early) quiet.adds).values x lt (L x)
         (newest-old who end was opens caller at_end stays grows added t fills x lt)
 
-    stretch : (added : List Entry) (t : tells) → FillsRight W (entries ++ added) → HasRoomLeft members tape tape' → IsSafeOver W given size Told members tape → KeepsSafe W given size Told members' tape tape'
+    stretch : (added : List Entry) (t : tells) → FillsRight W (entries ++ added) → HasRoomLeft members tape tape' → IsSafeOver W given Told members tape → KeepsSafe W given Told members' tape tape'
     stretch added t fills room began =
         let fit = fit-of added fills in
         safe t W size Told room told gone-told (unclean-told t) fit does L (rows t fit) (allowed added t fills) (full t fit) began
@@ -208,9 +208,9 @@ module _ {tells : Type 0} {given : Given} {tape tape' : List Operation} {scope :
   -- ---- the role is whole
 
   module _ (steps : ℕ) (steps_are : steps ≡ left_of work members') (whole_is : role_state (reading_of members') role ≡ Whole slot)
-      (back : tells → (world : World) (size : ℕ) (told : Ledger) → HasRoomLeft members tape tape' → AreGoneTold told members' → told.gone role ≡ true → IsUncleanTold told members → OpensFit world → DoesWithout members
+      (back : tells → (world : World) (told : Ledger) → HasRoomLeft members tape tape' → AreGoneTold told members' → told.gone role ≡ true → IsUncleanTold told members → OpensFit world → DoesWithout members
       → (list : ℕ → Sector) → RowsStand members (present given tape) list → AreWritesAllowed members told.values list → AreRowsFull members role slot list (present given tape)
-      → IsSafeOver world given size told members tape → IsSafeOver world given size (given_back role told) members' tape') where
+      → IsSafeOver world given told members tape → IsSafeOver world given (given_back role told) members' tape') where
     abbrev early : List Event
     early = losses ++ Step RebuildEnded steps ∷ []
 
@@ -349,7 +349,7 @@ module _ {tells : Type 0} {given : Given} {tape tape' : List Operation} {scope :
         (tt, tt, tt))
 
     -- more is told by the whole call, but for the role itself
-    more : IsMoreTold size (given_back role (told_by W work entries (entries_of who end early))) (ledger_now W work (entries ++ entries_of who end (early ++ late)))
+    more : IsMoreTold (given_back role (told_by W work entries (entries_of who end early))) (ledger_now W work (entries ++ entries_of who end (early ++ late)))
     more = record {
       values = λ x lt v may. subst (λ (l : List Sector). IsIn l v) (sym (ap (λ (l : List Entry). values_of (opening_list W) l x) both ∙ values-more (opening_list W) (entries ++ entries_of who end early) (one who end (Rebuilt role) ∷ []) x)) may;
       gone = λ r is. let p = parts (is_gone_now (entries ++ entries_of who end early) r) (r == role) is in gone-still r (other r role p.1) p.0;
@@ -382,7 +382,7 @@ module _ {tells : Type 0} {given : Given} {tape tape' : List Operation} {scope :
           (λ t fills room began. stretch early quiet-early told-early (entries_of who end (early ++ late)) t fills room began)
           (λ t fills room began.
           let fit = fit-of (entries_of who end (early ++ late)) fills in
-          more-safe (OpensFit W) scope given size (given_back role (told_by W work entries (entries_of who end early))) (ledger_now W work (entries ++ entries_of who end (early ++ late))) members' (disk given.start tape') more
+          more-safe (OpensFit W) scope given (given_back role (told_by W work entries (entries_of who end early))) (ledger_now W work (entries ++ entries_of who end (early ++ late))) members' (disk given.start tape') more
           (back t W size (told_by W work entries (entries_of who end early)) room told-early (gone-told early quiet-early told-early) (unclean-told early quiet-early told-early t) fit does L (rows t fit)
           (allowed early quiet-early told-early (entries_of who end (early ++ late)) t fills) (full t fit) began));
     }

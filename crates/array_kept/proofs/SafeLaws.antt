@@ -134,14 +134,14 @@ module _ (world : World) (given : Given) (size : ℕ) (entries : List Entry) (st
   }
 
   -- where what it may leave is seen right by them, it is safe
-  pub safe-last : (work : Work) → AreViewsRight (OpensFit world) world.scope given size (ledger_now world work entries) (disk given.start world.tape) → IsSafeAt world entries (length world.tape)
+  pub safe-last : (work : Work) → AreViewsRight (OpensFit world) world.scope given (ledger_now world work entries) (disk given.start world.tape) → IsSafeAt world entries (length world.tape)
   safe-last work views =
       views-are-safe world given entries (length world.tape) (length entries) size (disk given.start world.tape) judged-last
       (λ s k v may. subst (λ (l : List Operation). IsIn (disk given.start l s k) v) (take_all (length world.tape) world.tape (omega arith))
       (subst (λ (c : Contents). IsIn (disk c (take (length world.tape) world.tape) s k) v) (sym start) may))
-      (subst (λ (told : Ledger). AreViewsRight (OpensFit world) world.scope given size told (disk given.start world.tape))
+      (subst (λ (told : Ledger). AreViewsRight (OpensFit world) world.scope given told (disk given.start world.tape))
       (sym (ap (λ (k : ℕ). ledger_of world entries k (length entries)) made-all ∙ now-ledger world work entries))
-      (views-told (OpensFit world) given size (ledger_now world work entries) (any_carried (ledger_now world work entries)) (any-carried size (ledger_now world work entries)) world.scope (disk given.start world.tape) views))
+      (views-told (OpensFit world) given (ledger_now world work entries) (any_carried (ledger_now world work entries)) (any-carried size (ledger_now world work entries)) world.scope (disk given.start world.tape) views))
 
 -- ---- a call
 
@@ -161,9 +161,9 @@ module _ (given : Given) (tape : List Operation) (scope : Scope) (first size : �
     (sized-all : length_of size (entries ++ entries_of who (length (tape ++ ops)) (early ++ late)) ≡ size)
     (keep : KeepShape (entries ++ entries_of who (length (tape ++ ops)) (early ++ late))) (none : GivesNone (entries_of who (length (tape ++ ops)) early))
     (fills : FillsRight (grown (world_in given tape scope first) ops) (entries ++ entries_of who (length (tape ++ ops)) (early ++ late)))
-    (was : IsSafe (world_in given tape scope first) given size old work entries) (rise : IsRisen ⊤ old new tape (tape ++ ops))
-    (stretch : KeepsSafe (world_in given tape scope first) given size (told_by (world_in given tape scope first) work' entries (entries_of who (length (tape ++ ops)) early)) new tape (tape ++ ops))
-    (last : IsSafeOver (world_in given tape scope first) given size (ledger_now (world_in given tape scope first) work' (entries ++ entries_of who (length (tape ++ ops)) (early ++ late))) new (tape ++ ops)) where
+    (was : IsSafe (world_in given tape scope first) given old work entries) (rise : IsRisen ⊤ old new tape (tape ++ ops))
+    (stretch : KeepsSafe (world_in given tape scope first) given (told_by (world_in given tape scope first) work' entries (entries_of who (length (tape ++ ops)) early)) new tape (tape ++ ops))
+    (last : IsSafeOver (world_in given tape scope first) given (ledger_now (world_in given tape scope first) work' (entries ++ entries_of who (length (tape ++ ops)) (early ++ late))) new (tape ++ ops)) where
   abbrev world : World
   world = world_in given tape scope first
 
@@ -241,22 +241,22 @@ module _ (given : Given) (tape : List Operation) (scope : Scope) (first size : �
   safe-early : (mark : ℕ) → length tape ≤ mark → mark < end → IsSafeAt later all mark
   safe-early mark low high =
       views-are-safe later given all mark (length (entries ++ more)) size (disk given.start (take mark (tape ++ ops))) (judged-early mark low high) (λ s k v may. may)
-      (subst (λ (told : Ledger). AreViewsRight (OpensFit later) scope given size told (disk given.start (take mark (tape ++ ops)))) (sym (ledger-early mark low high))
-      (views-told (OpensFit later) given size (told_by world work' entries more) (any_carried (told_by world work' entries more)) (any-carried size (told_by world work' entries more)) scope (disk given.start (take mark (tape ++ ops)))
-      (subst (λ (sound : Type 0). AreViewsRight sound scope given size (told_by world work' entries more) (disk given.start (take mark (tape ++ ops)))) (sym (fit-grown world ops begun.begun))
+      (subst (λ (told : Ledger). AreViewsRight (OpensFit later) scope given told (disk given.start (take mark (tape ++ ops)))) (sym (ledger-early mark low high))
+      (views-told (OpensFit later) given (told_by world work' entries more) (any_carried (told_by world work' entries more)) (any-carried size (told_by world work' entries more)) scope (disk given.start (take mark (tape ++ ops)))
+      (subst (λ (sound : Type 0). AreViewsRight sound scope given (told_by world work' entries more) (disk given.start (take mark (tape ++ ops)))) (sym (fit-grown world ops begun.begun))
       (stretch.marks.each tt mark low (omega (arith, high))))))
 
   -- ---- its end
 
-  now-last : IsSafeOver later given size (ledger_now later work' all) new (tape ++ ops)
+  now-last : IsSafeOver later given (ledger_now later work' all) new (tape ++ ops)
   now-last =
-      subst (λ (told : Ledger). IsSafeNow (OpensFit later) scope given size told new (disk given.start (tape ++ ops))) (sym (now-grown world ops begun.begun work' all))
-      (subst (λ (sound : Type 0). IsSafeNow sound scope given size (ledger_now world work' all) new (disk given.start (tape ++ ops))) (sym (fit-grown world ops begun.begun)) last)
+      subst (λ (told : Ledger). IsSafeNow (OpensFit later) scope given told new (disk given.start (tape ++ ops))) (sym (now-grown world ops begun.begun work' all))
+      (subst (λ (sound : Type 0). IsSafeNow sound scope given (ledger_now world work' all) new (disk given.start (tape ++ ops))) (sym (fit-grown world ops begun.begun)) last)
 
   safe-end : IsSafeAt later all end
   safe-end =
-      safe-last later given size all refl sizes_are ends-all (subst (λ (n : ℕ). length_of n all ≡ size) (sym list-long) sized-all) keep fills work'
-      (safe-is-seen (OpensFit later) scope given size (ledger_now later work' all) new (tape ++ ops) now-last)
+      safe-last later given all refl sizes_are ends-all (subst (λ (n : ℕ). length_of n all ≡ size) (sym list-long) sized-all) keep fills work'
+      (safe-is-seen (OpensFit later) scope given (ledger_now later work' all) new (tape ++ ops) now-last)
     where
       at-end : (events : List Event) → EndBy end (entries_of who end events)
       at-end [] = tt
@@ -275,10 +275,10 @@ module _ (given : Given) (tape : List Operation) (scope : Scope) (first size : �
     | inr after ↦ let is : mark ≡ end = omega (arith, high, after) in subst (λ (m : ℕ). IsSafeAt later all m) (sym is) safe-end
   ]
 
-  pub safe-call : IsSafe later given size new work' all
+  pub safe-call : IsSafe later given new work' all
   safe-call = record {
     past = calls-owe world entries (entries_of who end (early ++ late)) ops begun.begun begun.ends (made-from (length tape) end who (early ++ late) longer) was.past owed;
-    sound = throughout-kept world given size (told_by world work' entries more) new ops refl begun.begun stretch was.sound;
+    sound = throughout-kept world given (told_by world work' entries more) new ops refl begun.begun stretch was.sound;
     now = now-last;
     counted = λ live.
         let counted = was.counted (rise.left live) in
@@ -294,12 +294,12 @@ abbrev pub IsSafeThen : Given → List Operation → Scope → ℕ → ℕ → L
 IsSafeThen given tape scope first size entries old new work' who early late tape' end =
     length_of size (entries ++ entries_of who end early) ≡ size → length_of size (entries ++ entries_of who end (early ++ late)) ≡ size
     → KeepShape (entries ++ entries_of who end (early ++ late)) → GivesNone (entries_of who end early) → FillsRight (world_in given tape' scope first) (entries ++ entries_of who end (early ++ late)) → IsRisen ⊤ old new tape tape'
-    → KeepsSafe (world_in given tape scope first) given size (told_by (world_in given tape scope first) work' entries (entries_of who end early)) new tape tape'
-    → IsSafeOver (world_in given tape scope first) given size (ledger_now (world_in given tape scope first) work' (entries ++ entries_of who end (early ++ late))) new tape'
-    → IsSafe (world_in given tape' scope first) given size new work' (entries ++ entries_of who end (early ++ late))
+    → KeepsSafe (world_in given tape scope first) given (told_by (world_in given tape scope first) work' entries (entries_of who end early)) new tape tape'
+    → IsSafeOver (world_in given tape scope first) given (ledger_now (world_in given tape scope first) work' (entries ++ entries_of who end (early ++ late))) new tape'
+    → IsSafe (world_in given tape' scope first) given new work' (entries ++ entries_of who end (early ++ late))
 
 pub safe-called : (given : Given) (tape : List Operation) (scope : Scope) (first size : ℕ) (entries : List Entry) (old new : Members) (work work' : Work) (who : Who) (early late : List Event) (ops tape' : List Operation) (end : ℕ)
-    → tape' ≡ tape ++ ops → end ≡ length (tape ++ ops) → scope.sizes ≡ sizes given → IsBegun (world_in given tape scope first) size entries → IsSafe (world_in given tape scope first) given size old work entries
+    → tape' ≡ tape ++ ops → end ≡ length (tape ++ ops) → scope.sizes ≡ sizes given → IsBegun (world_in given tape scope first) size entries → IsSafe (world_in given tape scope first) given old work entries
     → IsSafeThen given tape scope first size entries old new work' who early late tape' end
 safe-called given tape scope first size entries old new work work' who early late ops tape' end grown_is end_is sizes_are begun was =
     subst (λ (l : List Operation). IsSafeThen given tape scope first size entries old new work' who early late l end) (sym grown_is)

@@ -83,9 +83,9 @@ module _ {tells : Type 0} {given : Given} {tape tape' : List Operation} {scope :
     (moved : IsMoved given members members') (grows : Grows tells tape tape')
     (roles spares : ℕ) (before after : ℕ → ℕ) (since : AreLostSince members members' roles spares before after)
     (rise : IsRisen tells members members' tape tape') (unsynced : Bool) (all : unsynced ≡ false → members.newest.size ≤ mended_rows work.resync members)
-    (safe : tells → (world : World) → (size : ℕ) → (told : Ledger) → HasRoomLeft members tape tape' → AreGoneTold told members' → IsUncleanTold told members → (list : ℕ → Sector)
+    (safe : tells → (world : World) → (told : Ledger) → HasRoomLeft members tape tape' → AreGoneTold told members' → IsUncleanTold told members → (list : ℕ → Sector)
     → (DoesWithout members → ListStands members (present given tape) list) → (unsynced ≡ false → DoesWithout members → OpensFit world → RowsStand members (present given tape) list)
-    → AreWritesAllowed members told.values list → IsSafeOver world given size told members tape → KeepsSafe world given size told members' tape tape') where
+    → AreWritesAllowed members told.values list → IsSafeOver world given told members tape → KeepsSafe world given told members' tape tape') where
   abbrev losses : List Event
   losses = losses_of roles spares
 
@@ -131,11 +131,11 @@ module _ {tells : Type 0} {given : Given} {tape tape' : List Operation} {scope :
   pub leaves-settled : (work' : Work) → CarriesMore work work' → unsynced ≡ is_some work'.resync → (event : Event) → AreSilent who end (event ∷ []) → KeepShape (entries_of who end (event ∷ [])) → GivesNone (entries_of who end (event ∷ [])) → KeepsNewest who end event
       → (tells → is_unsynced (world_in given tape scope first) (entries ++ entries_of who end (losses_of roles spares ++ event ∷ [])) ≡ unsynced)
       → (unsynced ≡ true → IsSome work.resync) → (unsynced ≡ true → is_clean members'.newest ≡ is_clean members.newest) → (unsynced ≡ false → is_clean members'.newest ≡ true)
-      → (tells → (world : World) → (size : ℕ) → (told : Ledger) → HasRoomLeft members tape tape' → AreGoneTold told members' → IsUncleanTold told members
+      → (tells → (world : World) → (told : Ledger) → HasRoomLeft members tape tape' → AreGoneTold told members' → IsUncleanTold told members
       → (DoesWithout members → unsynced ≡ true → is_clean members.newest ≡ false) → (list : ℕ → Sector)
       → (DoesWithout members → ListStands members (present given tape) list) → (unsynced ≡ false → DoesWithout members → OpensFit world → RowsStand members (present given tape) list)
-      → AreWritesAllowed members told.values list → IsSafeOver world given size told members tape
-      → IsSafeOver world given size (settled_ledger unsynced list told) members' tape')
+      → AreWritesAllowed members told.values list → IsSafeOver world given told members tape
+      → IsSafeOver world given (settled_ledger unsynced list told) members' tape')
       → LeavesSafe tells given tape' scope first (entries ++ entries_of who end (losses_of roles spares ++ event ∷ [])) members' work'
   leaves-settled work' carries pends event silent keep none newest unsynced_is pending alike clean settled = record {
     dirty = λ does is. alike (pends ∙ is) ∙ was.dirty (without-before given members members' was.placed moved does) (pending (pends ∙ is));
@@ -151,13 +151,13 @@ module _ {tells : Type 0} {given : Given} {tape tape' : List Operation} {scope :
         let size = list_size (places_of members) in
         let told = told_by world work' entries (entries_of who end losses) in
         let list = now (opening_list world) entries in
-        subst (λ (l : List Entry). IsSafeOver world given size (ledger_now world work' (entries ++ l)) members' tape') (sym (entries-both who end losses (event ∷ [])))
-        (more-safe (OpensFit world) scope given size (settled_ledger unsynced list told) (ledger_now world work' (entries ++ (entries_of who end losses ++ entries_of who end (event ∷ [])))) members' (disk given.start tape')
+        subst (λ (l : List Entry). IsSafeOver world given (ledger_now world work' (entries ++ l)) members' tape') (sym (entries-both who end losses (event ∷ [])))
+        (more-safe (OpensFit world) scope given (settled_ledger unsynced list told) (ledger_now world work' (entries ++ (entries_of who end losses ++ entries_of who end (event ∷ [])))) members' (disk given.start tape')
         (settled-now world size work' unsynced entries (entries_of who end losses) (entries_of who end (event ∷ []))
         (subst (λ (l : List Entry). is_unsynced world (entries ++ l) ≡ unsynced) (entries-both who end losses (event ∷ [])) (unsynced_is t))
         (λ x lt. subst (λ (l : List Entry). IsIn (values_of (opening_list world) (entries ++ l) x) (list x)) (entries-both who end losses (event ∷ []))
         (newest-stays x (newest-old who end was opens caller at_end stays grows (entries_of who end (losses ++ event ∷ [])) t fills x lt))) none)
-        (settled t world size told room gone (unclean-told work' carries losses adds t) (λ does is. was.dirty does (pending is)) list
+        (settled t world told room gone (unclean-told work' carries losses adds t) (λ does is. was.dirty does (pending is)) list
         (holds-before who end was opens caller at_end stays grows (entries_of who end (losses ++ event ∷ [])) t fills) (rows-old t)
         (newest-told work' carries losses (entries_of who end (losses ++ event ∷ [])) adds t fills) began)));
   }
@@ -181,11 +181,11 @@ module _ {tells : Type 0} {given : Given} {tape tape' : List Operation} {scope :
 
   -- a flush or a stop, which leaves the resync as it is
   pub leaves-flushed : (event : Event) → Settles event → unsynced ≡ is_some work.resync → (unsynced ≡ true → is_clean members'.newest ≡ is_clean members.newest) → (unsynced ≡ false → is_clean members'.newest ≡ true)
-      → (tells → (world : World) → (size : ℕ) → (told : Ledger) → HasRoomLeft members tape tape' → AreGoneTold told members' → IsUncleanTold told members
+      → (tells → (world : World) → (told : Ledger) → HasRoomLeft members tape tape' → AreGoneTold told members' → IsUncleanTold told members
       → (DoesWithout members → unsynced ≡ true → is_clean members.newest ≡ false) → (list : ℕ → Sector)
       → (DoesWithout members → ListStands members (present given tape) list) → (unsynced ≡ false → DoesWithout members → OpensFit world → RowsStand members (present given tape) list)
-      → AreWritesAllowed members told.values list → IsSafeOver world given size told members tape
-      → IsSafeOver world given size (settled_ledger unsynced list told) members' tape')
+      → AreWritesAllowed members told.values list → IsSafeOver world given told members tape
+      → IsSafeOver world given (settled_ledger unsynced list told) members' tape')
       → LeavesSafe tells given tape' scope first (entries ++ entries_of who end (losses_of roles spares ++ event ∷ [])) members' work
   leaves-flushed event settles same alike clean settled =
       leaves-settled work (λ number is. is) same event (settles.silent who end) (settles.keep who end) (settles.gives who end) (settles.newest who end) (λ t. unsynced-as event settles.ends t ∙ sym same) (λ is. sym same ∙ is) alike clean settled

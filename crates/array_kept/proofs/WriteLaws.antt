@@ -86,9 +86,9 @@ module _ {tells : Type 0} {given : Given} {tape tape' : List Operation} {scope :
     (shape : Shape) (same : shape ≡ shape_of members.newest) (at : ℕ) (from : List ℕ) (within : at + length from / 512 ≤ list_size (places_of members)) (does : DoesWithout members) (begun : Bool)
     (synced : Bool) (asked : synced ≡ are_mended (shape_of members.newest) (mended_rows work.resync members) (at + length from / 512))
     (rise : IsRisen tells members members' tape tape') (stays : is_clean members.newest ≡ false → is_clean members'.newest ≡ false)
-    (safe : tells → (world : World) → (size : ℕ) → (told : Ledger) → HasRoomLeft members tape tape' → AreGoneTold told members' → told.unclean ≡ true → (list list' : ℕ → Sector) → IsWritten list list' at from
+    (safe : tells → (world : World) → (told : Ledger) → HasRoomLeft members tape tape' → AreGoneTold told members' → told.unclean ≡ true → (list list' : ℕ → Sector) → IsWritten list list' at from
     → ListStands members (present given tape) list → (synced ≡ true → AreWhole members' ⊎ RowsStandAmong (IsTouched shape at (length from / 512)) members (present given tape) list)
-    → (begun ≡ true → AreWritesAllowed members told.values list') → IsSafeOver world given size told members tape → KeepsSafe world given size told members' tape tape') where
+    → (begun ≡ true → AreWritesAllowed members told.values list') → IsSafeOver world given told members tape → KeepsSafe world given told members' tape tape') where
   all-within : at + length (sectors_of from) ≤ list_size (places_of members)
   all-within = let n : length (sectors_of from) ≡ length from / 512 = length-sectors_of from in omega (arith, within, n)
 
@@ -131,8 +131,8 @@ module _ {tells : Type 0} {given : Given} {tape tape' : List Operation} {scope :
       rows t (inr fit) mended = inr (touched-stand given members was.placed work.resync shape same at (length from / 512) (present given tape) list (sym asked ∙ mended) (was.good t does fit))
 
       stretch : (t : tells) → FillsRight (world_in given tape scope first) (entries ++ entries_of who end events) → HasRoomLeft members tape tape'
-          → IsSafeOver (world_in given tape scope first) given (list_size (places_of members)) (told_by (world_in given tape scope first) work entries (entries_of who end events)) members tape
-          → KeepsSafe (world_in given tape scope first) given (list_size (places_of members)) (told_by (world_in given tape scope first) work entries (entries_of who end events)) members' tape tape'
+          → IsSafeOver (world_in given tape scope first) given (told_by (world_in given tape scope first) work entries (entries_of who end events)) members tape
+          → KeepsSafe (world_in given tape scope first) given (told_by (world_in given tape scope first) work entries (entries_of who end events)) members' tape tape'
       stretch t fills room began =
           safe t (world_in given tape scope first) (list_size (places_of members)) (told_by (world_in given tape scope first) work entries (entries_of who end events)) room told (unclean t)
           list (list-with list at from) (list-with-is list at from)

@@ -98,7 +98,7 @@ ledger_now world work entries = record {
 pub record IsSafe (world : World) (given : Given) (size : ℕ) (members : Members) (work : Work) (entries : List Entry) : Type 0 where
   pub past : IsSafeThroughout world entries
   pub sound : OpensFit world → LeavesSoundThroughout world
-  pub now : IsSafeOver world given size (ledger_now world work entries) members world.tape
+  pub now : IsSafeOver world given (ledger_now world work entries) members world.tape
   pub counted : HasLiveSlot members → IsCounted world members
 
 -- The list stands on the members that are there, as long as they suffice, and what is missing or a spare is what was told so; what was rebuilt on recovering

@@ -85,12 +85,12 @@ module _ (scope : Scope) (given : Given) (former : Members) (gone : ℕ) (d : �
       now-held : AreHeld scope held.known (bit_or former.lost gone) former.newest former.own d
       now-held = more-held scope held.known former.lost (bit_or former.lost gone) former.newest former.own d first-lost held.updated.held
 
-pub named-held : (sound : Type 0) (scope : Scope) (given : Given) (size : ℕ) (told : Ledger) (m : Members) (d : ℕ → ℕ → List Sector) → IsPlaced given m → AreUnlost m → AreSparesFree given m → AreUnnamed m
-    → IsSteady sound scope given size told m d → IsHeldBy scope m d
-named-held sound scope given size told m d placed unlost free unnamed steady =
+pub named-held : (sound : Type 0) (scope : Scope) (given : Given) (told : Ledger) (m : Members) (d : ℕ → ℕ → List Sector) → IsPlaced given m → AreUnlost m → AreSparesFree given m → AreUnnamed m
+    → IsSteady sound scope given told m d → IsHeldBy scope m d
+named-held sound scope given told m d placed unlost free unnamed steady =
     by (unnamed-named m d placed unnamed steady)
   where
-    by : IsNamedNow sound scope given size told m d → IsHeldBy scope m d
+    by : IsNamedNow sound scope given told m d → IsHeldBy scope m d
     by named =
         let is = named.steady.since.since in
         subst (λ (n : Members). IsHeldBy scope n d) (sym is)

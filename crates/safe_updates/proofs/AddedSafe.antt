@@ -74,12 +74,12 @@ Disk = ℕ → ℕ → List Sector
 
 -- ---- a view of members with the new spare
 
-module _ (sound : Type 0) (given : Given) (size : ℕ) (told : Ledger) (m : Members) (slot : ℕ) (sb : Sb) (d : Disk) (with_placed : IsPlaced given (with_spare slot sb m))
+module _ (sound : Type 0) (given : Given) (told : Ledger) (m : Members) (slot : ℕ) (sb : Sb) (d : Disk) (with_placed : IsPlaced given (with_spare slot sb m))
     (untaken : (role : ℕ) → holder (role_state (reading_of m) role) ≡ Some slot → ⊥) where
   abbrev With : Members
   With = with_spare slot sb m
 
-  pub view-with : IsViewRight sound given size told m d → IsViewRight sound given size told With d
+  pub view-with : IsViewRight sound scope given told m d → IsViewRight sound scope given told With d
   view-with right = record {
     placed = with_placed;
     sized = right.sized;
@@ -106,9 +106,9 @@ module _ (sound : Type 0) (given : Given) (size : ℕ) (told : Ledger) (m : Memb
 
 -- ---- a view of members that lost more slots, whose roles are told
 
-pub view-less : (sound : Type 0) (given : Given) (size : ℕ) (told : Ledger) (lost : ℕ) (old view : Members) (d : Disk) → AreLess lost old view → IsPlaced given view → is_clean view.newest ≡ is_clean old.newest
-    → ((role : ℕ) → role < (shape_of view.newest).disks → is_missing (reading_of view) role ≡ true → told.gone role ≡ true) → IsViewRight sound given size told old d → IsViewRight sound given size told view d
-view-less sound given size told lost old view d less placed same gone right = record {
+pub view-less : (sound : Type 0) (given : Given) (told : Ledger) (lost : ℕ) (old view : Members) (d : Disk) → AreLess lost old view → IsPlaced given view → is_clean view.newest ≡ is_clean old.newest
+    → ((role : ℕ) → role < (shape_of view.newest).disks → is_missing (reading_of view) role ≡ true → told.gone role ≡ true) → IsViewRight sound scope given told old d → IsViewRight sound scope given told view d
+view-less sound given told lost old view d less placed same gone right = record {
   placed = placed;
   sized = list-same given lost old view right.placed less ∙ right.sized;
   gone = gone;
@@ -119,14 +119,14 @@ view-less sound given size told lost old view d less placed same gone right = re
 
 -- ---- the update
 
-module _ (sound : Type 0) (scope : Scope) (given : Given) (size : ℕ) (told : Ledger) (former : Members) (missed : ℕ) (new : Members) (slot : ℕ) (sb : Sb) (before after : List Operation)
+module _ (sound : Type 0) (scope : Scope) (given : Given) (told : Ledger) (former : Members) (missed : ℕ) (new : Members) (slot : ℕ) (sb : Sb) (before after : List Operation)
     (did : IsAddedBy ⊤ given slot sb (members_without missed former) new before after) (held : IsHeldBy scope former (disk given.start before)) (unmissed : has_slot missed slot ≡ false)
     (placed : IsPlaced given (members_without missed former)) (with_placed : IsPlaced given (with_spare slot sb (members_without missed former))) (made : IsSpareSb given former.newest slot sb)
     (below : slot < 32) (long : length former.own ≡ 32) (small : bit_or former.lost missed < 2 ^ 32) (untaken : (role : ℕ) → holder (role_state (reading_of (members_without missed former)) role) ≡ Some slot → ⊥)
     (unknown : has_slot held.known slot ≡ false) (left : ℕ)
     (ready : former.newest.events + 1 < 2 ^ 62 → IsReadyToAdd scope held.known left (bit_or former.lost missed) (with_added (members_without missed former) (Some (slot, sb))) (adding (members_without missed former) slot sb)
     (live_set (members_without missed former) (adding (members_without missed former) slot sb)) slot (disk given.start before))
-    (room : HasMarkRoom (members_without missed former) before after) (gone : AreGoneTold told new) (right-first : IsViewRight sound given size told former (disk given.start before))
+    (room : HasMarkRoom (members_without missed former) before after) (gone : AreGoneTold told new) (right-first : IsViewRight sound scope given told former (disk given.start before))
     (carried : AreCarried scope told.carried former.own (disk given.start before)) where
   abbrev m : Members
   m = members_without missed former
@@ -229,29 +229,29 @@ module _ (sound : Type 0) (scope : Scope) (given : Given) (size : ℕ) (told : L
   gone-first : AreGoneTold told m
   gone-first role lt missing = gone role (subst (λ (s : Shape). role < s.disks) (sym moved.shape) lt) (missing-moved moved role missing)
 
-  right : IsViewRight sound given size told m Start
-  right = view-less sound given size told missed former m Start (less-without former missed) placed refl gone-first right-first
+  right : IsViewRight sound scope given told m Start
+  right = view-less sound given told missed former m Start (less-without former missed) placed refl gone-first right-first
 
   -- the new number is told too
-  first-more : IsViewRight sound given size More former Start
+  first-more : IsViewRight sound scope given More former Start
   first-more = record { placed = right-first.placed; sized = right-first.sized; gone = right-first.gone; unclean = right-first.unclean; held = right-first.held; settled = right-first.settled }
 
-  right-more : IsViewRight sound given size More m Start
+  right-more : IsViewRight sound scope given More m Start
   right-more = record { placed = right.placed; sized = right.sized; gone = right.gone; unclean = right.unclean; held = right.held; settled = right.settled }
 
-  right-with : IsViewRight sound given size More (with_spare slot sb m) Start
-  right-with = view-with sound given size More m slot sb Start with_placed untaken right-more
+  right-with : IsViewRight sound scope given More (with_spare slot sb m) Start
+  right-with = view-with sound given More m slot sb Start with_placed untaken right-more
 
-  right-without : (lost : ℕ) → IsWithin lost new.lost → IsViewRight sound given size More (members_without lost (with_spare slot sb m)) Start
-  right-without lost within = view-less sound given size More lost (with_spare slot sb m) (members_without lost (with_spare slot sb m)) Start (less-without (with_spare slot sb m) lost) (placed-without given (with_spare slot sb m) lost with_placed) refl
+  right-without : (lost : ℕ) → IsWithin lost new.lost → IsViewRight sound scope given More (members_without lost (with_spare slot sb m)) Start
+  right-without lost within = view-less sound given More lost (with_spare slot sb m) (members_without lost (with_spare slot sb m)) Start (less-without (with_spare slot sb m) lost) (placed-without given (with_spare slot sb m) lost with_placed) refl
       (λ role lt missing. gone role (subst (λ (s : Shape). role < s.disks) (sym less.shape) lt)
       (missing-in given lost (with_spare slot sb m) (members_without lost (with_spare slot sb m)) with_placed (less-without (with_spare slot sb m) lost) new.lost new less within role missing))
       right-with
 
-  view-at : (n : ℕ) → length before ≤ n → n ≤ length after → (view : Members) → IsViewRight sound given size More view Start → IsViewRight sound given size More view (disk given.start (take n after))
+  view-at : (n : ℕ) → length before ≤ n → n ≤ length after → (view : Members) → IsViewRight sound scope given More view Start → IsViewRight sound scope given More view (disk given.start (take n after))
   view-at n low high view is = view-kept given Start (disk given.start (take n after)) (disk-somewhere given before) (λ s k other. (did.update.marks.each tt n low high).touched.elsewhere s k other) sound size More view is
 
-  seen-at : (n : ℕ) → length before ≤ n → n ≤ length after → AreViewsRight sound scope given size More (disk given.start (take n after))
+  seen-at : (n : ℕ) → length before ≤ n → n ≤ length after → AreViewsRight sound scope given More (disk given.start (take n after))
   seen-at n low high c drawn =
       let read = read-at n low high c drawn in
       record {
@@ -259,8 +259,8 @@ module _ (sound : Type 0) (scope : Scope) (given : Given) (size : ℕ) (told : L
         is = read.is;
         view = read.members;
         same = read.same;
-        right = view-at n low high read.members (⊎_elim (λ is. subst (λ (v : Members). IsViewRight sound given size More v Start) (sym is) first-more)
-            (λ r. subst (λ (v : Members). IsViewRight sound given size More v Start) (sym r.2) (right-without r.0 r.1)) read.among);
+        right = view-at n low high read.members (⊎_elim (λ is. subst (λ (v : Members). IsViewRight sound scope given More v Start) (sym is) first-more)
+            (λ r. subst (λ (v : Members). IsViewRight sound scope given More v Start) (sym r.2) (right-without r.0 r.1)) read.among);
       }
 
   -- what holds at each mark holds at the end
@@ -386,24 +386,24 @@ module _ (sound : Type 0) (scope : Scope) (given : Given) (size : ℕ) (told : L
       said = said;
     }
 
-    next-steady : IsPlaced given new → is_clean new.newest ≡ is_clean m.newest → IsSteady sound scope given size More new (disk given.start after)
+    next-steady : IsPlaced given new → is_clean new.newest ≡ is_clean m.newest → IsSteady sound scope given More new (disk given.start after)
     next-steady new_placed clean = record {
       former = new;
       since = since-none scope new (disk given.start after) held-new;
-      right = at-end (IsViewRight sound given size More new)
-          (λ n low high. view-at n low high new (view-less sound given size More new.lost (with_spare slot sb m) new Start less new_placed clean gone right-with));
+      right = at-end (IsViewRight sound scope given More new)
+          (λ n low high. view-at n low high new (view-less sound given More new.lost (with_spare slot sb m) new Start less new_placed clean gone right-with));
       numbers = numbers-end;
     }
 
-  next-spent : (IsSomeLeft Live new.lost → ⊥) → IsSpent sound scope given size More new (disk given.start after)
-  next-spent none = record { right = at-end (AreViewsRight sound scope given size More) seen-at; none = λ live. none (left-in-adding did placed live) }
+  next-spent : (IsSomeLeft Live new.lost → ⊥) → IsSpent sound scope given More new (disk given.start after)
+  next-spent none = record { right = at-end (AreViewsRight sound scope given More) seen-at; none = λ live. none (left-in-adding did placed live) }
 
   -- a live slot is left, or none
   some-or-none : IsSomeLeft Live new.lost ⊎ (IsSomeLeft Live new.lost → ⊥)
   some-or-none = ⊎_elim (λ some. inl (some.0, live-with m slot sb false some.0 ∙ some.1, some.2)) (λ none. inr (λ some. none (some.0, sym (live-with m slot sb false some.0) ∙ some.1, some.2)))
       (mark-left (with_spare slot sb m) false new.lost)
 
-  pub added-safe : IsPlaced given new → is_clean new.newest ≡ is_clean m.newest → IsSafeStretch sound scope given size More new before after
+  pub added-safe : IsPlaced given new → is_clean new.newest ≡ is_clean m.newest → IsSafeStretch sound scope given More new before after
   added-safe new_placed clean = record {
     marks = record { longer = did.update.marks.longer; earlier = did.update.marks.earlier; each = λ one n low high. seen-at n low high };
     next = ⊎_elim (λ some. inl (next-steady some new_placed clean)) (λ none. inr (next-spent none)) some-or-none;
@@ -424,19 +424,19 @@ pub record IsAddableTo (scope : Scope) (given : Given) (told : Ledger) (m : Memb
   pub unknown : told.carried sb.dev_number ≡ false
   pub second : (sector : Sector) → IsIn (d slot 9) sector → IsSecondHalf sb sector
 
-module _ (sound : Type 0) (scope : Scope) (given : Given) (size : ℕ) (told : Ledger) (new : Members) (slot : ℕ) (sb : Sb) (before after : List Operation) where
+module _ (sound : Type 0) (scope : Scope) (given : Given) (told : Ledger) (new : Members) (slot : ℕ) (sb : Sb) (before after : List Operation) where
   -- from where it is safe, of these members
   abbrev AddsSafely : Members → Type 0
   AddsSafely m = IsPlaced given m → AreUnlost m → AreSparesFree given m → IsAddableTo scope given told m slot sb (disk given.start before) → IsAddedBy ⊤ given slot sb m new before after
-      → HasMarkRoom m before after → AreGoneTold told new → is_clean new.newest ≡ is_clean m.newest → IsSafeStretch sound scope given size (with_number sb.dev_number told) new before after
+      → HasMarkRoom m before after → AreGoneTold told new → is_clean new.newest ≡ is_clean m.newest → IsSafeStretch sound scope given (with_number sb.dev_number told) new before after
 
   -- by former members, of which slots may be lost that aren't named yet, but not this one
-  adding-from : (former : Members) (missed : ℕ) → has_slot missed slot ≡ false → IsHeldBy scope former (disk given.start before) → IsViewRight sound given size told former (disk given.start before)
+  adding-from : (former : Members) (missed : ℕ) → has_slot missed slot ≡ false → IsHeldBy scope former (disk given.start before) → IsViewRight sound scope given told former (disk given.start before)
       → AreCarried scope told.carried former.own (disk given.start before) → AddsSafely (members_without missed former)
   adding-from former missed unmissed held right carried placed unlost free is did room gone clean =
       let with_placed = placed-with given (members_without missed former) slot sb is.made placed unlost free is.few is.there is.long is.untaken in
       let moved = added-moved did placed with_placed did.held in
-      added-safe sound scope given size told former missed new slot sb before after did held unmissed placed with_placed is.made (let few = is.few in let lt = is.there in omega (arith, few, lt)) is.long is.small is.untaken
+      added-safe sound scope given told former missed new slot sb before after did held unmissed placed with_placed is.made (let few = is.few in let lt = is.there in omega (arith, few, lt)) is.long is.small is.untaken
       (slot-unknown scope given told.carried former missed slot sb (disk given.start before) held unmissed placed free is.few is.there is.long is.small is.untaken is.unspare is.made is.of_scope carried is.unknown is.second)
       (left_set 32 (live_set (members_without missed former) (adding (members_without missed former) slot sb)) (with_spare slot sb (members_without missed former)).lost)
       (adding-starts scope given told.carried former missed slot sb (disk given.start before) held unmissed placed free is.few is.there is.long is.small is.untaken is.unspare is.made is.of_scope carried is.unknown is.second)
@@ -444,11 +444,11 @@ module _ (sound : Type 0) (scope : Scope) (given : Given) (size : ℕ) (told : L
 
   -- the view of the members as they are
   right-now : (old : Members) → IsPlaced given old → AreUnlost old → AreSparesFree given old → IsAddableTo scope given told old slot sb (disk given.start before) → IsAddedBy ⊤ given slot sb old new before after → AreGoneTold told new
-      → IsSteady sound scope given size told old (disk given.start before) → IsViewRight sound given size told old (disk given.start before)
+      → IsSteady sound scope given told old (disk given.start before) → IsViewRight sound scope given told old (disk given.start before)
   right-now old placed unlost free is did gone steady =
       let same = steady.since.since in
-      subst (λ (v : Members). IsViewRight sound given size told v (disk given.start before)) (sym same)
-      (view-less sound given size told steady.since.gone steady.former (members_without steady.since.gone steady.former) (disk given.start before) (less-without steady.former steady.since.gone)
+      subst (λ (v : Members). IsViewRight sound scope given told v (disk given.start before)) (sym same)
+      (view-less sound given told steady.since.gone steady.former (members_without steady.since.gone steady.former) (disk given.start before) (less-without steady.former steady.since.gone)
       (subst (IsPlaced given) same placed) refl (subst (AreGoneTold told) same gone-first) steady.right)
     where
       moved : IsMoved given (with_spare slot sb old) new
@@ -458,7 +458,7 @@ module _ (sound : Type 0) (scope : Scope) (given : Given) (size : ℕ) (told : L
       gone-first role lt missing = gone role (subst (λ (s : Shape). role < s.disks) (sym moved.shape) lt) (missing-moved moved role missing)
 
   -- where it is lost, what is missing is named; else it isn't among those that are to be named yet
-  pub adding-safe : (old : Members) → (has_slot old.lost slot ≡ true → AreUnnamed old) → IsSteady sound scope given size told old (disk given.start before) → AddsSafely old
+  pub adding-safe : (old : Members) → (has_slot old.lost slot ≡ true → AreUnnamed old) → IsSteady sound scope given told old (disk given.start before) → AddsSafely old
   adding-safe old fresh steady placed unlost free is did room gone clean = of (has_slot old.lost slot) refl
     where
       same : old ≡ members_without steady.since.gone steady.former
@@ -467,9 +467,9 @@ module _ (sound : Type 0) (scope : Scope) (given : Given) (size : ℕ) (told : L
       numbers : AreCarried scope told.carried old.own (disk given.start before)
       numbers = subst (λ (own : List (Option Sb)). AreCarried scope told.carried own (disk given.start before)) (ap (λ (v : Members). v.own) (sym same)) steady.numbers
 
-      of : (b : Bool) → has_slot old.lost slot ≡ b → IsSafeStretch sound scope given size (with_number sb.dev_number told) new before after
+      of : (b : Bool) → has_slot old.lost slot ≡ b → IsSafeStretch sound scope given (with_number sb.dev_number told) new before after
       of true lost = subst AddsSafely (without-none old)
-          (adding-from old 0 (none_there slot) (named-held sound scope given size told old (disk given.start before) placed unlost free (fresh lost) steady)
+          (adding-from old 0 (none_there slot) (named-held sound scope given told old (disk given.start before) placed unlost free (fresh lost) steady)
           (right-now old placed unlost free is did gone steady) numbers) placed unlost free is did room gone clean
       of false there = subst AddsSafely (sym same)
           (adding-from steady.former steady.since.gone (unmissed (has_slot steady.since.gone slot) refl) steady.since.held steady.right steady.numbers) placed unlost free is did room gone clean

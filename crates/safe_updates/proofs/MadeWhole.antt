@@ -129,7 +129,7 @@ module _ (given : Given) (m : Members) (placed : IsPlaced given m) (role slot : 
       only (inl same) = same
       only (inr none) = absurd none
 
-  module _ (sound : Type 0) (size : ℕ) (told : Ledger) (tape : List Operation) (list : ℕ → Sector) (premise : sound) (does : DoesWithout m) (below : role < (shape_of m.newest).disks)
+  module _ (sound : Type 0) (told : Ledger) (tape : List Operation) (list : ℕ → Sector) (premise : sound) (does : DoesWithout m) (below : role < (shape_of m.newest).disks)
       (stands : RowsStand m (present given tape) list) (allowed : AreWritesAllowed m told.values list) (full : IsFlushedFull m role slot list (disk given.start tape)) where
     -- two lists as which the rows stand have the same full rows
     full-alike : (list' : ℕ → Sector) → AreRowsSettled m list' (disk given.start tape) → (row : ℕ) → row < m.newest.size → full_sector (shape_of m.newest) list row role ≡ full_sector (shape_of m.newest) list' row role
@@ -137,7 +137,7 @@ module _ (given : Given) (m : Members) (placed : IsPlaced given m) (role slot : 
         sym (standing-is-full (reading_of m) (present given tape) (shape_of m.newest) list row placed.valid lt does (stands row lt) role below)
         ∙ standing-is-full (reading_of m) (present given tape) (shape_of m.newest) list' row placed.valid lt does (settled (present given tape) (present-drawn given tape) row lt) role below
 
-    pub made-right : IsViewRight sound given size told m (disk given.start tape) → AreGoneTold told (W given m placed None role slot to) → IsViewRight sound given size told (W given m placed None role slot to) (disk given.start tape)
+    pub made-right : IsViewRight sound scope given told m (disk given.start tape) → AreGoneTold told (W given m placed None role slot to) → IsViewRight sound scope given told (W given m placed None role slot to) (disk given.start tape)
     made-right right gone = record {
       placed = placed-given given m placed None role slot to;
       sized = right.sized;
@@ -203,13 +203,13 @@ making-of scope given role slot former gone d placed small held recovers = recor
 -- ---- the ledger behind it
 
 -- It tells what the other does, but for the role perhaps, which isn't missing where it is whole on the slot.
-pub record IsMoreBack (sound : Type 0) (given : Given) (size : ℕ) (told more : Ledger) (role slot : ℕ) (new : Members) : Type 0 where
-  pub right : (m : Members) (d : ℕ → ℕ → List Sector) → role_state (reading_of m) role ≡ Whole slot → IsViewRight sound given size told m d → IsViewRight sound given size more m d
+pub record IsMoreBack (sound : Type 0) (given : Given) (told more : Ledger) (role slot : ℕ) (new : Members) : Type 0 where
+  pub right : (m : Members) (d : ℕ → ℕ → List Sector) → role_state (reading_of m) role ≡ Whole slot → IsViewRight sound scope given told m d → IsViewRight sound scope given more m d
   pub gone : AreGoneTold more new
   pub carried : (number : ℕ) → told.carried number ≡ true → more.carried number ≡ true
 
-pub back-same : (sound : Type 0) (given : Given) (size : ℕ) (told : Ledger) (role slot : ℕ) (new : Members) → AreGoneTold told new → IsMoreBack sound given size told told role slot new
-back-same sound given size told role slot new gone = record { right = λ m d whole right. right; gone = gone; carried = λ number is. is }
+pub back-same : (sound : Type 0) (given : Given) (told : Ledger) (role slot : ℕ) (new : Members) → AreGoneTold told new → IsMoreBack sound given told told role slot new
+back-same sound given told role slot new gone = record { right = λ m d whole right. right; gone = gone; carried = λ number is. is }
 
 pub back-told : (told : Ledger) (role slot : ℕ) (new : Members) → AreGoneTold told new → role_state (reading_of new) role ≡ Whole slot → AreGoneTold (given_back role told) new
 back-told told role slot new gone whole r lt missing = (λ i. gone r lt missing i && not (other i))
@@ -222,9 +222,9 @@ back-told told role slot new gone whole r lt missing = (λ i. gone r lt missing 
         let none = ap (λ (s : Role). not (is_whole s)) (ap (role_state (reading_of new)) same ∙ whole) in let clash = sym missing ∙ none in cc
         ))
 
-pub back-given : (sound : Type 0) (given : Given) (size : ℕ) (told : Ledger) (role slot : ℕ) (new : Members) → AreGoneTold told new → role_state (reading_of new) role ≡ Whole slot
-    → IsMoreBack sound given size told (given_back role told) role slot new
-back-given sound given size told role slot new gone whole = record {
+pub back-given : (sound : Type 0) (given : Given) (told : Ledger) (role slot : ℕ) (new : Members) → AreGoneTold told new → role_state (reading_of new) role ≡ Whole slot
+    → IsMoreBack sound given told (given_back role told) role slot new
+back-given sound given told role slot new gone whole = record {
   right = λ m d is right. record {
     placed = right.placed;
     sized = right.sized;
@@ -239,11 +239,11 @@ back-given sound given size told role slot new gone whole = record {
 
 -- ---- what the update owes
 
-module _ (sound : Type 0) (scope : Scope) (given : Given) (size : ℕ) (told : Ledger) (role slot : ℕ) (old new : Members) (before after : List Operation)
+module _ (sound : Type 0) (scope : Scope) (given : Given) (told : Ledger) (role slot : ℕ) (old new : Members) (before after : List Operation)
     (m : IsChanged ⊤ given (giving old slot role None) old new before after) (placed : IsPlaced given old) (to : IsReceiver given old role slot) (below : role < (shape_of old.newest).disks)
     (recovers : role_state (reading_of old) role ≡ Recovering slot) (premise : sound) (does : DoesWithout old) (list : ℕ → Sector) (stands : RowsStand old (present given before) list)
     (allowed : AreWritesAllowed old told.values list) (full : IsFlushedFull old role slot list (disk given.start before)) (gone : AreGoneTold told new) (here : told.gone role ≡ true)
-    (steady : IsSteady sound scope given size told old (disk given.start before)) where
+    (steady : IsSteady sound scope given told old (disk given.start before)) where
   abbrev Gives : Change
   Gives = giving old slot role None
 
@@ -274,10 +274,10 @@ module _ (sound : Type 0) (scope : Scope) (given : Given) (size : ℕ) (told : L
   told-old : AreGoneTold told old
   told-old r lt missing = told-still old.lost m.stay r lt (missing-without old.lost (role_state (reading_of old) r) missing)
 
-  old-right : IsViewRight sound given size told old (disk given.start before)
-  old-right = steady-right sound scope given size told old (disk given.start before) steady told-old
+  old-right : IsViewRight sound scope given told old (disk given.start before)
+  old-right = steady-right sound scope given told old (disk given.start before) steady told-old
 
-  with-right : IsViewRight sound given size told With (disk given.start before)
+  with-right : IsViewRight sound scope given told With (disk given.start before)
   with-right = made-right given old placed role slot to recovers sound size told before list premise does below stands allowed full old-right told-with
 
   count-old : length old.roles ≡ role_count old.newest
@@ -292,11 +292,11 @@ module _ (sound : Type 0) (scope : Scope) (given : Given) (size : ℕ) (told : L
   still-less : IsLessView old (planned_view old Still old.lost)
   still-less = kept-less old Still old.lost (λ s. give_of-same 32 s) count-old
 
-  still-right : IsViewRight sound given size told (planned_view old Still old.lost) (disk given.start before)
-  still-right = less-right sound given size told old (planned_view old Still old.lost) (disk given.start before) still-less
+  still-right : IsViewRight sound scope given told (planned_view old Still old.lost) (disk given.start before)
+  still-right = less-right sound given told old (planned_view old Still old.lost) (disk given.start before) still-less
       (placed-less given old (planned_view old Still old.lost) still-less (planned-live given old Still refl (λ s isnt. give_of-same 32 s) placed.live old.lost) placed) (gone-still old.lost m.stay) old-right
 
-  pub makable : (more : Ledger) → IsMoreBack sound given size told more role slot new → IsMakable sound given size size told more (giving old slot role None) slot role old new (disk given.start before)
+  pub makable : (more : Ledger) → IsMoreBack sound given told more role slot new → IsMakable sound given size told more (giving old slot role None) slot role old new (disk given.start before)
   makable more back = record {
     making = subst (λ (o : Members). IsPlaced given o → role_state (reading_of o) role ≡ Recovering slot → IsMakingWhole o (giving o slot role None) slot role) (sym steady.since.since)
         (λ placed is. making-of scope given role slot steady.former steady.since.gone (disk given.start before) placed to.room.small steady.since.held is) placed recovers;
@@ -304,7 +304,7 @@ module _ (sound : Type 0) (scope : Scope) (given : Given) (size : ℕ) (told : L
     kept = refl;
     count = refl;
     still = still-right;
-    right = less-right sound given size more With (planned_view old Gives old.lost) (disk given.start before) (given-less given old placed None role slot to old.lost) (given-placed given old placed None role slot to old.lost)
+    right = less-right sound given more With (planned_view old Gives old.lost) (disk given.start before) (given-less given old placed None role slot to old.lost) (given-placed given old placed None role slot to old.lost)
         (λ r lt missing. more-end r (lt-both r lt) (ap (λ (s : Role). not (is_whole s)) (given-state given old placed None role slot to new.lost r)
         ∙ missing-more old.lost new.lost m.stay (role_state (reading_of With) r) (ap (λ (s : Role). not (is_whole s)) (sym (given-state given old placed None role slot to old.lost r)) ∙ missing)))
         (back.right With (disk given.start before) (state-here given old placed None role slot to) with-right);

@@ -80,7 +80,7 @@ module _ (scope : Scope) (given : Given) (former : Members) (gone : ℕ) (d : �
   roles-same = sym (kept-roles gone former.roles still-there)
 
 pub unnamed-named : {sound : Type 0} {scope : Scope} {given : Given} {size : ℕ} {told : Ledger} (m : Members) (d : ℕ → ℕ → List Sector) → IsPlaced given m → AreUnnamed m
-    → IsSteady sound scope given size told m d → IsNamedNow sound scope given size told m d
+    → IsSteady sound scope given told m d → IsNamedNow sound scope given told m d
 unnamed-named {scope = scope} {given = given} m d placed unnamed steady = record {
   steady = steady;
   roles = roles-same scope given steady.former steady.since.gone d steady.since.held

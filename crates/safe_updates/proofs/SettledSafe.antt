@@ -48,9 +48,9 @@ AreSettledBy r list d = (c : Contents) → IsDrawn d c → (row : ℕ) → row <
 
 -- ---- the law
 
-module _ (sound : Type 0) (scope : Scope) (given : Given) (size : ℕ) (told : Ledger) (unsynced : Bool) (m : Members) (tape : List Operation) (list : ℕ → Sector) (placed : IsPlaced given m)
+module _ (sound : Type 0) (scope : Scope) (given : Given) (told : Ledger) (unsynced : Bool) (m : Members) (tape : List Operation) (list : ℕ → Sector) (placed : IsPlaced given m)
     (flushed : AreHoldersFlushed (reading_of m) given tape) (stands : ListStands m (present given tape) list) (dirty : is_clean m.newest ≡ false → unsynced ≡ true)
-    (rows : is_clean m.newest ≡ true → DoesWithout m → sound → RowsStand m (present given tape) list) (named : IsNamedNow sound scope given size told m (disk given.start tape)) where
+    (rows : is_clean m.newest ≡ true → DoesWithout m → sound → RowsStand m (present given tape) list) (named : IsNamedNow sound scope given told m (disk given.start tape)) where
   abbrev Former : Members
   Former = named.steady.former
 
@@ -73,7 +73,7 @@ module _ (sound : Type 0) (scope : Scope) (given : Given) (size : ℕ) (told : L
         rows = subst (λ (r : Reading). AreSettledBy r settled.list (disk given.start tape)) (sym same) settled.rows;
       }
 
-  pub settled-safe : IsSafeNow sound scope given size (settled_ledger unsynced list told) m (disk given.start tape)
+  pub settled-safe : IsSafeNow sound scope given (settled_ledger unsynced list told) m (disk given.start tape)
   settled-safe = inl (record {
     former = named.steady.former;
     since = named.steady.since;

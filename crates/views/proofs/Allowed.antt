@@ -22,7 +22,7 @@ use Rattle.shape_views.specs.Views.{Ledger, IsSettled, IsViewRight}
 use Rattle.views.proofs.HeldRows.{held-or-lacking, sector-held}
 use Rattle.views.proofs.Standing.{standing_at}
 
-module _ (sound : Type 0) (given : Given) (size : ℕ) (told : Ledger) (m : Members) (d : ℕ → ℕ → List Sector) (right : IsViewRight sound given size told m d) (few : DoesWithout m) (c : Contents) (drawn : IsDrawn d c) where
+module _ (sound : Type 0) (given : Given) (told : Ledger) (m : Members) (d : ℕ → ℕ → List Sector) (right : IsViewRight sound scope given told m d) (few : DoesWithout m) (c : Contents) (drawn : IsDrawn d c) where
   abbrev shape : Shape
   shape = shape_of m.newest
 

@@ -128,7 +128,7 @@ module _ (given : Given) (former : Members) (gone role slot : ℕ) (placed : IsP
             parity = λ other s below part held. sym (back-same c other row s held) ∙ stands.parity other s below part held;
           }
 
-      view-filled : (sound : Type 0) (size : ℕ) (told : Ledger) → IsViewRight sound given size told former d → IsViewRight sound given size told former e
+      view-filled : (sound : Type 0) (told : Ledger) → IsViewRight sound scope given told former d → IsViewRight sound scope given told former e
       view-filled sound size told right = record {
         placed = right.placed;
         sized = right.sized;
@@ -143,9 +143,9 @@ module _ (given : Given) (former : Members) (gone role slot : ℕ) (placed : IsP
 
 -- ---- the law
 
-module _ (sound : Type 0) (scope : Scope) (given : Given) (size : ℕ) (told : Ledger) (role slot : ℕ) (d e : Disk) (some : IsSomewhere d) where
+module _ (sound : Type 0) (scope : Scope) (given : Given) (told : Ledger) (role slot : ℕ) (d e : Disk) (some : IsSomewhere d) where
   filled-former : (former : Members) (gone : ℕ) → role_state (reading_of (members_without gone former)) role ≡ Recovering slot → IsFilling (members_without gone former) role slot d e
-      → (steady : IsSteady sound scope given size told (members_without gone former) d) → steady.former ≡ former → IsSteady sound scope given size told (members_without gone former) e
+      → (steady : IsSteady sound scope given told (members_without gone former) d) → steady.former ≡ former → IsSteady sound scope given told (members_without gone former) e
   filled-former former gone recovers filling steady is = record {
     former = steady.former;
     since = record {
@@ -153,13 +153,13 @@ module _ (sound : Type 0) (scope : Scope) (given : Given) (size : ℕ) (told : L
       since = steady.since.since;
       held = held-alike scope d e (λ s. kept s 8 (omega arith)) (λ s. kept s 9 (omega arith)) steady.former steady.since.held;
     };
-    right = subst (λ (m : Members). IsViewRight sound given size told m e) (sym is) (view-filled given former gone role slot placed recovers d e filling some sound size told right);
+    right = subst (λ (m : Members). IsViewRight sound scope given told m e) (sym is) (view-filled given former gone role slot placed recovers d e filling some sound size told right);
     numbers = carried-fewer scope told.carried steady.former.own d e (λ s v may. subst (λ (l : List Sector). IsIn l v) (kept s 8 (omega arith)) may)
         (λ s v may. subst (λ (l : List Sector). IsIn l v) (kept s 9 (omega arith)) may) steady.numbers;
   }
     where
-      right : IsViewRight sound given size told former d
-      right = subst (λ (m : Members). IsViewRight sound given size told m d) is steady.right
+      right : IsViewRight sound scope given told former d
+      right = subst (λ (m : Members). IsViewRight sound scope given told m d) is steady.right
 
       placed : IsPlaced given former
       placed = right.placed
@@ -168,18 +168,18 @@ module _ (sound : Type 0) (scope : Scope) (given : Given) (size : ℕ) (told : L
       kept = superblocks-kept given former gone role slot placed recovers d e filling
 
   steady-filled : (members : Members) → role_state (reading_of members) role ≡ Recovering slot → IsFilling members role slot d e
-      → IsSteady sound scope given size told members d → IsSteady sound scope given size told members e
+      → IsSteady sound scope given told members d → IsSteady sound scope given told members e
   steady-filled members recovers filling steady = of members steady.since.since recovers filling steady refl
     where
       of : (m : Members) → m ≡ members_without steady.since.gone steady.former → role_state (reading_of m) role ≡ Recovering slot → IsFilling m role slot d e
-          → (here : IsSteady sound scope given size told m d) → here.former ≡ steady.former → IsSteady sound scope given size told m e
+          → (here : IsSteady sound scope given told m d) → here.former ≡ steady.former → IsSteady sound scope given told m e
       of m is = subst
           (λ (n : Members). role_state (reading_of n) role ≡ Recovering slot → IsFilling n role slot d e
-          → (here : IsSteady sound scope given size told n d) → here.former ≡ steady.former → IsSteady sound scope given size told n e)
+          → (here : IsSteady sound scope given told n d) → here.former ≡ steady.former → IsSteady sound scope given told n e)
           (sym is) (filled-former steady.former steady.since.gone)
 
 pub filling-stays-safe : (sound : Type 0) → FillingStaysSafe sound
-filling-stays-safe sound scope given size told members role slot tape e placed unlost recovers filling (inl steady) =
-    inl (steady-filled sound scope given size told role slot (disk given.start tape) e (disk-somewhere given tape) members recovers filling steady)
-filling-stays-safe sound scope given size told members role slot tape e placed unlost recovers filling (inr spent) =
+filling-stays-safe sound scope given told members role slot tape e placed unlost recovers filling (inl steady) =
+    inl (steady-filled sound scope given told role slot (disk given.start tape) e (disk-somewhere given tape) members recovers filling steady)
+filling-stays-safe sound scope given told members role slot tape e placed unlost recovers filling (inr spent) =
     absurd (spent.none (slot, live-holder given members false role slot placed (ap holder recovers), unlost role slot (ap holder recovers)))

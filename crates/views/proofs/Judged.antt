@@ -52,7 +52,7 @@ both-parts false b e = absurd (cc)
 -- ---- one image
 
 module _ (world : World) (given : Given) (entries : List Entry) (mark j size : ℕ) (d : ℕ → ℕ → List Sector) (judged : IsJudgedBy world given entries mark j size) (c : Contents) (drawn : IsDrawn d c)
-    (seen : IsSeenRight (OpensFit world) world.scope given size (ledger_of world entries (made_by mark entries) j) d c) where
+    (seen : IsSeenRight (OpensFit world) world.scope given (ledger_of world entries (made_by mark entries) j) d c) where
   abbrev m : Members
   m = seen.view
 
@@ -115,7 +115,7 @@ module _ (world : World) (given : Given) (entries : List Entry) (mark j size : �
             let short : x < list_size (places_of m) = rw (← long) below in
             subst (λ (v : Sector). IsIn (values_of (opening_list world) (take j entries) x) v)
             (sym (read-at world.scope given m seen.right.placed c seen.found seen.same seen.is x short))
-            (sector-allowed (OpensFit world) given size (ledger_of world entries k j) m d seen.right few c drawn opened-good state x short);
+            (sector-allowed (OpensFit world) given (ledger_of world entries k j) m d seen.right few c drawn opened-good state x short);
       }
 
   pub seen-judged : IsJudged world entries mark c

@@ -63,6 +63,6 @@ without-left given m placed unlost does = let held = some-held m placed.valid do
 
 -- and where one is, it is steady
 pub left-steady : {sound : Type 0} {scope : Scope} {given : Given} {size : ℕ} {told : Ledger} {members : Members} {d : ℕ → ℕ → List Sector} → HasLiveSlot members
-    → IsSafeNow sound scope given size told members d → IsSteady sound scope given size told members d
+    → IsSafeNow sound scope given told members d → IsSteady sound scope given told members d
 left-steady left (inl steady) = steady
 left-steady left (inr spent) = absurd (spent.none left)

@@ -25,13 +25,13 @@ pub told-marks : {tells : Type 0} {start : ℕ → ℕ → Sector} {old new : Li
 told-marks told marks = record { longer = λ u. marks.longer told; earlier = λ u. marks.earlier told; each = λ u. marks.each told }
 
 -- A clean array that can do without the roles that it misses has settled rows: they were so by the members before they lost slots.
-pub clean-settled : (sound : Type 0) (scope : Scope) (given : Given) (size : ℕ) (told : Ledger) (m : Members) (d : ℕ → ℕ → List Sector) → IsPlaced given m → AreUnlost m
-    → IsSafeNow sound scope given size told m d → is_clean m.newest ≡ true → DoesWithout m → sound → IsSettled m told.values d
-clean-settled sound scope given size told m d placed unlost safe clean does premise =
+pub clean-settled : (sound : Type 0) (scope : Scope) (given : Given) (told : Ledger) (m : Members) (d : ℕ → ℕ → List Sector) → IsPlaced given m → AreUnlost m
+    → IsSafeNow sound scope given told m d → is_clean m.newest ≡ true → DoesWithout m → sound → IsSettled m told.values d
+clean-settled sound scope given told m d placed unlost safe clean does premise =
     let steady = left-steady (without-left given m placed unlost does) safe in
     of steady steady.since.gone steady.since.since
   where
-    of : (steady : IsSteady sound scope given size told m d) (gone : ℕ) → m ≡ members_without gone steady.former → IsSettled m told.values d
+    of : (steady : IsSteady sound scope given told m d) (gone : ℕ) → m ≡ members_without gone steady.former → IsSettled m told.values d
     of steady gone is =
         let less = less-without steady.former gone in
         let former = steady.former in
@@ -41,12 +41,12 @@ clean-settled sound scope given size told m d placed unlost safe clean does prem
         (did-without given gone former (members_without gone former) steady.right.placed less (subst DoesWithout is does)) premise))
 
 -- so it can be marked again as it is
-pub same-markable : (sound : Type 0) (scope : Scope) (given : Given) (size : ℕ) (told : Ledger) (clean : Bool) (old new : Members) (d : ℕ → ℕ → List Sector) → IsPlaced given old → AreUnlost old
-    → clean ≡ is_clean old.newest → AreGoneTold told new → IsUncleanTold told old → IsSafeNow sound scope given size told old d → IsMarkable sound clean told old new d
-same-markable sound scope given size told clean old new d placed unlost same gone unclean safe = record {
+pub same-markable : (sound : Type 0) (scope : Scope) (given : Given) (told : Ledger) (clean : Bool) (old new : Members) (d : ℕ → ℕ → List Sector) → IsPlaced given old → AreUnlost old
+    → clean ≡ is_clean old.newest → AreGoneTold told new → IsUncleanTold told old → IsSafeNow sound scope given told old d → IsMarkable sound clean told old new d
+same-markable sound scope given told clean old new d placed unlost same gone unclean safe = record {
   gone = gone;
   unclean = λ dirty. unclean (sym same ∙ dirty);
-  settled = λ is does premise. clean-settled sound scope given size told old d placed unlost safe (sym same ∙ is) does premise;
+  settled = λ is does premise. clean-settled sound scope given told old d placed unlost safe (sym same ∙ is) does premise;
 }
 
 -- A clean mark behind a flush: the rows stand as the list, where the array can do without the roles that it misses.
@@ -64,25 +64,25 @@ pub added-longer : (before after : List Operation) → OnlyFlushesAdded before a
 added-longer before after added = subst (λ (l : List Operation). length before ≤ length l) (sym added.2) (let all = length-append before added.0 in omega (arith, all))
 
 -- flushes alone were done
-pub flushed-safe : (sound : Type 0) (scope : Scope) (given : Given) (size : ℕ) (told : Ledger) (members : Members) (before after : List Operation) → OnlyFlushesAdded before after
-    → IsSafeNow sound scope given size told members (disk given.start before) → IsSafeStretch sound scope given size told members before after
-flushed-safe sound scope given size told members before after added safe =
-    subst (λ (l : List Operation). IsSafeStretch sound scope given size told members before l) (sym added.2) (record {
+pub flushed-safe : (sound : Type 0) (scope : Scope) (given : Given) (told : Ledger) (members : Members) (before after : List Operation) → OnlyFlushesAdded before after
+    → IsSafeNow sound scope given told members (disk given.start before) → IsSafeStretch sound scope given told members before after
+flushed-safe sound scope given told members before after added safe =
+    subst (λ (l : List Operation). IsSafeStretch sound scope given told members before l) (sym added.2) (record {
       marks = record {
         longer = marks.longer;
         earlier = marks.earlier;
-        each = λ u n low high. safe-is-seen sound scope given size told members (take n (before ++ added.0)) (marks.each u n low high);
+        each = λ u n low high. safe-is-seen sound scope given told members (take n (before ++ added.0)) (marks.each u n low high);
       };
-      next = subst (λ (l : List Operation). IsSafeNow sound scope given size told members (disk given.start l)) (take_all (length (before ++ added.0)) (before ++ added.0) (le_refl (length (before ++ added.0))))
+      next = subst (λ (l : List Operation). IsSafeNow sound scope given told members (disk given.start l)) (take_all (length (before ++ added.0)) (before ++ added.0) (le_refl (length (before ++ added.0))))
           (marks.each tt (length (before ++ added.0)) (marks.longer tt) (le_refl (length (before ++ added.0))));
     })
   where
-    marks : EachMark ⊤ given.start before (before ++ added.0) (IsSafeNow sound scope given size told members)
-    marks = flushes-stay-safe sound scope given size told members before added.0 added.1 safe
+    marks : EachMark ⊤ given.start before (before ++ added.0) (IsSafeNow sound scope given told members)
+    marks = flushes-stay-safe sound scope given told members before added.0 added.1 safe
 
 -- and slots were lost
-pub lost-safe : (sound : Type 0) (scope : Scope) (given : Given) (size : ℕ) (told : Ledger) (old new : Members) (lost : ℕ) (before after : List Operation) → new ≡ members_without lost old
-    → OnlyFlushesAdded before after → IsSafeNow sound scope given size told old (disk given.start before) → IsSafeStretch sound scope given size told new before after
-lost-safe sound scope given size told old new lost before after is added safe = flushed-safe sound scope given size told new before after added
-    (subst (λ (m : Members). IsSafeNow sound scope given size told m (disk given.start before)) (sym is)
-    (losing-stays-safe sound scope given size lost told told old (disk given.start before) (record { values = λ x lt v may. may; gone = λ role told. told; unclean = λ told. told; carried = λ number told. told }) safe))
+pub lost-safe : (sound : Type 0) (scope : Scope) (given : Given) (told : Ledger) (old new : Members) (lost : ℕ) (before after : List Operation) → new ≡ members_without lost old
+    → OnlyFlushesAdded before after → IsSafeNow sound scope given told old (disk given.start before) → IsSafeStretch sound scope given told new before after
+lost-safe sound scope given told old new lost before after is added safe = flushed-safe sound scope given told new before after added
+    (subst (λ (m : Members). IsSafeNow sound scope given told m (disk given.start before)) (sym is)
+    (losing-stays-safe sound scope given lost told told old (disk given.start before) (record { values = λ x lt v may. may; gone = λ role told. told; unclean = λ told. told; carried = λ number told. told }) safe))

@@ -122,9 +122,9 @@ module _ (scope : Scope) (given : Given) (m : Members) (placed : IsPlaced given 
 
 -- ---- an image that is read as a right view
 
-seen-sound : (sound : Type 0) → sound → (scope : Scope) (given : Given) (size : ℕ) (told : Ledger) (d : ℕ → ℕ → List Sector) (c : Contents) → IsDrawn d c
-    → IsSeenRight sound scope given size told d c → verdict scope c ≡ None → IfSome (reading scope c) (IsSound scope c)
-seen-sound sound opened scope given size told d c drawn seen assembles =
+seen-sound : (sound : Type 0) → sound → (scope : Scope) (given : Given) (told : Ledger) (d : ℕ → ℕ → List Sector) (c : Contents) → IsDrawn d c
+    → IsSeenRight sound scope given told d c → verdict scope c ≡ None → IfSome (reading scope c) (IsSound scope c)
+seen-sound sound opened scope given told d c drawn seen assembles =
     let few : DoesWithout seen.view = does-without scope given seen.view seen.right.placed c seen.found seen.same seen.is assembles in
     subst (λ (o : Option Reading). IfSome o (IsSound scope c)) (sym seen.is)
     (sound-by scope given seen.view seen.right.placed c seen.found seen.same (λ clean.
@@ -135,16 +135,16 @@ pub views-are-sound : ViewsAreSound
 views-are-sound world given mark size told d in_time within views opened =
     leaves-drawn world mark in_time (λ c held assembles.
     let drawn : IsDrawn d c = λ s k. within s k (c s k) (held s k) in
-    seen-sound (OpensFit world) opened world.scope given size told d c drawn (views c (record { eighth = λ s _. drawn s 8; ninth = λ s _. drawn s 9 })) assembles)
+    seen-sound (OpensFit world) opened world.scope given told d c drawn (views c (record { eighth = λ s _. drawn s 8; ninth = λ s _. drawn s 9 })) assembles)
 
 -- ---- where an array is safe
 
 -- what a stop may leave now is sound
-pub leaves-now : (world : World) (given : Given) (size : ℕ) (told : Ledger) (members : Members) → given.start ≡ world.start → IsSafeOver world given size told members world.tape → OpensFit world
+pub leaves-now : (world : World) (given : Given) (told : Ledger) (members : Members) → given.start ≡ world.start → IsSafeOver world given told members world.tape → OpensFit world
     → LeavesSound world (length world.tape)
-leaves-now world given size told members start safe opened =
+leaves-now world given told members start safe opened =
     views-are-sound world given (length world.tape) size told (disk given.start world.tape) (omega arith) same
-    (safe-is-seen (OpensFit world) world.scope given size told members world.tape safe) opened
+    (safe-is-seen (OpensFit world) world.scope given told members world.tape safe) opened
   where
     same : (s k : ℕ) (v : Sector) → IsIn (may_hold world (length world.tape) s k) v → IsIn (disk given.start world.tape s k) v
     same s k v held =
@@ -152,22 +152,22 @@ leaves-now world given size told members start safe opened =
         (subst (λ (at : Contents). IsIn (disk at (take (length world.tape) world.tape) s k) v) (sym start) held)
 
 -- at the opening that is the only mark
-pub throughout-opening : (world : World) (given : Given) (size : ℕ) (told : Ledger) (members : Members) → given.start ≡ world.start → world.first ≡ length world.tape
-    → IsSafeOver world given size told members world.tape → OpensFit world → LeavesSoundThroughout world
-throughout-opening world given size told members start first safe opened mark low high =
+pub throughout-opening : (world : World) (given : Given) (told : Ledger) (members : Members) → given.start ≡ world.start → world.first ≡ length world.tape
+    → IsSafeOver world given told members world.tape → OpensFit world → LeavesSoundThroughout world
+throughout-opening world given told members start first safe opened mark low high =
     let here : length world.tape ≡ mark = omega (arith, first, low, high) in
-    subst (λ (n : ℕ). LeavesSound world n) here (leaves-now world given size told members start safe opened)
+    subst (λ (n : ℕ). LeavesSound world n) here (leaves-now world given told members start safe opened)
 
 -- ---- a call
 
-module _ (world : World) (given : Given) (size : ℕ) (told : Ledger) (members : Members) (ops : List Operation) (start : given.start ≡ world.start) (begun : world.first ≤ length world.tape)
-    (safe : KeepsSafe world given size told members world.tape (world.tape ++ ops)) where
+module _ (world : World) (given : Given) (told : Ledger) (members : Members) (ops : List Operation) (start : given.start ≡ world.start) (begun : world.first ≤ length world.tape)
+    (safe : KeepsSafe world given told members world.tape (world.tape ++ ops)) where
   -- where a call keeps the array safe, each of its marks leaves sound images
   pub leaves-kept : OpensFit (grown world ops) → (mark : ℕ) → length world.tape ≤ mark → mark ≤ length (world.tape ++ ops) → LeavesSound (grown world ops) mark
   leaves-kept opened mark low high = leaves-drawn (grown world ops) mark high (λ c held assembles.
       let drawn : IsDrawn (disk given.start (take mark (world.tape ++ ops))) c =
       subst (λ (at : Contents). IsDrawn (disk at (take mark (world.tape ++ ops))) c) (sym start) held in
-      seen-sound (OpensFit world) (fit-before world ops begun opened) world.scope given size told (disk given.start (take mark (world.tape ++ ops))) c drawn
+      seen-sound (OpensFit world) (fit-before world ops begun opened) world.scope given told (disk given.start (take mark (world.tape ++ ops))) c drawn
       (safe.marks.each tt mark low high c (record { eighth = λ s _. drawn s 8; ninth = λ s _. drawn s 9 })) assembles)
 
   -- and so does every mark since the opening

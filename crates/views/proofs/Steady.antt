@@ -34,7 +34,7 @@ Disk = ℕ → ℕ → List Sector
 -- ---- what is seen
 
 pub safe-is-seen : (sound : Type 0) → SafeIsSeen sound
-safe-is-seen sound scope given size told members tape (inl steady) c drawn =
+safe-is-seen sound scope given told members tape (inl steady) c drawn =
     let read = held-read scope given steady.former tape steady.right.placed steady.since.held c drawn in
     record {
       found = read.found;
@@ -43,12 +43,12 @@ safe-is-seen sound scope given size told members tape (inl steady) c drawn =
       same = subst (λ (m : Members). IsReadOf scope m read.found) read.among read.same;
       right = steady.right;
     }
-safe-is-seen sound scope given size told members tape (inr spent) c drawn = spent.right c drawn
+safe-is-seen sound scope given told members tape (inr spent) c drawn = spent.right c drawn
 
 -- ---- more that is told
 
-module _ (sound : Type 0) (given : Given) (size : ℕ) (told more : Ledger) (is : IsMoreTold size told more) where
-  view-told : (m : Members) (d : Disk) → IsViewRight sound given size told m d → IsViewRight sound given size more m d
+module _ (sound : Type 0) (given : Given) (told more : Ledger) (is : IsMoreTold told more) where
+  view-told : (m : Members) (d : Disk) → IsViewRight sound scope given told m d → IsViewRight sound scope given more m d
   view-told m d right = record {
     placed = right.placed;
     sized = right.sized;
@@ -67,7 +67,7 @@ module _ (sound : Type 0) (given : Given) (size : ℕ) (told more : Ledger) (is 
       in-list : (x : ℕ) → x < list_size (places_of m) → x < size
       in-list x lt = subst (λ (n : ℕ). x < n) right.sized lt
 
-  pub views-told : (scope : Scope) (d : Disk) → AreViewsRight sound scope given size told d → AreViewsRight sound scope given size more d
+  pub views-told : (scope : Scope) (d : Disk) → AreViewsRight sound scope given told d → AreViewsRight sound scope given more d
   views-told scope d views c drawn =
       let seen = views c drawn in
       record { found = seen.found; is = seen.is; view = seen.view; same = seen.same; right = view-told seen.view d seen.right }
@@ -84,14 +84,14 @@ none-left m lost none some = none (some.0, live-before m lost false some.0 some.
     first true b e = e
 
 pub losing-stays-safe : (sound : Type 0) → LosingStaysSafe sound
-losing-stays-safe sound scope given size lost told more members d is (inl steady) = inl (record {
+losing-stays-safe sound scope given lost told more members d is (inl steady) = inl (record {
   former = steady.former;
   since = since-more scope steady.former members lost d steady.since;
-  right = view-told sound given size told more is steady.former d steady.right;
+  right = view-told sound given told more is steady.former d steady.right;
   numbers = carried-more scope told.carried more.carried steady.former.own d is.carried steady.numbers;
 })
-losing-stays-safe sound scope given size lost told more members d is (inr spent) = inr (record {
-  right = views-told sound given size told more is scope d spent.right;
+losing-stays-safe sound scope given lost told more members d is (inr spent) = inr (record {
+  right = views-told sound given told more is scope d spent.right;
   none = none-left members lost spent.none;
 })
 
@@ -101,8 +101,8 @@ losing-stays-safe sound scope given size lost told more members d is (inr spent)
 abbrev pub AreFewer : Disk → Disk → Type 0
 AreFewer d e = (s k : ℕ) (v : Sector) → IsIn (e s k) v → IsIn (d s k) v
 
-module _ (sound : Type 0) (scope : Scope) (given : Given) (size : ℕ) (told : Ledger) (d e : Disk) (fewer : AreFewer d e) where
-  pub view-fewer : (m : Members) → IsViewRight sound given size told m d → IsViewRight sound given size told m e
+module _ (sound : Type 0) (scope : Scope) (given : Given) (told : Ledger) (d e : Disk) (fewer : AreFewer d e) where
+  pub view-fewer : (m : Members) → IsViewRight sound scope given told m d → IsViewRight sound scope given told m e
   view-fewer m right = record {
     placed = right.placed;
     sized = right.sized;
@@ -114,7 +114,7 @@ module _ (sound : Type 0) (scope : Scope) (given : Given) (size : ℕ) (told : L
         record { list = settled.list; allowed = settled.allowed; rows = λ c drawn row lt. settled.rows c (λ s k. fewer s k (c s k) (drawn s k)) row lt };
   }
 
-  pub views-fewer : AreViewsRight sound scope given size told d → AreViewsRight sound scope given size told e
+  pub views-fewer : AreViewsRight sound scope given told d → AreViewsRight sound scope given told e
   views-fewer views c drawn =
       let seen = views c (record {
         eighth = λ slot looked. fewer slot 8 (c slot 8) (drawn.eighth slot looked);
@@ -122,7 +122,7 @@ module _ (sound : Type 0) (scope : Scope) (given : Given) (size : ℕ) (told : L
       }) in
       record { found = seen.found; is = seen.is; view = seen.view; same = seen.same; right = view-fewer seen.view seen.right }
 
-  safe-fewer : IsSomewhere d → (members : Members) → IsSafeNow sound scope given size told members d → IsSafeNow sound scope given size told members e
+  safe-fewer : IsSomewhere d → (members : Members) → IsSafeNow sound scope given told members d → IsSafeNow sound scope given told members e
   safe-fewer some members (inl steady) = inl (record {
     former = steady.former;
     since = record {
@@ -154,20 +154,20 @@ flush-somewhere d t some s k = of (t == s) (d s k) (some s k)
     of true (w ∷ values) found = (w, inl refl)
     of false values found = found
 
-flushes-along : (sound : Type 0) (scope : Scope) (given : Given) (size : ℕ) (told : Ledger) (members : Members) (d : Disk) (ops : List Operation) → IsSomewhere d → AreFlushes ops
-    → IsSafeNow sound scope given size told members d → Along (IsSafeNow sound scope given size told members) d ops
-flushes-along sound scope given size told members d [] some only safe = safe
-flushes-along sound scope given size told members d (Write t at bytes ∷ ops) some only safe = absurd only
-flushes-along sound scope given size told members d (Flush t ∷ ops) some only safe = (
+flushes-along : (sound : Type 0) (scope : Scope) (given : Given) (told : Ledger) (members : Members) (d : Disk) (ops : List Operation) → IsSomewhere d → AreFlushes ops
+    → IsSafeNow sound scope given told members d → Along (IsSafeNow sound scope given told members) d ops
+flushes-along sound scope given told members d [] some only safe = safe
+flushes-along sound scope given told members d (Write t at bytes ∷ ops) some only safe = absurd only
+flushes-along sound scope given told members d (Flush t ∷ ops) some only safe = (
   safe,
-  flushes-along sound scope given size told members (run d (Flush t ∷ [])) ops (flush-somewhere d t some) only
-      (safe-fewer sound scope given size told d (run d (Flush t ∷ [])) (flush-fewer d t) some members safe),
+  flushes-along sound scope given told members (run d (Flush t ∷ [])) ops (flush-somewhere d t some) only
+      (safe-fewer sound scope given told d (run d (Flush t ∷ [])) (flush-fewer d t) some members safe),
 )
 
 pub flushes-stay-safe : (sound : Type 0) → FlushesStaySafe sound
-flushes-stay-safe sound scope given size told members tape ops only safe =
-    each_mark-along ⊤ given.start tape ops (IsSafeNow sound scope given size told members)
-    (flushes-along sound scope given size told members (disk given.start tape) ops (disk-somewhere given tape) only safe)
+flushes-stay-safe sound scope given told members tape ops only safe =
+    each_mark-along ⊤ given.start tape ops (IsSafeNow sound scope given told members)
+    (flushes-along sound scope given told members (disk given.start tape) ops (disk-somewhere given tape) only safe)
 
 pub flushed-is-settled : FlushedIsSettled
 flushed-is-settled given members tape values list placed flushed stand allowed = record {

@@ -69,7 +69,7 @@ module _ (given : Given) (d e : Disk) (some : IsSomewhere d) (kept : AreOthersKe
       same : (role slot : ℕ) → held_slot (reading_of m) role row ≡ Some slot → back c slot (data_offset_of (reading_of m) slot + row) ≡ c slot (data_offset_of (reading_of m) slot + row)
       same role slot held = back-same c slot (data_offset_of (reading_of m) slot + row) (behind m placed role slot row (holder-of (reading_of m) role row slot held))
 
-  pub view-kept : (sound : Type 0) (size : ℕ) (told : Ledger) (m : Members) → IsViewRight sound given size told m d → IsViewRight sound given size told m e
+  pub view-kept : (sound : Type 0) (told : Ledger) (m : Members) → IsViewRight sound scope given told m d → IsViewRight sound scope given told m e
   view-kept sound size told m right = record {
     placed = right.placed;
     sized = right.sized;

@@ -53,9 +53,9 @@ module _ (given : Given) (former : Members) (gone : ℕ) (values : ℕ → List 
 
 -- ---- the law
 
-module _ (sound : Type 0) (scope : Scope) (given : Given) (size : ℕ) (told : Ledger) (list : ℕ → Sector) (touched : ℕ → Type 0) (d e : Disk) (kept : AreSuperblocksKept d e) where
+module _ (sound : Type 0) (scope : Scope) (given : Given) (told : Ledger) (list : ℕ → Sector) (touched : ℕ → Type 0) (d e : Disk) (kept : AreSuperblocksKept d e) where
   view-written : (former : Members) (gone : ℕ) → is_clean former.newest ≡ false → AreWritesAllowed (members_without gone former) told.values list
-      → IsPutting (reading_of (members_without gone former)) (shape_of former.newest) list touched d e → IsViewRight sound given size told former d → IsViewRight sound given size told former e
+      → IsPutting (reading_of (members_without gone former)) (shape_of former.newest) list touched d e → IsViewRight sound scope given told former d → IsViewRight sound scope given told former e
   view-written former gone dirty allowed putting right = record {
     placed = right.placed;
     sized = right.sized;
@@ -66,7 +66,7 @@ module _ (sound : Type 0) (scope : Scope) (given : Given) (size : ℕ) (told : L
   }
 
   steady-written : (members : Members) → is_clean members.newest ≡ false → AreWritesAllowed members told.values list → IsPutting (reading_of members) (shape_of members.newest) list touched d e
-      → IsSteady sound scope given size told members d → IsSteady sound scope given size told members e
+      → IsSteady sound scope given told members d → IsSteady sound scope given told members e
   steady-written members dirty allowed putting steady = record {
     former = steady.former;
     since = record {
@@ -75,20 +75,20 @@ module _ (sound : Type 0) (scope : Scope) (given : Given) (size : ℕ) (told : L
       held = held-alike scope d e (λ s. kept s 8 (omega arith)) (λ s. kept s 9 (omega arith)) steady.former steady.since.held;
     };
     right = subst
-        (λ (m : Members). is_clean m.newest ≡ false → AreWritesAllowed m told.values list → IsPutting (reading_of m) (shape_of m.newest) list touched d e → IsViewRight sound given size told steady.former e)
+        (λ (m : Members). is_clean m.newest ≡ false → AreWritesAllowed m told.values list → IsPutting (reading_of m) (shape_of m.newest) list touched d e → IsViewRight sound scope given told steady.former e)
         (sym steady.since.since) (λ is may put. view-written steady.former steady.since.gone is may put steady.right) dirty allowed putting;
     numbers = carried-fewer scope told.carried steady.former.own d e (λ s v may. subst (λ (l : List Sector). IsIn l v) (kept s 8 (omega arith)) may)
         (λ s v may. subst (λ (l : List Sector). IsIn l v) (kept s 9 (omega arith)) may) steady.numbers;
   }
 
   safe-written : (members : Members) → IsPlaced given members → is_clean members.newest ≡ false → AreUnlost members → AreWritesAllowed members told.values list
-      → IsPutting (reading_of members) (shape_of members.newest) list touched d e → IsSafeNow sound scope given size told members d → IsSafeNow sound scope given size told members e
+      → IsPutting (reading_of members) (shape_of members.newest) list touched d e → IsSafeNow sound scope given told members d → IsSafeNow sound scope given told members e
   safe-written members placed dirty unlost allowed putting (inl steady) = inl (steady-written members dirty allowed putting steady)
   safe-written members placed dirty unlost allowed putting (inr spent) =
-      subst (λ (f : Disk). IsSafeNow sound scope given size told members f)
+      subst (λ (f : Disk). IsSafeNow sound scope given told members f)
       (λ i s k. sym (nothing-put given members (shape_of members.newest) list touched d e placed unlost spent.none putting s k) i) (inr spent)
 
 pub writes-stay-safe : (sound : Type 0) → WritesStaySafe sound
-writes-stay-safe sound scope given size told members list rows lost d e placed dirty unlost allowed putting kept safe =
-    losing-stays-safe sound scope given size lost told told members e (record { values = λ x lt v may. may; gone = λ role is. is; unclean = λ is. is; carried = λ number is. is })
-    (safe-written sound scope given size told list (Contains rows) d e kept members placed dirty unlost allowed putting safe)
+writes-stay-safe sound scope given told members list rows lost d e placed dirty unlost allowed putting kept safe =
+    losing-stays-safe sound scope given lost told told members e (record { values = λ x lt v may. may; gone = λ role is. is; unclean = λ is. is; carried = λ number is. is })
+    (safe-written sound scope given told list (Contains rows) d e kept members placed dirty unlost allowed putting safe)

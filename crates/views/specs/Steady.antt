@@ -25,40 +25,40 @@ use Rattle.shape_views.specs.Views.{Ledger, IsSettled, IsViewRight}
 
 -- The superblocks are held as former members had it, of which slots may have been lost since, that view is right, and the device numbers
 -- are told.
-pub record IsSteady (sound : Type 0) (scope : Scope) (given : Given) (size : ℕ) (told : Ledger) (members : Members) (d : ℕ → ℕ → List Sector) : Type 0 where
+pub record IsSteady (sound : Type 0) (scope : Scope) (given : Given) (told : Ledger) (members : Members) (d : ℕ → ℕ → List Sector) : Type 0 where
   pub former : Members
   pub since : IsHeldSince scope former members d
-  pub right : IsViewRight sound given size told former d
+  pub right : IsViewRight sound scope given told former d
   pub numbers : AreCarried scope told.carried former.own d
 
 -- no live slot is left, and each view is right: nothing is written any more
-pub record IsSpent (sound : Type 0) (scope : Scope) (given : Given) (size : ℕ) (told : Ledger) (members : Members) (d : ℕ → ℕ → List Sector) : Type 0 where
-  pub right : AreViewsRight sound scope given size told d
+pub record IsSpent (sound : Type 0) (scope : Scope) (given : Given) (told : Ledger) (members : Members) (d : ℕ → ℕ → List Sector) : Type 0 where
+  pub right : AreViewsRight sound scope given told d
   pub none : IsSomeLeft (live_set members (marking members false)) members.lost → ⊥
 
 -- one of the two
 abbrev pub IsSafeNow : Type 0 → Scope → Given → ℕ → Ledger → Members → (ℕ → ℕ → List Sector) → Type 0
-IsSafeNow sound scope given size told members d = IsSteady sound scope given size told members d ⊎ IsSpent sound scope given size told members d
+IsSafeNow sound scope given told members d = IsSteady sound scope given told members d ⊎ IsSpent sound scope given told members d
 
 -- it is steady, and each lost slot that held a role is named: the former members have the same roles
-pub record IsNamedNow (sound : Type 0) (scope : Scope) (given : Given) (size : ℕ) (told : Ledger) (members : Members) (d : ℕ → ℕ → List Sector) : Type 0 where
-  pub steady : IsSteady sound scope given size told members d
+pub record IsNamedNow (sound : Type 0) (scope : Scope) (given : Given) (told : Ledger) (members : Members) (d : ℕ → ℕ → List Sector) : Type 0 where
+  pub steady : IsSteady sound scope given told members d
   pub roles : steady.former.roles ≡ members.roles
 
 -- a stretch of a call: each view is right at each of its marks, and at its end the array is as safe as before
-pub record IsSafeStretch (sound : Type 0) (scope : Scope) (given : Given) (size : ℕ) (told : Ledger) (members : Members) (before after : List Operation) : Type 0 where
-  pub marks : EachMark ⊤ given.start before after (AreViewsRight sound scope given size told)
-  pub next : IsSafeNow sound scope given size told members (disk given.start after)
+pub record IsSafeStretch (sound : Type 0) (scope : Scope) (given : Given) (told : Ledger) (members : Members) (before after : List Operation) : Type 0 where
+  pub marks : EachMark ⊤ given.start before after (AreViewsRight sound scope given told)
+  pub next : IsSafeNow sound scope given told members (disk given.start after)
 
 -- ---- what keeps an array safe
 
 -- each image is read as a view that is right
 abbrev pub SafeIsSeen : (sound : Type 0) → Type 0
-SafeIsSeen sound = (scope : Scope) (given : Given) (size : ℕ) (told : Ledger) (members : Members) (tape : List Operation)
-    → IsSafeNow sound scope given size told members (disk given.start tape) → AreViewsRight sound scope given size told (disk given.start tape)
+SafeIsSeen sound = (scope : Scope) (given : Given) (told : Ledger) (members : Members) (tape : List Operation)
+    → IsSafeNow sound scope given told members (disk given.start tape) → AreViewsRight sound scope given told (disk given.start tape)
 
 -- more is told: values and numbers are only added, roles only lost, and what was unsettled stays so
-pub record IsMoreTold (size : ℕ) (told more : Ledger) : Type 0 where
+pub record IsMoreTold (told more : Ledger) : Type 0 where
   pub values : (x : ℕ) → x < size → (v : Sector) → IsIn (told.values x) v → IsIn (more.values x) v
   pub gone : (role : ℕ) → told.gone role ≡ true → more.gone role ≡ true
   pub unclean : told.unclean ≡ true → more.unclean ≡ true
@@ -66,14 +66,14 @@ pub record IsMoreTold (size : ℕ) (told more : Ledger) : Type 0 where
 
 -- slots that are lost leave it safe, and so does more that is told
 abbrev pub LosingStaysSafe : (sound : Type 0) → Type 0
-LosingStaysSafe sound = (scope : Scope) (given : Given) (size lost : ℕ) (told more : Ledger) (members : Members) (d : ℕ → ℕ → List Sector) → IsMoreTold size told more
-    → IsSafeNow sound scope given size told members d → IsSafeNow sound scope given size more (members_without lost members) d
+LosingStaysSafe sound = (scope : Scope) (given : Given) (size lost : ℕ) (told more : Ledger) (members : Members) (d : ℕ → ℕ → List Sector) → IsMoreTold told more
+    → IsSafeNow sound scope given told members d → IsSafeNow sound scope given more (members_without lost members) d
 
 -- flushes leave it safe
 abbrev pub FlushesStaySafe : (sound : Type 0) → Type 0
-FlushesStaySafe sound = (scope : Scope) (given : Given) (size : ℕ) (told : Ledger) (members : Members) (tape ops : List Operation) → AreFlushes ops
-    → IsSafeNow sound scope given size told members (disk given.start tape)
-    → EachMark ⊤ given.start tape (tape ++ ops) (IsSafeNow sound scope given size told members)
+FlushesStaySafe sound = (scope : Scope) (given : Given) (told : Ledger) (members : Members) (tape ops : List Operation) → AreFlushes ops
+    → IsSafeNow sound scope given told members (disk given.start tape)
+    → EachMark ⊤ given.start tape (tape ++ ops) (IsSafeNow sound scope given told members)
 
 -- Where the holders of roles are flushed and the rows stand as a list of allowed values, they are settled.
 abbrev pub FlushedIsSettled : Type 0
@@ -94,27 +94,27 @@ AreWritesAllowed members values list = (x : ℕ) → x < list_size (places_of me
 
 -- Rows that are written in a dirty array keep it safe, whichever slots are lost meanwhile.
 abbrev pub WritesStaySafe : (sound : Type 0) → Type 0
-WritesStaySafe sound = (scope : Scope) (given : Given) (size : ℕ) (told : Ledger) (members : Members) (list : ℕ → Sector) (rows : List ℕ) (lost : ℕ) (d e : ℕ → ℕ → List Sector)
+WritesStaySafe sound = (scope : Scope) (given : Given) (told : Ledger) (members : Members) (list : ℕ → Sector) (rows : List ℕ) (lost : ℕ) (d e : ℕ → ℕ → List Sector)
     → IsPlaced given members → is_clean members.newest ≡ false → AreUnlost members → AreWritesAllowed members told.values list
     → IsPutting (reading_of members) (shape_of members.newest) list (Contains rows) d e → AreSuperblocksKept d e
-    → IsSafeNow sound scope given size told members d → IsSafeNow sound scope given size told (members_without lost members) e
+    → IsSafeNow sound scope given told members d → IsSafeNow sound scope given told (members_without lost members) e
 
 -- Rows of a role that its recovering slot doesn't hold yet are written there: no view has them.
 abbrev pub FillingStaysSafe : (sound : Type 0) → Type 0
-FillingStaysSafe sound = (scope : Scope) (given : Given) (size : ℕ) (told : Ledger) (members : Members) (role slot : ℕ) (tape : List Operation) (e : ℕ → ℕ → List Sector)
+FillingStaysSafe sound = (scope : Scope) (given : Given) (told : Ledger) (members : Members) (role slot : ℕ) (tape : List Operation) (e : ℕ → ℕ → List Sector)
     → IsPlaced given members → AreUnlost members → role_state (reading_of members) role ≡ Recovering slot → IsFilling members role slot (disk given.start tape) e
-    → IsSafeNow sound scope given size told members (disk given.start tape) → IsSafeNow sound scope given size told members e
+    → IsSafeNow sound scope given told members (disk given.start tape) → IsSafeNow sound scope given told members e
 
 -- ---- the same in the world of an epoch, where the premise is that it opened clean and sound
 
 abbrev pub IsSafeOver : World → Given → ℕ → Ledger → Members → List Operation → Type 0
-IsSafeOver world given size told members tape = IsSafeNow (OpensFit world) world.scope given size told members (disk given.start tape)
+IsSafeOver world given told members tape = IsSafeNow (OpensFit world) world.scope given told members (disk given.start tape)
 
 abbrev pub IsNamedOver : World → Given → ℕ → Ledger → Members → List Operation → Type 0
-IsNamedOver world given size told members tape = IsNamedNow (OpensFit world) world.scope given size told members (disk given.start tape)
+IsNamedOver world given told members tape = IsNamedNow (OpensFit world) world.scope given told members (disk given.start tape)
 
 abbrev pub KeepsSafe : World → Given → ℕ → Ledger → Members → List Operation → List Operation → Type 0
-KeepsSafe world given size told members before after = IsSafeStretch (OpensFit world) world.scope given size told members before after
+KeepsSafe world given told members before after = IsSafeStretch (OpensFit world) world.scope given told members before after
 
 -- each role that is missing is told gone
 abbrev pub AreGoneTold : Ledger → Members → Type 0

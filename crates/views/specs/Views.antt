@@ -55,7 +55,7 @@ pub record IsSettled (m : Members) (values : ℕ → List Sector) (d : ℕ → �
 
 -- A view is right: each role that it misses is told gone; it is dirty only where a write may be unsettled; what slots hold is allowed; and
 -- where it is clean, and can do without what it misses, the rows are settled, so that this can be filled in. The last rests on a premise.
-pub record IsViewRight (sound : Type 0) (given : Given) (size : ℕ) (told : Ledger) (m : Members) (d : ℕ → ℕ → List Sector) : Type 0 where
+pub record IsViewRight (sound : Type 0) (given : Given) (told : Ledger) (m : Members) (d : ℕ → ℕ → List Sector) : Type 0 where
   pub placed : IsPlaced given m
   pub sized : list_size (places_of m) ≡ size
   pub gone : (role : ℕ) → role < (shape_of m.newest).disks → is_missing (reading_of m) role ≡ true → told.gone role ≡ true
@@ -64,16 +64,16 @@ pub record IsViewRight (sound : Type 0) (given : Given) (size : ℕ) (told : Led
   pub settled : is_clean m.newest ≡ true → DoesWithout m → sound → IsSettled m told.values d
 
 -- an image is read as a view that is right
-pub record IsSeenRight (sound : Type 0) (scope : Scope) (given : Given) (size : ℕ) (told : Ledger) (d : ℕ → ℕ → List Sector) (c : Contents) : Type 0 where
+pub record IsSeenRight (sound : Type 0) (scope : Scope) (given : Given) (told : Ledger) (d : ℕ → ℕ → List Sector) (c : Contents) : Type 0 where
   pub found : Reading
   pub is : reading scope c ≡ Some found
   pub view : Members
   pub same : IsReadOf scope view found
-  pub right : IsViewRight sound given size told view d
+  pub right : IsViewRight sound scope given told view d
 
 -- whatever superblocks are drawn from these values
 abbrev pub AreViewsRight : Type 0 → Scope → Given → ℕ → Ledger → (ℕ → ℕ → List Sector) → Type 0
-AreViewsRight sound scope given size told d = (c : Contents) → AreDrawnSuperblocks scope d c → IsSeenRight sound scope given size told d c
+AreViewsRight sound scope given told d = (c : Contents) → AreDrawnSuperblocks scope d c → IsSeenRight sound scope given told d c
 
 -- What judges a mark: the first j entries, of which each was made by the mark or is of the call that was running; the length stayed.
 pub record IsJudgedBy (world : World) (given : Given) (entries : List Entry) (mark j : ℕ) (size : ℕ) : Type 0 where
@@ -90,10 +90,10 @@ pub record IsJudgedBy (world : World) (given : Given) (entries : List Entry) (ma
 abbrev pub ViewsAreSafe : Type 0
 ViewsAreSafe = (world : World) (given : Given) (entries : List Entry) (mark j size : ℕ) (d : ℕ → ℕ → List Sector) → IsJudgedBy world given entries mark j size
     → ((s k : ℕ) (v : Sector) → IsIn (may_hold world mark s k) v → IsIn (d s k) v)
-    → AreViewsRight (OpensFit world) world.scope given size (ledger_of world entries (made_by mark entries) j) d → IsSafeAt world entries mark
+    → AreViewsRight (OpensFit world) world.scope given (ledger_of world entries (made_by mark entries) j) d → IsSafeAt world entries mark
 
 -- Where each view of what a stop may leave is right, and the epoch opened fit, each image that assembles is sound.
 abbrev pub ViewsAreSound : Type 0
 ViewsAreSound = (world : World) (given : Given) (mark size : ℕ) (told : Ledger) (d : ℕ → ℕ → List Sector) → mark ≤ length world.tape
     → ((s k : ℕ) (v : Sector) → IsIn (may_hold world mark s k) v → IsIn (d s k) v)
-    → AreViewsRight (OpensFit world) world.scope given size told d → OpensFit world → LeavesSound world mark
+    → AreViewsRight (OpensFit world) world.scope given told d → OpensFit world → LeavesSound world mark

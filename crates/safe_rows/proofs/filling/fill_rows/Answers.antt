@@ -290,12 +290,12 @@ returns-clause-safe g c =
     let tape1 = g.B.Bank.tape c.write_filled.new.bank in
     let tape2 = g.B.Bank.tape c.name_missing.new.bank in
     let risen1 : IsRisen g.B.Bank.tells m n tape0 tape1 = risen-lost m n c.lose_slot.result tape0 tape1 c.lose_slot.ensures.members (grows-longer c.write_filled.ensures.grows) in
-    let first : KeepsSafe world given size ledger m tape0 tape1 = safe-filled (OpensFit world) world.scope given size ledger m role slot tape0 tape1 told c.requires.placed c.requires.unlost recovers c.write_filled.ensures.each_mark safe in
-    let second : KeepsSafe world given size ledger n tape0 tape1 = safe-then (OpensFit world) world.scope given size ledger m n tape0 tape1 tape1 first (safe-lost (OpensFit world) world.scope given size ledger m n c.lose_slot.result tape1 tape1 c.lose_slot.ensures.members refl first.next) in
+    let first : KeepsSafe world given ledger m tape0 tape1 = safe-filled (OpensFit world) world.scope given ledger m role slot tape0 tape1 told c.requires.placed c.requires.unlost recovers c.write_filled.ensures.each_mark safe in
+    let second : KeepsSafe world given ledger n tape0 tape1 = safe-then (OpensFit world) world.scope given ledger m n tape0 tape1 tape1 first (safe-lost (OpensFit world) world.scope given ledger m n c.lose_slot.result tape1 tape1 c.lose_slot.ensures.members refl first.next) in
     let unclean2 : IsUncleanTold ledger n = λ dirty. unclean (sym (ap (λ (x : Members). is_clean x.newest) c.lose_slot.ensures.members) ∙ dirty) in
-    let third : KeepsSafe world given size ledger q tape1 tape2 = keeps-from world given given1 size ledger q tape1 tape2 same
-    (named.safe told world size ledger (room-then tape2 told room risen1) missing unclean2 (over-at world given given1 size ledger n tape1 same second.next)) in
-    safe-then (OpensFit world) world.scope given size ledger n q tape0 tape1 tape2 second third
+    let third : KeepsSafe world given ledger q tape1 tape2 = keeps-from world given given1 ledger q tape1 tape2 same
+    (named.safe told world size ledger (room-then tape2 told room risen1) missing unclean2 (over-at world given given1 ledger n tape1 same second.next)) in
+    safe-then (OpensFit world) world.scope given ledger n q tape0 tape1 tape2 second third
 
 pub returns-clause-counts : goal.returns-clause-counts
 returns-clause-counts g c =

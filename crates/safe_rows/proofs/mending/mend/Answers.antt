@@ -32,7 +32,7 @@ loop-done-init g c =
       within = omega arith;
       put = λ told. put-none given c.args.shape.now _ m tape0 (λ row at. absurd (let low = at.0 in let high = at.1 in omega (arith, low, high)));
       rise = risen-none m tape0 tape0 (λ told. omega arith);
-      safe = λ told world size ledger room gone unclean list stands allowed safe. safe-none (OpensFit world) world.scope given size ledger m tape0 safe;
+      safe = λ told world size ledger room gone unclean list stands allowed safe. safe-none (OpensFit world) world.scope given ledger m tape0 safe;
       given = refl;
       counts = λ s. omega arith;
       rows = omega arith;
@@ -133,7 +133,7 @@ returns-then-is_some-clause-safe g c = λ told world size ledger room gone uncle
     let tape0 = g.B.Bank.tape c.args.bank.now in
     let tape1 = g.B.Bank.tape c.loop-done.bank in
     let tape2 = g.B.Bank.tape c.put-part.new.bank in
-    safe-part world given given1 size ledger m n new tape0 tape1 tape2 told was.given was.moved.placed (moved-from given given1 n n new was.given refl did.moved) did.grows was.rise room gone
+    safe-part world given given1 ledger m n new tape0 tape1 tape2 told was.given was.moved.placed (moved-from given given1 n n new was.given refl did.moved) did.grows was.rise room gone
     (λ first gone1. was.safe told world size ledger first gone1 unclean list stands allowed safe)
     (λ then now. did.safe told world size ledger then gone unclean list list (nothing-written list _)
     (subst (λ (b : Given). ListStands n (present b tape1) list) (sym was.given) ((was.put told).stands list stands)) (λ is. absurd (cc))
@@ -174,7 +174,7 @@ loop-done-preserved g c =
           }));
       rise = risen-then was.rise did.rise;
       safe = λ told world size ledger room gone unclean list stands allowed safe.
-          safe-part world given given1 size ledger m n new tape0 tape1 tape2 told was.given was.moved.placed moved did.grows was.rise room gone
+          safe-part world given given1 ledger m n new tape0 tape1 tape2 told was.given was.moved.placed moved did.grows was.rise room gone
           (λ first gone1. was.safe told world size ledger first gone1 unclean list stands allowed safe)
           (λ then now. did.safe told world size ledger then gone unclean list list (nothing-written list _)
           (subst (λ (b : Given). ListStands n (present b tape1) list) (sym was.given) ((was.put told).stands list stands)) (λ is. absurd (cc))

@@ -25,10 +25,10 @@ invariant-loop-done g l = record {
   put : g.B.Bank.tells → ArePut (g.B.Bank.given l.fn.bank) l.shape (IsInParts l.shape l.stripe l.done) l.fn.members l.members
       (g.B.Bank.tape l.fn.bank) (g.B.Bank.tape l.bank);
   rise : IsRisen g.B.Bank.tells l.fn.members l.members (g.B.Bank.tape l.fn.bank) (g.B.Bank.tape l.bank);
-  safe : g.B.Bank.tells → (world : World) → (size : ℕ) → (told : Ledger) → HasRoomLeft l.fn.members (g.B.Bank.tape l.fn.bank) (g.B.Bank.tape l.bank)
+  safe : g.B.Bank.tells → (world : World) → (told : Ledger) → HasRoomLeft l.fn.members (g.B.Bank.tape l.fn.bank) (g.B.Bank.tape l.bank)
       → AreGoneTold told l.members → told.unclean ≡ true → (list : ℕ → Sector) → ListStands l.fn.members (present (g.B.Bank.given l.fn.bank) (g.B.Bank.tape l.fn.bank)) list
-      → AreWritesAllowed l.fn.members told.values list → IsSafeOver world (g.B.Bank.given l.fn.bank) size told l.fn.members (g.B.Bank.tape l.fn.bank)
-      → KeepsSafe world (g.B.Bank.given l.fn.bank) size told l.members (g.B.Bank.tape l.fn.bank) (g.B.Bank.tape l.bank);
+      → AreWritesAllowed l.fn.members told.values list → IsSafeOver world (g.B.Bank.given l.fn.bank) told l.fn.members (g.B.Bank.tape l.fn.bank)
+      → KeepsSafe world (g.B.Bank.given l.fn.bank) told l.members (g.B.Bank.tape l.fn.bank) (g.B.Bank.tape l.bank);
   given : g.B.Bank.given l.bank ≡ g.B.Bank.given l.fn.bank;
   counts : NeverFalls (g.B.Bank.faults_of l.fn.bank) (g.B.Bank.faults_of l.bank);
   rows : vec_capacity l.fn.rows ≤ vec_capacity l.rows;

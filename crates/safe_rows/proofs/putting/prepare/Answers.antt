@@ -155,13 +155,13 @@ returns-clause-safe g c = λ told world size ledger room gone unclean safe.
     let tape1 = g.B.Bank.tape c.read_touched-read.new.bank in
     let tape2 = g.B.Bank.tape c.raise-spares.new.bank in
     let did = c.read_touched-read.ensures in
-    let one : KeepsSafe world given size ledger n tape0 tape1 =
-    safe-lost (OpensFit world) world.scope given size ledger m n c.read_touched-read.result.lost tape0 tape1 did.lost.members (did.tape told) safe in
+    let one : KeepsSafe world given ledger n tape0 tape1 =
+    safe-lost (OpensFit world) world.scope given ledger m n c.read_touched-read.result.lost tape0 tape1 did.lost.members (did.tape told) safe in
     let risen : IsRisen g.B.Bank.tells m n tape0 tape1 = risen-lost m n c.read_touched-read.result.lost tape0 tape1 did.lost.members
     (λ told. let same = ap (λ (l : List Operation). length l) (did.tape told) in omega (arith, same)) in
-    safe-then (OpensFit world) world.scope given size ledger n c.raise-spares.new.members tape0 tape1 tape2 one
-    (keeps-from world given given1 size ledger c.raise-spares.new.members tape1 tape2 did.given
-    (c.raise-spares.ensures.safe told world size ledger (room-then tape2 told room risen) gone unclean (over-at world given given1 size ledger n tape1 did.given one.next)))
+    safe-then (OpensFit world) world.scope given ledger n c.raise-spares.new.members tape0 tape1 tape2 one
+    (keeps-from world given given1 ledger c.raise-spares.new.members tape1 tape2 did.given
+    (c.raise-spares.ensures.safe told world size ledger (room-then tape2 told room risen) gone unclean (over-at world given given1 ledger n tape1 did.given one.next)))
 
 pub returns-then-is_err-clause-first : goal.returns-then-is_err-clause-first
 returns-then-is_err-clause-first g c = told-first c.unwritten.result c.unwritten.ensures

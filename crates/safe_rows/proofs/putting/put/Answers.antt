@@ -182,10 +182,10 @@ returns-clause-safe g c = λ told world size ledger room gone unclean list list'
     (subst (λ (s : Shape). AreTouched s first c.args.count rows) c.requires.shape did1.touched) did1.below read stands
     (subst (λ (s : Shape). c.args.synced ≡ true → AreWhole m3 ⊎ RowsStandAmong (IsTouched s first c.args.count) m (present given tape0) list) c.requires.shape full))) in
     let one = did1.safe told world size ledger (room-first m tape0 tape2 tape3 room (grows-longer did2.grows told)) (gone-before given m2 m3 did1.moved.placed two ledger gone) unclean safe in
-    safe-then (OpensFit world) world.scope given size ledger m2 m3 tape0 tape2 tape3 one
-    (keeps-from world given given2 size ledger m3 tape2 tape3 did1.given
+    safe-then (OpensFit world) world.scope given ledger m2 m3 tape0 tape2 tape3 one
+    (keeps-from world given given2 ledger m3 tape2 tape3 did1.given
     (did2.safe told world size ledger (room-then tape3 told room did1.rise) gone unclean (did1.dirty none) list list' w (λ t. has)
-    (allowed-later given m m2 did1.moved ledger.values list' (allowed refl)) (over-at world given given2 size ledger m2 tape2 did1.given one.next)))
+    (allowed-later given m m2 did1.moved ledger.values list' (allowed refl)) (over-at world given given2 ledger m2 tape2 did1.given one.next)))
 
 pub returns-clause-first : goal.returns-clause-first
 returns-clause-first g c = many-told _ c.args.synced c.put_rows-done.new.members c.put_rows-done.result.refusal c.put_rows-done.ensures.refused

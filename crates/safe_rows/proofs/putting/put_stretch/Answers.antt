@@ -62,6 +62,6 @@ returns-clause-safe g c = λ told world size ledger room gone unclean dirty list
     let did = c.write_stretch-next.ensures in
     let named = c.name_missing-spares.ensures in
     let one = did.safe told world size ledger dirty list list' w has allowed safe in
-    safe-then (OpensFit world) world.scope given size ledger n c.name_missing-spares.new.members tape0 tape1 tape2 one
-    (keeps-from world given given1 size ledger c.name_missing-spares.new.members tape1 tape2 did.given
-    (named.safe told world size ledger (room-then tape2 told room did.rise) gone (λ is. unclean) (over-at world given given1 size ledger n tape1 did.given one.next)))
+    safe-then (OpensFit world) world.scope given ledger n c.name_missing-spares.new.members tape0 tape1 tape2 one
+    (keeps-from world given given1 ledger c.name_missing-spares.new.members tape1 tape2 did.given
+    (named.safe told world size ledger (room-then tape2 told room did.rise) gone (λ is. unclean) (over-at world given given1 ledger n tape1 did.given one.next)))

@@ -105,7 +105,7 @@ returns-clause-safe g c = λ told world size ledger dirty list list' w has allow
     let given = g.B.Bank.given c.args.bank.now in
     let tape0 = g.B.Bank.tape c.args.bank.now in
     let tape1 = g.B.Bank.tape c.write_touched-written.new.bank in
-    safe-put (OpensFit world) world.scope given size ledger c.args.members.now c.write_touched-written.new.members c.write_touched-written.result.lost list' c.args.rows.now tape0 tape1 told
+    safe-put (OpensFit world) world.scope given ledger c.args.members.now c.write_touched-written.new.members c.write_touched-written.result.lost list' c.args.rows.now tape0 tape1 told
     did.lost.members c.requires.placed dirty c.requires.unlost allowed
     (subst (λ (s : Shape). EachMark g.B.Bank.tells given.start tape0 tape1
     (λ e. IsPutting (reading_of c.args.members.now) s list' (Contains c.args.rows.now) (disk given.start tape0) e × AreSuperblocksKept (disk given.start tape0) e)) c.requires.shape (did.each_mark list list' w has)) safe

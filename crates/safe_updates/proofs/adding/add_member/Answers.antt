@@ -158,7 +158,7 @@ pub returns-clause-grows : goal.returns-clause-grows
 returns-clause-grows g c = grows-marks c.update-lost.ensures.update.marks
 
 pub returns-clause-safe : goal.returns-clause-safe
-returns-clause-safe g c = λ tell world size told room gone unclean of_scope unknown second live safe.
+returns-clause-safe g c = λ tell world told room gone unclean of_scope unknown second live safe.
     adding-safe (OpensFit world) world.scope (g.B.Bank.given c.args.bank.now) size told c.update-lost.new.members c.args.slot c.args.sb.now (g.B.Bank.tape c.args.bank.now) (g.B.Bank.tape c.update-lost.new.bank)
     c.args.members.now c.requires.fresh (left-steady live safe) c.requires.placed c.requires.unlost c.requires.free
     (record {

@@ -99,6 +99,6 @@ pub returns-clause-rise : goal.returns-clause-rise
 returns-clause-rise g c = risen-changed (done g c) refl (gives-live (g.B.Bank.given c.args.bank.now) c.args.members.now c.requires.placed (Some 0) c.args.role c.args.slot (to g c))
 
 pub returns-clause-safe : goal.returns-clause-safe
-returns-clause-safe g c = λ tell world size told room gone here unclean safe.
+returns-clause-safe g c = λ tell world told room gone here unclean safe.
     giving-stays-safe (OpensFit world) world.scope (g.B.Bank.given c.args.bank.now) size told c.args.role c.args.slot c.args.members.now c.update-lost.new.members (g.B.Bank.tape c.args.bank.now)
     (g.B.Bank.tape c.update-lost.new.bank) (told-changed tell (done g c)) c.requires.placed c.requires.free c.requires.role c.requires.vacant c.requires.spare room gone safe

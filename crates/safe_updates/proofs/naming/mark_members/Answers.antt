@@ -76,12 +76,12 @@ pub returns-clause-flushed : goal.returns-clause-flushed
 returns-clause-flushed g c = λ told flushed. holders-updated (g.B.Bank.given c.args.bank.now) (reading_of c.args.members.now) c.mark-lost.ensures.marked.update told flushed
 
 pub returns-clause-safe : goal.returns-clause-safe
-returns-clause-safe g c = λ tell world size told room markable now.
+returns-clause-safe g c = λ tell world told room markable now.
     mark-safe (OpensFit world) world.scope (g.B.Bank.given c.args.bank.now) size told c.args.clean c.args.members.now c.mark-lost.new.members (g.B.Bank.tape c.args.bank.now) (g.B.Bank.tape c.mark-lost.new.bank)
     (told-changed tell c.mark-lost.ensures.marked) room markable now
 
 pub returns-clause-named : goal.returns-clause-named
-returns-clause-named g c = λ tell world size told room markable now left.
+returns-clause-named g c = λ tell world told room markable now left.
     mark-named (OpensFit world) world.scope (g.B.Bank.given c.args.bank.now) size told c.args.clean c.args.members.now c.mark-lost.new.members (g.B.Bank.tape c.args.bank.now) (g.B.Bank.tape c.mark-lost.new.bank)
     (told-changed tell c.mark-lost.ensures.marked) room markable now left
 

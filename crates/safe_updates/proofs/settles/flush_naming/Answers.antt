@@ -139,7 +139,7 @@ returns-clause-rise g c =
     c.name_missing.ensures.rise
 
 pub returns-clause-safe : goal.returns-clause-safe
-returns-clause-safe g c = λ tell world size told room gone unclean now.
+returns-clause-safe g c = λ tell world told room gone unclean now.
     let m = c.args.members.now in
     let n = c.lose_slots.new.members in
     let given = g.B.Bank.given c.args.bank.now in
@@ -150,15 +150,15 @@ returns-clause-safe g c = λ tell world size told room gone unclean now.
     let failed = c.flush_members-failed.result in
     let did1 = c.flush_members-failed.ensures in
     let is = c.lose_slots.ensures in
-    let flushed = lost-safe (OpensFit world) world.scope given size told m n failed tape0 tape1 is (did1.tape tell) now in
-    safe-then (OpensFit world) world.scope given size told n c.name_missing.new.members tape0 tape1 tape2 flushed
-    (keeps-from world given given1 size told c.name_missing.new.members tape1 tape2 did1.given
-    (c.name_missing.ensures.safe tell world size told
+    let flushed = lost-safe (OpensFit world) world.scope given told m n failed tape0 tape1 is (did1.tape tell) now in
+    safe-then (OpensFit world) world.scope given told n c.name_missing.new.members tape0 tape1 tape2 flushed
+    (keeps-from world given given1 told c.name_missing.new.members tape1 tape2 did1.given
+    (c.name_missing.ensures.safe tell world told
     (room-then tape2 tell room (risen-lost m n failed tape0 tape1 is (λ t. added-longer tape0 tape1 (did1.tape t)))) gone
-    (subst (λ (x : Members). IsUncleanTold told x) (sym is) unclean) (over-at world given given1 size told n tape1 did1.given flushed.next)))
+    (subst (λ (x : Members). IsUncleanTold told x) (sym is) unclean) (over-at world given given1 told n tape1 did1.given flushed.next)))
 
 pub returns-clause-named : goal.returns-clause-named
-returns-clause-named g c = λ tell world size told room gone unclean now left.
+returns-clause-named g c = λ tell world told room gone unclean now left.
     let m = c.args.members.now in
     let n = c.lose_slots.new.members in
     let given = g.B.Bank.given c.args.bank.now in
@@ -169,8 +169,8 @@ returns-clause-named g c = λ tell world size told room gone unclean now left.
     let failed = c.flush_members-failed.result in
     let did1 = c.flush_members-failed.ensures in
     let is = c.lose_slots.ensures in
-    let flushed = lost-safe (OpensFit world) world.scope given size told m n failed tape0 tape1 is (did1.tape tell) now in
-    subst (λ (b : Given). IsNamedOver world b size told c.name_missing.new.members tape2) did1.given
-    (c.name_missing.ensures.named tell world size told
+    let flushed = lost-safe (OpensFit world) world.scope given told m n failed tape0 tape1 is (did1.tape tell) now in
+    subst (λ (b : Given). IsNamedOver world b told c.name_missing.new.members tape2) did1.given
+    (c.name_missing.ensures.named tell world told
     (room-then tape2 tell room (risen-lost m n failed tape0 tape1 is (λ t. added-longer tape0 tape1 (did1.tape t)))) gone
-    (subst (λ (x : Members). IsUncleanTold told x) (sym is) unclean) (over-at world given given1 size told n tape1 did1.given flushed.next) left)
+    (subst (λ (x : Members). IsUncleanTold told x) (sym is) unclean) (over-at world given given1 told n tape1 did1.given flushed.next) left)
