@@ -60,7 +60,7 @@ use Rattle.array_kept.proofs.ReadyLaws.{AreStill, silent-behind, still-behind}
 use Rattle.array_kept.proofs.RecordLaws.{AreSilent, told-more}
 use Rattle.views.proofs.SafeStretch.{safe-then}
 use Rattle.call_entries.proofs.StepLaws.{faults-are}
-use Rattle.views.proofs.Steady.{views-told}
+use Rattle.shape_changes.proofs.Steady.{views-told}
 use Rattle.array_kept.proofs.OnlyLaws.{MakeSpares, gone-behind-losses, spares-behind-losses, added-makes, only-more, TellsOnly}
 use Rattle.views.proofs.HeldRows.{missing-moved, vacant-missing}
 use Rattle.array_kept.proofs.AddLaws.{lowest}

@@ -53,9 +53,9 @@ use Rattle.array_kept.proofs.LedgerLaws.{newest-allowed}
 use Rattle.array_kept.proofs.NowLaws.{values-more}
 use Rattle.array_kept.proofs.RecordLaws.{ends-at}
 use Rattle.array_kept.proofs.SafeLaws.{safe-last}
-use Rattle.views.proofs.Since.{since-none}
+use Rattle.shape_changes.proofs.Since.{since-none}
 use Rattle.views.proofs.SoundViews.{throughout-opening}
-use Rattle.views.proofs.Steady.{safe-is-seen, flushed-is-settled}
+use Rattle.shape_changes.proofs.Steady.{safe-is-seen, flushed-is-settled}
 use Rattle.array_kept.proofs.AbsentLaws.{AreAbsent, absents-legal, absents-are, absents-length, absents-limit, absents-left, absents-values, absents-now, absents-end, absents-keep, absents-ended, absents-told, absents-missing, absents-spares, absents-rebuilt}
 use Rattle.call_entries.proofs.StepLaws.{used-more}
 

@@ -50,7 +50,7 @@ use Rattle.array_kept.proofs.KeptLaws.{StayPlaced, LeavesSafe, LeavesWork, Names
 use Rattle.array_kept.proofs.StepsLeft.{left-moved}
 use Rattle.views.proofs.LackingWrites.{recovering-before, full-later}
 use Rattle.array_kept.proofs.LedgerLaws.{OnlyAdd, add-none, add-one, add-losses, ends-nothing, pending-more}
-use Rattle.views.proofs.Steady.{safe-is-seen}
+use Rattle.shape_changes.proofs.Steady.{safe-is-seen}
 use Rattle.shape_changes.specs.Safety.{IsRisen}
 use Rattle.shape_views.specs.Views.{Ledger}
 use Rattle.shape_changes.specs.Steady.{AreViewsRight, IsSafeOver, KeepsSafe}

@@ -22,7 +22,7 @@ use Rattle.flat_history.specs.Sound.{OpensFit}
 use Rattle.shape_changes.specs.Safety.{HasLiveSlot, IsRisen}
 use Rattle.array_kept.proofs.KeptLaws.{NamesSafe}
 use Rattle.views.proofs.LackingLaws.{holder-without}
-use Rattle.views.proofs.Steady.{losing-stays-safe}
+use Rattle.shape_changes.proofs.Steady.{losing-stays-safe}
 use Rattle.views.proofs.Without.{in-both, live-before}
 use Rattle.std.specs.Prelude.{◌^◌}
 use Rattle.superblocks.specs.Reads.{has_spare}

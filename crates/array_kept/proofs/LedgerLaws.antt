@@ -35,7 +35,7 @@ use Rattle.views.proofs.LackingLists.{row-sector}
 use Rattle.call_entries.proofs.LosingLaws.{entries-both}
 use Rattle.views.proofs.MemberLaws.{without-none}
 use Rattle.array_kept.proofs.NowLaws.{values-more, sectors_of-at}
-use Rattle.views.proofs.Steady.{losing-stays-safe}
+use Rattle.shape_changes.proofs.Steady.{losing-stays-safe}
 
 -- ---- the ledger of a call
 

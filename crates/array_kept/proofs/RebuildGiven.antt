@@ -24,7 +24,7 @@ use Rattle.views.specs.Lacking.{ListStands, RowsStandAmong}
 use Rattle.views.proofs.GivenMembers.{IsReceiver, W, state-here, state-other, holder-then, offset-same, recovered-here, rows-other, spare-before}
 use Rattle.views.proofs.HeldRows.{recovered_of}
 use Rattle.views.proofs.MarkLaws.{few-below}
-use Rattle.views.proofs.Spent.{any-holder}
+use Rattle.shape_changes.proofs.Spent.{any-holder}
 use Rattle.views.specs.Moving.{IsMoved}
 use Rattle.array_kept.specs.Calls.{IsHeldOrGiven, IsRecoveredOrLost}
 use Rattle.md_base.specs.Shapes.{has_slot}

@@ -40,7 +40,7 @@ use Rattle.call_entries.proofs.CallLaws.{GivesNone}
 use Rattle.array_kept.proofs.LedgerLaws.{told_by, any_carried, any-carried, told-ledger, now-ledger, none-lost-before}
 use Rattle.array_kept.proofs.MadeLaws.{made-past, made-both, made-before, length-entries, call-length, made-from, ends-by, opening-grown}
 use Rattle.views.proofs.SoundViews.{throughout-kept}
-use Rattle.views.proofs.Steady.{safe-is-seen, views-told}
+use Rattle.shape_changes.proofs.Steady.{safe-is-seen, views-told}
 
 -- ---- room for events
 

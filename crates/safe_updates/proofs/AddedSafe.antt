@@ -60,11 +60,11 @@ use Rattle.safe_updates.proofs.AddedSaid.{said-added, roles-are, spares-are}
 use Rattle.safe_updates.proofs.AddedStarts.{slot-unknown, starts as adding-starts}
 use Rattle.safe_updates.proofs.AddedUpdates.{IsAddedBy, added-less, added-spares, added-moved, left-in-adding}
 use Rattle.views.proofs.HeldRows.{missing-moved}
-use Rattle.views.proofs.Carried.{IsRewritable, known-rewritable, numbers-touched}
+use Rattle.shape_changes.proofs.Carried.{IsRewritable, known-rewritable, numbers-touched}
 use Rattle.views.proofs.MarkEnds.{some-or-none as mark-left}
 use Rattle.views.proofs.MemberLaws.{less-without, placed-without, without-none}
 use Rattle.views.proofs.ReadOf.{read-of, read-among, disk-somewhere, said-of, still-read}
-use Rattle.views.proofs.Since.{since-none}
+use Rattle.shape_changes.proofs.Since.{since-none}
 use Rattle.safe_updates.proofs.SparesLaws.{spares-are as mark-spares}
 use Rattle.views.proofs.Without.{in-both, any-without, live-is}
 use Rattle.views.proofs.ViewsKept.{view-kept, list-same, missing-in, allowed-less, settled-less, did-without}

@@ -51,7 +51,7 @@ use Rattle.views.proofs.MarkLaws.{give_of-same}
 use Rattle.views.proofs.PlacedLaws.{state-without}
 use Rattle.views.proofs.Planned.{without-holder}
 use Rattle.views.proofs.Ready.{none-judged, gone-lost, first-lost, live-known as first-live-known, known-live as first-known-live}
-use Rattle.views.proofs.Spent.{live-holder}
+use Rattle.shape_changes.proofs.Spent.{live-holder}
 use Rattle.views.proofs.Without.{any-holds, live-is, live-without}
 
 -- ---- tests

@@ -43,20 +43,20 @@ use Rattle.views.proofs.MarkEnds.{count-is}
 use Rattle.views.proofs.MarkLaws.{give_of-same, roles-kept, role_from-found, held-holder, holder-held}
 use Rattle.views.proofs.PlacedLaws.{state-without}
 use Rattle.views.proofs.ReadOf.{said-recovering}
-use Rattle.views.proofs.Spent.{any-holder}
+use Rattle.shape_changes.proofs.Spent.{any-holder}
 use Rattle.views.proofs.ViewsKept.{missing-more, missing-without}
 use Rattle.views.proofs.Gives.{give-here, give-other}
 use Rattle.views.proofs.GivenMembers.{IsReceiver, W, state-here, state-other, holder-then, offset-same, rows-other, placed-given}
 use Rattle.shape_changes.specs.Updates.{planned_view, IsLessView}
 use Rattle.shape_changes.specs.Changing.{IsChanged}
 use Rattle.shape_changes.specs.Making.{IsMakable}
-use Rattle.update_laws.proofs.ChangeViews.{placed-less, planned-live}
-use Rattle.update_laws.proofs.Fields.{fields-held}
-use Rattle.update_laws.proofs.GivenPlan.{given-state, given-less, given-placed}
-use Rattle.update_laws.proofs.Kept.{kept-less}
-use Rattle.update_laws.proofs.KeptSafe.{told-plan, steady-right}
-use Rattle.update_laws.proofs.LessViews.{less-right}
-use Rattle.update_laws.proofs.PlannedRoles.{says-shared}
+use Rattle.shape_changes.proofs.ChangeViews.{placed-less, planned-live}
+use Rattle.shape_changes.proofs.Fields.{fields-held}
+use Rattle.shape_changes.proofs.GivenPlan.{given-state, given-less, given-placed}
+use Rattle.shape_changes.proofs.Kept.{kept-less}
+use Rattle.shape_changes.proofs.KeptSafe.{told-plan, steady-right}
+use Rattle.shape_changes.proofs.LessViews.{less-right}
+use Rattle.shape_changes.proofs.PlannedRoles.{says-shared}
 
 -- the slot that recovers a role may become its holder
 pub holder-receives : (given : Given) (m : Members) (role slot : ℕ) → IsPlaced given m → AreUnlost m → role < (shape_of m.newest).disks → role_state (reading_of m) role ≡ Recovering slot → IsReceiver given m role slot

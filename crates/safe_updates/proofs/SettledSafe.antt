@@ -17,7 +17,7 @@ use Rattle.views.specs.Placed.{places_by, IsPlaced}
 use Rattle.views.specs.Lacking.{DoesWithout, AreHoldersFlushed, ListStands, RowsStand}
 use Rattle.shape_views.specs.Views.{Ledger, AreHeldAllowed, IsSettled}
 use Rattle.shape_changes.specs.Steady.{IsSafeNow, IsNamedNow, settled_ledger}
-use Rattle.views.proofs.Steady.{flushed-is-settled}
+use Rattle.shape_changes.proofs.Steady.{flushed-is-settled}
 
 -- a sector that a slot holds has the list's value alone
 holds-alone : (given : Given) (m : Members) (tape : List Operation) (list : ℕ → Sector) → IsPlaced given m → AreHoldersFlushed (reading_of m) given tape → ListStands m (present given tape) list

@@ -1,11 +1,15 @@
 pub mod Begin
 pub mod CalledLaws
+pub mod Carried
 pub mod ChangeSafe
 pub mod ChangeViews
+pub mod FillingSafe
 pub mod FitChanges
 pub mod FitFields
 pub mod FitKinds
 pub mod GivenSafe
+pub mod HeldAlike
+pub mod HeldKept
 pub mod Kept
 pub mod KeptSafe
 pub mod LessViews
@@ -14,6 +18,11 @@ pub mod PastWindows
 pub mod PlacedLess
 pub mod PlannedRoles
 pub mod PlansLose
+pub mod Risen
+pub mod Since
+pub mod Spent
 pub mod Started
+pub mod Steady
 pub mod UpdateViews
 pub mod Without
+pub mod WriteSafe

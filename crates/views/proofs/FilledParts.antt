@@ -27,8 +27,8 @@ use Rattle.views.specs.Moving.{IsMoved}
 use Rattle.views.specs.Lacking.{IsOfStripe, ListStands}
 use Rattle.views.specs.Rebuilding.{IsUnheld, IsFilling, IsFilledAmong}
 use Rattle.shape_views.specs.Views.{Ledger}
-use Rattle.views.proofs.Steady.{safe-is-seen}
-use Rattle.views.proofs.FillingSafe.{filling-stays-safe}
+use Rattle.shape_changes.proofs.Steady.{safe-is-seen}
+use Rattle.shape_changes.proofs.FillingSafe.{filling-stays-safe}
 use Rattle.views.proofs.LackingWrites.{recovering-before}
 use Rattle.views.proofs.MendedParts.{IsInParts}
 use Rattle.views.proofs.HeldRows.{held-moved}

@@ -22,7 +22,7 @@ use Rattle.views.specs.Placed.{IsPlaced}
 use Rattle.shape_changes.specs.Steady.{AreUnlost}
 use Rattle.views.proofs.HeldRows.{recovered_of}
 use Rattle.views.proofs.Without.{any-holds}
-use Rattle.views.proofs.Spent.{any-holder}
+use Rattle.shape_changes.proofs.Spent.{any-holder}
 use Rattle.views.proofs.Gives.{state_given, with_given, holder-given, IsGivable}
 
 -- the offset from which a slot recovers; 0 where it is whole

@@ -8,7 +8,6 @@ pub mod MemberLaws
 pub mod MovedLaws
 pub mod MarkedLaws
 pub mod ReadWhole
-pub mod HeldKept
 pub mod HeldRows
 pub mod LackingLaws
 pub mod LackingWrites
@@ -21,13 +20,6 @@ pub mod Refused
 pub mod Without
 pub mod Ready
 pub mod Planned
-pub mod Since
-pub mod Carried
-pub mod Steady
-pub mod Spent
-pub mod HeldAlike
-pub mod WriteSafe
-pub mod FillingSafe
 pub mod ViewsKept
 pub mod MarkEnds
 pub mod LiveLeft
@@ -36,7 +28,6 @@ pub mod Standing
 pub mod Allowed
 pub mod Judged
 pub mod SoundViews
-pub mod Risen
 pub mod SafeStretch
 pub mod MendedParts
 pub mod FilledParts

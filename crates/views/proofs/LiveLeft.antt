@@ -16,7 +16,7 @@ use Rattle.shape_changes.specs.Steady.{AreUnlost, IsSteady, IsSafeNow}
 use Rattle.views.specs.Lacking.{DoesWithout}
 use Rattle.shape_changes.specs.Safety.{HasLiveSlot}
 use Rattle.shape_views.specs.Views.{Ledger}
-use Rattle.views.proofs.Spent.{live-holder}
+use Rattle.shape_changes.proofs.Spent.{live-holder}
 
 -- a test that fails somewhere, or passes everywhere
 fails-or-all : (n : ℕ) (test : ℕ → Bool) → ((k : ℕ) × (test k ≡ false)) ⊎ (count_below n test ≡ n)

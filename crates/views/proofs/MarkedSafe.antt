@@ -16,7 +16,7 @@ use Rattle.shape_views.specs.Views.{Ledger, IsSettled}
 use Rattle.shape_changes.specs.Kinds.{IsMarkable}
 use Rattle.views.proofs.MemberLaws.{less-without}
 use Rattle.views.proofs.LiveLeft.{without-left, left-steady}
-use Rattle.views.proofs.Steady.{safe-is-seen, losing-stays-safe, flushes-stay-safe, flushed-is-settled}
+use Rattle.shape_changes.proofs.Steady.{safe-is-seen, losing-stays-safe, flushes-stay-safe, flushed-is-settled}
 use Rattle.views.proofs.ViewsKept.{settled-less, did-without}
 
 -- ---- a mark, over a bank that tells its contents

@@ -31,7 +31,7 @@ use Rattle.shape_views.specs.Views.{Ledger}
 use Rattle.shape_changes.specs.Steady.{IsSafeOver, KeepsSafe, AreGoneTold}
 use Rattle.views.proofs.LackingLists.{list-moved, row-moved}
 use Rattle.views.proofs.LackingWrites.{recovering-before, full-later}
-use Rattle.views.proofs.Risen.{room-first, room-then}
+use Rattle.shape_changes.proofs.Risen.{room-first, room-then}
 use Rattle.views.proofs.SafeStretch.{gone-before, safe-then, grows-longer, over-at, keeps-from}
 use Rattle.views.proofs.Stripes.{stripes-within, of_stripe-touched}
 

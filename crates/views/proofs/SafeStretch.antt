@@ -17,8 +17,8 @@ use Rattle.views.proofs.HeldRows.{missing-moved}
 use Rattle.views.specs.Moving.{Grows, IsMoved}
 use Rattle.views.specs.Lacking.{IsListPut}
 use Rattle.shape_views.specs.Views.{Ledger}
-use Rattle.views.proofs.Steady.{safe-is-seen, losing-stays-safe}
-use Rattle.views.proofs.WriteSafe.{writes-stay-safe}
+use Rattle.shape_changes.proofs.Steady.{safe-is-seen, losing-stays-safe}
+use Rattle.shape_changes.proofs.WriteSafe.{writes-stay-safe}
 use Rattle.views.proofs.LackingWrites.{marks-here}
 use Rattle.views.proofs.MovedLaws.{size-moved}
 

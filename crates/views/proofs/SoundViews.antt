@@ -41,7 +41,7 @@ use Rattle.views.specs.Refusals.{lowest_missing}
 use Rattle.shape_views.specs.Views.{Ledger, IsSettled, IsSeenRight}
 use Rattle.views.specs.Views.{ViewsAreSound}
 use Rattle.shape_changes.specs.Steady.{IsSafeOver, KeepsSafe}
-use Rattle.views.proofs.Steady.{safe-is-seen}
+use Rattle.shape_changes.proofs.Steady.{safe-is-seen}
 use Rattle.views.proofs.Standing.{length-is, shape-is, held-same, read-refused}
 
 -- ---- a row that stands as a list

@@ -13,7 +13,7 @@ use Rattle.safe_updates.proofs.RefusingLaws.{read-cause, read-told, told-first, 
 use Rattle.flat_history.specs.Sound.{OpensFit}
 use Rattle.shape_changes.specs.Steady.{IsUncleanTold}
 use Rattle.views.proofs.SafeStretch.{safe-then, safe-lost, over-at, keeps-from}
-use Rattle.views.proofs.Risen.{risen-then, risen-lost, room-then}
+use Rattle.shape_changes.proofs.Risen.{risen-then, risen-lost, room-then}
 use Rattle.safe_rows.proofs.fetching.fetch.Goals as goal
 
 pub returns-then-is_err-clause-moved : goal.returns-then-is_err-clause-moved

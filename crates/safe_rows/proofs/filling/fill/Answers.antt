@@ -12,7 +12,7 @@ use Rattle.views.specs.Rebuilding.{AreSparesFree, IsFilledAmong}
 use Rattle.views.proofs.MovedLaws.{moved-then, moved-same, grows-none, grows-then, moved-from, size-moved}
 use Rattle.views.proofs.LackingLaws.{since-same, since-then, in-either}
 use Rattle.views.proofs.LackingLists.{none-of}
-use Rattle.views.proofs.Risen.{risen-none, risen-then}
+use Rattle.shape_changes.proofs.Risen.{risen-none, risen-then}
 use Rattle.views.proofs.SafeStretch.{safe-none}
 use Rattle.views.proofs.MendedParts.{IsInParts, valid-in, part-within, part-touches, safe-part}
 use Rattle.safe_rows.proofs.FillingLaws.{filled-none, filled-then}

@@ -24,7 +24,7 @@ use Rattle.views.proofs.MovedLaws.{moved-lost, moved-then, moved-from, grows-non
 use Rattle.views.proofs.LackingLaws.{since-lost, since-then, in-second, in-either}
 use Rattle.views.proofs.LackingLists.{none-of}
 use Rattle.views.proofs.LackingWrites.{lost-of, ok-of, recovering-before}
-use Rattle.views.proofs.Risen.{risen-lost, risen-then, room-first, room-then}
+use Rattle.shape_changes.proofs.Risen.{risen-lost, risen-then, room-first, room-then}
 use Rattle.views.proofs.SafeStretch.{safe-then, safe-lost, over-at, keeps-from, grows-longer, gone-before}
 use Rattle.views.proofs.LiveLeft.{holder-left}
 use Rattle.safe_rows.proofs.FillingLaws.{filled-none, filled-then, named-first, named-only, named-none}

@@ -20,7 +20,7 @@ use Rattle.shape_changes.specs.Steady.{KeepsSafe, IsUncleanTold}
 use Rattle.views.proofs.MovedLaws.{moved-lost, moved-then, moved-from, grows-then}
 use Rattle.views.proofs.LackingLaws.{since-lost, since-then, in-second}
 use Rattle.views.proofs.LackingWrites.{marks-here, lost-of, recovering-before}
-use Rattle.views.proofs.Risen.{risen-lost, risen-then, room-then}
+use Rattle.shape_changes.proofs.Risen.{risen-lost, risen-then, room-then}
 use Rattle.views.proofs.SafeStretch.{safe-none, safe-then, safe-lost, over-at, keeps-from, grows-longer}
 use Rattle.views.proofs.FilledParts.{found-in, safe-filled, others-filled}
 use Rattle.safe_rows.proofs.FillingLaws.{filling-kept}

@@ -9,7 +9,7 @@ use Rattle.views.specs.Lacking.{ListStands}
 use Rattle.views.proofs.MovedLaws.{moved-then, moved-same, grows-none, grows-then, moved-from, size-moved}
 use Rattle.views.proofs.LackingLaws.{since-same, since-then, in-either}
 use Rattle.views.proofs.LackingLists.{none-of}
-use Rattle.views.proofs.Risen.{risen-none, risen-then}
+use Rattle.shape_changes.proofs.Risen.{risen-none, risen-then}
 use Rattle.views.proofs.SafeStretch.{safe-none, allowed-later}
 use Rattle.views.proofs.MendedParts.{valid-in, stripe-within, part-within, part-touches, ArePut, put-none, put-then, put-untouched, nothing-written, no-bytes, not-begun, safe-part}
 use Rattle.safe_rows.proofs.mending.mend.Goals as goal

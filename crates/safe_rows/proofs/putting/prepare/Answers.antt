@@ -18,7 +18,7 @@ use Rattle.safe_updates.proofs.RefusingLaws.{write-cause, write-told, told-first
 use Rattle.flat_history.specs.Sound.{OpensFit}
 use Rattle.shape_changes.specs.Safety.{IsRisen}
 use Rattle.shape_changes.specs.Steady.{KeepsSafe}
-use Rattle.views.proofs.Risen.{risen-then, risen-lost, room-then}
+use Rattle.shape_changes.proofs.Risen.{risen-then, risen-lost, room-then}
 use Rattle.views.proofs.SafeStretch.{safe-then, safe-lost, over-at, keeps-from}
 use Rattle.safe_rows.proofs.putting.prepare.Goals as goal
 

@@ -15,7 +15,7 @@ use Rattle.views.proofs.LackingLaws.{since-then, in-either}
 use Rattle.views.proofs.LackingWrites.{standing-later}
 use Rattle.views.proofs.LackingLists.{list-written, row-written, rebuilt-written, data-read, sectors-whole, none-of}
 use Rattle.flat_history.specs.Sound.{OpensFit}
-use Rattle.views.proofs.Risen.{risen-then, room-first, room-then}
+use Rattle.shape_changes.proofs.Risen.{risen-then, room-first, room-then}
 use Rattle.views.proofs.SafeStretch.{gone-before, safe-then, allowed-later, grows-longer, over-at, keeps-from}
 use Rattle.safe_updates.proofs.RefusingLaws.{many-told}
 use Rattle.safe_rows.proofs.putting.put.Goals as goal

@@ -12,7 +12,7 @@ use Rattle.md_base.specs.Shapes.{is_valid_shape}
 use Rattle.md_base.specs.declared.places.Shape.{Shape}
 use Rattle.flat_history.specs.Sound.{OpensFit}
 use Rattle.views.proofs.LackingWrites.{data-later}
-use Rattle.views.proofs.Risen.{risen-none, risen-then, room-first, room-then}
+use Rattle.shape_changes.proofs.Risen.{risen-none, risen-then, room-first, room-then}
 use Rattle.views.proofs.SafeStretch.{gone-before, safe-none, safe-then, allowed-later, grows-longer, over-at, keeps-from}
 use Rattle.safe_rows.proofs.putting.put_rows.Goals as goal
 

@@ -7,7 +7,7 @@ use Rattle.views.proofs.MovedLaws.{moved-then, moved-from}
 use Rattle.views.proofs.LackingLaws.{since-then, in-second}
 use Rattle.views.proofs.LackingWrites.{written-later}
 use Rattle.flat_history.specs.Sound.{OpensFit}
-use Rattle.views.proofs.Risen.{risen-then, room-then}
+use Rattle.shape_changes.proofs.Risen.{risen-then, room-then}
 use Rattle.views.proofs.SafeStretch.{safe-then, over-at, keeps-from}
 use Rattle.safe_rows.proofs.putting.put_stretch.Goals as goal
 

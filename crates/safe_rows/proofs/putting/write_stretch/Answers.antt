@@ -16,7 +16,7 @@ use Rattle.views.proofs.MarkedLaws.{grows-marks}
 use Rattle.views.proofs.LackingLaws.{since-lost, too-many-answer}
 use Rattle.views.proofs.LackingWrites.{has-rows, list-in, list-in-is, list-with, list-with-is}
 use Rattle.flat_history.specs.Sound.{OpensFit}
-use Rattle.views.proofs.Risen.{risen-lost}
+use Rattle.shape_changes.proofs.Risen.{risen-lost}
 use Rattle.views.proofs.SafeStretch.{safe-put}
 use Rattle.safe_rows.proofs.putting.write_stretch.Goals as goal
 

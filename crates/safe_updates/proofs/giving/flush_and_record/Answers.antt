@@ -17,7 +17,7 @@ use Rattle.shape_changes.specs.Steady.{IsSafeOver, KeepsSafe, IsUncleanTold, giv
 use Rattle.views.proofs.Flushed.{contents-added}
 use Rattle.views.proofs.MarkedSafe.{flushed-safe, lost-safe, added-longer}
 use Rattle.views.proofs.MovedLaws.{grows-then}
-use Rattle.views.proofs.Risen.{risen-none, risen-lost, risen-then, room-then}
+use Rattle.shape_changes.proofs.Risen.{risen-none, risen-lost, risen-then, room-then}
 use Rattle.views.proofs.SafeStretch.{safe-then, over-at, keeps-from}
 use Rattle.safe_updates.proofs.WholeFlushed.{flush-added, ok-of, flushed-full, since-earlier, lost-moved, mid-placed, mid-free, out, failed-moved, failed-since}
 use Rattle.safe_updates.proofs.giving.flush_and_record.Given.{Over}

@@ -16,10 +16,10 @@ use Rattle.views.proofs.GivenMembers.{IsReceiver}
 use Rattle.safe_updates.proofs.GivenMoved.{moved-given, failed-given, holders-more}
 use Rattle.safe_updates.proofs.GivingDone.{given-left, losses-done}
 use Rattle.shape_changes.specs.Changing.{IsChanged}
-use Rattle.update_laws.proofs.CalledLaws.{changed-by}
-use Rattle.update_laws.proofs.ChangeSafe.{told-changed, risen-changed}
-use Rattle.update_laws.proofs.GivenPlan.{gives-live}
-use Rattle.update_laws.proofs.GivenSafe.{receiver-of, giving-stays-safe}
+use Rattle.shape_changes.proofs.CalledLaws.{changed-by}
+use Rattle.shape_changes.proofs.ChangeSafe.{told-changed, risen-changed}
+use Rattle.shape_changes.proofs.GivenPlan.{gives-live}
+use Rattle.shape_changes.proofs.GivenSafe.{receiver-of, giving-stays-safe}
 use Rattle.safe_updates.proofs.giving.give_role.Given.{Over}
 use Rattle.safe_updates.proofs.giving.give_role.Goals.{After-without}
 use Rattle.safe_updates.proofs.giving.give_role.Goals as goal

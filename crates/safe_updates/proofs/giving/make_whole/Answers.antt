@@ -31,10 +31,10 @@ use Rattle.safe_updates.proofs.GivingDone.{given-left, losses-done}
 use Rattle.safe_updates.proofs.MadeWhole.{holder-receives, held-already, IsMoreBack, back-same, back-given, makable}
 use Rattle.shape_changes.specs.Changing.{IsChanged, IsSafeChange}
 use Rattle.shape_changes.specs.Making.{IsMade}
-use Rattle.update_laws.proofs.CalledLaws.{changed-by}
-use Rattle.update_laws.proofs.ChangeSafe.{told-changed, told-marks, risen-changed, one-stretch, change-named}
-use Rattle.update_laws.proofs.GivenPlan.{gives-live}
-use Rattle.update_laws.proofs.MadeSafe.{making-safe}
+use Rattle.shape_changes.proofs.CalledLaws.{changed-by}
+use Rattle.shape_changes.proofs.ChangeSafe.{told-changed, told-marks, risen-changed, one-stretch, change-named}
+use Rattle.shape_changes.proofs.GivenPlan.{gives-live}
+use Rattle.shape_changes.proofs.MadeSafe.{making-safe}
 use Rattle.safe_updates.proofs.giving.make_whole.Given.{Over}
 use Rattle.safe_updates.proofs.giving.make_whole.Goals.{After-without}
 use Rattle.safe_updates.proofs.giving.make_whole.Goals as goal

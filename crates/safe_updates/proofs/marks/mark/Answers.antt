@@ -12,7 +12,7 @@ use Rattle.views.specs.Placed.{IsPlaced}
 use Rattle.shape_changes.specs.Marking.{marking}
 use Rattle.views.proofs.MarkLaws.{give_of-same}
 use Rattle.views.proofs.PlacedLaws.{marked-less, marked-count, placed-less, less-unlost}
-use Rattle.update_laws.proofs.CalledLaws.{changed-by}
+use Rattle.shape_changes.proofs.CalledLaws.{changed-by}
 use Rattle.safe_updates.proofs.marks.mark.Goals as goal
 
 pub update-requires-clause-count : goal.update-requires-clause-count

@@ -16,8 +16,8 @@ use Rattle.safe_updates.proofs.SparesLaws.{spare-left, spare-stays, free-told}
 use Rattle.views.proofs.MarkedLaws.{grows-marks, others-updated, failed-marked}
 use Rattle.views.proofs.LackingLaws.{since-failed, holders-updated}
 use Rattle.flat_history.specs.Sound.{OpensFit}
-use Rattle.update_laws.proofs.ChangeSafe.{told-changed, risen-changed}
-use Rattle.update_laws.proofs.KeptSafe.{mark-safe, mark-named}
+use Rattle.shape_changes.proofs.ChangeSafe.{told-changed, risen-changed}
+use Rattle.shape_changes.proofs.KeptSafe.{mark-safe, mark-named}
 use Rattle.views.proofs.MarkEnds.{left-in-mark}
 use Rattle.safe_updates.proofs.NamedAll.{marked-missing}
 use Rattle.safe_updates.proofs.naming.mark_members.Goals as goal

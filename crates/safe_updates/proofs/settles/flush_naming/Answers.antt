@@ -15,7 +15,7 @@ use Rattle.superblocks.specs.declared.members.Members.{Members}
 use Rattle.shape_changes.specs.Steady.{IsNamedOver, IsUncleanTold}
 use Rattle.views.proofs.MarkedSafe.{lost-safe, added-longer}
 use Rattle.views.proofs.SafeStretch.{safe-then, over-at, keeps-from}
-use Rattle.views.proofs.Risen.{risen-lost, risen-then, room-then}
+use Rattle.shape_changes.proofs.Risen.{risen-lost, risen-then, room-then}
 use Rattle.safe_updates.proofs.settles.flush_naming.Goals as goal
 
 pub lose_slots-requires-clause-small : goal.lose_slots-requires-clause-small

@@ -13,7 +13,7 @@ use Rattle.views.proofs.HeldRows.{without-before}
 use Rattle.views.proofs.LackingLists.{list-moved, rows-moved}
 use Rattle.views.proofs.LiveLeft.{without-left, holder-left}
 use Rattle.views.proofs.MarkedSafe.{settled-markable}
-use Rattle.views.proofs.Risen.{risen-then, room-first, room-then}
+use Rattle.shape_changes.proofs.Risen.{risen-then, room-first, room-then}
 use Rattle.views.proofs.SafeStretch.{gone-before, safe-then, allowed-later, grows-longer, over-at, keeps-from}
 use Rattle.safe_updates.proofs.SettledSafe.{settled-safe}
 use Rattle.superblocks.specs.declared.members.Members.{Members}

@@ -1,5 +1,5 @@
 use Rattle.std.specs.Prelude.{⊤}
-use Rattle.views.proofs.HeldKept.{held-marks}
+use Rattle.shape_changes.proofs.HeldKept.{held-marks}
 use Rattle.views.proofs.laws.held_stays.Goals as goal
 
 pub returns : goal.returns

@@ -1,7 +1,7 @@
 use Rattle.std.specs.Prelude.{⊤}
-use Rattle.views.proofs.Steady.{safe-is-seen, losing-stays-safe, flushes-stay-safe, flushed-is-settled}
-use Rattle.views.proofs.WriteSafe.{writes-stay-safe}
-use Rattle.views.proofs.FillingSafe.{filling-stays-safe}
+use Rattle.shape_changes.proofs.Steady.{safe-is-seen, losing-stays-safe, flushes-stay-safe, flushed-is-settled}
+use Rattle.shape_changes.proofs.WriteSafe.{writes-stay-safe}
+use Rattle.shape_changes.proofs.FillingSafe.{filling-stays-safe}
 use Rattle.views.proofs.laws.safety_is_kept.Goals as goal
 
 pub returns-clause-seen : goal.returns-clause-seen

@@ -14,10 +14,10 @@ use Rattle.list_io.proofs.FullLaws.{places-are-full}
 use Rattle.views.specs.Placed.{IsPlaced}
 use Rattle.shape_changes.specs.Steady.{AreUnlost, IsSteady, IsSafeNow, AreWritesAllowed, WritesStaySafe}
 use Rattle.shape_views.specs.Views.{Ledger, AreHeldAllowed, IsViewRight}
-use Rattle.views.proofs.Steady.{losing-stays-safe}
-use Rattle.views.proofs.HeldAlike.{held-alike}
-use Rattle.views.proofs.Carried.{carried-fewer}
-use Rattle.views.proofs.Spent.{nothing-put}
+use Rattle.shape_changes.proofs.Steady.{losing-stays-safe}
+use Rattle.shape_changes.proofs.HeldAlike.{held-alike}
+use Rattle.shape_changes.proofs.Carried.{carried-fewer}
+use Rattle.shape_changes.proofs.Spent.{nothing-put}
 
 abbrev Disk : Type 0
 Disk = ℕ → ℕ → List Sector

@@ -18,15 +18,15 @@ use Rattle.views.specs.Whole.{list_size}
 use Rattle.views.specs.Placed.{places_of}
 use Rattle.shape_changes.specs.Marking.{marking}
 use Rattle.views.proofs.ReadWhole.{IsSomewhere}
-use Rattle.views.proofs.HeldKept.{held-fewer}
+use Rattle.shape_changes.proofs.HeldKept.{held-fewer}
 use Rattle.shape_views.specs.Regions.{IsReadOf}
 use Rattle.shape_views.specs.Views.{Ledger, IsViewRight}
 use Rattle.shape_changes.specs.Steady.{AreViewsRight, IsSafeNow, SafeIsSeen, IsMoreTold, LosingStaysSafe, FlushesStaySafe}
 use Rattle.views.specs.Steady.{FlushedIsSettled}
 use Rattle.views.proofs.ReadOf.{held-read, disk-somewhere}
 use Rattle.views.proofs.Without.{in-both, live-before}
-use Rattle.views.proofs.Since.{since-more}
-use Rattle.views.proofs.Carried.{carried-more, carried-fewer}
+use Rattle.shape_changes.proofs.Since.{since-more}
+use Rattle.shape_changes.proofs.Carried.{carried-more, carried-fewer}
 
 abbrev Disk : Type 0
 Disk = ℕ → ℕ → List Sector

@@ -18,11 +18,11 @@ use Rattle.views.specs.Rebuilding.{IsUnheld, IsFilling}
 use Rattle.shape_views.specs.Views.{Ledger, IsViewRight}
 use Rattle.views.specs.Views.{AreRowsSettled}
 use Rattle.shape_changes.specs.Steady.{IsSteady, FillingStaysSafe}
-use Rattle.views.proofs.Carried.{carried-fewer}
-use Rattle.views.proofs.HeldAlike.{held-alike}
+use Rattle.shape_changes.proofs.Carried.{carried-fewer}
+use Rattle.shape_changes.proofs.HeldAlike.{held-alike}
 use Rattle.views.proofs.ReadOf.{disk-somewhere}
 use Rattle.views.proofs.ReadWhole.{IsSomewhere}
-use Rattle.views.proofs.Spent.{live-holder}
+use Rattle.shape_changes.proofs.Spent.{live-holder}
 
 abbrev Disk : Type 0
 Disk = ℕ → ℕ → List Sector
