@@ -7,7 +7,7 @@ use Rattle.bank.specs.declared.bank.Operation.{Operation}
 use Rattle.bank.specs.Given.{Given}
 use Rattle.bank.specs.Tape.{IsIn, disk}
 use Rattle.superblocks.specs.declared.members.Members.{Members}
-use Rattle.superblocks.specs.Reading.{Scope, is_clean, list_length, role_count, holder, data_offset_of}
+use Rattle.superblocks.specs.Reading.{Scope, is_clean, is_reshaping, list_length, role_count, holder, data_offset_of}
 use Rattle.superblocks.specs.Reads.{has_spare}
 use Rattle.row_io.specs.Rows.{reading_of, held_slot, IsHolder}
 use Rattle.flat_history.specs.Stands.{shape_for}
@@ -32,13 +32,15 @@ pub record IsPlacedLess (scope : Scope) (m view : Members) (d : Disk) : Type 0 w
   pub clean : is_clean view.newest ≡ is_clean m.newest
   pub does : DoWithout view → DoWithout m
 
--- The one ledger tells each value of the other, below the length of the view's list and in a section that is open, and a write that may be unsettled.
+-- The one ledger tells each value of the other, below the length of the view's list and in a section that is open, a write that may be unsettled, and
+-- the view's reshape.
 pub record IsToldOf (scope : Scope) (view : Members) (d : Disk) (told more : Ledger) : Type 0 where
   pub sized : list_length view.newest ≡ more.size
   pub values : (x : ℕ) → x < list_length view.newest → (v : Sector) → IsIn (told.values x) v → IsIn (more.values x) v
   pub sections : (header : Sector) → IsIn (d (backup_of scope) 0) header → (span : Span) → open_by scope view.newest header ≡ Some span
       → (x : ℕ) → span.lo ≤ x → x < span.hi → (v : Sector) → IsIn (told.values x) v → IsIn (more.values x) v
   pub unclean : told.unclean ≡ true → more.unclean ≡ true
+  pub reshaping : is_reshaping view.newest ≡ true → more.reshaping ≡ true
 
 -- Where the one is right, so is the other: as a reshape begins or ends, and where a role is given that has no rows.
 abbrev pub PlacedLessIsRight : (sound : Type 0) → Type 0

@@ -72,6 +72,7 @@ pub record IsMoreTold (told more : Ledger) : Type 0 where
   pub values : (x : ℕ) → x < told.size → (v : Sector) → IsIn (told.values x) v → IsIn (more.values x) v
   pub gone : (role : ℕ) → told.gone role ≡ true → more.gone role ≡ true
   pub unclean : told.unclean ≡ true → more.unclean ≡ true
+  pub reshaping : told.reshaping ≡ true → more.reshaping ≡ true
   pub carried : (number : ℕ) → told.carried number ≡ true → more.carried number ≡ true
 
 -- slots that are lost leave it safe, and so does more that is told
