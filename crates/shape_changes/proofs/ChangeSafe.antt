@@ -43,6 +43,7 @@ use Rattle.shape_changes.specs.Held.{IsHeldBy}
 use Rattle.shape_changes.specs.Safety.{HasLiveSlot, HasMarkRoom}
 use Rattle.shape_changes.specs.Steady.{AreDrawnSuperblocks, AreViewsRight, IsSteady, IsSpent, IsSafeStretch}
 use Rattle.shape_changes.specs.Changing.{IsChanged, IsPlannedSafe, ChangeStaysSafe, SpentStaysSpent, SafeChangeStaysSafe}
+use Rattle.shape_changes.proofs.Drawn.{disk-somewhere, filled, filled-drawn, seen-filled}
 use Rattle.shape_changes.proofs.LessViews.{less-right, updates-seen}
 use Rattle.shape_views.proofs.WindowLaws.{updating-right}
 use Rattle.shape_changes.proofs.UpdateViews.{planned-is-read}
@@ -52,33 +53,6 @@ use Rattle.shape_changes.proofs.Started.{Live, Left, live-known, live-small, lef
 use Rattle.shape_changes.proofs.ChangeViews.{less-itself, later-fits, known-read, placed-less, plan-less, plan-placed, plan-told, new-less, new-kept}
 
 -- ---- whatever is drawn on the slots that are looked at
-
-pub disk-somewhere : (given : Given) (tape : List Operation) → IsSomewhere (disk given.start tape)
-disk-somewhere given tape s k = (value_after s k (given.start s k) tape, disk-some given.start tape s k)
-
-module _ (scope : Scope) (d : Disk) (some : IsSomewhere d) (c : Contents) (drawn : AreDrawnSuperblocks scope d c) where
-  -- the same on those slots, and some drawn value on the others
-  abbrev filled : Contents
-  filled s k = cond (is_seen scope s) (c s k) (some s k).0
-
-  filled-at : (s k : ℕ) → (is_seen scope s ≡ true → IsIn (d s k) (c s k)) → IsIn (d s k) (filled s k)
-  filled-at s k seen = of (is_seen scope s) refl
-    where
-      of : (b : Bool) → is_seen scope s ≡ b → IsIn (d s k) (cond b (c s k) (some s k).0)
-      of true is = seen is
-      of false is = (some s k).1
-
-  filled-drawn : AreDrawn d filled
-  filled-drawn slot = (filled-at slot 8 (λ seen. drawn.eighth slot seen), filled-at slot 9 (λ seen. drawn.ninth slot seen))
-
-  filled-same : HaveSameMembers scope filled c
-  filled-same = record {
-    eighth = λ slot seen. ap (λ (b : Bool). cond b (c slot 8) (some slot 8).0) seen;
-    ninth = λ slot seen. ap (λ (b : Bool). cond b (c slot 9) (some slot 9).0) seen;
-  }
-
-  seen-filled : (sound : Type 0) (given : Given) (told : Ledger) (e : Disk) → IsSeenRight sound scope given told e filled → IsSeenRight sound scope given told e c
-  seen-filled sound given told e seen = record { found = seen.found; is = sym (read-same scope filled c filled-same) ∙ seen.is; view = seen.view; same = seen.same; right = seen.right }
 
 -- it is enough that what is drawn on all slots is seen right
 pub views-right : (sound : Type 0) (scope : Scope) (given : Given) (told more : Ledger) (d : Disk) → IsSomewhere d

@@ -3,6 +3,7 @@ pub mod CalledLaws
 pub mod Carried
 pub mod ChangeSafe
 pub mod ChangeViews
+pub mod Drawn
 pub mod FillingSafe
 pub mod FitChanges
 pub mod FitFields

@@ -60,7 +60,8 @@ use Rattle.shape_changes.proofs.Kept.{give_of-same}
 use Rattle.shape_changes.proofs.FitKinds.{taking-is-fit}
 use Rattle.shape_changes.proofs.Started.{Live, Lost, Left, gone-lost, first-lost, live-known, live-small, left-known, left-is, fits-of, same-first, fields-at, live-first, ready, said-planned}
 use Rattle.shape_changes.proofs.ChangeViews.{later-fits, known-read, placed-less, plan-less, plan-placed, plan-told, new-less, new-kept}
-use Rattle.shape_changes.proofs.ChangeSafe.{disk-somewhere, views-right, some-left}
+use Rattle.shape_changes.proofs.ChangeSafe.{views-right, some-left}
+use Rattle.shape_changes.proofs.Drawn.{disk-somewhere}
 
 left-and : (a b : Bool) → (a && not b) ≡ true → (a ≡ true) × (b ≡ false)
 left-and true true e = absurd (cc)

@@ -297,6 +297,7 @@ flushed-right sound scope given told m c list d has = record {
   sized = has.sized;
   gone = has.missing;
   unclean = has.unclean;
+  reshaping = has.reshaping;
   held = λ header may x slot outside holds v is.
       subst (λ (w : Sector). IsIn (told.values x) w)
       (sym (there d c has.flushed slot (place_by m.newest x).role (place_by m.newest x).row holds v is ∙ has.stands x slot (record { within = outside.within; outside = refl }) holds))
