@@ -4,6 +4,7 @@ pub mod MarkLaws
 pub mod PlacedLaws
 pub mod Flushed
 pub mod Elements
+pub mod Searching
 pub mod MemberLaws
 pub mod MovedLaws
 pub mod MarkedLaws
