@@ -37,7 +37,7 @@ use Rattle.call_entries.specs.Losing.{losses_of}
 use Rattle.call_entries.proofs.CallLaws.{AreLossEvents, losses-are, torn-losses}
 use Rattle.array_kept.proofs.ReplyLaws.{inside-losses, none-inside, replied}
 use Rattle.views.proofs.LiveLeft.{some-held}
-use Rattle.views.proofs.Judged.{least-found, both-parts}
+use Rattle.views.proofs.Searching.{least-found, both-parts}
 
 -- ---- the lowest role that a slot holds
 

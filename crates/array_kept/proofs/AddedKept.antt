@@ -63,6 +63,7 @@ use Rattle.call_entries.proofs.StepLaws.{faults-are}
 use Rattle.shape_changes.proofs.Steady.{views-told}
 use Rattle.array_kept.proofs.OnlyLaws.{MakeSpares, gone-behind-losses, spares-behind-losses, added-makes, only-more, TellsOnly}
 use Rattle.views.proofs.HeldRows.{missing-moved, vacant-missing}
+use Rattle.views.proofs.Still.{gone-still}
 use Rattle.array_kept.proofs.AddLaws.{lowest}
 use Rattle.call_entries.proofs.LosingLaws.{entries-both}
 use Rattle.std.proofs.lemmas.List.Folds.{list_any-append}
@@ -94,12 +95,14 @@ carries-only newest number work free n is = elim (cases_eq n number) [
 ]
 
 -- a ledger with the number tells no more than one with the work's numbers
-with-number : (size number : ℕ) (world : World) (work : Work) (entries added : List Entry)
+with-number : (number : ℕ) (world : World) (work : Work) (entries added : List Entry)
     → IsMoreTold (with_number number (told_by world work entries added)) (told_by world (with_carried number work) entries added)
-with-number size number world work entries added = record {
+with-number number world work entries added = record {
+  size = refl;
   values = λ x lt v may. may;
   gone = λ role is. is;
   unclean = λ is. is;
+  reshaping = λ is. is;
   carried = λ n is. by n (is_carried work n) (n == number) refl refl is;
 }
   where
@@ -156,9 +159,6 @@ module _ {tells : Type 0} {given : Given} {tape mid_tape tape' : List Operation}
     abbrev world : World
     world = world_in given tape scope first
 
-    abbrev size : ℕ
-    size = list_size (places_of members)
-
     abbrev added : List Entry
     added = entries_of who end events
 
@@ -167,15 +167,15 @@ module _ {tells : Type 0} {given : Given} {tape mid_tape tape' : List Operation}
     stretch t room old =
         let told_old = told_by world work entries added in
         let told_all = told_by world work' entries added in
-        let began = more-safe (OpensFit world) scope given (ledger_now world work entries) told_old members (disk given.start tape) (more-told world size work work (λ n is. is) entries added adds) old.now in
+        let began = more-safe (OpensFit world) scope given (ledger_now world work entries) told_old members (disk given.start tape) (more-told world work work (λ n is. is) entries added adds) old.now in
         let flushed = flushed-safe (OpensFit world) scope given told_old members tape mid_tape (looked t) began in
         let longer = added-longer tape mid_tape (looked t) in
-        let unclean : IsUncleanTold told_old members = λ dirty. told-unclean world size work work (λ n is. is) entries added adds (is_some work.resync) (was.recorded t).dirty (was.unclean dirty) in
-        let done = safe t world size told_old (λ some. let r = room some in omega (arith, r, longer)) told unclean of_scope unknown (second t) live flushed.next in
+        let unclean : IsUncleanTold told_old members = λ dirty. told-unclean world work work (λ n is. is) entries added adds (is_some work.resync) (was.recorded t).dirty (was.unclean dirty) in
+        let done = safe t world told_old (λ some. let r = room some in omega (arith, r, longer)) (gone-still told_old members' stays.placed.still told) unclean of_scope unknown (second t) live flushed.next in
         safe-then (OpensFit world) scope given told_all members members' tape mid_tape tape'
         (stretch-told (OpensFit world) scope given told_old told_all members tape mid_tape
-        (record { values = λ x lt v may. may; gone = λ role is. is; unclean = λ is. is; carried = carries-number sb.dev_number work }) flushed)
-        (stretch-told (OpensFit world) scope given (with_number sb.dev_number told_old) told_all members' mid_tape tape' (with-number size sb.dev_number world work entries added) done)
+        (record { size = refl; values = λ x lt v may. may; gone = λ role is. is; unclean = λ is. is; reshaping = λ is. is; carried = carries-number sb.dev_number work }) flushed)
+        (stretch-told (OpensFit world) scope given (with_number sb.dev_number told_old) told_all members' mid_tape tape' (with-number sb.dev_number world work entries added) done)
 
     pub leaves-added : LeavesSafe tells given tape' scope first (entries ++ added) members' work'
     leaves-added = record {

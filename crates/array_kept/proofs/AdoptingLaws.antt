@@ -41,21 +41,21 @@ use Rattle.flat_history.specs.Losses.{was_dirty, is_unsynced}
 use Rattle.flat_history.specs.Epochs.{OpensAlike}
 use Rattle.views.specs.Whole.{list_size}
 use Rattle.views.specs.Placed.{places_of}
-use Rattle.shape_views.specs.Views.{AreHeldAllowed, IsViewRight}
+use Rattle.shape_views.specs.Regions.{ArePlaced}
+use Rattle.shape_views.specs.Views.{IsViewRight}
+use Rattle.shape_views.proofs.Stands.{flushed-right, still-stands}
 use Rattle.shape_changes.specs.Steady.{AreViewsRight, IsSafeOver}
 use Rattle.views.specs.Lacking.{ListStands, RowsStand, RowsStandBelow, mended_rows}
 use Rattle.array_kept.specs.Kept.{world_in, ledger_now, IsReady, IsKept, IsRecorded, IsSafe, AreTold, AreSectorsWhole}
 use Rattle.array_kept.specs.Adopting.{opener, found_losses, stripes_held, found_stripes, is_number_of, found_work, AreNumbersKept, IsAdoptable}
-use Rattle.layout.specs.Layout.{place}
-use Rattle.layout.proofs.Places.{place-role_below, place-row_below}
-use Rattle.list_io.proofs.FullLaws.{data_here, full-data}
 use Rattle.array_kept.proofs.LedgerLaws.{newest-allowed}
 use Rattle.array_kept.proofs.NowLaws.{values-more}
 use Rattle.array_kept.proofs.RecordLaws.{ends-at}
 use Rattle.array_kept.proofs.SafeLaws.{safe-last}
 use Rattle.shape_changes.proofs.Since.{since-none}
 use Rattle.views.proofs.SoundViews.{throughout-opening}
-use Rattle.shape_changes.proofs.Steady.{safe-is-seen, flushed-is-settled}
+use Rattle.shape_changes.proofs.Steady.{safe-is-seen}
+use Rattle.views.proofs.Still.{still-placed, length-still, open-still, gone-still}
 use Rattle.array_kept.proofs.AbsentLaws.{AreAbsent, absents-legal, absents-are, absents-length, absents-limit, absents-left, absents-values, absents-now, absents-end, absents-keep, absents-ended, absents-told, absents-missing, absents-spares, absents-rebuilt}
 use Rattle.call_entries.proofs.StepLaws.{used-more}
 
@@ -159,27 +159,6 @@ module _ {tells : Type 0} {given : Given} {tape : List Operation} {scope : Scope
       (sym (values-more list [] entries x ∙ absents-values opener (length tape) x (values_of list [] x) (found_losses (reading_of members)) (absents-are (reading_of members) (shape_of members.newest).disks)))
       (newest-allowed (opening_in world) (length tape) list [] tt x (subst (λ (n : ℕ). x < n) (sym (is.opened t)) lt))
 
-  -- and has nothing else
-  found-held : AreHeldAllowed members (values_of list entries) (disk given.start tape)
-  found-held x slot lt held v may =
-      let shape = shape_of members.newest in
-      let role = (place shape x).role in
-      let row = (place shape x).row in
-      let below : row < members.newest.size = place-row_below shape is.placed.valid x members.newest.size is.placed.multiple lt in
-      let own = holder-of (reading_of members) role row slot held in
-      let behind = is.placed.behind role slot own in
-      let k = data_offset_of (reading_of members) slot + row in
-      let here : present given tape slot k ≡ now list [] x =
-      is.holds t row below role slot (place-role_below shape is.placed.valid x) (data_here shape role row x is.placed.valid refl) held
-      ∙ full-data shape (now list []) role row x is.placed.valid refl in
-      let only : v ≡ present given tape slot k =
-      alone v (present given tape slot k) (subst (λ (l : List Sector). IsIn l v) (is.flushed t role slot k own (λ e. absurd (omega (arith, behind, e)))) may) in
-      subst (λ (w : Sector). IsIn (values_of list entries x) w) (sym (only ∙ here)) (found-allowed x lt)
-    where
-      alone : (v w : Sector) → IsIn (w ∷ []) v → v ≡ w
-      alone v w (inl same) = same
-      alone v w (inr none) = absurd none
-
   -- it is unsynced where it is dirty
   pub found-unsynced : is_unsynced world entries ≡ not (is_clean members.newest)
   found-unsynced =
@@ -190,20 +169,30 @@ module _ {tells : Type 0} {given : Given} {tape : List Operation} {scope : Scope
       and_true true = refl
       and_true false = refl
 
-  found-right : IsViewRight (OpensFit world) scope given (ledger_now world work entries) members (disk given.start tape)
-  found-right = record {
-    placed = is.placed;
-    sized = refl;
-    gone = λ role lt missing. absents-told (reading_of members) opener (length tape) (shape_of members.newest).disks role lt missing;
-    unclean = λ dirty. ap (λ (b : Bool). b || is_unsettled entries) (found-unsynced ∙ ap not dirty);
-    held = found-held;
-    settled = λ clean does fit.
-        flushed-is-settled given members tape (values_of list entries) (now list []) is.placed (is.flushed t)
-        (is.good t (has t) (record { clean = is.dirty t ∙ ap not clean; sound = fit })) found-allowed;
-  }
+  -- what is flushed of the members, on which the list stands, is a right view
+  found-right : OpensAlike world → IsViewRight (OpensFit world) scope given (ledger_now world work entries) members (disk given.start tape)
+  found-right alike =
+      flushed-right (OpensFit world) scope given (ledger_now world work entries) members (present given tape) (now list []) (disk given.start tape) (record {
+        placed = two;
+        sized = length-still members is.placed.still
+            ∙ sym (absents-length opener (length tape) (length list) (found_losses (reading_of members)) (absents-are (reading_of members) (shape_of members.newest).disks) ∙ is.opened t);
+        flushed = is.flushed t;
+        allowed = λ x lt. found-allowed x (subst (λ (n : ℕ). x < n) (length-still members is.placed.still) lt);
+        stands = stood.0.1 (is.holds t);
+        rows = λ clean does fit. stood.1.1 (is.good t (has t) (record { clean = is.dirty t ∙ ap not clean; sound = fit }));
+        plain = λ header may. open-still members.newest is.placed.still scope header;
+        missing = gone-still (ledger_now world work entries) members is.placed.still (λ role lt missing. absents-told (reading_of members) opener (length tape) (shape_of members.newest).disks role lt missing);
+        unclean = λ dirty. ap (λ (b : Bool). b || is_unsettled entries) (found-unsynced ∙ ap not dirty);
+        reshaping = λ active. absurd (let none : true ≡ false = sym active ∙ is.placed.still in cc);
+      })
+    where
+      two : ArePlaced scope given members
+      two = still-placed scope given members (disk given.start tape) is.placed (is.next t alike)
+
+      stood = still-stands scope given members (present given tape) (now list []) two is.placed.still
 
   found-safe : OpensAlike world → IsSafeOver world given (ledger_now world work entries) members tape
-  found-safe alike = inl (record { former = members; since = since-none scope members (disk given.start tape) (is.next t alike); right = found-right; numbers = found-carried members long (is.numbers t) })
+  found-safe alike = inl (record { former = members; since = since-none scope members (disk given.start tape) (is.next t alike); right = found-right alike; numbers = found-carried members long (is.numbers t) })
 
   found-seen : OpensAlike world → AreViewsRight (OpensFit world) scope given (ledger_now world work entries) (disk given.start tape)
   found-seen alike = safe-is-seen (OpensFit world) scope given (ledger_now world work entries) members tape (found-safe alike)
@@ -215,9 +204,8 @@ module _ {tells : Type 0} {given : Given} {tape : List Operation} {scope : Scope
         let at : mark ≡ length tape = omega (arith, low, high) in
         subst (λ (n : ℕ). IsSafeAt world entries n) (sym at)
         (safe-last world given entries refl is.sizes_are (ends-at opener (length tape) (found_losses (reading_of members)))
-        (absents-length opener (length tape) (length list) (found_losses (reading_of members)) (absents-are (reading_of members) (shape_of members.newest).disks) ∙ is.opened t)
         (absents-keep opener (length tape) (found_losses (reading_of members)) (absents-are (reading_of members) (shape_of members.newest).disks)) fills work (found-seen alike));
-    sound = throughout-opening world given (ledger_now world work entries) members refl refl (found-safe alike);
+    sound = throughout-opening world given (ledger_now world work entries) members refl refl refl (found-safe alike);
     now = found-safe alike;
     counted = λ live. let newest = is.newest t in record { found = newest.0; is = newest.1; events = let few = newest.2 in omega (arith, few) };
   }
@@ -268,7 +256,7 @@ kept-adopted {tells = tells} {given = given} {tape = tape} {scope = scope} {memb
   unclean = λ dirty. unclean-at (is_clean members.newest) (is_unsettled (entries_of opener first losses)) dirty;
   safe = λ t fills room alike.
       subst (λ (n : ℕ). FillsRight (world_in given tape scope n) (entries_of opener n losses) → OpensAlike (world_in given tape scope n)
-      → IsSafe (world_in given tape scope n) given (list_size (places_of members)) members (found_work members) (entries_of opener n losses)) (sym (first_is t)) (safe-adopted is has long t) fills alike;
+      → IsSafe (world_in given tape scope n) given members (found_work members) (entries_of opener n losses)) (sym (first_is t)) (safe-adopted is has long t) fills alike;
 }
   where
     resync : Option ℕ

@@ -23,6 +23,7 @@ use Rattle.shape_changes.specs.Safety.{HasLiveSlot, IsRisen}
 use Rattle.array_kept.proofs.KeptLaws.{NamesSafe}
 use Rattle.views.proofs.LackingLaws.{holder-without}
 use Rattle.shape_changes.proofs.Steady.{losing-stays-safe}
+use Rattle.views.proofs.Still.{told-same}
 use Rattle.views.proofs.Without.{in-both, live-before}
 use Rattle.std.specs.Prelude.{◌^◌}
 use Rattle.superblocks.specs.Reads.{has_spare}
@@ -98,4 +99,4 @@ module _ (m mid : Members) (lost : ℕ) (is : mid ≡ members_without lost m) wh
       (λ live. subst (λ (x : Members). x.newest.events + length after < 2 ^ 62 + length before) (sym is) (room (live-out live))) gone
       (λ dirty. unclean (sym clean-out ∙ dirty))
       (subst (λ (x : Members). IsSafeOver world given told x before) (sym is)
-      (losing-stays-safe (OpensFit world) world.scope given lost told told m (disk given.start before) (record { values = λ x lt v may. may; gone = λ role lost. lost; unclean = λ dirty. dirty; carried = λ number told. told }) safe))
+      (losing-stays-safe (OpensFit world) world.scope given lost told told m (disk given.start before) (told-same told) safe))

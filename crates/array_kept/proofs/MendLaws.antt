@@ -41,7 +41,8 @@ use Rattle.array_kept.specs.Kept.{world_in, AreRebuildsRight, AreSectorsWhole, I
 use Rattle.array_kept.specs.Calls.{HasStripeLeft, IsRefusedHere}
 use Rattle.call_entries.proofs.PlainLaws.{one}
 use Rattle.call_entries.proofs.CallLaws.{GivesNone, losses-are, builds-losses}
-use Rattle.array_kept.proofs.LedgerLaws.{told_by, OnlyAdd, add-none, add-one, add-losses, pending-more, told-more, told-unclean}
+use Rattle.views.proofs.Still.{gone-still}
+use Rattle.array_kept.proofs.LedgerLaws.{told_by, allowed-more, OnlyAdd, add-none, add-one, add-losses, pending-more, told-unclean}
 use Rattle.views.proofs.LackingWrites.{recovering-before}
 use Rattle.array_kept.proofs.RecordLaws.{AreSilent}
 use Rattle.array_kept.proofs.ReadyLaws.{AreStill, silent-behind, still-behind}
@@ -125,12 +126,12 @@ module _ {tells : Type 0} {given : Given} {tape tape' : List Operation} {scope :
             → KeepsSafe (world_in given tape scope first) given (told_by (world_in given tape scope first) work entries (entries_of who end events)) members' tape tape'
         stretch t fills room began =
             let world = world_in given tape scope first in
-            let size = list_size (places_of members) in
             let added = entries_of who end events in
-            safe t world size (told_by world work entries added) room (told-behind who end was opens caller at_end moved grows roles spares before after since (event ∷ []) gives)
-            (told-unclean world size work work (λ number is. is) entries added adds (is_some work.resync) (was.recorded t).dirty (ap (λ (o : Option ℕ). is_some o || is_unsettled entries) pending))
+            safe t world (told_by world work entries added) room
+            (gone-still (told_by world work entries added) members' moved.placed.still (told-behind who end was opens caller at_end moved grows roles spares before after since (event ∷ []) gives))
+            (told-unclean world work work (λ number is. is) entries added adds (is_some work.resync) (was.recorded t).dirty (ap (λ (o : Option ℕ). is_some o || is_unsettled entries) pending))
             list (held t)
-            (λ x lt. (told-more world size work work (λ number is. is) entries added adds).values x lt (list x) (newest-old who end was opens caller at_end stays grows added t fills x lt)) began
+            (allowed-more (opening_list world) entries added members was.placed.still adds list (newest-old who end was opens caller at_end stays grows added t fills)) began
 
     -- the list stands, and so do the rows that stood, and what was rebuilt
     holds-mending : tells → DoesWithout members' → AreRebuildsRight (world_in given tape scope first) (entries ++ entries_of who end events)

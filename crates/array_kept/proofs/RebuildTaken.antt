@@ -38,6 +38,7 @@ use Rattle.call_entries.proofs.CallLaws.{losses-are, last_end-behind, told-losse
 use Rattle.array_kept.proofs.DegradedLaws.{rebuilt-moved}
 use Rattle.views.proofs.GivenMembers.{IsReceiver, state-here, placed-given, state-other, spare-before}
 use Rattle.views.proofs.HeldRows.{vacant-missing, missing-moved}
+use Rattle.views.proofs.Still.{gone-still}
 use Rattle.array_kept.proofs.KeptLaws.{StayPlaced, rebuilds-before, mended-are, few, leaves-alike, work-kept}
 use Rattle.views.proofs.LackingLaws.{since-missing}
 use Rattle.views.proofs.LackingLists.{list-moved, among-moved}
@@ -176,7 +177,7 @@ module _ {tells : Type 0} {given : Given} {tape tape' : List Operation} {scope :
       (λ s row is under. absurd (let none : row < 0 * (shape_of members.newest).chunk = subst (λ (n : ℕ). row < n * (shape_of members.newest).chunk) (rebuilt-here work role 0 known) under in omega (arith, none)))
       (was.rebuilt t does fit)))
       (leaves-alike who end was opens caller at_end stays grows next (λ number is. is) events quiet.silent quiet.adds rise
-      (λ t fills room began. safe t W (list_size (places_of members)) (told_by W next entries added) room told
+      (λ t fills room began. safe t W (told_by W next entries added) room (gone-still (told_by W next entries added) members' moved.placed.still told)
       (told-more members entries added quiet.adds.gives was.told role below gone)
-      (λ is. told-unclean W (list_size (places_of members)) work next (λ number is. is) entries added quiet.adds (is_some work.resync) (was.recorded t).dirty (was.unclean is)) began)
+      (λ is. told-unclean W work next (λ number is. is) entries added quiet.adds (is_some work.resync) (was.recorded t).dirty (was.unclean is)) began)
       refl (λ d. does) clean)

@@ -21,7 +21,7 @@ use Rattle.flat_history.specs.declared.events.Event.TheVariants.{Lost, Step, Reb
 use Rattle.flat_history.specs.declared.events.LostCause.TheVariants.{Fault}
 use Rattle.flat_history.specs.declared.events.StepKind.TheVariants.{RebuildEnded}
 use Rattle.flat_history.specs.World.{World, opening_list}
-use Rattle.flat_history.specs.Flat.{now, values_after, values_of}
+use Rattle.flat_history.specs.Flat.{now, values_after, values_of, length_after, length_of}
 use Rattle.flat_history.specs.Legal.{told_left}
 use Rattle.flat_history.specs.Losses.{was_dirty, is_resync_end, is_unsynced, settles}
 use Rattle.flat_history.specs.Plain.{entries_of}
@@ -48,7 +48,7 @@ use Rattle.views.proofs.GivenMembers.{IsReceiver, state-here, placed-given, stat
 use Rattle.array_kept.proofs.KeptLaws.{StayPlaced, LeavesSafe, LeavesWork, rebuilds-before, mended-are, few, newest-old, safe-by, leaves-alike}
 use Rattle.views.proofs.LackingLaws.{since-missing}
 use Rattle.views.proofs.LackingLists.{list-moved, among-moved}
-use Rattle.array_kept.proofs.LedgerLaws.{told_by, told-more as more-told, told-now, told-unclean, more-safe, pending-more, unsettled-still, add-none, add-one, keep-losses}
+use Rattle.array_kept.proofs.LedgerLaws.{told_by, allowed-more, told-now, told-unclean, more-safe, pending-more, unsettled-still, add-none, add-one, keep-losses}
 use Rattle.call_entries.proofs.LeftLaws.{fold-left}
 use Rattle.call_entries.proofs.LosingLaws.{entries-both}
 use Rattle.array_kept.proofs.NowLaws.{values-more}
@@ -64,6 +64,7 @@ use Rattle.array_kept.proofs.ToldLosses.{role-told}
 use Rattle.array_kept.proofs.OnlyLaws.{lost-among, gone-or, spare-both, spares-behind-losses, TellsOnly}
 use Rattle.std.proofs.lemmas.List.Sums.{fold-append}
 use Rattle.views.proofs.HeldRows.{missing-moved, vacant-missing}
+use Rattle.views.proofs.Still.{gone-still as gone-two}
 
 module _ {tells : Type 0} {given : Given} {tape tape' : List Operation} {scope : Scope} {first : ℕ} {entries : List Entry} {members members' : Members} {work : Work}
     (who : Who) (end : ℕ) (was : IsKept tells given tape scope first entries members work)
@@ -142,16 +143,15 @@ module _ {tells : Type 0} {given : Given} {tape tape' : List Operation} {scope :
     gone-told = told-more members entries (entries_of who end early) quiet.adds.gives was.told role below missing
 
     unclean-told : tells → IsUncleanTold Told members
-    unclean-told t is = told-unclean W size work work (λ number is. is) entries (entries_of who end early) quiet.adds (is_some work.resync) (was.recorded t).dirty (was.unclean is)
+    unclean-told t is = told-unclean W work work (λ number is. is) entries (entries_of who end early) quiet.adds (is_some work.resync) (was.recorded t).dirty (was.unclean is)
 
     allowed : (added : List Entry) (t : tells) → FillsRight W (entries ++ added) → AreWritesAllowed members Told.values L
-    allowed added t fills x lt = (more-told W size work work (λ number is. is) entries (entries_of who end early) quiet.adds).values x lt (L x)
-        (newest-old who end was opens caller at_end stays grows added t fills x lt)
+    allowed added t fills = allowed-more (opening_list W) entries (entries_of who end early) members was.placed.still quiet.adds L (newest-old who end was opens caller at_end stays grows added t fills)
 
     stretch : (added : List Entry) (t : tells) → FillsRight W (entries ++ added) → HasRoomLeft members tape tape' → IsSafeOver W given Told members tape → KeepsSafe W given Told members' tape tape'
     stretch added t fills room began =
         let fit = fit-of added fills in
-        safe t W size Told room told gone-told (unclean-told t) fit does L (rows t fit) (allowed added t fills) (full t fit) began
+        safe t W Told room (gone-two Told members' moved.placed.still told) gone-told (unclean-told t) fit does L (rows t fit) (allowed added t fills) (full t fit) began
 
   -- ---- the slot was lost
 
@@ -351,14 +351,17 @@ module _ {tells : Type 0} {given : Given} {tape tape' : List Operation} {scope :
     -- more is told by the whole call, but for the role itself
     more : IsMoreTold (given_back role (told_by W work entries (entries_of who end early))) (ledger_now W work (entries ++ entries_of who end (early ++ late)))
     more = record {
+      size = sym (ap (λ (l : List Entry). length_of (length (opening_list W)) l) both
+          ∙ fold-append (λ (n : ℕ) (e : Entry). length_after n e.event) (length (opening_list W)) (entries ++ entries_of who end early) (one who end (Rebuilt role) ∷ []));
       values = λ x lt v may. subst (λ (l : List Sector). IsIn l v) (sym (ap (λ (l : List Entry). values_of (opening_list W) l x) both ∙ values-more (opening_list W) (entries ++ entries_of who end early) (one who end (Rebuilt role) ∷ []) x)) may;
       gone = λ r is. let p = parts (is_gone_now (entries ++ entries_of who end early) r) (r == role) is in gone-still r (other r role p.1) p.0;
       unclean = λ is.
-          let first = (told-now W size work work (λ number has. has) entries (entries_of who end early) quiet-early.adds).unclean is in
+          let first = (told-now W work work (λ number has. has) entries (entries_of who end early) quiet-early.adds).unclean is in
           subst (λ (l : List Entry). (is_unsynced W l || is_unsettled l) ≡ true) (sym both)
           (either (is_unsynced W (entries ++ entries_of who end early)) (is_unsettled (entries ++ entries_of who end early)) (is_unsynced W ((entries ++ entries_of who end early) ++ one who end (Rebuilt role) ∷ []))
           (is_unsettled ((entries ++ entries_of who end early) ++ one who end (Rebuilt role) ∷ []))
           (pending-more (was_dirty W) (entries ++ entries_of who end early) (one who end (Rebuilt role) ∷ []) refl) (unsettled-still (entries ++ entries_of who end early) (one who end (Rebuilt role) ∷ []) refl) first);
+      reshaping = λ is. is;
       carried = λ number is. is;
     }
       where
@@ -383,7 +386,7 @@ module _ {tells : Type 0} {given : Given} {tape tape' : List Operation} {scope :
           (λ t fills room began.
           let fit = fit-of (entries_of who end (early ++ late)) fills in
           more-safe (OpensFit W) scope given (given_back role (told_by W work entries (entries_of who end early))) (ledger_now W work (entries ++ entries_of who end (early ++ late))) members' (disk given.start tape') more
-          (back t W size (told_by W work entries (entries_of who end early)) room told-early (gone-told early quiet-early told-early) (unclean-told early quiet-early told-early t) fit does L (rows t fit)
+          (back t W (told_by W work entries (entries_of who end early)) room (gone-two (told_by W work entries (entries_of who end early)) members' moved.placed.still told-early) (gone-told early quiet-early told-early) (unclean-told early quiet-early told-early t) fit does L (rows t fit)
           (allowed early quiet-early told-early (entries_of who end (early ++ late)) t fills) (full t fit) began));
     }
       where

@@ -25,7 +25,7 @@ use Rattle.std.specs.List.{list_any}
 use Rattle.std.specs.Prelude.{IsSome, is_some}
 use Rattle.views.specs.declared.work.Work.{Work}
 use Rattle.views.specs.Whole.{list_size}
-use Rattle.flat_history.specs.Flat.{now, values_of}
+use Rattle.flat_history.specs.Flat.{now, values_of, length_of}
 use Rattle.flat_history.specs.Plain.{entries_of}
 use Rattle.views.specs.Placed.{places_of, IsPlaced}
 use Rattle.call_entries.specs.Losing.{losses_of}
@@ -36,16 +36,17 @@ use Rattle.shape_changes.specs.Steady.{IsSafeOver, KeepsSafe, AreGoneTold, IsUnc
 use Rattle.views.specs.Lacking.{AreTooMany, DoesWithout, ListStands, RowsStand, AreLostSince, AreHoldersFlushed, mended_rows}
 use Rattle.array_kept.specs.Kept.{world_in, ledger_now, AreTold, IsKept}
 use Rattle.array_kept.specs.Calls.{AreLeftFlushed}
-use Rattle.array_kept.proofs.NowLaws.{values-more}
+use Rattle.array_kept.proofs.NowLaws.{values-more, length-more}
 use Rattle.call_entries.proofs.CallLaws.{GivesNone, losses-are, length-losses, limit-losses, values-losses}
 use Rattle.call_entries.proofs.LosingLaws.{entries-both}
-use Rattle.array_kept.proofs.LedgerLaws.{told_by, CarriesMore, HasNewest, pending-more, OnlyAdd, add-none, add-one, add-losses, keep-losses, told-more, told-unclean, more-safe, settled-now, unsettles-behind}
+use Rattle.array_kept.proofs.LedgerLaws.{told_by, allowed-more, CarriesMore, HasNewest, pending-more, OnlyAdd, add-none, add-one, add-losses, keep-losses, told-unclean, more-safe, settled-now, unsettles-behind}
 use Rattle.call_entries.proofs.PlainLaws.{one}
 use Rattle.array_kept.proofs.RecordLaws.{AreSilent}
 use Rattle.array_kept.proofs.ReadyLaws.{Settles, KeepsNewest, silent-behind}
 use Rattle.array_kept.proofs.KeptLaws.{StayPlaced, LeavesSafe, holds-before, newest-old, safe-by, leaves-unsettled}
 use Rattle.array_kept.proofs.DegradedLaws.{stays-moved, told-behind, told-alone, none-ended}
 use Rattle.views.proofs.HeldRows.{without-before}
+use Rattle.views.proofs.Still.{gone-still}
 
 -- ---- what was told
 
@@ -99,20 +100,28 @@ module _ {tells : Type 0} {given : Given} {tape tape' : List Operation} {scope :
   -- what is told while it runs, and the list among it
   newest-told : (work' : Work) → CarriesMore work work' → (events : List Event) (added : List Entry) → OnlyAdd (entries_of who end events) → (t : tells) → FillsRight (world_in given tape scope first) (entries ++ added)
       → AreWritesAllowed members (values_of (opening_list (world_in given tape scope first)) (entries ++ entries_of who end events)) (now (opening_list (world_in given tape scope first)) entries)
-  newest-told work' carries events added adds t fills x lt =
-      (told-more (world_in given tape scope first) (list_size (places_of members)) work work' carries entries (entries_of who end events) adds).values x lt _ (newest-old who end was opens caller at_end stays grows added t fills x lt)
+  newest-told work' carries events added adds t fills =
+      allowed-more (opening_list (world_in given tape scope first)) entries (entries_of who end events) members was.placed.still adds (now (opening_list (world_in given tape scope first)) entries)
+      (newest-old who end was opens caller at_end stays grows added t fills)
+
+  -- the list keeps its length
+  sized-by : (t : tells) (events : List Event) → AreSilent who end events → length_of (length (opening_list (world_in given tape scope first))) (entries ++ entries_of who end events) ≡ list_size (places_of members)
+  sized-by t events silent =
+      subst (λ (n : ℕ). length_of n (entries ++ entries_of who end events) ≡ list_size (places_of members)) (sym (was.recorded t).opened)
+      (length-more (list_size (places_of members)) entries (entries_of who end events) was.sized (silent.length (list_size (places_of members))))
 
   unclean-told : (work' : Work) → CarriesMore work work' → (events : List Event) → OnlyAdd (entries_of who end events) → (t : tells) → IsUncleanTold (told_by (world_in given tape scope first) work' entries (entries_of who end events)) members
   unclean-told work' carries events adds t is =
-      told-unclean (world_in given tape scope first) (list_size (places_of members)) work work' carries entries (entries_of who end events) adds (is_some work.resync) (was.recorded t).dirty (was.unclean is)
+      told-unclean (world_in given tape scope first) work work' carries entries (entries_of who end events) adds (is_some work.resync) (was.recorded t).dirty (was.unclean is)
 
   -- one that was refused behind the losses, since too many are missing
   pub leaves-refused : (refusal : Refusal) → AreTooMany members' refusal → LeavesSafe tells given tape' scope first (entries ++ entries_of who end (losses_of roles spares ++ Refused refusal ∷ [])) members' work
   leaves-refused refusal many =
       leaves-unsettled who end was opens caller at_end stays grows work (λ number is. is) (losses ++ Refused refusal ∷ [])
       (silent-behind who end losses (Refused refusal) (losses-are roles spares) (record { length = λ n. refl; limit = refl })) adds rise
-      (λ t fills room began. safe t (world_in given tape scope first) (list_size (places_of members)) (told_by (world_in given tape scope first) work entries (entries_of who end (losses ++ Refused refusal ∷ []))) room
-      (told-behind who end was opens caller at_end moved grows roles spares before after since (Refused refusal ∷ []) (λ role. refl)) (unclean-told work (λ number is. is) (losses ++ Refused refusal ∷ []) adds t)
+      (λ t fills room began. safe t (world_in given tape scope first) (told_by (world_in given tape scope first) work entries (entries_of who end (losses ++ Refused refusal ∷ []))) room
+      (gone-still (told_by (world_in given tape scope first) work entries (entries_of who end (losses ++ Refused refusal ∷ []))) members' moved.placed.still
+      (told-behind who end was opens caller at_end moved grows roles spares before after since (Refused refusal ∷ []) (λ role. refl))) (unclean-told work (λ number is. is) (losses ++ Refused refusal ∷ []) adds t)
       (now (opening_list (world_in given tape scope first)) entries) (holds-before who end was opens caller at_end stays grows (entries_of who end (losses ++ Refused refusal ∷ [])) t fills) (rows-old t)
       (newest-told work (λ number is. is) (losses ++ Refused refusal ∷ []) (entries_of who end (losses ++ Refused refusal ∷ [])) adds t fills) began)
       (λ does. absurd (let above = many.above in omega (arith, does, above))) (λ synced. unsettles-behind who end losses (Refused refusal ∷ []) (subst (λ (r : Refusal). list_any (λ e. unsettles e.event) (entries_of who end (Refused r ∷ [])) ≡ true) (sym many.told) refl))
@@ -141,9 +150,8 @@ module _ {tells : Type 0} {given : Given} {tape tape' : List Operation} {scope :
     dirty = λ does is. alike (pends ∙ is) ∙ was.dirty (without-before given members members' was.placed moved does) (pending (pends ∙ is));
     unclean = λ is. ap (λ (b : Bool). b || is_unsettled (entries ++ entries_of who end (losses ++ event ∷ []))) (sym pends) ∙ by unsynced clean is;
     safe = safe-by who end was opens caller at_end stays grows work' carries losses (event ∷ [])
-        (losses-alone (AreSilent who end) roles spares (record { length = λ n. length-losses who end losses [] (losses-are roles spares) n; limit = limit-losses who end losses [] (losses-are roles spares) None }))
-        (silent-behind who end losses event (losses-are roles spares) silent) adds (keep-losses who end losses (event ∷ []) (losses-are roles spares) keep) rise
-        (λ t fills room began. safe t (world_in given tape scope first) (list_size (places_of members)) (told_by (world_in given tape scope first) work' entries (entries_of who end losses)) room gone (unclean-told work' carries losses adds t)
+        silent-losses silent-all adds (keep-losses who end losses (event ∷ []) (losses-are roles spares) keep) rise
+        (λ t fills room began. safe t (world_in given tape scope first) (told_by (world_in given tape scope first) work' entries (entries_of who end losses)) room (gone-still (told_by (world_in given tape scope first) work' entries (entries_of who end losses)) members' moved.placed.still gone) (unclean-told work' carries losses adds t)
         (now (opening_list (world_in given tape scope first)) entries) (holds-before who end was opens caller at_end stays grows (entries_of who end (losses ++ event ∷ [])) t fills) (rows-old t)
         (newest-told work' carries losses (entries_of who end (losses ++ event ∷ [])) adds t fills) began)
         (λ t fills room began.
@@ -155,15 +163,22 @@ module _ {tells : Type 0} {given : Given} {tape tape' : List Operation} {scope :
         (more-safe (OpensFit world) scope given (settled_ledger unsynced list told) (ledger_now world work' (entries ++ (entries_of who end losses ++ entries_of who end (event ∷ [])))) members' (disk given.start tape')
         (settled-now world size work' unsynced entries (entries_of who end losses) (entries_of who end (event ∷ []))
         (subst (λ (l : List Entry). is_unsynced world (entries ++ l) ≡ unsynced) (entries-both who end losses (event ∷ [])) (unsynced_is t))
+        (sized-by t losses silent-losses) (subst (λ (l : List Entry). length_of (length (opening_list world)) (entries ++ l) ≡ size) (entries-both who end losses (event ∷ [])) (sized-by t (losses ++ event ∷ []) silent-all))
         (λ x lt. subst (λ (l : List Entry). IsIn (values_of (opening_list world) (entries ++ l) x) (list x)) (entries-both who end losses (event ∷ []))
         (newest-stays x (newest-old who end was opens caller at_end stays grows (entries_of who end (losses ++ event ∷ [])) t fills x lt))) none)
-        (settled t world told room gone (unclean-told work' carries losses adds t) (λ does is. was.dirty does (pending is)) list
+        (settled t world told room (gone-still told members' moved.placed.still gone) (unclean-told work' carries losses adds t) (λ does is. was.dirty does (pending is)) list
         (holds-before who end was opens caller at_end stays grows (entries_of who end (losses ++ event ∷ [])) t fills) (rows-old t)
         (newest-told work' carries losses (entries_of who end (losses ++ event ∷ [])) adds t fills) began)));
   }
     where
       adds : OnlyAdd (entries_of who end losses)
       adds = losses-alone (λ (l : List Event). OnlyAdd (entries_of who end l)) roles spares (add-losses who end losses [] (losses-are roles spares) add-none)
+
+      silent-losses : AreSilent who end losses
+      silent-losses = losses-alone (AreSilent who end) roles spares (record { length = λ n. length-losses who end losses [] (losses-are roles spares) n; limit = limit-losses who end losses [] (losses-are roles spares) None })
+
+      silent-all : AreSilent who end (losses ++ event ∷ [])
+      silent-all = silent-behind who end losses event (losses-are roles spares) silent
 
       gone : AreTold members' (entries ++ entries_of who end losses)
       gone = told-alone who end was opens caller at_end moved grows roles spares before after since

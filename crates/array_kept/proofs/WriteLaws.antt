@@ -46,7 +46,7 @@ use Rattle.array_kept.specs.Calls.{IsRefusedHere}
 use Rattle.call_entries.proofs.CallLaws.{losses-are, length-losses, limit-losses, values-losses}
 use Rattle.views.proofs.LackingLists.{sectors-whole}
 use Rattle.views.proofs.LackingWrites.{list-with, list-with-is, recovering-before}
-use Rattle.array_kept.proofs.LedgerLaws.{told_by, HasNewest, OnlyAdd, add-none, add-one, add-losses, wrote-adds, torn-adds, wrote-in, torn-in, written-allowed, unsettles-behind}
+use Rattle.array_kept.proofs.LedgerLaws.{told_by, allowed-more, HasNewest, OnlyAdd, add-none, add-one, add-losses, wrote-adds, torn-adds, wrote-in, torn-in, written-allowed, unsettles-behind}
 use Rattle.array_kept.proofs.NowLaws.{values-more}
 use Rattle.call_entries.proofs.PlainLaws.{one}
 use Rattle.array_kept.proofs.RecordLaws.{AreSilent, whole-told}
@@ -55,6 +55,7 @@ use Rattle.array_kept.proofs.KeptLaws.{LeavesSafe, newest-old, holds-before, men
 use Rattle.array_kept.proofs.DegradedLaws.{stays-moved, rows-same, too-many-here, pending-of, unwritten-here, told-behind, degraded-refused, degraded-torn, degraded-wrote}
 use Rattle.views.proofs.Stripes.{stripes-multiple}
 use Rattle.views.proofs.HeldRows.{without-before}
+use Rattle.views.proofs.Still.{gone-still, length-still}
 
 -- ---- rows whose parity is to be relied on
 
@@ -109,10 +110,10 @@ module _ {tells : Type 0} {given : Given} {tape tape' : List Operation} {scope :
       allowed t fills is =
           let opened = opening_list (world_in given tape scope first) in
           let newest = newest-old who end was opens caller at_end (stays-moved was moved) grows (entries_of who end events) t fills in
-          written-allowed (list_size (places_of members)) at from list (list-with list at from) (values_of opened (entries ++ entries_of who end events)) (list-with-is list at from)
-          (λ x lt. subst (λ (l : List Sector). IsIn l (list x)) (sym (values-more opened entries (entries_of who end events) x)) (adds.values x (values_of opened entries x) (list x) (newest x lt)))
+          written-allowed (list_length members.newest) at from list (list-with list at from) (values_of opened (entries ++ entries_of who end events)) (list-with-is list at from)
+          (allowed-more opened entries (entries_of who end events) members was.placed.still adds list newest)
           (λ x lt covered. subst (λ (l : List Sector). IsIn l (sector_at at (sectors_of from) x)) (sym (values-more opened entries (entries_of who end events) x))
-          (allows is x (values_of opened entries x) (newest x lt) covered))
+          (allows is x (values_of opened entries x) (newest x (subst (λ (n : ℕ). x < n) (length-still members was.placed.still) lt)) covered))
 
       unclean : (t : tells) → (told_by (world_in given tape scope first) work entries (entries_of who end events)).unclean ≡ true
       unclean t = by (is_some work.resync) (is_unsynced (world_in given tape scope first) entries) (is_unsettled entries) (was.recorded t).dirty unsettled
@@ -134,7 +135,8 @@ module _ {tells : Type 0} {given : Given} {tape tape' : List Operation} {scope :
           → IsSafeOver (world_in given tape scope first) given (told_by (world_in given tape scope first) work entries (entries_of who end events)) members tape
           → KeepsSafe (world_in given tape scope first) given (told_by (world_in given tape scope first) work entries (entries_of who end events)) members' tape tape'
       stretch t fills room began =
-          safe t (world_in given tape scope first) (list_size (places_of members)) (told_by (world_in given tape scope first) work entries (entries_of who end events)) room told (unclean t)
+          safe t (world_in given tape scope first) (told_by (world_in given tape scope first) work entries (entries_of who end events)) room
+          (gone-still (told_by (world_in given tape scope first) work entries (entries_of who end events)) members' moved.placed.still told) (unclean t)
           list (list-with list at from) (list-with-is list at from)
           (holds-before who end was opens caller at_end (stays-moved was moved) grows (entries_of who end events) t fills does) (rows t fills) (allowed t fills) began
 
