@@ -335,6 +335,7 @@ flushed-right sound scope given told m c list d has = record {
   sized = has.sized;
   gone = has.missing;
   unclean = has.unclean;
+  reshaping = has.reshaping;
   held = λ header may x slot outside holds v is.
       subst (λ (w : Sector). IsIn (told.values x) w)
       (sym (there scope given m c d has.placed has.flushed slot (place_by m.newest x).role (place_by m.newest x).row holds v is

@@ -37,6 +37,7 @@ fewer-right sound scope given told m d e fewer right = record {
   sized = right.sized;
   gone = right.gone;
   unclean = right.unclean;
+  reshaping = right.reshaping;
   held = λ header may x slot outside holds v is. right.held header (fewer (backup_of scope) 0 header may) x slot outside holds v (fewer slot _ v is);
   sections = λ header may span active x low high v is. right.sections header (fewer (backup_of scope) 0 header may) span active x low high v (fewer (backup_of scope) _ v is);
   settled = λ clean few premise. let s = right.settled clean few premise in record {
@@ -144,6 +145,7 @@ unread-right sound scope given told m d e P some written unread right = record {
   sized = right.sized;
   gone = right.gone;
   unclean = right.unclean;
+  reshaping = right.reshaping;
   held = λ header may x slot outside holds v is. (
       let here = unread-header scope m d e P written unread header may in
       right.held header here x slot outside holds v
@@ -252,6 +254,7 @@ naming-right sound scope given told m header plain d e some there none allowed n
   sized = right.sized;
   gone = right.gone;
   unclean = right.unclean;
+  reshaping = right.reshaping;
   held = λ named may x slot outside holds v is. right.held plain there x slot (record { within = outside.within; outside = ap (λ (o : Option Span). covers o x) none }) holds v
       (subst (λ (l : List Sector). IsIn l v) (naming.others slot (data_offset_of (reading_of m) slot + (place_by m.newest x).row)
       (inr (at-rows scope given m right.placed (place_by m.newest x).role slot (place_by m.newest x).row (data_offset_of (reading_of m) slot + (place_by m.newest x).row) (holder-of (reading_of m) (place_by m.newest x).role (place_by m.newest x).row slot holds) refl))) is);
@@ -302,6 +305,7 @@ putting-right sound scope given told m shape list written d e dirty region allow
   sized = right.sized;
   gone = right.gone;
   unclean = right.unclean;
+  reshaping = right.reshaping;
   held = λ header may x slot outside holds v is. elim (putting slot (data_offset_of (reading_of m) slot + (place_by m.newest x).row)) [
     | inl same ↦ right.held header (before header may) x slot outside holds v (subst (λ (l : List Sector). IsIn l v) same is)
     | inr put ↦ elim (put.values v is) [
