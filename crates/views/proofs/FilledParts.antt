@@ -126,7 +126,11 @@ safe-filled sound scope given told members role slot before after tell placed un
 }
   where
     safe-at : (n : ℕ) → length before ≤ n → n ≤ length after → IsSafeNow sound scope given told members (disk given.start (take n after))
-    safe-at n low high = filling-stays-safe sound scope given told members role slot before (disk given.start (take n after)) placed unlost recovers (marks.each tell n low high) safe
+    safe-at n low high = filling-stays-safe sound scope given told members role slot before (disk given.start (take n after)) placed.holders unlost recovers
+        (λ s k. elim (marks.each tell n low high s k) [
+          | inl same ↦ inl same
+          | inr there ↦ inr (record { row = there.1.0; here = there.0; beyond = there.1.3; place = there.1.4 })
+        ]) safe
 
 -- ---- an option that isn't empty
 

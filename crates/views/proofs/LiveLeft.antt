@@ -56,13 +56,13 @@ some-held m valid does = by (fails-or-all (shape_of m.newest).disks (is_missing 
 
 -- a slot that holds a role is left
 pub holder-left : (given : Given) (m : Members) (role slot : ℕ) → IsPlaced given m → AreUnlost m → holder (role_state (reading_of m) role) ≡ Some slot → HasLiveSlot m
-holder-left given m role slot placed unlost held = (slot, live-holder given m false role slot placed held, unlost role slot held)
+holder-left given m role slot placed unlost held = (slot, live-holder given m false role slot placed.holders held, unlost role slot held)
 
 pub without-left : (given : Given) (m : Members) → IsPlaced given m → AreUnlost m → DoesWithout m → HasLiveSlot m
 without-left given m placed unlost does = let held = some-held m placed.valid does in holder-left given m held.0 held.1 placed unlost held.2
 
 -- and where one is, it is steady
-pub left-steady : {sound : Type 0} {scope : Scope} {given : Given} {size : ℕ} {told : Ledger} {members : Members} {d : ℕ → ℕ → List Sector} → HasLiveSlot members
+pub left-steady : {sound : Type 0} {scope : Scope} {given : Given} {told : Ledger} {members : Members} {d : ℕ → ℕ → List Sector} → HasLiveSlot members
     → IsSafeNow sound scope given told members d → IsSteady sound scope given told members d
 left-steady left (inl steady) = steady
 left-steady left (inr spent) = absurd (spent.none left)

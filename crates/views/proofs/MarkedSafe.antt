@@ -1,5 +1,5 @@
 -- Marks and flushes of a call that keep an array safe.
-use Rattle.std.proofs.Common.{◌≡◌, ℕ, ◌≤◌, Bool, true, List, length, length-append, take, take_all, le_refl, ◌++◌, sym, ◌∙◌, ap, subst, arith}
+use Rattle.std.proofs.Common.{◌≡◌, ℕ, ◌<◌, ◌≤◌, Bool, true, List, length, length-append, take, take_all, le_refl, ◌++◌, sym, ◌∙◌, ap, subst, arith}
 use Rattle.std.specs.Prelude.{⊤}
 use Rattle.md_base.specs.Sectors.{Sector}
 use Rattle.bank.specs.declared.bank.Operation.{Operation}
@@ -14,10 +14,12 @@ use Rattle.views.specs.Lacking.{DoesWithout, AreHoldersFlushed, RowsStand}
 use Rattle.views.specs.Flushing.{OnlyFlushesAdded}
 use Rattle.shape_views.specs.Views.{Ledger, IsSettled}
 use Rattle.shape_changes.specs.Kinds.{IsMarkable}
-use Rattle.views.proofs.MemberLaws.{less-without}
+use Rattle.views.proofs.Still.{told-same, length-still, flushed-is-settled}
 use Rattle.views.proofs.LiveLeft.{without-left, left-steady}
-use Rattle.shape_changes.proofs.Steady.{safe-is-seen, losing-stays-safe, flushes-stay-safe, flushed-is-settled}
-use Rattle.views.proofs.ViewsKept.{settled-less, did-without}
+use Rattle.shape_changes.proofs.Steady.{safe-is-seen, losing-stays-safe, flushes-stay-safe}
+use Rattle.shape_views.specs.Regions.{DoWithout}
+use Rattle.shape_changes.proofs.Kept.{without-less}
+use Rattle.shape_changes.proofs.LessViews.{less-settled, does-without}
 
 -- ---- a mark, over a bank that tells its contents
 
@@ -26,23 +28,23 @@ told-marks told marks = record { longer = λ u. marks.longer told; earlier = λ 
 
 -- A clean array that can do without the roles that it misses has settled rows: they were so by the members before they lost slots.
 pub clean-settled : (sound : Type 0) (scope : Scope) (given : Given) (told : Ledger) (m : Members) (d : ℕ → ℕ → List Sector) → IsPlaced given m → AreUnlost m
-    → IsSafeNow sound scope given told m d → is_clean m.newest ≡ true → DoesWithout m → sound → IsSettled m told.values d
+    → IsSafeNow sound scope given told m d → is_clean m.newest ≡ true → DoWithout m → sound → IsSettled scope m told.values d
 clean-settled sound scope given told m d placed unlost safe clean does premise =
-    let steady = left-steady (without-left given m placed unlost does) safe in
+    let steady = left-steady (without-left given m placed unlost does.old) safe in
     of steady steady.since.gone steady.since.since
   where
-    of : (steady : IsSteady sound scope given told m d) (gone : ℕ) → m ≡ members_without gone steady.former → IsSettled m told.values d
+    of : (steady : IsSteady sound scope given told m d) (gone : ℕ) → m ≡ members_without gone steady.former → IsSettled scope m told.values d
     of steady gone is =
-        let less = less-without steady.former gone in
         let former = steady.former in
-        subst (λ (n : Members). IsSettled n told.values d) (sym is)
-        (settled-less given gone former (members_without gone former) steady.right.placed less told.values d
+        let less = without-less former gone in
+        subst (λ (n : Members). IsSettled scope n told.values d) (sym is)
+        (less-settled former (members_without gone former) less scope told.values d
         (steady.right.settled (ap (λ (n : Members). is_clean n.newest) (sym is) ∙ clean)
-        (did-without given gone former (members_without gone former) steady.right.placed less (subst DoesWithout is does)) premise))
+        (does-without former (members_without gone former) less (subst DoWithout is does)) premise))
 
 -- so it can be marked again as it is
 pub same-markable : (sound : Type 0) (scope : Scope) (given : Given) (told : Ledger) (clean : Bool) (old new : Members) (d : ℕ → ℕ → List Sector) → IsPlaced given old → AreUnlost old
-    → clean ≡ is_clean old.newest → AreGoneTold told new → IsUncleanTold told old → IsSafeNow sound scope given told old d → IsMarkable sound clean told old new d
+    → clean ≡ is_clean old.newest → AreGoneTold told new → IsUncleanTold told old → IsSafeNow sound scope given told old d → IsMarkable sound scope clean told old new d
 same-markable sound scope given told clean old new d placed unlost same gone unclean safe = record {
   gone = gone;
   unclean = λ dirty. unclean (sym same ∙ dirty);
@@ -50,12 +52,12 @@ same-markable sound scope given told clean old new d placed unlost same gone unc
 }
 
 -- A clean mark behind a flush: the rows stand as the list, where the array can do without the roles that it misses.
-pub settled-markable : (sound : Type 0) (given : Given) (told : Ledger) (old new : Members) (tape : List Operation) (list : ℕ → Sector) → IsPlaced given old → AreHoldersFlushed (reading_of old) given tape
-    → AreGoneTold told new → AreWritesAllowed old told.values list → (DoesWithout old → sound → RowsStand old (present given tape) list) → IsMarkable sound true told old new (disk given.start tape)
-settled-markable sound given told old new tape list placed flushed gone allowed rows = record {
+pub settled-markable : (sound : Type 0) (scope : Scope) (given : Given) (told : Ledger) (old new : Members) (tape : List Operation) (list : ℕ → Sector) → IsPlaced given old → AreHoldersFlushed (reading_of old) given tape
+    → AreGoneTold told new → AreWritesAllowed old told.values list → (DoesWithout old → sound → RowsStand old (present given tape) list) → IsMarkable sound scope true told old new (disk given.start tape)
+settled-markable sound scope given told old new tape list placed flushed gone allowed rows = record {
   gone = gone;
   unclean = λ dirty. absurd (cc);
-  settled = λ clean does premise. flushed-is-settled given old tape told.values list placed flushed (rows does premise) allowed;
+  settled = λ clean does premise. flushed-is-settled scope given old tape told.values list placed flushed (rows does.old premise) (λ x lt. allowed x (subst (λ (n : ℕ). x < n) (sym (length-still old placed.still)) lt));
 }
 
 -- ---- flushes
@@ -85,4 +87,4 @@ pub lost-safe : (sound : Type 0) (scope : Scope) (given : Given) (told : Ledger)
     → OnlyFlushesAdded before after → IsSafeNow sound scope given told old (disk given.start before) → IsSafeStretch sound scope given told new before after
 lost-safe sound scope given told old new lost before after is added safe = flushed-safe sound scope given told new before after added
     (subst (λ (m : Members). IsSafeNow sound scope given told m (disk given.start before)) (sym is)
-    (losing-stays-safe sound scope given lost told told old (disk given.start before) (record { values = λ x lt v may. may; gone = λ role told. told; unclean = λ told. told; carried = λ number told. told }) safe))
+    (losing-stays-safe sound scope given lost told told old (disk given.start before) (told-same told) safe))

@@ -1,5 +1,5 @@
 -- Stretches of calls that keep an array safe: one after another, with nothing done, and with rows written.
-use Rattle.std.proofs.Common.{◌≡◌, ℕ, ◌<◌, ◌≤◌, false, List, length, take, take_all, le_refl, length-append, arith, sym, subst}
+use Rattle.std.proofs.Common.{◌≡◌, ℕ, ◌<◌, ◌≤◌, false, Contains, ◌∙◌, List, length, take, take_all, le_refl, length-append, arith, sym, subst}
 use Rattle.std.specs.Prelude.{⊤}
 use Rattle.md_base.specs.Sectors.{Sector}
 use Rattle.md_base.specs.declared.places.Shape.{Shape}
@@ -8,7 +8,7 @@ use Rattle.bank.specs.Given.{Given}
 use Rattle.bank.specs.Tape.{EachMark, disk}
 use Rattle.bank.proofs.Marks.{each_mark-then}
 use Rattle.superblocks.specs.declared.members.Members.{Members}
-use Rattle.superblocks.specs.Reading.{Scope, is_clean}
+use Rattle.superblocks.specs.Reading.{Scope, is_clean, shape_of}
 use Rattle.row_io.specs.Rows.{members_without}
 use Rattle.flat_history.specs.World.{World}
 use Rattle.views.specs.Placed.{IsPlaced}
@@ -21,12 +21,13 @@ use Rattle.shape_changes.proofs.Steady.{safe-is-seen, losing-stays-safe}
 use Rattle.shape_changes.proofs.WriteSafe.{writes-stay-safe}
 use Rattle.views.proofs.LackingWrites.{marks-here}
 use Rattle.views.proofs.MovedLaws.{size-moved}
+use Rattle.views.proofs.Still.{told-same, gone-still, still-gone, region-still, length-still}
 
 -- ---- what is told of the end is told of what was before
 
 module _ (given : Given) (old new : Members) (was : IsPlaced given old) (moved : IsMoved given old new) where
   pub gone-before : (told : Ledger) → AreGoneTold told new → AreGoneTold told old
-  gone-before told gone role lt missing = gone role (subst (λ (s : Shape). role < s.disks) (sym moved.shape) lt) (missing-moved moved role missing)
+  gone-before told gone = gone-still told old was.still (λ role lt missing. still-gone told new moved.placed.still gone role (subst (λ (s : Shape). role < s.disks) (sym moved.shape) lt) (missing-moved moved role missing))
 
 -- ---- one after another
 
@@ -48,7 +49,7 @@ module _ (sound : Type 0) (scope : Scope) (given : Given) (told : Ledger) where
     where
       here : IsSafeNow sound scope given told new (disk given.start before)
       here = subst (λ (m : Members). IsSafeNow sound scope given told m (disk given.start before)) (sym is)
-          (losing-stays-safe sound scope given lost told told old (disk given.start before) (record { values = λ x lt v may. may; gone = λ role is. is; unclean = λ is. is; carried = λ number is. is }) safe)
+          (losing-stays-safe sound scope given lost told told old (disk given.start before) (told-same told) safe)
 
   -- rows were written
   pub safe-put : {tells : Type 0} (old new : Members) (lost : ℕ) (list : ℕ → Sector) (rows : List ℕ) (before after : List Operation) → tells → new ≡ members_without lost old
@@ -69,11 +70,13 @@ module _ (sound : Type 0) (scope : Scope) (given : Given) (told : Ledger) where
       safe-at n low high =
           let put = marks.each tell n low high in
           subst (λ (m : Members). IsSafeNow sound scope given told m (disk given.start (take n after))) (sym is)
-          (writes-stay-safe sound scope given told old list rows lost (disk given.start before) (disk given.start (take n after)) placed dirty unlost allowed put.0 put.1 safe)
+          (writes-stay-safe sound scope given told old (shape_of old.newest) list rows lost (disk given.start before) (disk given.start (take n after)) placed.holders dirty unlost
+          (region-still old (Contains rows) placed.still) allowed put.0 put.1 safe)
 
 -- a list whose sectors are allowed
-pub allowed-later : (given : Given) (old new : Members) → IsMoved given old new → (values : ℕ → List Sector) (list : ℕ → Sector) → AreWritesAllowed old values list → AreWritesAllowed new values list
-allowed-later given old new moved values list allowed x lt = allowed x (subst (λ (n : ℕ). x < n) (size-moved given old new moved) lt)
+pub allowed-later : (given : Given) (old new : Members) → IsMoved given old new → IsPlaced given old → (values : ℕ → List Sector) (list : ℕ → Sector) → AreWritesAllowed old values list → AreWritesAllowed new values list
+allowed-later given old new moved placed values list allowed x lt =
+    allowed x (subst (λ (n : ℕ). x < n) (length-still new moved.placed.still ∙ size-moved given old new moved ∙ sym (length-still old placed.still)) lt)
 
 -- ---- the tape
 
@@ -86,7 +89,7 @@ grows-longer {before = before} grows told =
 
 -- the same bank
 pub over-at : (world : World) (given given' : Given) (told : Ledger) (members : Members) (tape : List Operation) → given' ≡ given → IsSafeOver world given told members tape → IsSafeOver world given' told members tape
-over-at world given given' size told members tape same safe = subst (λ (b : Given). IsSafeOver world b told members tape) (sym same) safe
+over-at world given given' told members tape same safe = subst (λ (b : Given). IsSafeOver world b told members tape) (sym same) safe
 
 pub keeps-from : (world : World) (given given' : Given) (told : Ledger) (members : Members) (before after : List Operation) → given' ≡ given → KeepsSafe world given' told members before after → KeepsSafe world given told members before after
-keeps-from world given given' size told members before after same keeps = subst (λ (b : Given). KeepsSafe world b told members before after) same keeps
+keeps-from world given given' told members before after same keeps = subst (λ (b : Given). KeepsSafe world b told members before after) same keeps

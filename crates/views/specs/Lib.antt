@@ -8,3 +8,5 @@ pub mod Status
 pub mod Lacking
 pub mod Numbers
 pub mod Rebuilding
+pub mod Refusals
+pub mod Still
