@@ -26,4 +26,5 @@ pub mod MendedParts
 pub mod FilledParts
 pub mod Gives
 pub mod GivenMembers
+pub mod GivenPlan
 pub mod Still
