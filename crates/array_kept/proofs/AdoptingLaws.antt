@@ -178,8 +178,8 @@ module _ {tells : Type 0} {given : Given} {tape : List Operation} {scope : Scope
             ∙ sym (absents-length opener (length tape) (length list) (found_losses (reading_of members)) (absents-are (reading_of members) (shape_of members.newest).disks) ∙ is.opened t);
         flushed = is.flushed t;
         allowed = λ x lt. found-allowed x (subst (λ (n : ℕ). x < n) (length-still members is.placed.still) lt);
-        stands = stood.0.1 (is.holds t);
-        rows = λ clean does fit. stood.1.1 (is.good t (has t) (record { clean = is.dirty t ∙ ap not clean; sound = fit }));
+        stands = (still-stands scope given members (present given tape) (now list []) two is.placed.still).0.1 (is.holds t);
+        rows = λ clean does fit. (still-stands scope given members (present given tape) (now list []) two is.placed.still).1.1 (is.good t (has t) (record { clean = is.dirty t ∙ ap not clean; sound = fit }));
         plain = λ header may. open-still members.newest is.placed.still scope header;
         missing = gone-still (ledger_now world work entries) members is.placed.still (λ role lt missing. absents-told (reading_of members) opener (length tape) (shape_of members.newest).disks role lt missing);
         unclean = λ dirty. ap (λ (b : Bool). b || is_unsettled entries) (found-unsynced ∙ ap not dirty);
@@ -188,8 +188,6 @@ module _ {tells : Type 0} {given : Given} {tape : List Operation} {scope : Scope
     where
       two : ArePlaced scope given members
       two = still-placed scope given members (disk given.start tape) is.placed (is.next t alike)
-
-      stood = still-stands scope given members (present given tape) (now list []) two is.placed.still
 
   found-safe : OpensAlike world → IsSafeOver world given (ledger_now world work entries) members tape
   found-safe alike = inl (record { former = members; since = since-none scope members (disk given.start tape) (is.next t alike); right = found-right alike; numbers = found-carried members long (is.numbers t) })

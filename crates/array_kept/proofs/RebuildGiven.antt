@@ -24,7 +24,7 @@ use Rattle.views.specs.Lacking.{ListStands, RowsStandAmong}
 use Rattle.views.proofs.GivenMembers.{IsReceiver, W, state-here, state-other, holder-then, offset-same, recovered-here, rows-other, spare-before}
 use Rattle.views.proofs.HeldRows.{recovered_of}
 use Rattle.views.proofs.MarkLaws.{few-below}
-use Rattle.shape_changes.proofs.Spent.{any-holder}
+use Rattle.shape_changes.proofs.Without.{any-held}
 use Rattle.views.specs.Moving.{IsMoved}
 use Rattle.array_kept.specs.Calls.{IsHeldOrGiven, IsRecoveredOrLost}
 use Rattle.md_base.specs.Shapes.{has_slot}
@@ -60,7 +60,7 @@ receiver-spare given m placed all role slot lt vacant spare =
 pub receiver-recovering : (given : Given) (m : Members) → IsPlaced given m → AreUnlost m → (role slot : ℕ) → role < (shape_of m.newest).disks → role_state (reading_of m) role ≡ Recovering slot → IsReceiver given m role slot
 receiver-recovering given m placed unlost role slot lt recovers =
     let held : holder (role_state (reading_of m) role) ≡ Some slot = ap holder recovers in
-    let live : is_live m.roles m.spares slot ≡ true = ap (λ (b : Bool). b || has_spare m.spares slot) (any-holder slot m.roles role held) in
+    let live : is_live m.roles m.spares slot ≡ true = ap (λ (b : Bool). b || has_spare m.spares slot) (any-held slot m.roles role held) in
     record {
       room = placed.holders role slot held;
       behind = placed.behind role slot held;

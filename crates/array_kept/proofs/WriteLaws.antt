@@ -12,7 +12,7 @@ use Rattle.bank.specs.declared.bank.Operation.{Operation}
 use Rattle.layout.proofs.Places.{chunk_some, place-row_below}
 use Rattle.superblocks.specs.declared.members.Members.{Members}
 use Rattle.md_base.specs.declared.status.Role.TheVariants.{Recovering}
-use Rattle.superblocks.specs.Reading.{Scope, shape_of, role_state, is_clean}
+use Rattle.superblocks.specs.Reading.{Scope, shape_of, role_state, is_clean, list_length}
 use Rattle.row_io.specs.Rows.{reading_of, present}
 use Rattle.list_io.specs.Buffers.{IsTouched}
 use Rattle.list_io.specs.Full.{AreWholeIn, RowStands}
