@@ -28,7 +28,7 @@ use Rattle.superblocks.proofs.WrittenReads.{planned-stamped}
 use Rattle.shape_changes.specs.Marking.{marking}
 use Rattle.shape_changes.specs.Rounds.{IsHeldSince}
 use Rattle.shape_changes.specs.Carried.{AreCarried}
-use Rattle.views.proofs.Without.{in-both, live-before}
+use Rattle.shape_changes.proofs.Without.{in-both, live-before}
 
 abbrev Disk : Type 0
 Disk = ℕ → ℕ → List Sector

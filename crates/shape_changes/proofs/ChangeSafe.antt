@@ -18,7 +18,7 @@ use Rattle.superblocks.specs.declared.members.Members.{Members}
 use Rattle.superblocks.specs.Reading.{Scope, is_seen, is_backup, role_count}
 use Rattle.superblocks.specs.Update.{own_in, is_live}
 use Rattle.superblocks.specs.Updating.{IsSomeLeft, planned_newest}
-use Rattle.superblocks.specs.Outcome.{live_set, AreGivesOfLive}
+use Rattle.superblocks.specs.Outcome.{live_set, is_left, AreGivesOfLive}
 use Rattle.superblocks.specs.Held.{AreDrawn}
 use Rattle.superblocks.specs.Stages.{AreLeft}
 use Rattle.superblock_reads.specs.Following.{AreHeldAlone}
@@ -40,10 +40,12 @@ use Rattle.shape_views.specs.Windows.{IsSomewhere, IsUpdating}
 use Rattle.shape_changes.specs.Updates.{planned_view, IsReadInUpdate, HasOneHolder}
 use Rattle.shape_changes.specs.Marking.{marking}
 use Rattle.shape_changes.specs.Held.{IsHeldBy}
-use Rattle.shape_changes.specs.Safety.{HasLiveSlot, HasMarkRoom}
-use Rattle.shape_changes.specs.Steady.{AreDrawnSuperblocks, AreViewsRight, IsSteady, IsSpent, IsSafeStretch}
-use Rattle.shape_changes.specs.Changing.{IsChanged, IsPlannedSafe, ChangeStaysSafe, SpentStaysSpent, SafeChangeStaysSafe}
-use Rattle.shape_changes.proofs.Drawn.{disk-somewhere, filled, filled-drawn, seen-filled}
+use Rattle.shape_changes.specs.Safety.{HasLiveSlot, HasMarkRoom, IsRisen}
+use Rattle.shape_changes.specs.Carried.{AreCarried}
+use Rattle.shape_changes.specs.Steady.{AreDrawnSuperblocks, AreViewsRight, IsSteady, IsSafeNow, IsNamedNow, IsSafeStretch}
+use Rattle.shape_changes.specs.Changing.{IsChanged, IsPlannedSafe, AreEitherRight, IsSpentByEither, IsSafeChange, ChangeStaysSafe, SpentStaysSpent, SafeChangeStaysSafe}
+use Rattle.shape_changes.proofs.Carried.{carried-more, numbers-updated}
+use Rattle.shape_changes.proofs.Drawn.{disk-somewhere, filled, filled-drawn, seen-filled, views-right}
 use Rattle.shape_changes.proofs.LessViews.{less-right, updates-seen}
 use Rattle.shape_views.proofs.WindowLaws.{updating-right}
 use Rattle.shape_changes.proofs.UpdateViews.{planned-is-read}
@@ -55,9 +57,9 @@ use Rattle.shape_changes.proofs.ChangeViews.{less-itself, later-fits, known-read
 -- ---- whatever is drawn on the slots that are looked at
 
 -- it is enough that what is drawn on all slots is seen right
-pub views-right : (sound : Type 0) (scope : Scope) (given : Given) (told more : Ledger) (d : Disk) → IsSomewhere d
-    → ((c : Contents) → AreDrawn d c → IsSeenRight sound scope given told d c ⊎ IsSeenRight sound scope given more d c) → AreViewsRight sound scope given told more d
-views-right sound scope given told more d some each c drawn = ⊎_elim
+pub either-right : (sound : Type 0) (scope : Scope) (given : Given) (told more : Ledger) (d : Disk) → IsSomewhere d
+    → ((c : Contents) → AreDrawn d c → IsSeenRight sound scope given told d c ⊎ IsSeenRight sound scope given more d c) → AreEitherRight sound scope given told more d
+either-right sound scope given told more d some each c drawn = ⊎_elim
     (λ seen. inl (seen-filled scope d some c drawn sound given told d seen))
     (λ seen. inr (seen-filled scope d some c drawn sound given more d seen))
     (each (filled scope d some c drawn) (filled-drawn scope d some c drawn))
@@ -74,8 +76,9 @@ some-left live lost small = ⊎_elim (λ found. inl (found.0, found.2.0, found.2
 
 module _ (sound : Type 0) (scope : Scope) (given : Given) (told more : Ledger) (change : Change) (former : Members) (gone : ℕ) (new : Members) (before after : List Operation)
     (m : IsChanged ⊤ given change (members_without gone former) new before after) (room : HasMarkRoom (members_without gone former) before after)
-    (safe : IsPlannedSafe sound scope given more change (members_without gone former) new (disk given.start before))
-    (held : IsHeldBy scope former (disk given.start before)) (right : IsViewRight sound scope given told former (disk given.start before)) where
+    (safe : IsPlannedSafe sound scope given told more change (members_without gone former) new (disk given.start before))
+    (held : IsHeldBy scope former (disk given.start before)) (right : IsViewRight sound scope given told former (disk given.start before))
+    (numbers : AreCarried scope told.carried former.own (disk given.start before)) where
   abbrev Old : Members
   Old = members_without gone former
 
@@ -176,8 +179,8 @@ module _ (sound : Type 0) (scope : Scope) (given : Given) (told more : Ledger) (
         ))
         (turning-reads scope held.known (Left scope former gone change Before held safe.fit safe.right.placed.fit) Old change Old.lost Lives new.lost new.newest.events Before (At n) start (λ s is. is) small (m.turns.each tt n low high) c drawn)
 
-  seen-at : (n : ℕ) → length before ≤ n → n ≤ length after → AreViewsRight sound scope given told more (At n)
-  seen-at n low high = views-right sound scope given told more (At n) (disk-somewhere given (take n after)) (λ c drawn. elim (cases_lt (length before) (length after)) [
+  seen-at : (n : ℕ) → length before ≤ n → n ≤ length after → AreEitherRight sound scope given told more (At n)
+  seen-at n low high = either-right sound scope given told more (At n) (disk-somewhere given (take n after)) (λ c drawn. elim (cases_lt (length before) (length after)) [
     | inl grew ↦ updates-seen sound scope given told more former Plan Before (At n) c (disk-somewhere given before) (updating n low high) right safe.right (as-view (room-of (inr grew)) c n low high drawn)
     | inr short ↦ inl (
         let same : take n after ≡ before = take_all n after (omega (arith, short, low)) ∙ sym (take_all (length before) after short) ∙ m.update.marks.earlier tt in
@@ -258,36 +261,42 @@ module _ (sound : Type 0) (scope : Scope) (given : Given) (told more : Ledger) (
         less-right sound scope given more (planned_view Old change new.lost) new Before less placed
         (λ role lt missing. safe.gone role (subst (λ (z : Sb). role < role_count z) m.newest.same lt) (ap (λ (l : List Role). is_missing (record (reading_of new) { roles = l }) role) (sym m.roles) ∙ missing)) plan-right
 
-    next-held : IsSteady sound scope given more new (disk given.start after)
-    next-held = record {
-      former = new;
-      since = record { gone = 0; since = sym (without-none new); held = held-new };
-      right = at-end (IsViewRight sound scope given more new)
-          (updating-right sound scope given more new Before (At (length after)) (disk-somewhere given before) (updating (length after) (m.update.marks.longer tt) (le_refl (length after))) new-right);
+    next-named : IsNamedNow sound scope given more new (disk given.start after)
+    next-named = record {
+      steady = record {
+        former = new;
+        since = record { gone = 0; since = sym (without-none new); held = held-new };
+        right = at-end (IsViewRight sound scope given more new)
+            (updating-right sound scope given more new Before (At (length after)) (disk-somewhere given before) (updating (length after) (m.update.marks.longer tt) (le_refl (length after))) new-right);
+        numbers = carried-more scope told.carried more.carried new.own (disk given.start after) safe.carried
+            (numbers-updated scope given told.carried former Old new change new.newest new.lost (is_left Lives new.lost) before after
+            tt safe.fit.none m.update m.own (record { gone = gone; since = refl; held = held }) numbers);
+      };
+      roles = refl;
     }
 
-  next-spent : (IsSomeLeft Lives new.lost → ⊥) → IsSpent sound scope given told more new (disk given.start after)
+  next-spent : (IsSomeLeft Lives new.lost → ⊥) → IsSpentByEither sound scope given told more new (disk given.start after)
   next-spent none = record {
-    right = at-end (AreViewsRight sound scope given told more) (seen-at (length after) (m.update.marks.longer tt) (le_refl (length after)));
+    right = at-end (AreEitherRight sound scope given told more) (seen-at (length after) (m.update.marks.longer tt) (le_refl (length after)));
     none = λ some. none (some.0, (live-before Old new change safe.fit.gives m.roles m.spares some.0 some.1).0, some.2);
   }
 
-  stretch : IsSafeStretch sound scope given told more new before after
-  stretch = record {
+  changed : IsSafeChange sound scope given told more new before after
+  changed = record {
     marks = record { longer = m.update.marks.longer; earlier = m.update.marks.earlier; each = λ one n low high. seen-at n low high };
-    next = ⊎_elim (λ some. inl (next-held some)) (λ none. inr (next-spent none)) (some-left Lives new.lost (live-small scope former gone change Before held safe.fit safe.right.placed.fit));
+    next = ⊎_elim (λ some. inl (next-named some)) (λ none. inr (next-spent none)) (some-left Lives new.lost (live-small scope former gone change Before held safe.fit safe.right.placed.fit));
   }
 
 pub change-safe : (sound : Type 0) → ChangeStaysSafe sound
 change-safe sound scope given told more change old new before after m room safe steady =
-    subst (λ (o : Members). IsChanged ⊤ given change o new before after → HasMarkRoom o before after → IsPlannedSafe sound scope given more change o new (disk given.start before)
-    → IsSafeStretch sound scope given told more new before after) (sym steady.since.since)
-    (λ m room safe. stretch sound scope given told more change steady.former steady.since.gone new before after m room safe steady.since.held steady.right) m room safe
+    subst (λ (o : Members). IsChanged ⊤ given change o new before after → HasMarkRoom o before after → IsPlannedSafe sound scope given told more change o new (disk given.start before)
+    → IsSafeChange sound scope given told more new before after) (sym steady.since.since)
+    (λ m room safe. changed sound scope given told more change steady.former steady.since.gone new before after m room safe steady.since.held steady.right steady.numbers) m room safe
 
 -- ---- from where no live slot is left
 
 module _ (sound : Type 0) (scope : Scope) (given : Given) (told more : Ledger) (change : Change) (old new : Members) (before after : List Operation)
-    (m : IsChanged ⊤ given change old new before after) (none : change.added ≡ None) (gives : AreGivesOfLive old change) (spent : IsSpent sound scope given told more old (disk given.start before)) where
+    (m : IsChanged ⊤ given change old new before after) (none : change.added ≡ None) (gives : AreGivesOfLive old change) (spent : IsSpentByEither sound scope given told more old (disk given.start before)) where
   none-before : IsSomeLeft (live_set old change) old.lost → ⊥
   none-before some = spent.none (some.0, live-of old (marking old false) refl some.0 ∙ sym (live-of old change none some.0) ∙ some.1, some.2)
 
@@ -299,49 +308,50 @@ module _ (sound : Type 0) (scope : Scope) (given : Given) (told more : Ledger) (
       by true live true lost = (m.update.marks.each tt n low high).touched.gone s k lost
       by true live false left = absurd (none-before (s, live, left))
 
-  same-at : (n : ℕ) → length before ≤ n → n ≤ length after → AreViewsRight sound scope given told more (disk given.start (take n after))
-  same-at n low high = subst (λ (d : Disk). AreViewsRight sound scope given told more d) (λ i s k. sym (nothing-at n low high s k) i) spent.right
+  same-at : (n : ℕ) → length before ≤ n → n ≤ length after → AreEitherRight sound scope given told more (disk given.start (take n after))
+  same-at n low high = subst (λ (d : Disk). AreEitherRight sound scope given told more d) (λ i s k. sym (nothing-at n low high s k) i) spent.right
 
   none-after : HasLiveSlot new → ⊥
   none-after some =
       let was = live-before old new change gives m.roles m.spares some.0 some.1 in
       none-before (some.0, was.0, ⊎_elim (λ is. absurd (let e = m.stay some.0 is in let both = sym e ∙ some.2 in cc)) (λ isnt. isnt) (by_bool (has_slot old.lost some.0)))
 
-  stays-spent : EachMark ⊤ given.start before after (AreViewsRight sound scope given told more) × IsSpent sound scope given told more new (disk given.start after)
-  stays-spent = (
-    record { longer = m.update.marks.longer; earlier = m.update.marks.earlier; each = λ one n low high. same-at n low high },
-    record {
-      right = subst (λ (tape : List Operation). AreViewsRight sound scope given told more (disk given.start tape)) (take_all (length after) after (le_refl (length after)))
+  stays-spent : IsSafeChange sound scope given told more new before after
+  stays-spent = record {
+    marks = record { longer = m.update.marks.longer; earlier = m.update.marks.earlier; each = λ one n low high. same-at n low high };
+    next = inr (record {
+      right = subst (λ (tape : List Operation). AreEitherRight sound scope given told more (disk given.start tape)) (take_all (length after) after (le_refl (length after)))
           (same-at (length after) (m.update.marks.longer tt) (le_refl (length after)));
       none = none-after;
-    },
-  )
+    });
+  }
 
 pub spent-stays : (sound : Type 0) → SpentStaysSpent sound
 spent-stays sound scope given told more change old new before after m none gives spent = stays-spent sound scope given told more change old new before after m none gives spent
 
 -- ---- from any state
 
--- held superblocks are seen
-steady-seen : (sound : Type 0) (scope : Scope) (given : Given) (told : Ledger) (m : Members) (tape : List Operation) → IsSteady sound scope given told m (disk given.start tape)
-    → AreViewsRight sound scope given told told (disk given.start tape)
-steady-seen sound scope given told m tape steady = views-right sound scope given told told (disk given.start tape) (disk-somewhere given tape) (λ c drawn. (
+safe-is-seen : (sound : Type 0) (scope : Scope) (given : Given) (told : Ledger) (m : Members) (tape : List Operation) → IsSafeNow sound scope given told m (disk given.start tape)
+    → AreViewsRight sound scope given told (disk given.start tape)
+safe-is-seen sound scope given told m tape (inl steady) = views-right sound scope given told (disk given.start tape) (disk-somewhere given tape) (λ c drawn.
     let former = steady.former in
     let held = steady.since.held in
     let read = held.updated.reads c drawn in
-    inl (record { found = read.found; is = read.is; view = former; same = known-read scope held.known former held.said former.lost c read; right = steady.right })))
+    record { found = read.found; is = read.is; view = former; same = known-read scope held.known former held.said former.lost c read; right = steady.right })
+safe-is-seen sound scope given told m tape (inr spent) = spent.right
 
 -- seen by the one ledger, it is by one of two
-wider : (sound : Type 0) (scope : Scope) (given : Given) (told more : Ledger) (d : Disk) → AreViewsRight sound scope given told told d → AreViewsRight sound scope given told more d
-wider sound scope given told more d seen c drawn = ⊎_elim (λ one. inl one) (λ one. inl one) (seen c drawn)
+wider : (sound : Type 0) (scope : Scope) (given : Given) (told more : Ledger) (d : Disk) → AreViewsRight sound scope given told d → AreEitherRight sound scope given told more d
+wider sound scope given told more d seen c drawn = inl (seen c drawn)
 
-pub safe-change : (sound : Type 0) → SafeChangeStaysSafe sound
-safe-change sound scope given told more change old new before after m none gives room owed safe = ⊎_elim
-    (λ steady. ⊎_elim
-    (λ some. change-safe sound scope given told more change old new before after m (room some) (owed steady) steady)
-    (λ no. spent (record { right = wider sound scope given told more (disk given.start before) (steady-seen sound scope given told old before steady); none = no }))
-    (some-left (live_set old (marking old false)) old.lost (small old)))
-    (λ was. spent (record { right = wider sound scope given told more (disk given.start before) was.right; none = was.none }))
+-- where a live slot is left it goes on from what is held, and where none is nothing is written
+pub from-any : (sound : Type 0) (scope : Scope) (given : Given) (told more : Ledger) (change : Change) (old new : Members) (before after : List Operation)
+    → IsChanged ⊤ given change old new before after → change.added ≡ None → AreGivesOfLive old change
+    → (HasLiveSlot old → IsSteady sound scope given told old (disk given.start before) → IsSafeChange sound scope given told more new before after)
+    → IsSafeNow sound scope given told old (disk given.start before) → IsSafeChange sound scope given told more new before after
+from-any sound scope given told more change old new before after m none gives go safe = ⊎_elim
+    (λ steady. ⊎_elim (λ some. go some steady) (λ empty. spent empty) (some-left (live_set old (marking old false)) old.lost (small old)))
+    (λ was. spent was.none)
     safe
   where
     small : (o : Members) (s : ℕ) → has_slot (live_set o (marking o false)) s ≡ true → s < 32
@@ -351,7 +361,66 @@ safe-change sound scope given told more change old new before after m none gives
         of true lt e = grind (arith, nat_tests, lt)
         of false lt e = absurd (cc)
 
-    spent : IsSpent sound scope given told more old (disk given.start before) → IsSafeStretch sound scope given told more new before after
-    spent is =
-        let stays = spent-stays sound scope given told more change old new before after m none gives is in
-        record { marks = stays.0; next = inr stays.1 }
+    spent : (HasLiveSlot old → ⊥) → IsSafeChange sound scope given told more new before after
+    spent empty = spent-stays sound scope given told more change old new before after m none gives (record {
+      right = wider sound scope given told more (disk given.start before) (safe-is-seen sound scope given told old before safe);
+      none = empty;
+    })
+
+pub safe-change : (sound : Type 0) → SafeChangeStaysSafe sound
+safe-change sound scope given told more change old new before after m none gives room owed now = from-any sound scope given told more change old new before after m none gives
+    (λ some steady. change-safe sound scope given told more change old new before after m (room some) (owed steady) steady) now
+
+-- ---- over a bank that tells its contents
+
+pub told-marks : {tells : Type 0} {start : Contents} {old new : List Operation} {P : Disk → Type 0} → tells → EachMark tells start old new P → EachMark ⊤ start old new P
+told-marks so marks = record { longer = λ one. marks.longer so; earlier = λ one. marks.earlier so; each = λ one n low high. marks.each so n low high }
+
+pub told-changed : {tells : Type 0} {given : Given} {change : Change} {old new : Members} {before after : List Operation} → tells → IsChanged tells given change old new before after
+    → IsChanged ⊤ given change old new before after
+told-changed so m = record {
+  update = record { marks = told-marks so m.update.marks; end = λ one. m.update.end so };
+  named = m.named;
+  newest = m.newest;
+  turns = told-marks so m.turns;
+  turned = λ one. m.turned so;
+  rise = λ one. m.rise so;
+  own = m.own;
+  roles = m.roles;
+  spares = m.spares;
+  alive = m.alive;
+  stay = m.stay;
+  live = m.live;
+}
+
+-- ---- the event count
+
+pub risen-changed : {tells : Type 0} {given : Given} {change : Change} {old new : Members} {before after : List Operation} → IsChanged tells given change old new before after
+    → change.added ≡ None → AreGivesOfLive old change → IsRisen tells old new before after
+risen-changed {change = change} {old = old} {new = new} m none gives = record {
+  left = λ live.
+      let was = live-before old new change gives m.roles m.spares live.0 live.1 in (
+        live.0,
+        live-of old (marking old false) refl live.0 ∙ sym (live-of old change none live.0) ∙ was.0,
+        ⊎_elim (λ is. absurd (let e = m.stay live.0 is in let both = sym e ∙ live.2 in cc)) (λ isnt. isnt) (by_bool (has_slot old.lost live.0)),
+      );
+  events = λ told live. m.rise told (inl (live.0, (live-before old new change gives m.roles m.spares live.0 live.1).0, live.2));
+}
+
+-- ---- by one ledger
+
+one-of : (sound : Type 0) (scope : Scope) (given : Given) (told : Ledger) (d : Disk) → AreEitherRight sound scope given told told d → AreViewsRight sound scope given told d
+one-of sound scope given told d seen c drawn = ⊎_elim (λ is. is) (λ is. is) (seen c drawn)
+
+-- where nothing more is told it is a stretch of a call
+pub one-stretch : (sound : Type 0) (scope : Scope) (given : Given) (told : Ledger) (new : Members) (before after : List Operation) → IsSafeChange sound scope given told told new before after
+    → IsSafeStretch sound scope given told new before after
+one-stretch sound scope given told new before after safe = record {
+  marks = record { longer = safe.marks.longer; earlier = safe.marks.earlier; each = λ one n low high. one-of sound scope given told (disk given.start (take n after)) (safe.marks.each tt n low high) };
+  next = ⊎_elim (λ named. inl named.steady) (λ spent. inr (record { right = one-of sound scope given told (disk given.start after) spent.right; none = spent.none })) safe.next;
+}
+
+-- where a live slot is left at the end, each lost slot that held a role is named
+pub change-named : (sound : Type 0) (scope : Scope) (given : Given) (told more : Ledger) (new : Members) (before after : List Operation)
+    → IsSafeChange sound scope given told more new before after → HasLiveSlot new → IsNamedNow sound scope given more new (disk given.start after)
+change-named sound scope given told more new before after safe left = ⊎_elim (λ named. named) (λ spent. absurd (spent.none left)) safe.next

@@ -18,7 +18,8 @@ use Rattle.flat_history.specs.Same.{IsElsewhere}
 use Rattle.flat_history.proofs.SameLaws.{read-same}
 use Rattle.shape_changes.specs.Steady.{AreDrawnSuperblocks}
 use Rattle.shape_changes.specs.Held.{IsHeldBy, AreElsewhere}
-use Rattle.views.proofs.ReadWhole.{IsSomewhere, filled, filled-drawn, filled-same}
+use Rattle.shape_views.specs.Windows.{IsSomewhere}
+use Rattle.shape_changes.proofs.Drawn.{filled, filled-drawn, filled-same}
 
 -- the superblocks' sectors of the slots that are looked at have no new values
 pub record AreNoNewer (scope : Scope) (d e : ℕ → ℕ → List Sector) : Type 0 where

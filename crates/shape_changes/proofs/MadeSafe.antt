@@ -21,7 +21,7 @@ use Rattle.superblocks.specs.Reading.{Scope, is_backup, role_count}
 use Rattle.superblocks.specs.Reads.{has_spare}
 use Rattle.superblocks.specs.Update.{own_in, give_of, is_live, is_held_by, is_recovery, planned_role, is_planned_spare, slot_entry, entry_for, with_entries, with_roles, faulty_role}
 use Rattle.superblocks.specs.Updating.{IsSomeLeft, IsLater, AreNamed, planned_newest}
-use Rattle.superblocks.specs.Outcome.{live_set, planned_state}
+use Rattle.superblocks.specs.Outcome.{live_set, is_left, AreGivesOfLive, planned_state}
 use Rattle.superblocks.specs.Held.{AreDrawn}
 use Rattle.superblocks.specs.Stages.{AreLeft, AreKept, AreFirstKept}
 use Rattle.superblock_reads.specs.Following.{AreHeldAlone}
@@ -47,9 +47,11 @@ use Rattle.shape_views.specs.Windows.{IsUpdating}
 use Rattle.shape_changes.specs.Updates.{planned_view, HasOneHolder}
 use Rattle.shape_changes.specs.Marking.{marking}
 use Rattle.shape_changes.specs.Held.{IsHeldBy}
+use Rattle.shape_changes.specs.Carried.{AreCarried}
 use Rattle.shape_changes.specs.Safety.{HasMarkRoom}
-use Rattle.shape_changes.specs.Steady.{AreViewsRight, IsSteady, IsSafeStretch}
-use Rattle.shape_changes.specs.Changing.{IsChanged, IsFitUpdate}
+use Rattle.shape_changes.specs.Steady.{IsSteady, IsNamedNow}
+use Rattle.shape_changes.specs.Changing.{IsChanged, IsFitUpdate, AreEitherRight, IsSafeChange}
+use Rattle.shape_changes.proofs.Carried.{carried-more, numbers-updated}
 use Rattle.shape_changes.specs.Making.{IsMade, IsMakable, MakingStaysSafe}
 use Rattle.shape_changes.proofs.LessViews.{less-right}
 use Rattle.shape_views.proofs.WindowLaws.{updating-right}
@@ -60,7 +62,7 @@ use Rattle.shape_changes.proofs.Kept.{give_of-same}
 use Rattle.shape_changes.proofs.FitKinds.{taking-is-fit}
 use Rattle.shape_changes.proofs.Started.{Live, Lost, Left, gone-lost, first-lost, live-known, live-small, left-known, left-is, fits-of, same-first, fields-at, live-first, ready, said-planned}
 use Rattle.shape_changes.proofs.ChangeViews.{later-fits, known-read, placed-less, plan-less, plan-placed, plan-told, new-less, new-kept}
-use Rattle.shape_changes.proofs.ChangeSafe.{views-right, some-left}
+use Rattle.shape_changes.proofs.ChangeSafe.{either-right, some-left, from-any}
 use Rattle.shape_changes.proofs.Drawn.{disk-somewhere}
 
 left-and : (a b : Bool) → (a && not b) ≡ true → (a ≡ true) × (b ≡ false)
@@ -81,8 +83,10 @@ or-rest false b e none = e
 
 module _ (sound : Type 0) (scope : Scope) (given : Given) (told more : Ledger) (change : Change) (slot role : ℕ) (former : Members) (gone : ℕ) (new : Members) (before after : List Operation)
     (made : IsMade ⊤ given change (members_without gone former) new before after) (room : HasMarkRoom (members_without gone former) before after)
+    (gives : AreGivesOfLive (members_without gone former) change)
     (safe : IsMakable sound scope given told more change slot role (members_without gone former) new (disk given.start before))
-    (held : IsHeldBy scope former (disk given.start before)) (right : IsViewRight sound scope given told former (disk given.start before)) where
+    (held : IsHeldBy scope former (disk given.start before)) (right : IsViewRight sound scope given told former (disk given.start before))
+    (numbers : AreCarried scope told.carried former.own (disk given.start before)) where
   abbrev Old : Members
   Old = members_without gone former
 
@@ -318,8 +322,8 @@ module _ (sound : Type 0) (scope : Scope) (given : Given) (told more : Ledger) (
           | inr (inr r) ↦ inl (as-still c r)
         ]
 
-  seen-at : (n : ℕ) → length before ≤ n → n ≤ length after → AreViewsRight sound scope given told more (At n)
-  seen-at n low high = views-right sound scope given told more (At n) (disk-somewhere given (take n after)) (λ c drawn. elim (cases_lt (length before) (length after)) [
+  seen-at : (n : ℕ) → length before ≤ n → n ≤ length after → AreEitherRight sound scope given told more (At n)
+  seen-at n low high = either-right sound scope given told more (At n) (disk-somewhere given (take n after)) (λ c drawn. elim (cases_lt (length before) (length after)) [
     | inl grew ↦ each-seen (room-of (inr grew)) n low high c drawn
     | inr short ↦ inl (
         let same : take n after ≡ before = take_all n after (omega (arith, short, low)) ∙ sym (take_all (length before) after short) ∙ m.update.marks.earlier tt in
@@ -348,7 +352,7 @@ module _ (sound : Type 0) (scope : Scope) (given : Given) (told more : Ledger) (
 
     said-as : AreSaidAsPlanned scope held.known new.lost Rest (members_without gone former) change new.newest new.own
     said-as = made-planned new.lost Rest m.stay rest-are new.newest new.own (first-room small) m.live m.newest (m.named some) alone.held.table
-        (new-kept Old new change safe.gives m.newest m.own m.roles m.spares Rest rest-are)
+        (new-kept Old new change gives m.newest m.own m.roles m.spares Rest rest-are)
 
     kept-then : (s : ℕ) → has_slot new.lost s ≡ false → has_slot Old.lost s ≡ false
     kept-then s none = ⊎_elim (λ is. absurd (let e = m.stay s is in let both = sym e ∙ none in cc)) (λ isnt. isnt) (by_bool (has_slot Old.lost s))
@@ -356,7 +360,7 @@ module _ (sound : Type 0) (scope : Scope) (given : Given) (told more : Ledger) (
     live-new : AreLeft (live_set new (marking new false)) new.lost Rest
     live-new s = rest-are s ∙ ⊎_elim
         (λ is. ap (λ (b : Bool). has_slot Lives s && not b) is ∙ nothing (has_slot Lives s) (has_slot (live_set new (marking new false)) s) ∙ sym (ap (λ (b : Bool). has_slot (live_set new (marking new false)) s && not b) is))
-        (λ none. ap (λ (b : Bool). b && not (has_slot new.lost s)) (sym (live-same Old new change safe.gives m.roles m.spares safe.making.none
+        (λ none. ap (λ (b : Bool). b && not (has_slot new.lost s)) (sym (live-same Old new change gives m.roles m.spares safe.making.none
         (λ t u r kept kept' is is'. one-holder t u r (kept-then t kept) (kept-then u kept') is is')
         (λ t r kept has. fit.below t r (kept-then t kept) (sym (role-stays t) ∙ has)) s none)))
         (by_bool (has_slot new.lost s))
@@ -383,33 +387,46 @@ module _ (sound : Type 0) (scope : Scope) (given : Given) (told more : Ledger) (
     new-right =
         let plan-right = less-right sound scope given more (planned_view Old change Old.lost) (planned_view Old change new.lost) Before
         (plan-less scope given Old change safe.right.placed one-holder new.lost m.stay) (plan-placed scope given Old change safe.right.placed one-holder new.lost m.stay) safe.gone safe.right in
-        let less = new-less Old new change safe.gives m.newest m.own m.roles m.spares in
+        let less = new-less Old new change gives m.newest m.own m.roles m.spares in
         let placed = placed-less scope given (planned_view Old change new.lost) new less (later-fits (planned_newest change.shared former.newest) new.newest m.newest safe.right.placed.fit)
         (subst (λ (z : Sb). backup_absent scope z ≡ None) (sym m.newest.same) safe.right.placed.backup) plan-right.placed in
         less-right sound scope given more (planned_view Old change new.lost) new Before less placed
         (λ r lt missing. safe.gone r (subst (λ (z : Sb). r < role_count z) m.newest.same lt) (ap (λ (l : List Role). is_missing (record (reading_of new) { roles = l }) r) (sym m.roles) ∙ missing)) plan-right
 
-    next-held : IsSteady sound scope given more new (disk given.start after)
-    next-held = record {
-      former = new;
-      since = record { gone = 0; since = sym (without-none new); held = held-new };
-      right = at-end (IsViewRight sound scope given more new)
-          (updating-right sound scope given more new Before (At (length after)) (disk-somewhere given before) (updating (length after) (m.update.marks.longer tt) (le_refl (length after))) new-right);
+    next-named : IsNamedNow sound scope given more new (disk given.start after)
+    next-named = record {
+      steady = record {
+        former = new;
+        since = record { gone = 0; since = sym (without-none new); held = held-new };
+        right = at-end (IsViewRight sound scope given more new)
+            (updating-right sound scope given more new Before (At (length after)) (disk-somewhere given before) (updating (length after) (m.update.marks.longer tt) (le_refl (length after))) new-right);
+        numbers = carried-more scope told.carried more.carried new.own (disk given.start after) safe.carried
+            (numbers-updated scope given told.carried former Old new change new.newest new.lost (is_left Lives new.lost) before after
+            tt safe.making.none m.update m.own (record { gone = gone; since = refl; held = held }) numbers);
+      };
+      roles = refl;
     }
 
-  made-stretch : IsSafeStretch sound scope given told more new before after
+  made-stretch : IsSafeChange sound scope given told more new before after
   made-stretch = record {
     marks = record { longer = m.update.marks.longer; earlier = m.update.marks.earlier; each = λ one n low high. seen-at n low high };
-    next = ⊎_elim (λ some. inl (next-held some))
+    next = ⊎_elim (λ some. inl (next-named some))
         (λ none. inr (record {
-          right = at-end (AreViewsRight sound scope given told more) (seen-at (length after) (m.update.marks.longer tt) (le_refl (length after)));
-          none = λ some. none (some.0, (live-before Old new change safe.gives m.roles m.spares some.0 some.1).0, some.2);
+          right = at-end (AreEitherRight sound scope given told more) (seen-at (length after) (m.update.marks.longer tt) (le_refl (length after)));
+          none = λ some. none (some.0, (live-before Old new change gives m.roles m.spares some.0 some.1).0, some.2);
         }))
         (some-left Lives new.lost (live-small scope former gone Still Before held fit shapes));
   }
 
+made-steady : (sound : Type 0) (scope : Scope) (given : Given) (told more : Ledger) (change : Change) (slot role : ℕ) (old new : Members) (before after : List Operation)
+    → IsMade ⊤ given change old new before after → HasMarkRoom old before after → AreGivesOfLive old change → IsMakable sound scope given told more change slot role old new (disk given.start before)
+    → IsSteady sound scope given told old (disk given.start before) → IsSafeChange sound scope given told more new before after
+made-steady sound scope given told more change slot role old new before after made room gives safe steady =
+    subst (λ (o : Members). IsMade ⊤ given change o new before after → HasMarkRoom o before after → AreGivesOfLive o change → IsMakable sound scope given told more change slot role o new (disk given.start before)
+    → IsSafeChange sound scope given told more new before after) (sym steady.since.since)
+    (λ made room gives safe. made-stretch sound scope given told more change slot role steady.former steady.since.gone new before after made room gives safe steady.since.held steady.right steady.numbers) made room gives safe
+
 pub making-safe : (sound : Type 0) → MakingStaysSafe sound
-making-safe sound scope given told more change slot role old new before after made room safe steady =
-    subst (λ (o : Members). IsMade ⊤ given change o new before after → HasMarkRoom o before after → IsMakable sound scope given told more change slot role o new (disk given.start before)
-    → IsSafeStretch sound scope given told more new before after) (sym steady.since.since)
-    (λ made room safe. made-stretch sound scope given told more change slot role steady.former steady.since.gone new before after made room safe steady.since.held steady.right) made room safe
+making-safe sound scope given told more change slot role old new before after made none gives room owed now =
+    from-any sound scope given told more change old new before after made.changed none gives
+    (λ some steady. made-steady sound scope given told more change slot role old new before after made (room some) gives (owed steady) steady) now

@@ -5,7 +5,7 @@ use Rattle.bank.specs.declared.bank.Operation.{Operation}
 use Rattle.superblocks.specs.declared.members.Members.{Members}
 use Rattle.row_io.specs.Rows.{members_without}
 use Rattle.shape_changes.specs.Safety.{HasRoomLeft, IsRisen}
-use Rattle.views.proofs.Without.{in-both, live-before}
+use Rattle.shape_changes.proofs.Without.{in-both, live-before}
 
 module _ {tells : Type 0} where
   pub risen-then : {a b c : Members} {one two three : List Operation} → IsRisen tells a b one two → IsRisen tells b c two three → IsRisen tells a c one three

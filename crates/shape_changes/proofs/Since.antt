@@ -6,23 +6,15 @@ use Rattle.md_base.specs.declared.status.Role.{Role}
 use Rattle.md_base.specs.declared.status.Role.TheVariants.{Whole, Recovering, Missing}
 use Rattle.superblocks.specs.declared.members.Members.{Members}
 use Rattle.superblocks.specs.Reading.{Scope}
-use Rattle.superblocks.proofs.SlotSets.{same_set, none_there}
+use Rattle.superblocks.proofs.SlotSets.{same_set}
 use Rattle.row_io.specs.Rows.{role_without, members_without}
 use Rattle.shape_changes.specs.Held.{IsHeldBy}
-use Rattle.views.proofs.PlacedLaws.{none-lost}
 use Rattle.shape_changes.specs.Rounds.{IsHeldSince}
-use Rattle.views.proofs.Without.{in-both}
+use Rattle.shape_changes.proofs.Without.{in-both, without-none}
 
 -- where none was lost, they are held as the members say
 pub since-none : (scope : Scope) (members : Members) (d : ℕ → ℕ → List Sector) → IsHeldBy scope members d → IsHeldSince scope members members d
-since-none scope members d held = record { gone = 0; since = λ i. record members { roles = sym (none-lost members.roles) i; lost = sym lost-same i }; held = held }
-  where
-    or_none : (b : Bool) → (b || false) ≡ b
-    or_none true = refl
-    or_none false = refl
-
-    lost-same : bit_or members.lost 0 ≡ members.lost
-    lost-same = same_set (bit_or members.lost 0) members.lost (λ s. in-both members.lost 0 s ∙ ap (λ (b : Bool). has_slot members.lost s || b) (none_there s) ∙ or_none (has_slot members.lost s))
+since-none scope members d held = record { gone = 0; since = sym (without-none members); held = held }
 
 -- where more are lost, they stay so
 pub since-more : (scope : Scope) (former members : Members) (lost : ℕ) (d : ℕ → ℕ → List Sector) → IsHeldSince scope former members d → IsHeldSince scope former (members_without lost members) d

@@ -16,37 +16,25 @@ use Rattle.superblocks.specs.Outcome.{live_set}
 use Rattle.superblocks.specs.Reads.{has_spare}
 use Rattle.row_io.specs.Rows.{reading_of}
 use Rattle.list_io.specs.Writing.{MayHaveFull, IsPutting}
-use Rattle.views.specs.Placed.{IsPlaced}
-use Rattle.shape_changes.specs.Steady.{AreUnlost}
+use Rattle.shape_changes.specs.Steady.{AreHolders, AreUnlost}
 use Rattle.shape_changes.specs.Marking.{marking}
-use Rattle.views.proofs.MarkLaws.{holder-held}
-use Rattle.views.proofs.Without.{live-is}
+use Rattle.shape_changes.proofs.Without.{any-held, live-is}
 
--- a slot that holds a role is among those that hold one
-pub any-holder : (s : ℕ) (roles : List Role) (role : ℕ) → holder (get_or roles role Missing) ≡ Some s → list_any (is_held_by s) roles ≡ true
-any-holder s [] role is = absurd (cc)
-any-holder s (state ∷ roles) zero is = ap (λ (b : Bool). b || list_any (is_held_by s) roles) (holder-held s state is)
-any-holder s (state ∷ roles) (suc role) is = ap (λ (b : Bool). is_held_by s state || b) (any-holder s roles role is) ∙ or_true (is_held_by s state)
-  where
-    or_true : (b : Bool) → (b || true) ≡ true
-    or_true true = refl
-    or_true false = refl
-
--- and it is live
-pub live-holder : (given : Given) (m : Members) (clean : Bool) (role slot : ℕ) → IsPlaced given m → holder (role_state (reading_of m) role) ≡ Some slot
+-- a slot that holds a role is live
+pub live-holder : (given : Given) (m : Members) (clean : Bool) (role slot : ℕ) → AreHolders given m → holder (role_state (reading_of m) role) ≡ Some slot
     → has_slot (live_set m (marking m clean)) slot ≡ true
-live-holder given m clean role slot placed holds =
+live-holder given m clean role slot holders holds =
     live-is m clean slot
-    ∙ (λ i. below i && ((any-holder slot m.roles role holds i || has_spare m.spares slot) || false))
+    ∙ (λ i. below i && ((any-held slot m.roles role holds i || has_spare m.spares slot) || false))
   where
     below : nat_lt slot 32 ≡ true
-    below = let small = (placed.holders role slot holds).small in grind (arith, nat_tests, small)
+    below = let small = (holders role slot holds).small in grind (arith, nat_tests, small)
 
 -- so no row can be put
-pub nothing-put : (given : Given) (m : Members) (shape : Shape) (list : ℕ → Sector) (touched : ℕ → Type 0) (d e : ℕ → ℕ → List Sector) → IsPlaced given m → AreUnlost m
+pub nothing-put : (given : Given) (m : Members) (shape : Shape) (list : ℕ → Sector) (touched : ℕ → Type 0) (d e : ℕ → ℕ → List Sector) → AreHolders given m → AreUnlost m
     → (IsSomeLeft (live_set m (marking m false)) m.lost → ⊥) → IsPutting (reading_of m) shape list touched d e → (s k : ℕ) → e s k ≡ d s k
-nothing-put given m shape list touched d e placed unlost none putting s k = by (putting s k)
+nothing-put given m shape list touched d e holders unlost none putting s k = by (putting s k)
   where
     by : (e s k ≡ d s k) ⊎ MayHaveFull (reading_of m) shape list touched s k (d s k) (e s k) → e s k ≡ d s k
     by (inl same) = same
-    by (inr full) = absurd (none (s, live-holder given m false full.role s placed full.held, unlost full.role s full.held))
+    by (inr full) = absurd (none (s, live-holder given m false full.role s holders full.held, unlost full.role s full.held))

@@ -1,73 +1,53 @@
--- Rows that are written in a dirty array keep it safe: a place of the list gets its sector of the list, which is allowed.
-use Rattle.std.proofs.Common.{◌≡◌, ◌⊎◌, inl, inr, ℕ, ◌+◌, false, List, Contains, sym, ◌∙◌, subst, arith}
+-- Rows of one region that are written in a dirty array keep it safe: a place of the list gets its sector of the list, which is allowed.
+use Rattle.std.proofs.Common.{◌≡◌, ◌⊎◌, inl, inr, ℕ, ◌+◌, false, List, Contains, refl, sym, subst, arith}
+use Rattle.md_base.specs.declared.places.Shape.{Shape}
 use Rattle.md_base.specs.Sectors.{Sector}
 use Rattle.bank.specs.Given.{Given}
 use Rattle.bank.specs.Tape.{IsIn}
-use Rattle.layout.specs.Layout.{place}
 use Rattle.superblocks.specs.declared.members.Members.{Members}
-use Rattle.superblocks.specs.Reading.{Scope, is_clean, shape_of, data_offset_of}
+use Rattle.superblocks.specs.Reading.{Scope, is_clean}
 use Rattle.row_io.specs.Rows.{reading_of, members_without}
-use Rattle.row_io.proofs.Losses.{holder-of, holder-after}
-use Rattle.list_io.specs.Full.{full_sector}
+use Rattle.row_io.proofs.Losses.{holder-after}
 use Rattle.list_io.specs.Writing.{MayHaveFull, IsPutting, AreSuperblocksKept}
-use Rattle.list_io.proofs.FullLaws.{places-are-full}
-use Rattle.views.specs.Placed.{IsPlaced}
-use Rattle.shape_changes.specs.Steady.{AreUnlost, IsSteady, IsSafeNow, AreWritesAllowed, WritesStaySafe}
-use Rattle.shape_views.specs.Views.{Ledger, AreHeldAllowed, IsViewRight}
-use Rattle.shape_changes.proofs.Steady.{losing-stays-safe}
-use Rattle.shape_changes.proofs.HeldAlike.{held-alike}
+use Rattle.shape_views.specs.Views.{Disk, Ledger, IsViewRight}
+use Rattle.shape_views.specs.Windows.{IsOfRegion}
+use Rattle.shape_views.proofs.WindowLaws.{putting-right}
+use Rattle.shape_changes.specs.Steady.{IsSteady, IsSafeNow, AreHolders, AreUnlost, AreWritesAllowed, WritesStaySafe}
 use Rattle.shape_changes.proofs.Carried.{carried-fewer}
+use Rattle.shape_changes.proofs.HeldAlike.{held-alike}
 use Rattle.shape_changes.proofs.Spent.{nothing-put}
+use Rattle.shape_changes.proofs.Steady.{losing-stays-safe}
 
-abbrev Disk : Type 0
-Disk = ℕ → ℕ → List Sector
-
--- ---- the view by the members before they lost slots
-
-module _ (given : Given) (former : Members) (gone : ℕ) (values : ℕ → List Sector) (list : ℕ → Sector) (touched : ℕ → Type 0) (d e : Disk) (placed : IsPlaced given former)
-    (allowed : AreWritesAllowed (members_without gone former) values list)
-    (putting : IsPutting (reading_of (members_without gone former)) (shape_of former.newest) list touched d e) where
-  put-allowed : AreHeldAllowed former values d → AreHeldAllowed former values e
-  put-allowed held x slot lt holds v may = by (putting slot (data_offset_of (reading_of former) slot + (place (shape_of former.newest) x).row))
-    where
-      by : (e slot (data_offset_of (reading_of former) slot + (place (shape_of former.newest) x).row) ≡ d slot (data_offset_of (reading_of former) slot + (place (shape_of former.newest) x).row))
-          ⊎ MayHaveFull (reading_of (members_without gone former)) (shape_of former.newest) list touched slot (data_offset_of (reading_of former) slot + (place (shape_of former.newest) x).row)
-          (d slot (data_offset_of (reading_of former) slot + (place (shape_of former.newest) x).row)) (e slot (data_offset_of (reading_of former) slot + (place (shape_of former.newest) x).row))
-          → IsIn (values x) v
-      by (inl same) = held x slot lt holds v (subst (λ (l : List Sector). IsIn l v) same may)
-      by (inr full) = of (full.values v may)
-        where
-          role-is : full.role ≡ (place (shape_of former.newest) x).role
-          role-is = placed.apart full.role (place (shape_of former.newest) x).role slot
-              (holder-after former gone full.role slot full.held)
-              (holder-of (reading_of former) (place (shape_of former.newest) x).role (place (shape_of former.newest) x).row slot holds)
-
-          row-is : full.row ≡ (place (shape_of former.newest) x).row
-          row-is = let at = full.place in omega (arith, at)
-
-          of : IsIn (d slot (data_offset_of (reading_of former) slot + (place (shape_of former.newest) x).row)) v ⊎ (v ≡ full_sector (shape_of former.newest) list full.row full.role)
-              → IsIn (values x) v
-          of (inl was) = held x slot lt holds v was
-          of (inr is) = subst (λ (w : Sector). IsIn (values x) w)
-              (sym (is ∙ (λ i. full_sector (shape_of former.newest) list (row-is i) (role-is i)) ∙ places-are-full (shape_of former.newest) list x placed.valid)) (allowed x lt)
+-- what is put on the members without lost slots is put on the former ones
+former-putting : (former : Members) (gone : ℕ) (shape : Shape) (list : ℕ → Sector) (touched : ℕ → Type 0) (d e : Disk)
+    → IsPutting (reading_of (members_without gone former)) shape list touched d e → IsPutting (reading_of former) shape list touched d e
+former-putting former gone shape list touched d e putting s k = of (putting s k)
+  where
+    of : (e s k ≡ d s k) ⊎ MayHaveFull (reading_of (members_without gone former)) shape list touched s k (d s k) (e s k)
+        → (e s k ≡ d s k) ⊎ MayHaveFull (reading_of former) shape list touched s k (d s k) (e s k)
+    of (inl same) = inl same
+    of (inr full) = inr (record {
+      row = full.row;
+      role = full.role;
+      among = full.among;
+      within = full.within;
+      held = holder-after former gone full.role s full.held;
+      place = full.place;
+      values = full.values;
+    })
 
 -- ---- the law
 
-module _ (sound : Type 0) (scope : Scope) (given : Given) (told : Ledger) (list : ℕ → Sector) (touched : ℕ → Type 0) (d e : Disk) (kept : AreSuperblocksKept d e) where
-  view-written : (former : Members) (gone : ℕ) → is_clean former.newest ≡ false → AreWritesAllowed (members_without gone former) told.values list
-      → IsPutting (reading_of (members_without gone former)) (shape_of former.newest) list touched d e → IsViewRight sound scope given told former d → IsViewRight sound scope given told former e
-  view-written former gone dirty allowed putting right = record {
-    placed = right.placed;
-    sized = right.sized;
-    gone = right.gone;
-    unclean = right.unclean;
-    held = put-allowed given former gone told.values list touched d e right.placed allowed putting right.held;
-    settled = λ clean does premise. absurd (let both = sym dirty ∙ clean in cc);
-  }
+module _ (sound : Type 0) (scope : Scope) (given : Given) (told : Ledger) (shape : Shape) (list : ℕ → Sector) (rows : List ℕ) (d e : Disk) (kept : AreSuperblocksKept d e) where
+  view-written : (former : Members) (gone : ℕ) → is_clean former.newest ≡ false → IsOfRegion (members_without gone former) shape (Contains rows)
+      → AreWritesAllowed (members_without gone former) told.values list → IsPutting (reading_of (members_without gone former)) shape list (Contains rows) d e
+      → IsViewRight sound scope given told former d → IsViewRight sound scope given told former e
+  view-written former gone dirty region allowed putting right =
+      putting-right sound scope given told former shape list rows d e dirty region allowed (former-putting former gone shape list (Contains rows) d e putting) right
 
-  steady-written : (members : Members) → is_clean members.newest ≡ false → AreWritesAllowed members told.values list → IsPutting (reading_of members) (shape_of members.newest) list touched d e
-      → IsSteady sound scope given told members d → IsSteady sound scope given told members e
-  steady-written members dirty allowed putting steady = record {
+  steady-written : (members : Members) → is_clean members.newest ≡ false → IsOfRegion members shape (Contains rows) → AreWritesAllowed members told.values list
+      → IsPutting (reading_of members) shape list (Contains rows) d e → IsSteady sound scope given told members d → IsSteady sound scope given told members e
+  steady-written members dirty region allowed putting steady = record {
     former = steady.former;
     since = record {
       gone = steady.since.gone;
@@ -75,20 +55,23 @@ module _ (sound : Type 0) (scope : Scope) (given : Given) (told : Ledger) (list 
       held = held-alike scope d e (λ s. kept s 8 (omega arith)) (λ s. kept s 9 (omega arith)) steady.former steady.since.held;
     };
     right = subst
-        (λ (m : Members). is_clean m.newest ≡ false → AreWritesAllowed m told.values list → IsPutting (reading_of m) (shape_of m.newest) list touched d e → IsViewRight sound scope given told steady.former e)
-        (sym steady.since.since) (λ is may put. view-written steady.former steady.since.gone is may put steady.right) dirty allowed putting;
+        (λ (m : Members). is_clean m.newest ≡ false → IsOfRegion m shape (Contains rows) → AreWritesAllowed m told.values list → IsPutting (reading_of m) shape list (Contains rows) d e
+        → IsViewRight sound scope given told steady.former e)
+        (sym steady.since.since) (λ is of may put. view-written steady.former steady.since.gone is of may put steady.right) dirty region allowed putting;
     numbers = carried-fewer scope told.carried steady.former.own d e (λ s v may. subst (λ (l : List Sector). IsIn l v) (kept s 8 (omega arith)) may)
         (λ s v may. subst (λ (l : List Sector). IsIn l v) (kept s 9 (omega arith)) may) steady.numbers;
   }
 
-  safe-written : (members : Members) → IsPlaced given members → is_clean members.newest ≡ false → AreUnlost members → AreWritesAllowed members told.values list
-      → IsPutting (reading_of members) (shape_of members.newest) list touched d e → IsSafeNow sound scope given told members d → IsSafeNow sound scope given told members e
-  safe-written members placed dirty unlost allowed putting (inl steady) = inl (steady-written members dirty allowed putting steady)
-  safe-written members placed dirty unlost allowed putting (inr spent) =
+  safe-written : (members : Members) → AreHolders given members → is_clean members.newest ≡ false → AreUnlost members → IsOfRegion members shape (Contains rows)
+      → AreWritesAllowed members told.values list → IsPutting (reading_of members) shape list (Contains rows) d e
+      → IsSafeNow sound scope given told members d → IsSafeNow sound scope given told members e
+  safe-written members holders dirty unlost region allowed putting (inl steady) = inl (steady-written members dirty region allowed putting steady)
+  safe-written members holders dirty unlost region allowed putting (inr spent) =
       subst (λ (f : Disk). IsSafeNow sound scope given told members f)
-      (λ i s k. sym (nothing-put given members (shape_of members.newest) list touched d e placed unlost spent.none putting s k) i) (inr spent)
+      (λ i s k. sym (nothing-put given members shape list (Contains rows) d e holders unlost spent.none putting s k) i) (inr spent)
 
 pub writes-stay-safe : (sound : Type 0) → WritesStaySafe sound
-writes-stay-safe sound scope given told members list rows lost d e placed dirty unlost allowed putting kept safe =
-    losing-stays-safe sound scope given lost told told members e (record { values = λ x lt v may. may; gone = λ role is. is; unclean = λ is. is; carried = λ number is. is })
-    (safe-written sound scope given told list (Contains rows) d e kept members placed dirty unlost allowed putting safe)
+writes-stay-safe sound scope given told members shape list rows lost d e holders dirty unlost region allowed putting kept safe =
+    losing-stays-safe sound scope given lost told told members e
+    (record { size = refl; values = λ x lt v may. may; gone = λ role is. is; unclean = λ is. is; reshaping = λ is. is; carried = λ number is. is })
+    (safe-written sound scope given told shape list rows d e kept members holders dirty unlost region allowed putting safe)

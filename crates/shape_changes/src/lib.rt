@@ -10,6 +10,8 @@ ghost use Rattle.shape_changes.specs.Kinds.{KeptStaysSafe, MarkStaysSafe, Record
 ghost use Rattle.shape_changes.specs.Giving.{PlacedLessIsRight, GivingStaysSafe};
 ghost use Rattle.shape_changes.specs.Flushed.{BeginStaysSafe, FlushedChangeStaysSafe};
 ghost use Rattle.shape_changes.specs.Making.{MakingStaysSafe};
+ghost use Rattle.shape_changes.specs.Held.{HeldStays};
+ghost use Rattle.shape_changes.specs.Steady.{SafeIsSeen, LosingStaysSafe, FlushesStaySafe, WritesStaySafe, FillingStaysSafe};
 
 /// What is read as an update plans is read of the members that it plans.
 pub fn planned_is_read()

@@ -22,7 +22,7 @@ use Rattle.views.specs.Placed.{IsPlaced}
 use Rattle.shape_changes.specs.Steady.{AreUnlost}
 use Rattle.views.proofs.HeldRows.{recovered_of}
 use Rattle.views.proofs.Without.{any-holds}
-use Rattle.shape_changes.proofs.Spent.{any-holder}
+use Rattle.shape_changes.proofs.Without.{any-held}
 use Rattle.views.proofs.Gives.{state_given, with_given, holder-given, IsGivable}
 
 -- the offset from which a slot recovers; 0 where it is whole
@@ -158,7 +158,7 @@ module _ (given : Given) (m : Members) (placed : IsPlaced given m) (recovery : O
           let found = any-holds s W.roles holds in
           ⊎_elim
           (λ here. absurd (apart here.1))
-          (λ other. ap (λ (b : Bool). b || has_spare m.spares s) (any-holder s m.roles found.0 other.2))
+          (λ other. ap (λ (b : Bool). b || has_spare m.spares s) (any-held s m.roles found.0 other.2))
           (holder-then found.0 s found.1)
       was apart false holds e = ap (λ (b : Bool). list_any (is_held_by s) m.roles || b) (spare-before s e).0 ∙ or_true (list_any (is_held_by s) m.roles)
 

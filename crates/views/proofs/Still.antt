@@ -9,7 +9,7 @@ use Rattle.md_base.specs.declared.places.Shape.{Shape}
 use Rattle.md_base.specs.declared.places.Place.{Place}
 use Rattle.md_base.specs.declared.places.Span.{Span}
 use Rattle.md_base.specs.declared.answers.Refusal.TheVariants.{BackupAbsent, PositionNotOnUnit}
-use Rattle.md_base.specs.Shapes.{is_level, is_layout, is_valid_shape, is_multiple}
+use Rattle.md_base.specs.Shapes.{has_slot, is_level, is_layout, is_valid_shape, is_multiple}
 use Rattle.bank.specs.Given.{Given}
 use Rattle.bank.specs.declared.bank.Operation.{Operation}
 use Rattle.bank.specs.Tape.{Contents, IsIn, IsDrawn, disk}
@@ -109,7 +109,7 @@ size-good sb slots none = third-fails (72, not (is_level sb.level)) (76, not (is
 some-size : (sb : Sb) (slots : List (Sb × ℕ)) → find (λ f. f.1) (judged_fields sb slots) ≡ None → 1 ≤ sb.size
 some-size sb slots good = of (nat_le 1 sb.size) refl (size-good sb slots good)
   where
-    of : (b : Bool) → nat_le 1 sb.size ≡ b → not (b && (nat_le sb.size (2 ^ 48) && is_multiple sb.size sb.chunksize && (not (is_reshaping sb) || is_multiple sb.size sb.new_chunk))) ≡ false → 1 ≤ sb.size
+    of : (b : Bool) → nat_le 1 sb.size ≡ b → not (b && nat_le sb.size (2 ^ 48) && is_multiple sb.size sb.chunksize && (not (is_reshaping sb) || is_multiple sb.size sb.new_chunk)) ≡ false → 1 ≤ sb.size
     of true is e = grind (arith, nat_tests, is)
     of false is e = absurd (cc)
 

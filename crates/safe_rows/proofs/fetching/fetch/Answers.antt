@@ -155,7 +155,7 @@ returns-clause-rise g c =
 pub returns-then-is_err-clause-safe : goal.returns-then-is_err-clause-safe
 returns-then-is_err-clause-safe g c = λ tell world told room gone unclean now.
     let did = c.read_parts-read.ensures in
-    safe-lost (OpensFit world) world.scope (g.B.Bank.given c.args.bank.now) size told c.args.members.now c.read_parts-read.new.members c.read_parts-read.result.lost
+    safe-lost (OpensFit world) world.scope (g.B.Bank.given c.args.bank.now) told c.args.members.now c.read_parts-read.new.members c.read_parts-read.result.lost
     (g.B.Bank.tape c.args.bank.now) (g.B.Bank.tape c.read_parts-read.new.bank) did.lost.members (did.tape tell) now
 
 pub returns-clause-safe : goal.returns-clause-safe

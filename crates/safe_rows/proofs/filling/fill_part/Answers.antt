@@ -77,7 +77,7 @@ returns-then-is_some-clause-rise g c =
 
 pub returns-then-is_some-clause-safe : goal.returns-then-is_some-clause-safe
 returns-then-is_some-clause-safe g c =
-    λ told world size ledger room gone unclean safe.
+    λ told world ledger room gone unclean safe.
     let m = c.args.members.now in
     let n = c.read_touched-read.new.members in
     let given = g.B.Bank.given c.args.bank.now in
@@ -295,7 +295,7 @@ returns-then-is_some-2-clause-rise g c =
 
 pub returns-then-is_some-2-clause-safe : goal.returns-then-is_some-2-clause-safe
 returns-then-is_some-2-clause-safe g c =
-    λ told world size ledger room gone unclean safe.
+    λ told world ledger room gone unclean safe.
     let m = c.args.members.now in
     let n = c.read_touched-read.new.members in
     let given = g.B.Bank.given c.args.bank.now in
@@ -325,7 +325,7 @@ returns-then-is_some-2-clause-safe g c =
     let first : KeepsSafe world given ledger n tape0 tape1 = safe-lost (OpensFit world) world.scope given ledger m n r tape0 tape1 did.lost.members (did.tape told) safe in
     let unclean1 : IsUncleanTold ledger n = λ dirty. unclean (sym (ap (λ (x : Members). is_clean x.newest) did.lost.members) ∙ dirty) in
     let second : KeepsSafe world given ledger p tape1 tape2 = keeps-from world given given1 ledger p tape1 tape2 did.given
-    (named.safe told world size ledger (room-then tape2 told room risen1) gone unclean1 (over-at world given given1 ledger n tape1 did.given first.next)) in
+    (named.safe told world ledger (room-then tape2 told room risen1) gone unclean1 (over-at world given given1 ledger n tape1 did.given first.next)) in
     safe-then (OpensFit world) world.scope given ledger n p tape0 tape1 tape2 first second
 
 pub returns-then-is_some-2-clause-counts : goal.returns-then-is_some-2-clause-counts
@@ -851,7 +851,7 @@ returns-clause-rise g c =
 
 pub returns-clause-safe : goal.returns-clause-safe
 returns-clause-safe g c =
-    λ told world size ledger room gone unclean safe.
+    λ told world ledger room gone unclean safe.
     let m = c.args.members.now in
     let n = c.read_touched-read.new.members in
     let given = g.B.Bank.given c.args.bank.now in
@@ -888,10 +888,10 @@ returns-clause-safe g c =
     let gone2 : AreGoneTold ledger p = gone-before given p q two.placed three ledger gone in
     let room2 = room-then tape3 told room risen1 in
     let second : KeepsSafe world given ledger p tape1 tape2 = keeps-from world given given1 ledger p tape1 tape2 did.given
-    (named.safe told world size ledger (room-first n tape1 tape2 tape3 room2 (grows-longer filled.grows told)) gone2 unclean1 (over-at world given given1 ledger n tape1 did.given first.next)) in
+    (named.safe told world ledger (room-first n tape1 tape2 tape3 room2 (grows-longer filled.grows told)) gone2 unclean1 (over-at world given given1 ledger n tape1 did.given first.next)) in
     let unclean2 : IsUncleanTold ledger p = λ dirty. unclean1 (sym named.clean ∙ dirty) in
     let third : KeepsSafe world given ledger q tape2 tape3 = keeps-from world given given2 ledger q tape2 tape3 same2
-    (filled.safe told world size ledger (room-then tape3 told room risen2) gone unclean2 (over-at world given given2 ledger p tape2 same2 second.next)) in
+    (filled.safe told world ledger (room-then tape3 told room risen2) gone unclean2 (over-at world given given2 ledger p tape2 same2 second.next)) in
     safe-then (OpensFit world) world.scope given ledger n q tape0 tape1 tape3 first (safe-then (OpensFit world) world.scope given ledger p q tape1 tape2 tape3 second third)
 
 pub returns-clause-counts : goal.returns-clause-counts

@@ -100,7 +100,7 @@ returns-clause-rise g c =
     (λ told. list-in-is shape c.args.rows.now c.args.buffer.now.items c.args.start c.requires.once)).longer
 
 pub returns-clause-safe : goal.returns-clause-safe
-returns-clause-safe g c = λ told world size ledger dirty list list' w has allowed safe.
+returns-clause-safe g c = λ told world ledger dirty list list' w has allowed safe.
     let did = c.write_touched-written.ensures in
     let given = g.B.Bank.given c.args.bank.now in
     let tape0 = g.B.Bank.tape c.args.bank.now in
