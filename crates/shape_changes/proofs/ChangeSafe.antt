@@ -45,12 +45,14 @@ use Rattle.shape_changes.specs.Carried.{AreCarried}
 use Rattle.shape_changes.specs.Steady.{AreDrawnSuperblocks, AreViewsRight, IsSteady, IsSafeNow, IsNamedNow, IsSafeStretch}
 use Rattle.shape_changes.specs.Changing.{IsChanged, IsPlannedSafe, AreEitherRight, IsSpentByEither, IsSafeChange, ChangeStaysSafe, SpentStaysSpent, SafeChangeStaysSafe}
 use Rattle.shape_changes.proofs.Carried.{carried-more, numbers-updated}
-use Rattle.shape_changes.proofs.Drawn.{disk-somewhere, filled, filled-drawn, seen-filled, views-right}
+use Rattle.shape_changes.proofs.Drawn.{disk-somewhere, filled, filled-drawn, seen-filled}
 use Rattle.shape_changes.proofs.LessViews.{less-right, updates-seen}
+use Rattle.shape_changes.proofs.Since.{since-none}
+use Rattle.shape_changes.proofs.Steady.{safe-is-seen}
 use Rattle.shape_views.proofs.WindowLaws.{updating-right}
 use Rattle.shape_changes.proofs.UpdateViews.{planned-is-read}
 use Rattle.shape_changes.proofs.PlannedRoles.{live-before, live-same}
-use Rattle.shape_changes.proofs.Without.{live-of, without-none}
+use Rattle.shape_changes.proofs.Without.{live-of}
 use Rattle.shape_changes.proofs.Started.{Live, Left, live-known, live-small, left-known, ready, said-planned}
 use Rattle.shape_changes.proofs.ChangeViews.{less-itself, later-fits, known-read, placed-less, plan-less, plan-placed, plan-told, new-less, new-kept}
 
@@ -265,7 +267,7 @@ module _ (sound : Type 0) (scope : Scope) (given : Given) (told more : Ledger) (
     next-named = record {
       steady = record {
         former = new;
-        since = record { gone = 0; since = sym (without-none new); held = held-new };
+        since = since-none scope new (disk given.start after) held-new;
         right = at-end (IsViewRight sound scope given more new)
             (updating-right sound scope given more new Before (At (length after)) (disk-somewhere given before) (updating (length after) (m.update.marks.longer tt) (le_refl (length after))) new-right);
         numbers = carried-more scope told.carried more.carried new.own (disk given.start after) safe.carried
@@ -330,15 +332,6 @@ pub spent-stays : (sound : Type 0) → SpentStaysSpent sound
 spent-stays sound scope given told more change old new before after m none gives spent = stays-spent sound scope given told more change old new before after m none gives spent
 
 -- ---- from any state
-
-safe-is-seen : (sound : Type 0) (scope : Scope) (given : Given) (told : Ledger) (m : Members) (tape : List Operation) → IsSafeNow sound scope given told m (disk given.start tape)
-    → AreViewsRight sound scope given told (disk given.start tape)
-safe-is-seen sound scope given told m tape (inl steady) = views-right sound scope given told (disk given.start tape) (disk-somewhere given tape) (λ c drawn.
-    let former = steady.former in
-    let held = steady.since.held in
-    let read = held.updated.reads c drawn in
-    record { found = read.found; is = read.is; view = former; same = known-read scope held.known former held.said former.lost c read; right = steady.right })
-safe-is-seen sound scope given told m tape (inr spent) = spent.right
 
 -- seen by the one ledger, it is by one of two
 wider : (sound : Type 0) (scope : Scope) (given : Given) (told more : Ledger) (d : Disk) → AreViewsRight sound scope given told d → AreEitherRight sound scope given told more d

@@ -341,8 +341,8 @@ gives-live scope given old role slot to s isnt = elim (cases_eq s slot) [
     joined false true e = refl
     joined false false e = absurd (cc)
 
-pub given-safe : (sound : Type 0) → GivingStaysSafe sound
-given-safe sound scope given told role slot old new before after m to room gone now =
+pub giving-stays-safe : (sound : Type 0) → GivingStaysSafe sound
+giving-stays-safe sound scope given told role slot old new before after m to room gone now =
     one-stretch sound scope given told new before after
     (safe-change sound scope given told told (giving old slot role (Some 0)) old new before after m refl (gives-live scope given old role slot to) room
     (λ steady. safe sound scope given told role slot old new before after m to gone steady) now)

@@ -57,13 +57,14 @@ use Rattle.shape_changes.proofs.LessViews.{less-right}
 use Rattle.shape_views.proofs.WindowLaws.{updating-right}
 use Rattle.shape_changes.proofs.UpdateViews.{planned-is-read}
 use Rattle.shape_changes.proofs.PlannedRoles.{live-before, live-same, role-same, state-same}
-use Rattle.shape_changes.proofs.Without.{live-of, any-without, any-holds, any-held, without-none}
+use Rattle.shape_changes.proofs.Without.{live-of, any-without, any-holds, any-held}
 use Rattle.shape_changes.proofs.Kept.{give_of-same}
 use Rattle.shape_changes.proofs.FitKinds.{taking-is-fit}
 use Rattle.shape_changes.proofs.Started.{Live, Lost, Left, gone-lost, first-lost, live-known, live-small, left-known, left-is, fits-of, same-first, fields-at, live-first, ready, said-planned}
 use Rattle.shape_changes.proofs.ChangeViews.{later-fits, known-read, placed-less, plan-less, plan-placed, plan-told, new-less, new-kept}
 use Rattle.shape_changes.proofs.ChangeSafe.{either-right, some-left, from-any}
 use Rattle.shape_changes.proofs.Drawn.{disk-somewhere}
+use Rattle.shape_changes.proofs.Since.{since-none}
 
 left-and : (a b : Bool) → (a && not b) ≡ true → (a ≡ true) × (b ≡ false)
 left-and true true e = absurd (cc)
@@ -397,7 +398,7 @@ module _ (sound : Type 0) (scope : Scope) (given : Given) (told more : Ledger) (
     next-named = record {
       steady = record {
         former = new;
-        since = record { gone = 0; since = sym (without-none new); held = held-new };
+        since = since-none scope new (disk given.start after) held-new;
         right = at-end (IsViewRight sound scope given more new)
             (updating-right sound scope given more new Before (At (length after)) (disk-somewhere given before) (updating (length after) (m.update.marks.longer tt) (le_refl (length after))) new-right);
         numbers = carried-more scope told.carried more.carried new.own (disk given.start after) safe.carried

@@ -17,7 +17,8 @@ use Rattle.flat_history.specs.Stands.{shape_for}
 use Rattle.shape_views.specs.Regions.{ArePlaced, DoWithout}
 use Rattle.shape_views.specs.Views.{Disk, Ledger, IsViewRight}
 use Rattle.shape_views.specs.Windows.{IsSomewhere, HasNoSection, IsUpdating, ListStands, RowsStand}
-use Rattle.shape_changes.specs.Updates.{AreGoneTold, IsReadInUpdate, IsAtStart, IsAtEnd}
+use Rattle.shape_changes.specs.Updates.{IsReadInUpdate, IsAtStart, IsAtEnd}
+use Rattle.shape_changes.specs.Steady.{AreGoneTold}
 use Rattle.shape_views.specs.Sound.{IsViewFit}
 use Rattle.shape_ends.specs.Fits.{IsHeaderFit, IsSeenFit}
 

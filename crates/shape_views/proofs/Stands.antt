@@ -304,9 +304,9 @@ alone d v w is may = of (subst (λ (l : List Sector). IsIn l v) is may)
 
 module _ (scope : Scope) (given : Given) (m : Members) (c : Contents) (d : Disk) (placed : ArePlaced scope given m) (flushed : AreHoldersFlushed m c d) where
   -- what a holder has of a row is what stands there
-  pub there : (slot role row : ℕ) → held_slot (reading_of m) role row ≡ Some slot → (v : Sector) → IsIn (d slot (data_offset_of (reading_of m) slot + row)) v
+  pub flushed-there : (slot role row : ℕ) → held_slot (reading_of m) role row ≡ Some slot → (v : Sector) → IsIn (d slot (data_offset_of (reading_of m) slot + row)) v
       → v ≡ c slot (data_offset_of (reading_of m) slot + row)
-  there slot role row holds v is =
+  flushed-there slot role row holds v is =
       let own = holder-of (reading_of m) role row slot holds in
       alone (d slot (data_offset_of (reading_of m) slot + row)) v (c slot (data_offset_of (reading_of m) slot + row))
       (flushed role slot (data_offset_of (reading_of m) slot + row) own (λ e. absurd (let far = placed.behind role slot own in omega (arith, e, far)))) is
@@ -323,9 +323,9 @@ module _ (scope : Scope) (given : Given) (m : Members) (c : Contents) (d : Disk)
         record {
           whole = stands.whole;
           sectors = λ role slot lt part held.
-              there slot role row held (c' slot (data_offset_of (reading_of m) slot + row)) (drawn slot (data_offset_of (reading_of m) slot + row)) ∙ stands.sectors role slot lt part held;
+              flushed-there slot role row held (c' slot (data_offset_of (reading_of m) slot + row)) (drawn slot (data_offset_of (reading_of m) slot + row)) ∙ stands.sectors role slot lt part held;
           parity = λ role slot lt part held.
-              there slot role row held (c' slot (data_offset_of (reading_of m) slot + row)) (drawn slot (data_offset_of (reading_of m) slot + row)) ∙ stands.parity role slot lt part held;
+              flushed-there slot role row held (c' slot (data_offset_of (reading_of m) slot + row)) (drawn slot (data_offset_of (reading_of m) slot + row)) ∙ stands.parity role slot lt part held;
         });
   }
 
@@ -338,7 +338,7 @@ flushed-right sound scope given told m c list d has = record {
   reshaping = has.reshaping;
   held = λ header may x slot outside holds v is.
       subst (λ (w : Sector). IsIn (told.values x) w)
-      (sym (there scope given m c d has.placed has.flushed slot (place_by m.newest x).role (place_by m.newest x).row holds v is
+      (sym (flushed-there scope given m c d has.placed has.flushed slot (place_by m.newest x).role (place_by m.newest x).row holds v is
       ∙ has.stands x slot (record { within = outside.within; outside = refl }) holds))
       (has.allowed x outside.within);
   sections = λ header may span active x low high v is. absurd (let none = has.plain header may in cc);

@@ -27,4 +27,5 @@ pub mod MendedParts
 pub mod FilledParts
 pub mod Gives
 pub mod GivenMembers
+pub mod GivenPlan
 pub mod Still
