@@ -10,12 +10,12 @@ use Rattle.superblocks.specs.Reads.{SaysSame}
 use Rattle.row_io.specs.Rows.{reading_of, role_without}
 use Rattle.shape_changes.specs.Updates.{IsLessView}
 use Rattle.shape_changes.proofs.ChangeViews.{says-itself}
+use Rattle.shape_changes.proofs.Kept.{still-missing}
 use Rattle.shape_changes.proofs.Without.{without-holder}
 use Rattle.views.specs.Placed.{AreLess}
 use Rattle.views.specs.Rebuilding.{with_spare}
 use Rattle.views.proofs.AddedRows.{offset-with, rows-as}
 use Rattle.views.proofs.PlacedLaws.{state-without}
-use Rattle.safe_updates.proofs.MissingLaws.{missing-without}
 
 -- a slot that holds no role has no part in the view
 pub with-less : (m : Members) (slot : ℕ) (sb : Sb) → ((role : ℕ) → holder (role_state (reading_of m) role) ≡ Some slot → ⊥) → IsLessView m (with_spare slot sb m)
@@ -36,7 +36,7 @@ less-view lost old new less says = record {
   states = λ role slot held. state-is role ∙ without-holder lost (role_state (reading_of old) role) slot (ap holder (sym (state-is role)) ∙ held);
   rows = λ role. less.rows (role_state (reading_of new) role);
   offsets = λ role slot held. less.offsets slot;
-  missing = λ role is. ap (λ (s : Role). not (is_whole s)) (state-is role) ∙ missing-without lost (role_state (reading_of old) role) is;
+  missing = λ role is. ap (λ (s : Role). not (is_whole s)) (state-is role) ∙ still-missing old lost (role_state (reading_of old) role) is;
 }
   where
     state-is : (role : ℕ) → role_state (reading_of new) role ≡ role_without lost (role_state (reading_of old) role)

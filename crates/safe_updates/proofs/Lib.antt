@@ -13,7 +13,6 @@ pub mod RefusingLaws
 pub mod SettledSafe
 pub mod StillHeld
 pub mod MissingLaws
-pub mod GivenPlan
 pub mod GivenAway
 pub mod GivenMoved
 pub mod GivingDone

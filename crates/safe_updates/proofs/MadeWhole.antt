@@ -42,20 +42,20 @@ use Rattle.views.specs.Flushing.{AreHolders}
 use Rattle.views.proofs.MarkEnds.{count-is}
 use Rattle.views.proofs.MarkLaws.{give_of-same, roles-kept, role_from-found, held-holder, holder-held}
 use Rattle.views.proofs.PlacedLaws.{state-without}
-use Rattle.shape_changes.proofs.Spent.{any-holder}
+use Rattle.shape_changes.proofs.Without.{any-held}
 use Rattle.views.proofs.Gives.{give-here, give-other}
+use Rattle.views.proofs.GivenPlan.{given-state, given-less}
 use Rattle.views.proofs.GivenMembers.{IsReceiver, W, state-here, state-other, holder-then, offset-same, rows-other, placed-given}
 use Rattle.shape_changes.specs.Updates.{planned_view, IsLessView}
 use Rattle.shape_changes.specs.Changing.{IsChanged}
 use Rattle.shape_changes.specs.Making.{IsMakable}
 use Rattle.shape_changes.proofs.ChangeViews.{placed-less}
-use Rattle.shape_changes.proofs.Kept.{kept-less}
+use Rattle.shape_changes.proofs.Kept.{still-missing, kept-less}
 use Rattle.shape_changes.proofs.KeptSafe.{planned-fits, planned-backup, told-plan, steady-right}
 use Rattle.shape_changes.proofs.LessViews.{less-right}
 use Rattle.shape_changes.proofs.PlannedRoles.{count-planned}
 use Rattle.shape_changes.proofs.UpdateViews.{said-recovering}
-use Rattle.safe_updates.proofs.GivenPlan.{given-state, given-less}
-use Rattle.safe_updates.proofs.MissingLaws.{missing-more, missing-without}
+use Rattle.safe_updates.proofs.MissingLaws.{missing-more}
 use Rattle.safe_updates.proofs.StillHeld.{AreRowsAllowed, held-still, still-held}
 
 -- the slot that recovers a role may become its holder
@@ -75,7 +75,7 @@ holder-receives given m role slot placed unlost below is = record {
     held = ap holder is
 
     live : (list_any (is_held_by slot) m.roles || has_spare m.spares slot) ≡ true
-    live = ap (λ (b : Bool). b || has_spare m.spares slot) (any-holder slot m.roles role held)
+    live = ap (λ (b : Bool). b || has_spare m.spares slot) (any-held slot m.roles role held)
 
 -- ---- the view in which the role is whole
 
@@ -295,7 +295,7 @@ module _ (sound : Type 0) (scope : Scope) (given : Given) (told : Ledger) (role 
   lt-of r lt = let same = count-planned old Still in omega (arith, lt, same)
 
   told-with : AreGoneTold told With
-  told-with r lt missing = told-last r lt (missing-without new.lost (role_state (reading_of With) r) missing)
+  told-with r lt missing = told-last r lt (still-missing With new.lost (role_state (reading_of With) r) missing)
 
   -- where the slot still recovers, the role besides
   told-still : (lost : ℕ) → IsWithin lost new.lost → (r : ℕ) → r < role_count old.newest → not (is_whole (role_without lost (role_state (reading_of old) r))) ≡ true → told.gone r ≡ true
@@ -305,7 +305,7 @@ module _ (sound : Type 0) (scope : Scope) (given : Given) (told : Ledger) (role 
   ]
 
   told-old : AreGoneTold told old
-  told-old r lt missing = told-still old.lost m.stay r lt (missing-without old.lost (role_state (reading_of old) r) missing)
+  told-old r lt missing = told-still old.lost m.stay r lt (still-missing old old.lost (role_state (reading_of old) r) missing)
 
   old-right : IsViewRight sound scope given told old (disk given.start before)
   old-right = steady-right sound scope given told old (disk given.start before) steady told-old

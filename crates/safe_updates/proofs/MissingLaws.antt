@@ -19,13 +19,3 @@ missing-more few many more (Recovering s) missing = by (has_slot many s)
     by true = refl
     by false = refl
 missing-more few many more Missing missing = missing
-
--- what is missing is so without any slots
-pub missing-without : (lost : ℕ) (state : Role) → not (is_whole state) ≡ true → not (is_whole (role_without lost state)) ≡ true
-missing-without lost (Whole s) missing = absurd (cc)
-missing-without lost (Recovering s) missing = by (has_slot lost s)
-  where
-    by : (b : Bool) → not (is_whole (cond b Missing (Recovering s))) ≡ true
-    by true = refl
-    by false = refl
-missing-without lost Missing missing = missing

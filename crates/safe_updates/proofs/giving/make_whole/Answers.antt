@@ -34,7 +34,7 @@ use Rattle.shape_changes.specs.Making.{IsMade}
 use Rattle.shape_changes.proofs.CalledLaws.{changed-by}
 use Rattle.shape_changes.proofs.ChangeSafe.{told-changed, told-marks, risen-changed, one-stretch, change-named}
 use Rattle.shape_changes.proofs.MadeSafe.{making-safe}
-use Rattle.safe_updates.proofs.GivenPlan.{gives-live}
+use Rattle.views.proofs.GivenPlan.{gives-live}
 use Rattle.safe_updates.proofs.giving.make_whole.Given.{Over}
 use Rattle.safe_updates.proofs.giving.make_whole.Goals.{After-without}
 use Rattle.safe_updates.proofs.giving.make_whole.Goals as goal
