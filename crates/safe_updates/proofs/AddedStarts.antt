@@ -337,7 +337,7 @@ module _ (scope : Scope) (given : Given) (told : ℕ → Bool) (former : Members
 
   pub fits : m.newest.events + 1 < 2 ^ 62 → IsFitChange held.known (with_spare slot sb m).lost Left (with_added m (Some (slot, sb))) (adding m slot sb)
   fits room = record {
-    role = λ s role none is. of-live s (live-still s (live-holder given m false role s placed (holds s role is))) none;
+    role = λ s role none is. of-live s (live-still s (live-holder given m false role s placed.holders (holds s role is))) none;
     below = λ s role none is. let lt = role-below scope held.known former held.said role s (holds-before s role is) in omega (arith, lt, count-still m.newest);
     spare = λ s none is. of-live s (spare-live s is) none;
     one_holder = λ s t role none none' is is'. let same : Some s ≡ Some t = sym (holds s role is) ∙ holds t role is' in cc;

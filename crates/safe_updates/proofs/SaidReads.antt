@@ -1,5 +1,5 @@
 -- An image that reads as superblocks say that say what members do is read of these members.
-use Rattle.std.proofs.Common.{◌≡◌, ℕ, Bool, cond, List, get_or, Option, Some, refl, sym, ◌∙◌, ap, ap₂}
+use Rattle.std.proofs.Common.{◌≡◌, ℕ, Bool, true, cond, List, get_or, Option, Some, refl, sym, ◌∙◌, ap, ap₂}
 use Rattle.std.specs.Option.{option_map_or}
 use Rattle.md_base.specs.declared.status.Role.{Role}
 use Rattle.md_base.specs.declared.status.Role.TheVariants.{Whole, Recovering, Missing}
