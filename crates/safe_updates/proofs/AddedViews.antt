@@ -1,5 +1,5 @@
 -- Views with a new spare, and with roles that are lost, have no more than others.
-use Rattle.std.proofs.Common.{◌≡◌, ℕ, not, map, List, length, get_or, Some, refl, sym, ◌∙◌, ap}
+use Rattle.std.proofs.Common.{◌≡◌, ℕ, not, List, length, get_or, Some, refl, sym, ◌∙◌, ap}
 use Rattle.std.proofs.lemmas.List.{length-map}
 use Rattle.md_base.specs.declared.status.Role.{Role}
 use Rattle.md_base.specs.declared.status.Role.TheVariants.{Missing}

@@ -4,7 +4,6 @@ use Rattle.std.specs.Prelude.{⊤}
 use Rattle.std.specs.List.{list_any}
 use Rattle.std.proofs.lemmas.Bool.{cases_eq}
 use Rattle.std.proofs.lemmas.Bool.Decides.{nat_tests}
-use Rattle.md_base.specs.declared.places.Shape.{Shape}
 use Rattle.md_base.specs.Sectors.{Sector}
 use Rattle.md_base.specs.Shapes.{has_slot}
 use Rattle.md_base.specs.declared.status.Role.{Role}
@@ -28,15 +27,14 @@ use Rattle.row_io.specs.Rows.{reading_of, present, held_slot, role_without, memb
 use Rattle.row_io.proofs.Losses.{holder-of, state_kept, state_after}
 use Rattle.list_io.specs.Full.{RowStands, full_sector}
 use Rattle.list_io.proofs.FullLaws.{places-are-full, standing-is-full}
-use Rattle.views.specs.Placed.{places_of, IsPlaced}
+use Rattle.views.specs.Placed.{IsPlaced}
 use Rattle.shape_changes.specs.Steady.{AreUnlost, IsSteady, AreGoneTold, AreWritesAllowed, given_back}
 use Rattle.shape_changes.specs.Held.{IsHeldBy}
 use Rattle.views.specs.Lacking.{DoesWithout, RowsStand}
 use Rattle.shape_changes.specs.Marking.{giving}
 use Rattle.views.specs.Rebuilding.{IsFlushedFull}
 use Rattle.shape_views.specs.Regions.{ArePlaced}
-use Rattle.shape_views.specs.Views.{Disk, Ledger, IsSettled, IsViewRight}
-use Rattle.views.specs.Whole.{list_size}
+use Rattle.shape_views.specs.Views.{Ledger, IsSettled, IsViewRight}
 use Rattle.views.proofs.Still.{count-still, length-still, without-still, settled-still, still-settled}
 use Rattle.views.specs.Flushing.{AreHolders}
 use Rattle.views.proofs.MarkEnds.{count-is}
