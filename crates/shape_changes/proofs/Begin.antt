@@ -34,7 +34,7 @@ use Rattle.row_io.specs.Rows.{reading_of, is_missing, held_slot, IsTolerated}
 use Rattle.row_io.proofs.Losses.{holder-of}
 use Rattle.flat_history.specs.ActiveSection.{section_for}
 use Rattle.flat_history.specs.Stands.{shape_at, shape_for}
-use Rattle.shape_views.specs.Views.{Disk, Ledger, IsViewRight}
+use Rattle.shape_views.specs.Views.{Disk, Ledger}
 use Rattle.shape_views.specs.Windows.{HasNoSection, IsFlushedRight}
 use Rattle.shape_changes.specs.Updates.{planned_view}
 use Rattle.shape_changes.specs.Steady.{AreGoneTold, IsSteady}

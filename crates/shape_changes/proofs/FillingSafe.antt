@@ -1,7 +1,6 @@
 -- Rows of a role that are written to the slot that recovers it, where it doesn't hold them yet, keep an array safe: no view has them.
 use Rattle.std.proofs.Common.{◌≡◌, ◌⊎◌, inl, inr, ℕ, ◌+◌, ◌<◌, ◌≤◌, Bool, true, false, cond, nat_lt, List, Option, Some, None, refl, sym, ◌∙◌, ap, subst, arith}
 use Rattle.std.proofs.lemmas.Bool.Decides.{nat_tests}
-use Rattle.md_base.specs.declared.places.Span.{Span}
 use Rattle.md_base.specs.Sectors.{Sector}
 use Rattle.md_base.specs.Shapes.{has_slot}
 use Rattle.md_base.specs.declared.status.Role.{Role}
@@ -12,7 +11,7 @@ use Rattle.superblocks.specs.declared.members.Members.{Members}
 use Rattle.superblocks.specs.Reading.{Scope, role_state, rows_held, holder, data_offset_of}
 use Rattle.row_io.specs.Rows.{reading_of, held_slot, role_without, members_without}
 use Rattle.row_io.proofs.Losses.{holder-of, state_after}
-use Rattle.shape_views.specs.Regions.{backup_of, open_by, place_by, ArePlaced}
+use Rattle.shape_views.specs.Regions.{backup_of, place_by, ArePlaced}
 use Rattle.shape_views.specs.Views.{Disk, Ledger, IsViewRight}
 use Rattle.shape_views.specs.Windows.{IsSomewhere, IsLess, IsWrittenAt}
 use Rattle.shape_views.proofs.WindowLaws.{open-some, IsUnread, unread-right}

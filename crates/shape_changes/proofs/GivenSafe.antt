@@ -1,12 +1,11 @@
 -- The update that gives a vacant role to a spare, from the first row on, keeps an array safe.
-use Rattle.std.proofs.Common.{◌≡◌, ◌≢◌, ◌⊎◌, inl, inr, ℕ, ◌<◌, ◌≤◌, ◌==◌, ◌||◌, ◌&&◌, Bool, true, false, not, cond, nat_lt, List, length, get_or, replicate, le_refl, Option, Some, None, option_map, refl, sym, ◌∙◌, ap, ap₂, subst, arith}
+use Rattle.std.proofs.Common.{◌≡◌, ◌≢◌, ◌⊎◌, inl, inr, ℕ, ◌<◌, ◌≤◌, ◌||◌, Bool, true, false, not, cond, nat_lt, List, length, get_or, replicate, le_refl, Option, Some, None, option_map, refl, sym, ◌∙◌, ap, ap₂, subst, arith}
 use Rattle.std.specs.Prelude.{⊤}
 use Rattle.std.specs.List.{list_any}
 use Rattle.std.specs.Option.{option_map_or}
 use Rattle.std.proofs.lemmas.Bool.{cases_eq, cases_lt}
 use Rattle.std.proofs.lemmas.Bool.Decides.{nat_tests}
 use Rattle.std.proofs.lemmas.List.{length-replicate, get_or-set_same, get_or-set_other, get_or_past}
-use Rattle.md_base.specs.Shapes.{has_slot}
 use Rattle.md_base.specs.Search.{tabulate, least_below}
 use Rattle.md_base.specs.declared.places.Shape.{Shape}
 use Rattle.md_base.specs.declared.places.Span.{Span}
@@ -22,7 +21,7 @@ use Rattle.superblocks.specs.declared.change.Give.TheVariants.{Same, Spare}
 use Rattle.superblocks.specs.declared.change.Give.TheVariants as give
 use Rattle.superblocks.specs.declared.change.Change.{Change}
 use Rattle.superblocks.specs.declared.members.Members.{Members}
-use Rattle.superblocks.specs.Reading.{Scope, is_backup, is_clean, is_reshaping, shape_of, final_shape, role_count, role_state, rows_held, holder, is_whole, data_offset_of}
+use Rattle.superblocks.specs.Reading.{Scope, is_clean, is_reshaping, shape_of, final_shape, role_count, role_state, rows_held, holder, is_whole, data_offset_of}
 use Rattle.superblocks.specs.Reads.{has_spare}
 use Rattle.superblocks.specs.Update.{with_give, give_of, own_in, is_recovery, planned_role, is_held_by}
 use Rattle.superblocks.specs.Outcome.{is_in_update, is_planned_holder, held_state, planned_state, AreGivesOfLive}
@@ -44,6 +43,7 @@ use Rattle.shape_changes.proofs.LessViews.{more-pass}
 use Rattle.shape_changes.proofs.PlannedRoles.{says-shared, count-planned, planned-holds}
 use Rattle.shape_changes.proofs.ChangeViews.{plan-told}
 use Rattle.shape_changes.proofs.ChangeSafe.{safe-change, one-stretch}
+use Rattle.shape_changes.proofs.Stretch.{seen-own}
 use Rattle.shape_changes.proofs.Kept.{give_of-same}
 use Rattle.shape_changes.proofs.KeptSafe.{planned-fits, planned-backup, told-plan, steady-right, steady-count}
 use Rattle.shape_changes.proofs.FitKinds.{taking-is-fit}
@@ -297,16 +297,7 @@ module _ (sound : Type 0) (scope : Scope) (given : Given) (told : Ledger) (role 
       let held = steady.since.held in
       let spare : has_spare steady.former.spares slot ≡ true = ap (λ (o : Members). has_spare o.spares slot) (sym steady.since.since) ∙ to.spare in
       let seen = (held.updated.held.each slot (spare-known scope held.known steady.former held.said slot spare)).seen in
-      let here : is_backup scope.backup slot ≡ true = ap (λ (o : Option ℕ). is_backup o slot) is ∙ self slot in
-      absurd (let both = sym (last (has_slot scope.given slot) (is_backup scope.backup slot) seen) ∙ here in cc)
-    where
-      self : (n : ℕ) → (n == n) ≡ true
-      self n = grind (arith, nat_tests)
-
-      last : (a b : Bool) → (a && not b) ≡ true → b ≡ false
-      last true true e = absurd (cc)
-      last true false e = refl
-      last false b e = absurd (cc)
+      seen-own scope slot seen is
 
   placed : ArePlaced scope given (planned_view old (giving old slot role (Some 0)) old.lost)
   placed = given-placed scope given old role slot to old.lost count own old-right.placed

@@ -24,6 +24,7 @@ pub mod Since
 pub mod Spent
 pub mod Started
 pub mod Steady
+pub mod Stretch
 pub mod UpdateViews
 pub mod Without
 pub mod WriteSafe

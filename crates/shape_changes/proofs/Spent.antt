@@ -1,16 +1,12 @@
 -- An array of which no live slot is left: none that holds a role can be written any more.
-use Rattle.std.proofs.Common.{◌≡◌, ◌⊎◌, inl, inr, ℕ, zero, suc, ◌||◌, ◌&&◌, Bool, true, false, nat_lt, List, [], ◌∷◌, get_or, Some, refl, ◌∙◌, ap, arith}
-use Rattle.std.specs.List.{list_any}
+use Rattle.std.proofs.Common.{◌≡◌, ◌⊎◌, inl, inr, ℕ, ◌||◌, ◌&&◌, Bool, true, false, nat_lt, List, Some, ◌∙◌, arith}
 use Rattle.std.proofs.lemmas.Bool.Decides.{nat_tests}
 use Rattle.md_base.specs.Sectors.{Sector}
 use Rattle.md_base.specs.Shapes.{has_slot}
 use Rattle.md_base.specs.declared.places.Shape.{Shape}
-use Rattle.md_base.specs.declared.status.Role.{Role}
-use Rattle.md_base.specs.declared.status.Role.TheVariants.{Missing}
 use Rattle.bank.specs.Given.{Given}
 use Rattle.superblocks.specs.declared.members.Members.{Members}
 use Rattle.superblocks.specs.Reading.{holder, role_state}
-use Rattle.superblocks.specs.Update.{is_held_by}
 use Rattle.superblocks.specs.Updating.{IsSomeLeft}
 use Rattle.superblocks.specs.Outcome.{live_set}
 use Rattle.superblocks.specs.Reads.{has_spare}

@@ -1,5 +1,5 @@
 -- An array that is safe is seen right, and it stays safe where slots are lost, where more is told, and where a stop may leave less.
-use Rattle.std.proofs.Common.{◌≡◌, ◌⊎◌, inl, inr, ℕ, ◌-◌, ◌+◌, ◌<◌, ◌==◌, ◌||◌, Bool, true, false, cond, take, List, [], ◌∷◌, refl, sym, ◌∙◌, arith}
+use Rattle.std.proofs.Common.{◌≡◌, inl, inr, ℕ, ◌==◌, ◌||◌, Bool, true, false, cond, take, List, [], ◌∷◌, refl, sym, ◌∙◌, arith}
 use Rattle.std.specs.Prelude.{⊤}
 use Rattle.md_base.specs.Sectors.{Sector}
 use Rattle.md_base.specs.Shapes.{has_slot}
@@ -11,15 +11,16 @@ use Rattle.bank.proofs.Marks.{Along, each_mark-along}
 use Rattle.superblocks.specs.declared.members.Members.{Members}
 use Rattle.superblocks.specs.Reading.{Scope, list_length}
 use Rattle.row_io.specs.Rows.{members_without}
+use Rattle.flat_history.proofs.SameLaws.{read-same}
 use Rattle.shape_views.specs.Views.{Disk, Ledger, IsSettled, IsViewRight}
 use Rattle.shape_views.specs.Windows.{IsSomewhere, AreFewer}
 use Rattle.shape_views.proofs.Stands.{window-inside}
 use Rattle.shape_views.proofs.WindowLaws.{fewer-right, open-window}
 use Rattle.shape_changes.specs.Safety.{HasLiveSlot}
-use Rattle.shape_changes.specs.Steady.{AreViewsRight, IsSteady, IsSafeNow, SafeIsSeen, IsMoreTold, LosingStaysSafe, FlushesStaySafe}
+use Rattle.shape_changes.specs.Steady.{AreViewsRight, HeldIsRead, IsSteady, IsSafeNow, SafeIsSeen, IsMoreTold, LosingStaysSafe, FlushesStaySafe}
 use Rattle.shape_changes.proofs.Carried.{carried-more, carried-fewer}
 use Rattle.shape_changes.proofs.ChangeViews.{known-read}
-use Rattle.shape_changes.proofs.Drawn.{disk-somewhere, views-right}
+use Rattle.shape_changes.proofs.Drawn.{disk-somewhere, filled, filled-drawn, filled-same}
 use Rattle.shape_changes.proofs.HeldKept.{held-fewer}
 use Rattle.shape_changes.proofs.Since.{since-more}
 use Rattle.shape_changes.proofs.Without.{in-both, live-before}
@@ -27,13 +28,21 @@ use Rattle.shape_changes.proofs.Without.{in-both, live-before}
 -- ---- what is seen
 
 -- held superblocks are
+pub held-read : HeldIsRead
+held-read scope given members tape held c drawn =
+    let some = disk-somewhere given tape in
+    let d : Disk = disk given.start tape in
+    let read = held.updated.reads (filled scope d some c drawn) (filled-drawn scope d some c drawn) in (
+      read.found,
+      sym (read-same scope (filled scope d some c drawn) c (filled-same scope d some c drawn)) ∙ read.is,
+      known-read scope held.known members held.said members.lost (filled scope d some c drawn) read,
+    )
+
 pub steady-seen : (sound : Type 0) (scope : Scope) (given : Given) (told : Ledger) (m : Members) (tape : List Operation) → IsSteady sound scope given told m (disk given.start tape)
     → AreViewsRight sound scope given told (disk given.start tape)
-steady-seen sound scope given told m tape steady = views-right sound scope given told (disk given.start tape) (disk-somewhere given tape) (λ c drawn. (
-    let former = steady.former in
-    let held = steady.since.held in
-    let read = held.updated.reads c drawn in
-    record { found = read.found; is = read.is; view = former; same = known-read scope held.known former held.said former.lost c read; right = steady.right }))
+steady-seen sound scope given told m tape steady c drawn =
+    let read = held-read scope given steady.former tape steady.since.held c drawn in
+    record { found = read.0; is = read.1; view = steady.former; same = read.2; right = steady.right }
 
 pub safe-is-seen : (sound : Type 0) → SafeIsSeen sound
 safe-is-seen sound scope given told members tape (inl steady) = steady-seen sound scope given told members tape steady

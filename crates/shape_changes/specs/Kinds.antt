@@ -14,7 +14,7 @@ use Rattle.superblocks.specs.Reading.{Scope, role_count, holder}
 use Rattle.superblocks.specs.Reads.{has_spare}
 use Rattle.superblocks.specs.Update.{give_of, is_recovery}
 use Rattle.superblocks.specs.Updating.{planned_newest}
-use Rattle.superblocks.specs.Outcome.{live_set, AreGivesOfLive}
+use Rattle.superblocks.specs.Outcome.{live_set}
 use Rattle.superblocks.specs.Stages.{AreLeft}
 use Rattle.superblocks.specs.Plans.{IsFitChange}
 use Rattle.superblock_reads.specs.Said.{AreSparesFit}

@@ -8,14 +8,16 @@ use Rattle.bank.specs.declared.bank.Operation.{Operation}
 use Rattle.bank.specs.Given.{Given}
 use Rattle.bank.specs.Tape.{Contents, EachMark, IsIn, AreFlushes, disk}
 use Rattle.superblocks.specs.declared.members.Members.{Members}
-use Rattle.superblocks.specs.Reading.{Scope, is_seen, is_clean, list_length, role_count, role_state, rows_held, holder, data_offset_of}
+use Rattle.superblocks.specs.Reading.{Scope, Reading, reading, is_seen, is_clean, list_length, role_count, role_state, rows_held, holder, data_offset_of}
 use Rattle.row_io.specs.Rows.{reading_of, is_missing, members_without, IsHolder}
 use Rattle.list_io.specs.Writing.{IsPutting, AreSuperblocksKept}
 use Rattle.flat_history.specs.World.{World}
 use Rattle.flat_history.specs.Sound.{OpensFit}
+use Rattle.shape_views.specs.Regions.{IsReadOf}
 use Rattle.shape_views.specs.Views.{Disk, Ledger, IsViewRight, IsSeenRight}
 use Rattle.shape_views.specs.Windows.{IsOfRegion}
 use Rattle.shape_changes.specs.Carried.{AreCarried}
+use Rattle.shape_changes.specs.Held.{IsHeldBy}
 use Rattle.shape_changes.specs.Rounds.{IsHeldSince}
 use Rattle.shape_changes.specs.Safety.{HasLiveSlot}
 
@@ -29,6 +31,11 @@ pub record AreDrawnSuperblocks (scope : Scope) (d : Disk) (c : Contents) : Type 
 -- whatever superblocks are drawn, the image is read as a view that is right
 abbrev pub AreViewsRight : Type 0 → Scope → Given → Ledger → Disk → Type 0
 AreViewsRight sound scope given told d = (c : Contents) → AreDrawnSuperblocks scope d c → IsSeenRight sound scope given told d c
+
+-- Where the superblocks are held, each image is read as the members say.
+abbrev pub HeldIsRead : Type 0
+HeldIsRead = (scope : Scope) (given : Given) (members : Members) (tape : List Operation) → IsHeldBy scope members (disk given.start tape)
+    → (c : Contents) → AreDrawnSuperblocks scope (disk given.start tape) c → (r : Reading) × (reading scope c ≡ Some r) × IsReadOf scope members r
 
 -- ---- when an array is safe
 

@@ -11,7 +11,7 @@ ghost use Rattle.shape_changes.specs.Giving.{PlacedLessIsRight, GivingStaysSafe}
 ghost use Rattle.shape_changes.specs.Flushed.{BeginStaysSafe, FlushedChangeStaysSafe};
 ghost use Rattle.shape_changes.specs.Making.{MakingStaysSafe};
 ghost use Rattle.shape_changes.specs.Held.{HeldStays};
-ghost use Rattle.shape_changes.specs.Steady.{SafeIsSeen, LosingStaysSafe, FlushesStaySafe, WritesStaySafe, FillingStaysSafe};
+ghost use Rattle.shape_changes.specs.Steady.{HeldIsRead, SafeIsSeen, LosingStaysSafe, FlushesStaySafe, WritesStaySafe, FillingStaysSafe};
 
 /// What is read as an update plans is read of the members that it plans.
 pub fn planned_is_read()
@@ -119,6 +119,11 @@ pub fn making_whole_stays_safe()
 /// What is fit so makes a change that fits the superblocks that are held.
 pub fn a_fit_update_is_a_fit_change()
     ensures { FitUpdateIsFitChange }
+{}
+
+/// Between two updates of the superblocks each image is read as the members say.
+pub fn held_is_read()
+    ensures { HeldIsRead }
 {}
 
 /// What is written elsewhere than in the superblocks leaves them held.
