@@ -21,10 +21,12 @@ AreRowsAllowed r values d = (x slot : ℕ) → x < list_size (places_by r) → h
 
 module _ (scope : Scope) (m : Members) (values : ℕ → List Sector) (d : Disk) (still : is_reshaping m.newest ≡ false) where
   abbrev Allows : ℕ → ℕ → Shape → Type 0
-  Allows x slot s = held_slot (reading_of m) (place s x).role (place s x).row ≡ Some slot → (v : Sector) → IsIn (d slot (data_offset_of (reading_of m) slot + (place s x).row)) v → IsIn (values x) v
+  Allows x slot s = held_slot (reading_of m) (place s x).role (place s x).row ≡ Some slot
+      → (v : Sector) → IsIn (d slot (data_offset_of (reading_of m) slot + (place s x).row)) v → IsIn (values x) v
 
   pub held-still : AreRowsAllowed (reading_of m) values d → AreHeldAllowed scope m values d
-  held-still allowed header may x slot outside = subst (Allows x slot) (sym (for-still m.newest still x)) (allowed x slot (subst (λ (n : ℕ). x < n) (length-still m still) outside.within))
+  held-still allowed header may x slot outside =
+      subst (Allows x slot) (sym (for-still m.newest still x)) (allowed x slot (subst (λ (n : ℕ). x < n) (length-still m still) outside.within))
 
   -- and the other way, since some header may stand in the backup
   pub still-held : (header : Sector) → IsIn (d (backup_of scope) 0) header → AreHeldAllowed scope m values d → AreRowsAllowed (reading_of m) values d
