@@ -23,7 +23,7 @@ use Rattle.superblocks.specs.declared.members.Members.{Members}
 use Rattle.superblocks.specs.Reading.{Scope, role_count, is_negative, is_zero, lies_within, entry_of, holder}
 use Rattle.superblocks.specs.Verdict.{judged_fields, is_role}
 use Rattle.superblocks.specs.Update.{give_of, is_held_by, is_recovery, planned_role, is_planned_spare}
-use Rattle.superblocks.specs.Updating.{planned_newest}
+use Rattle.superblocks.specs.Updating.{IsLater, planned_newest}
 use Rattle.superblocks.specs.Outcome.{is_in_update, live_set, with_added}
 use Rattle.superblocks.specs.Reads.{SaysSame, HasNoLateRoles, IsSuited, has_spare}
 use Rattle.superblocks.specs.Held.{IsSecondHalf, Shows, AreHeld}
@@ -104,6 +104,24 @@ module _ (newest : Sb) where
         reshaping = a.reshaping;
         backward = a.backward;
       }
+
+  -- so does what is newest then
+  pub says-later : (later : Sb) → IsLater (planned_newest newest newest) later → SaysSame newest later
+  says-later later is = subst (SaysSame newest) (sym is.same) (record {
+    level = refl;
+    layout = refl;
+    size = refl;
+    chunksize = refl;
+    raid_disks = refl;
+    new_level = refl;
+    reshape_position = refl;
+    delta_disks = refl;
+    new_layout = refl;
+    new_chunk = refl;
+    resync_offset = refl;
+    reshaping = (says-still 0).reshaping;
+    backward = (says-still 0).backward;
+  })
 
   pub count-still : role_count newest ≡ role_count (planned_newest newest newest)
   count-still = count-same newest (planned_newest newest newest) (says-still (min (newest.events + 1) (2 ^ 64 - 1)))
@@ -319,7 +337,7 @@ module _ (scope : Scope) (given : Given) (told : ℕ → Bool) (former : Members
 
   pub fits : m.newest.events + 1 < 2 ^ 62 → IsFitChange held.known (with_spare slot sb m).lost Left (with_added m (Some (slot, sb))) (adding m slot sb)
   fits room = record {
-    role = λ s role none is. of-live s (live-still s (live-holder given m false role s placed (holds s role is))) none;
+    role = λ s role none is. of-live s (live-still s (live-holder given m false role s placed.holders (holds s role is))) none;
     below = λ s role none is. let lt = role-below scope held.known former held.said role s (holds-before s role is) in omega (arith, lt, count-still m.newest);
     spare = λ s none is. of-live s (spare-live s is) none;
     one_holder = λ s t role none none' is is'. let same : Some s ≡ Some t = sym (holds s role is) ∙ holds t role is' in cc;

@@ -79,7 +79,7 @@ module _ (scope : Scope) (given : Given) (former : Members) (gone : ℕ) (d : �
   roles-same : former.roles ≡ map (role_without gone) former.roles
   roles-same = sym (kept-roles gone former.roles still-there)
 
-pub unnamed-named : {sound : Type 0} {scope : Scope} {given : Given} {size : ℕ} {told : Ledger} (m : Members) (d : ℕ → ℕ → List Sector) → IsPlaced given m → AreUnnamed m
+pub unnamed-named : {sound : Type 0} {scope : Scope} {given : Given} {told : Ledger} (m : Members) (d : ℕ → ℕ → List Sector) → IsPlaced given m → AreUnnamed m
     → IsSteady sound scope given told m d → IsNamedNow sound scope given told m d
 unnamed-named {scope = scope} {given = given} m d placed unnamed steady = record {
   steady = steady;

@@ -90,10 +90,12 @@ pub fn mark_members<B: Bank>(members: &mut Members, bank: &mut B, clean: bool) -
     ensures data { let start = (B.given bank.old).start in EachMark B.tells start (B.tape bank.old) (B.tape bank.new) (AreDataKept (disk start (B.tape bank.old))) }
     ensures rise { IsRisen B.tells members.old members.new (B.tape bank.old) (B.tape bank.new) }
     ensures safe { B.tells → (world : World) → (told : Ledger) → HasRoomLeft members.old (B.tape bank.old) (B.tape bank.new)
-        → IsMarkable (OpensFit world) clean told members.old members.new (disk (B.given bank.old).start (B.tape bank.old)) → IsSafeOver world (B.given bank.old) told members.old (B.tape bank.old)
+        → IsMarkable (OpensFit world) world.scope clean told members.old members.new (disk (B.given bank.old).start (B.tape bank.old))
+        → IsSafeOver world (B.given bank.old) told members.old (B.tape bank.old)
         → KeepsSafe world (B.given bank.old) told members.new (B.tape bank.old) (B.tape bank.new) }
     ensures named { B.tells → (world : World) → (told : Ledger) → HasRoomLeft members.old (B.tape bank.old) (B.tape bank.new)
-        → IsMarkable (OpensFit world) clean told members.old members.new (disk (B.given bank.old).start (B.tape bank.old)) → IsSafeOver world (B.given bank.old) told members.old (B.tape bank.old)
+        → IsMarkable (OpensFit world) world.scope clean told members.old members.new (disk (B.given bank.old).start (B.tape bank.old))
+        → IsSafeOver world (B.given bank.old) told members.old (B.tape bank.old)
         → HasLiveSlot members.new → IsNamedOver world (B.given bank.old) told members.new (B.tape bank.new) }
     ensures given { B.given bank.new ≡ B.given bank.old }
     ensures counts { NeverFalls (B.faults_of bank.old) (B.faults_of bank.new) }

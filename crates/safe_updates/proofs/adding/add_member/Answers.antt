@@ -8,7 +8,7 @@ use Rattle.layout.proofs.Limits.{limited}
 use Rattle.superblocks.specs.declared.change.Give.TheVariants.{Same}
 use Rattle.superblocks.specs.declared.change.Change.{Change}
 use Rattle.flat_history.specs.Sound.{OpensFit}
-use Rattle.superblocks.specs.Reading.{role_count, shape_of, is_clean}
+use Rattle.superblocks.specs.Reading.{role_count, shape_of}
 use Rattle.superblocks.specs.Update.{IsRoleGive, give_of, is_recovery}
 use Rattle.superblocks.specs.Updating.{IsUpdate, IsWrittenBy, AreLosses, AreNamed, IsLater, IsSomeLeft, RisesByOperations, planned_newest}
 use Rattle.superblocks.specs.Outcome.{IsAddable, AreGivesOfLive, AreLive, AreStored, with_added, live_set, is_left, planned_roles, planned_spares}
@@ -159,7 +159,7 @@ returns-clause-grows g c = grows-marks c.update-lost.ensures.update.marks
 
 pub returns-clause-safe : goal.returns-clause-safe
 returns-clause-safe g c = λ tell world told room gone unclean of_scope unknown second live safe.
-    adding-safe (OpensFit world) world.scope (g.B.Bank.given c.args.bank.now) size told c.update-lost.new.members c.args.slot c.args.sb.now (g.B.Bank.tape c.args.bank.now) (g.B.Bank.tape c.update-lost.new.bank)
+    adding-safe (OpensFit world) world.scope (g.B.Bank.given c.args.bank.now) told c.update-lost.new.members c.args.slot c.args.sb.now (g.B.Bank.tape c.args.bank.now) (g.B.Bank.tape c.update-lost.new.bank)
     c.args.members.now c.requires.fresh (left-steady live safe) c.requires.placed c.requires.unlost c.requires.free
     (record {
       few = c.requires.slots;
@@ -173,11 +173,8 @@ returns-clause-safe g c = λ tell world told room gone unclean of_scope unknown 
       unknown = unknown;
       second = second;
     })
-    (told-added tell (did g c)) (room live) gone same-clean
+    (told-added tell (did g c)) (room live) gone
   where
     unspare : (b : Bool) → has_spare c.args.members.now.spares c.args.slot ≡ b → b ≡ false
     unspare true is = absurd (c.requires.untaken 0 (inr is))
     unspare false is = refl
-
-    same-clean : is_clean c.update-lost.new.members.newest ≡ is_clean c.args.members.now.newest
-    same-clean = ap is_clean (did g c).newest.same

@@ -136,7 +136,7 @@ module _ (g : Over) (c : After-make_whole g) (tell : g.B.Bank.tells) (list : ℕ
 
   flushed : (world : World) (told : Ledger) → IsSafeOver world (g.B.Bank.given c.args.bank.now) told c.args.members.now (g.B.Bank.tape c.args.bank.now)
       → KeepsSafe world (g.B.Bank.given c.args.bank.now) told c.args.members.now (g.B.Bank.tape c.args.bank.now) (g.B.Bank.tape c.flush.new.self)
-  flushed world told now = flushed-safe (OpensFit world) world.scope (g.B.Bank.given c.args.bank.now) size told c.args.members.now (g.B.Bank.tape c.args.bank.now) (g.B.Bank.tape c.flush.new.self)
+  flushed world told now = flushed-safe (OpensFit world) world.scope (g.B.Bank.given c.args.bank.now) told c.args.members.now (g.B.Bank.tape c.args.bank.now) (g.B.Bank.tape c.flush.new.self)
       (flush-added c.args.slot c.flush.ensures.did tell) now
 
 pub returns-clause-safe : goal.returns-clause-safe

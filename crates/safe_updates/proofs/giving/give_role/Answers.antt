@@ -18,8 +18,8 @@ use Rattle.safe_updates.proofs.GivingDone.{given-left, losses-done}
 use Rattle.shape_changes.specs.Changing.{IsChanged}
 use Rattle.shape_changes.proofs.CalledLaws.{changed-by}
 use Rattle.shape_changes.proofs.ChangeSafe.{told-changed, risen-changed}
-use Rattle.shape_changes.proofs.GivenPlan.{gives-live}
-use Rattle.shape_changes.proofs.GivenSafe.{receiver-of, giving-stays-safe}
+use Rattle.shape_changes.proofs.GivenSafe.{giving-stays-safe}
+use Rattle.views.proofs.GivenPlan.{gives-live, receiver-of, spare-receives}
 use Rattle.safe_updates.proofs.giving.give_role.Given.{Over}
 use Rattle.safe_updates.proofs.giving.give_role.Goals.{After-without}
 use Rattle.safe_updates.proofs.giving.give_role.Goals as goal
@@ -100,5 +100,6 @@ returns-clause-rise g c = risen-changed (done g c) refl (gives-live (g.B.Bank.gi
 
 pub returns-clause-safe : goal.returns-clause-safe
 returns-clause-safe g c = λ tell world told room gone here unclean safe.
-    giving-stays-safe (OpensFit world) world.scope (g.B.Bank.given c.args.bank.now) size told c.args.role c.args.slot c.args.members.now c.update-lost.new.members (g.B.Bank.tape c.args.bank.now)
-    (g.B.Bank.tape c.update-lost.new.bank) (told-changed tell (done g c)) c.requires.placed c.requires.free c.requires.role c.requires.vacant c.requires.spare room gone safe
+    giving-stays-safe (OpensFit world) world.scope (g.B.Bank.given c.args.bank.now) told c.args.role c.args.slot c.args.members.now c.update-lost.new.members (g.B.Bank.tape c.args.bank.now)
+    (g.B.Bank.tape c.update-lost.new.bank) (told-changed tell (done g c))
+    (spare-receives (g.B.Bank.given c.args.bank.now) c.args.members.now c.args.role c.args.slot c.requires.placed c.requires.free c.requires.role c.requires.vacant c.requires.spare) room gone safe

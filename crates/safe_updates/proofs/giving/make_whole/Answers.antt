@@ -33,8 +33,8 @@ use Rattle.shape_changes.specs.Changing.{IsChanged, IsSafeChange}
 use Rattle.shape_changes.specs.Making.{IsMade}
 use Rattle.shape_changes.proofs.CalledLaws.{changed-by}
 use Rattle.shape_changes.proofs.ChangeSafe.{told-changed, told-marks, risen-changed, one-stretch, change-named}
-use Rattle.shape_changes.proofs.GivenPlan.{gives-live}
 use Rattle.shape_changes.proofs.MadeSafe.{making-safe}
+use Rattle.views.proofs.GivenPlan.{gives-live}
 use Rattle.safe_updates.proofs.giving.make_whole.Given.{Over}
 use Rattle.safe_updates.proofs.giving.make_whole.Goals.{After-without}
 use Rattle.safe_updates.proofs.giving.make_whole.Goals as goal
@@ -138,29 +138,29 @@ module _ (g : Over) (c : After-without g) (tell : g.B.Bank.tells) (world : World
     (stands : RowsStand c.args.members.now (present (g.B.Bank.given c.args.bank.now) (g.B.Bank.tape c.args.bank.now)) list) (allowed : AreWritesAllowed c.args.members.now told.values list)
     (full : IsFlushedFull c.args.members.now c.args.role c.args.slot list (disk (g.B.Bank.given c.args.bank.now).start (g.B.Bank.tape c.args.bank.now)))
     (room : HasRoomLeft c.args.members.now (g.B.Bank.tape c.args.bank.now) (g.B.Bank.tape c.update-lost.new.bank)) (safe : IsSafeOver world (g.B.Bank.given c.args.bank.now) told c.args.members.now (g.B.Bank.tape c.args.bank.now)) where
-  whole-safe : (more : Ledger) → IsMoreBack (OpensFit world) (g.B.Bank.given c.args.bank.now) size told more c.args.role c.args.slot c.update-lost.new.members
-      → IsSafeChange (OpensFit world) world.scope (g.B.Bank.given c.args.bank.now) size size told more c.update-lost.new.members (g.B.Bank.tape c.args.bank.now) (g.B.Bank.tape c.update-lost.new.bank)
+  whole-safe : (more : Ledger) → IsMoreBack (OpensFit world) world.scope (g.B.Bank.given c.args.bank.now) told more c.args.role c.args.slot c.update-lost.new.members
+      → IsSafeChange (OpensFit world) world.scope (g.B.Bank.given c.args.bank.now) told more c.update-lost.new.members (g.B.Bank.tape c.args.bank.now) (g.B.Bank.tape c.update-lost.new.bank)
   whole-safe more back =
       let given = g.B.Bank.given c.args.bank.now in
       let m = c.args.members.now in
       let n = c.update-lost.new.members in
       let before = g.B.Bank.tape c.args.bank.now in
       let after = g.B.Bank.tape c.update-lost.new.bank in
-      making-safe (OpensFit world) world.scope given size told more (giving m c.args.slot c.args.role None) c.args.slot c.args.role m n before after (made g c tell) refl
+      making-safe (OpensFit world) world.scope given told more (giving m c.args.slot c.args.role None) c.args.slot c.args.role m n before after (made g c tell) refl
       (gives-live given m c.requires.placed None c.args.role c.args.slot (to g c)) room
       (λ steady. makable (OpensFit world) world.scope given told c.args.role c.args.slot m n before after (told-changed tell (done g c)) c.requires.placed (to g c) c.requires.role c.requires.recovering premise does list
       stands allowed full gone here steady more back) safe
 
 pub returns-clause-safe : goal.returns-clause-safe
 returns-clause-safe g c = λ tell world told room gone here unclean premise does list stands allowed full safe.
-    one-stretch (OpensFit world) world.scope (g.B.Bank.given c.args.bank.now) size told c.update-lost.new.members (g.B.Bank.tape c.args.bank.now) (g.B.Bank.tape c.update-lost.new.bank)
-    (whole-safe g c tell world told gone here premise does list stands allowed full room safe told (back-same (OpensFit world) (g.B.Bank.given c.args.bank.now) size told c.args.role c.args.slot c.update-lost.new.members gone))
+    one-stretch (OpensFit world) world.scope (g.B.Bank.given c.args.bank.now) told c.update-lost.new.members (g.B.Bank.tape c.args.bank.now) (g.B.Bank.tape c.update-lost.new.bank)
+    (whole-safe g c tell world told gone here premise does list stands allowed full room safe told (back-same (OpensFit world) world.scope (g.B.Bank.given c.args.bank.now) told c.args.role c.args.slot c.update-lost.new.members gone))
 
 pub returns-clause-given_back : goal.returns-clause-given_back
 returns-clause-given_back g c = λ whole tell world told room gone here unclean premise does list stands allowed full safe.
     let given = g.B.Bank.given c.args.bank.now in
     let n = c.update-lost.new.members in
     let moved = returns-clause-moved g c in
-    inl (change-named (OpensFit world) world.scope given size told (given_back c.args.role told) n (g.B.Bank.tape c.args.bank.now) (g.B.Bank.tape c.update-lost.new.bank)
-    (whole-safe g c tell world told gone here premise does list stands allowed full room safe (given_back c.args.role told) (back-given (OpensFit world) given told c.args.role c.args.slot n gone whole))
+    inl (change-named (OpensFit world) world.scope given told (given_back c.args.role told) n (g.B.Bank.tape c.args.bank.now) (g.B.Bank.tape c.update-lost.new.bank)
+    (whole-safe g c tell world told gone here premise does list stands allowed full room safe (given_back c.args.role told) (back-given (OpensFit world) world.scope given told c.args.role c.args.slot n gone whole))
     (holder-left given n c.args.role c.args.slot moved.placed moved.unlost (ap holder whole))).steady

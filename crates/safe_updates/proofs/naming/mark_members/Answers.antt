@@ -77,12 +77,12 @@ returns-clause-flushed g c = λ told flushed. holders-updated (g.B.Bank.given c.
 
 pub returns-clause-safe : goal.returns-clause-safe
 returns-clause-safe g c = λ tell world told room markable now.
-    mark-safe (OpensFit world) world.scope (g.B.Bank.given c.args.bank.now) size told c.args.clean c.args.members.now c.mark-lost.new.members (g.B.Bank.tape c.args.bank.now) (g.B.Bank.tape c.mark-lost.new.bank)
+    mark-safe (OpensFit world) world.scope (g.B.Bank.given c.args.bank.now) told c.args.clean c.args.members.now c.mark-lost.new.members (g.B.Bank.tape c.args.bank.now) (g.B.Bank.tape c.mark-lost.new.bank)
     (told-changed tell c.mark-lost.ensures.marked) room markable now
 
 pub returns-clause-named : goal.returns-clause-named
 returns-clause-named g c = λ tell world told room markable now left.
-    mark-named (OpensFit world) world.scope (g.B.Bank.given c.args.bank.now) size told c.args.clean c.args.members.now c.mark-lost.new.members (g.B.Bank.tape c.args.bank.now) (g.B.Bank.tape c.mark-lost.new.bank)
+    mark-named (OpensFit world) world.scope (g.B.Bank.given c.args.bank.now) told c.args.clean c.args.members.now c.mark-lost.new.members (g.B.Bank.tape c.args.bank.now) (g.B.Bank.tape c.mark-lost.new.bank)
     (told-changed tell c.mark-lost.ensures.marked) room markable now left
 
 pub returns-clause-rise : goal.returns-clause-rise

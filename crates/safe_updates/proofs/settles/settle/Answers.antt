@@ -116,14 +116,14 @@ returns-clause-safe g c = λ tell world told room gone unclean list stands rows 
     let did2 = c.mark_members-marked.ensures in
     let moved2 = moved-from given given1 m1 m1 m2 did1.given refl did2.moved in
     let kept = did1.safe tell world told (room-first m tape0 tape1 tape2 room (grows-longer did2.grows tell)) (gone-before given m1 m2 did1.moved.placed moved2 told gone) unclean now in
-    let markable : IsMarkable (OpensFit world) true told m1 m2 (disk given.start tape1) =
-    settled-markable (OpensFit world) given told m1 m2 tape1 list did1.moved.placed (did1.flushed tell) gone (allowed-later given m m1 did1.moved told.values list allowed)
+    let markable : IsMarkable (OpensFit world) world.scope true told m1 m2 (disk given.start tape1) =
+    settled-markable (OpensFit world) world.scope given told m1 m2 tape1 list did1.moved.placed (did1.flushed tell) gone (allowed-later given m m1 did1.moved c.requires.placed told.values list allowed)
     (λ does premise. rows-moved given m m1 (present given tape0) (present given tape1) list did1.moved c.requires.placed (did1.others tell)
     (rows (second c.is_some.result c.args.unsynced c.is_clean.result c.if-is_some-unsynced.false) (without-before given m m1 c.requires.placed did1.moved does) premise)) in
     safe-then (OpensFit world) world.scope given told m1 m2 tape0 tape1 tape2 kept
     (keeps-from world given given1 told m2 tape1 tape2 did1.given
     (did2.safe tell world told (room-then tape2 tell room did1.rise)
-    (subst (λ (b : Given). IsMarkable (OpensFit world) true told m1 m2 (disk b.start tape1)) (sym did1.given) markable)
+    (subst (λ (b : Given). IsMarkable (OpensFit world) world.scope true told m1 m2 (disk b.start tape1)) (sym did1.given) markable)
     (over-at world given given1 told m1 tape1 did1.given kept.next)))
 
 pub returns-clause-settled : goal.returns-clause-settled
@@ -147,8 +147,8 @@ returns-clause-settled g c = λ none tell world told room gone unclean dirty lis
     let rows1 : OpensFit world → RowsStand m1 (present given tape1) list =
     λ premise. rows-moved given m m1 (present given tape0) (present given tape1) list did1.moved c.requires.placed (did1.others tell)
     (rows (second c.is_some.result c.args.unsynced c.is_clean.result c.if-is_some-unsynced.false) does premise) in
-    let markable : IsMarkable (OpensFit world) true told m1 m2 (disk given.start tape1) =
-    settled-markable (OpensFit world) given told m1 m2 tape1 list did1.moved.placed (did1.flushed tell) gone (allowed-later given m m1 did1.moved told.values list allowed) (λ does_without premise. rows1 premise) in
+    let markable : IsMarkable (OpensFit world) world.scope true told m1 m2 (disk given.start tape1) =
+    settled-markable (OpensFit world) world.scope given told m1 m2 tape1 list did1.moved.placed (did1.flushed tell) gone (allowed-later given m m1 did1.moved c.requires.placed told.values list allowed) (λ does_without premise. rows1 premise) in
     let held = c.unmarked.ensures.left none in
     settled-safe (OpensFit world) world.scope given told c.args.unsynced m2 tape2 list moved2.placed
     (holders-fewer given m1 m2 tape2 moved2.held (holders-at (reading_of m1) given1 given tape2 (sym did1.given) (did2.flushed tell (holders-at (reading_of m1) given given1 tape1 did1.given (did1.flushed tell)))))
@@ -157,7 +157,7 @@ returns-clause-settled g c = λ none tell world told room gone unclean dirty lis
     (λ clean does_without premise. rows-moved given m1 m2 (present given tape1) (present given tape2) list moved2 did1.moved.placed others2 (rows1 premise))
     (subst (λ (b : Given). IsNamedOver world b told m2 tape2) did1.given
     (did2.named tell world told (room-then tape2 tell room did1.rise)
-    (subst (λ (b : Given). IsMarkable (OpensFit world) true told m1 m2 (disk b.start tape1)) (sym did1.given) markable)
+    (subst (λ (b : Given). IsMarkable (OpensFit world) world.scope true told m1 m2 (disk b.start tape1)) (sym did1.given) markable)
     (over-at world given given1 told m1 tape1 did1.given kept.next) (holder-left given m2 held.0 held.1 moved2.placed moved2.unlost held.2)))
   where
     never : true ≡ false → ⊥
