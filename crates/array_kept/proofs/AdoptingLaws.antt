@@ -1,5 +1,5 @@
 -- What an array keeps that was taken over.
-use Rattle.std.proofs.Common.{◌≡◌, inl, inr, ℕ, ◌+◌, ◌<◌, ◌≤◌, ◌*◌, ◌/◌, ◌==◌, nat_lt, ◌⊎◌, ◌&&◌, ◌||◌, Bool, true, false, not, Option, Some, None, List, [], ◌∷◌, length, refl, sym, ◌∙◌, ap, subst, arith}
+use Rattle.std.proofs.Common.{◌≡◌, inl, inr, ℕ, ◌<◌, ◌≤◌, ◌*◌, ◌/◌, ◌==◌, nat_lt, ◌⊎◌, ◌&&◌, ◌||◌, Bool, true, false, not, Option, Some, None, List, [], length, refl, sym, ◌∙◌, ap, subst, arith}
 use Rattle.std.specs.Prelude.{if◌then◌else◌, slice_index_or, IfSome, IsSome, is_some}
 use Rattle.std.specs.Option.{option_map_or}
 use Rattle.std.proofs.Math.Nat.{div-mul-le_self}
@@ -24,9 +24,8 @@ use Rattle.bank.specs.Tape.{Contents, IsIn, disk}
 use Rattle.bank.specs.Whole.{HasWholeSectors}
 use Rattle.bank.specs.declared.bank.Operation.{Operation}
 use Rattle.superblocks.specs.declared.members.Members.{Members}
-use Rattle.superblocks.specs.Reading.{Scope, shape_of, is_clean, role_state, rows_held, data_offset_of}
+use Rattle.superblocks.specs.Reading.{Scope, shape_of, is_clean, role_state, rows_held}
 use Rattle.row_io.specs.Rows.{reading_of, present}
-use Rattle.row_io.proofs.Losses.{holder-of}
 use Rattle.flat_history.specs.declared.events.Entry.{Entry}
 use Rattle.flat_history.specs.CrashSafe.{IsSafeAt}
 use Rattle.flat_history.specs.Sound.{OpensFit, FillsRight}

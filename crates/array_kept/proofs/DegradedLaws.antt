@@ -22,7 +22,7 @@ use Rattle.superblocks.specs.declared.members.Members.{Members}
 use Rattle.md_base.specs.declared.status.Role.{Role}
 use Rattle.md_base.specs.declared.status.Role.TheVariants.{Recovering}
 use Rattle.superblocks.specs.Reading.{Scope, shape_of, role_state, rows_held, holder, is_clean}
-use Rattle.row_io.specs.Rows.{reading_of, present, is_missing, missing_count}
+use Rattle.row_io.specs.Rows.{reading_of, present, is_missing}
 use Rattle.flat_history.specs.declared.events.Entry.{Entry}
 use Rattle.flat_history.specs.declared.events.Event.{Event}
 use Rattle.flat_history.specs.declared.events.Event.TheVariants.{Refused, Read, Wrote, Torn, Lost, Failed, Shown, Halted}

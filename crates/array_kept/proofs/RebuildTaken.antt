@@ -22,15 +22,14 @@ use Rattle.flat_history.specs.OneShape.{opening_in, IsCallOpen}
 use Rattle.flat_history.proofs.OneShapeGrowing.{one}
 use Rattle.views.specs.declared.work.Work.{Work}
 use Rattle.call_entries.specs.Losing.{losses_of}
-use Rattle.views.specs.Whole.{list_size}
-use Rattle.views.specs.Placed.{places_of, is_vacant, IsPlaced}
+use Rattle.views.specs.Placed.{is_vacant, IsPlaced}
 use Rattle.shape_changes.specs.Marking.{AreOthersPresent}
 use Rattle.views.specs.Moving.{Grows, IsMoved}
 use Rattle.shape_changes.specs.Safety.{HasRoomLeft, IsRisen}
 use Rattle.views.specs.Status.{left_of}
 use Rattle.views.specs.Rebuilding.{with_recovering, MayHold}
 use Rattle.views.specs.Lacking.{AreLostSince, DoesWithout, RowsStandBelow, mended_rows}
-use Rattle.array_kept.specs.Kept.{world_in, AreTold, IsKept, AreOnlyTold}
+use Rattle.array_kept.specs.Kept.{world_in, AreTold, IsKept}
 use Rattle.shape_views.specs.Views.{Ledger}
 use Rattle.shape_changes.specs.Steady.{IsSafeOver, KeepsSafe, AreGoneTold, IsUncleanTold}
 use Rattle.array_kept.specs.Calls.{with_rebuilt}
