@@ -24,7 +24,7 @@ use Rattle.array_kept.proofs.KeptLaws.{NamesSafe}
 use Rattle.views.proofs.LackingLaws.{holder-without}
 use Rattle.shape_changes.proofs.Steady.{losing-stays-safe}
 use Rattle.views.proofs.Still.{told-same}
-use Rattle.views.proofs.Without.{in-both, live-before}
+use Rattle.shape_changes.proofs.Without.{in-both, live-before}
 use Rattle.std.specs.Prelude.{◌^◌}
 use Rattle.superblocks.specs.Reads.{has_spare}
 

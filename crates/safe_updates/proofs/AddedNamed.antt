@@ -23,7 +23,7 @@ use Rattle.shape_changes.specs.Steady.{AreUnlost, IsSteady, IsNamedNow}
 use Rattle.views.specs.Rebuilding.{AreSparesFree}
 use Rattle.shape_views.specs.Views.{Ledger}
 use Rattle.safe_updates.proofs.RolesNamed.{unnamed-named}
-use Rattle.views.proofs.Without.{in-both, any-holds, live-is}
+use Rattle.shape_changes.proofs.Without.{in-both, any-holds, live-is}
 
 -- a slot that is live wasn't lost
 pub live-unlost : (given : Given) (m : Members) → AreUnlost m → AreSparesFree given m → (clean : Bool) (s : ℕ) → has_slot (live_set m (marking m clean)) s ≡ true → has_slot m.lost s ≡ false

@@ -66,18 +66,16 @@ use Rattle.safe_updates.proofs.SaidReads.{read-of}
 use Rattle.safe_updates.proofs.AddedUpdates.{IsAddedBy, added-less, added-spares, added-moved, left-in-adding}
 use Rattle.shape_changes.proofs.Carried.{IsRewritable, known-rewritable, numbers-touched}
 use Rattle.views.proofs.MarkEnds.{some-or-none as mark-left}
-use Rattle.views.proofs.PlacedLaws.{state-without}
+use Rattle.shape_changes.proofs.Without.{state-without, without-none, in-both, any-without, live-is}
 use Rattle.views.proofs.SafeStretch.{gone-before}
-use Rattle.views.proofs.Still.{seen-own}
+use Rattle.shape_changes.proofs.Stretch.{seen-own}
 use Rattle.shape_changes.proofs.ChangeViews.{known-read, placed-less}
 use Rattle.shape_changes.proofs.Drawn.{disk-somewhere, views-right}
 use Rattle.shape_changes.proofs.KeptSafe.{fits-alike, without-right, steady-right}
 use Rattle.shape_changes.proofs.LessViews.{less-right}
 use Rattle.shape_changes.proofs.Since.{since-none}
-use Rattle.shape_changes.proofs.Without.{without-none}
 use Rattle.shape_changes.specs.Updates.{IsLessView}
 use Rattle.safe_updates.proofs.SparesLaws.{spares-are as mark-spares}
-use Rattle.views.proofs.Without.{in-both, any-without, live-is}
 
 -- The array is read there, as one of these members say.
 record IsReadAmong (scope : Scope) (P : Members → Type 0) (c : Contents) : Type 0 where

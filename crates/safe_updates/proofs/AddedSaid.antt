@@ -49,10 +49,11 @@ use Rattle.views.specs.Placed.{IsPlaced}
 use Rattle.views.specs.Rebuilding.{with_spare}
 use Rattle.views.proofs.AddedMembers.{own-here, own-other, lost-with}
 use Rattle.safe_updates.proofs.AddedStarts.{says-still, says-later, count-still}
-use Rattle.views.proofs.MarkLaws.{give_of-same, roles-kept}
+use Rattle.views.proofs.MarkLaws.{roles-kept}
+use Rattle.shape_changes.proofs.Kept.{give_of-same}
 use Rattle.views.proofs.Planned.{apart, small}
 use Rattle.views.proofs.Ready.{gone-lost}
-use Rattle.views.proofs.Without.{any-without, from-without, without-twice}
+use Rattle.shape_changes.proofs.Without.{any-without, from-without, without-twice}
 use Rattle.views.proofs.PlacedLaws.{same-count}
 use Rattle.shape_changes.proofs.UpdateViews.{said-recovering}
 use Rattle.safe_updates.proofs.SaidReads.{IsSaidOf}

@@ -47,12 +47,11 @@ use Rattle.views.specs.Numbers.{IsSpareSb, IsOfScope, spare_sb}
 use Rattle.views.specs.Placed.{IsPlaced}
 use Rattle.views.specs.Rebuilding.{AreSparesFree, with_spare}
 use Rattle.views.proofs.AddedMembers.{lost-with, live-here}
-use Rattle.views.proofs.MarkLaws.{give_of-same}
-use Rattle.views.proofs.PlacedLaws.{state-without}
+use Rattle.shape_changes.proofs.Kept.{give_of-same}
+use Rattle.shape_changes.proofs.Without.{state-without, any-holds, live-is, live-without}
 use Rattle.views.proofs.Planned.{without-holder}
 use Rattle.views.proofs.Ready.{none-judged, gone-lost, first-lost, live-known as first-live-known, known-live as first-known-live}
 use Rattle.shape_changes.proofs.Spent.{live-holder}
-use Rattle.views.proofs.Without.{any-holds, live-is, live-without}
 
 -- ---- tests
 

@@ -34,7 +34,8 @@ use Rattle.views.proofs.AddedMembers.{own-here, spares-with, live-with}
 use Rattle.views.proofs.HeldRows.{rows-same}
 use Rattle.views.proofs.LackingLaws.{since-less}
 use Rattle.views.proofs.MarkEnds.{left-in-mark}
-use Rattle.views.proofs.MarkLaws.{give_of-same, roles-kept, few-planned}
+use Rattle.views.proofs.MarkLaws.{roles-kept, few-planned}
+use Rattle.shape_changes.proofs.Kept.{give_of-same}
 use Rattle.views.proofs.MarkedSafe.{told-marks}
 use Rattle.views.proofs.MovedLaws.{moved-less}
 use Rattle.views.proofs.PlacedLaws.{placed-less, less-unlost}

@@ -11,11 +11,10 @@ use Rattle.row_io.specs.Rows.{reading_of, role_without}
 use Rattle.shape_changes.specs.Updates.{IsLessView}
 use Rattle.shape_changes.proofs.ChangeViews.{says-itself}
 use Rattle.shape_changes.proofs.Kept.{still-missing}
-use Rattle.shape_changes.proofs.Without.{without-holder}
+use Rattle.shape_changes.proofs.Without.{without-holder, state-without}
 use Rattle.views.specs.Placed.{AreLess}
 use Rattle.views.specs.Rebuilding.{with_spare}
 use Rattle.views.proofs.AddedRows.{offset-with, rows-as}
-use Rattle.views.proofs.PlacedLaws.{state-without}
 
 -- a slot that holds no role has no part in the view
 pub with-less : (m : Members) (slot : ℕ) (sb : Sb) → ((role : ℕ) → holder (role_state (reading_of m) role) ≡ Some slot → ⊥) → IsLessView m (with_spare slot sb m)

@@ -35,9 +35,9 @@ use Rattle.views.proofs.LackingLaws.{holder-without}
 use Rattle.views.proofs.MarkLaws.{few-planned}
 use Rattle.views.proofs.MarkEnds.{count-is}
 use Rattle.views.proofs.MovedLaws.{moved-less}
-use Rattle.views.proofs.PlacedLaws.{state-without, placed-less, less-unlost}
+use Rattle.views.proofs.PlacedLaws.{placed-less, less-unlost}
+use Rattle.shape_changes.proofs.Without.{state-without, live-is}
 use Rattle.safe_updates.proofs.SparesLaws.{free-told}
-use Rattle.views.proofs.Without.{live-is}
 use Rattle.views.proofs.Gives.{holder-given, gives_of, give-here, give-other, roles-given, given-lost}
 use Rattle.safe_updates.proofs.GivenAway.{moved-away}
 use Rattle.views.proofs.GivenMembers.{offset_given, recovery-is, IsReceiver, W, givable, state-here, state-other, holder-then, offset-same, recovered-here, recovered-other, spare-then, spare-before, placed-given, unlost-given}

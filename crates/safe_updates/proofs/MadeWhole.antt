@@ -38,9 +38,9 @@ use Rattle.shape_views.specs.Views.{Ledger, IsSettled, IsViewRight}
 use Rattle.views.proofs.Still.{count-still, length-still, without-still, settled-still, still-settled}
 use Rattle.views.specs.Flushing.{AreHolders}
 use Rattle.views.proofs.MarkEnds.{count-is}
-use Rattle.views.proofs.MarkLaws.{give_of-same, roles-kept, role_from-found, held-holder, holder-held}
-use Rattle.views.proofs.PlacedLaws.{state-without}
-use Rattle.shape_changes.proofs.Without.{any-held}
+use Rattle.views.proofs.MarkLaws.{roles-kept, role_from-found, held-holder, holder-held}
+use Rattle.shape_changes.proofs.Kept.{give_of-same, still-missing, kept-less}
+use Rattle.shape_changes.proofs.Without.{state-without, any-held}
 use Rattle.views.proofs.Gives.{give-here, give-other}
 use Rattle.views.proofs.GivenPlan.{given-state, given-less}
 use Rattle.views.proofs.GivenMembers.{IsReceiver, W, state-here, state-other, holder-then, offset-same, rows-other, placed-given}
@@ -48,7 +48,6 @@ use Rattle.shape_changes.specs.Updates.{planned_view, IsLessView}
 use Rattle.shape_changes.specs.Changing.{IsChanged}
 use Rattle.shape_changes.specs.Making.{IsMakable}
 use Rattle.shape_changes.proofs.ChangeViews.{placed-less}
-use Rattle.shape_changes.proofs.Kept.{still-missing, kept-less}
 use Rattle.shape_changes.proofs.KeptSafe.{planned-fits, planned-backup, told-plan, steady-right}
 use Rattle.shape_changes.proofs.LessViews.{less-right}
 use Rattle.shape_changes.proofs.PlannedRoles.{count-planned}

@@ -23,7 +23,8 @@ use Rattle.views.specs.Lacking.{IsNamed, AreUnnamed}
 use Rattle.views.specs.Placed.{IsPlaced}
 use Rattle.shape_views.specs.Views.{Ledger}
 use Rattle.shape_changes.specs.Steady.{IsSteady, IsNamedNow}
-use Rattle.views.proofs.PlacedLaws.{state-without, kept-roles}
+use Rattle.views.proofs.PlacedLaws.{kept-roles}
+use Rattle.shape_changes.proofs.Without.{state-without}
 
 -- a slot's superblock that holds a role has the role's entry
 holds-entry : (newest : Sb) (role slot : ℕ) (sb : Sb) (state : Role) → held_in newest role slot (Some sb) ≡ Some state → entry_of newest sb.dev_number ≡ role

@@ -15,7 +15,7 @@ use Rattle.row_io.specs.Rows.{reading_of}
 use Rattle.views.specs.Flushing.{AreHolders}
 use Rattle.shape_changes.specs.Marking.{marking}
 use Rattle.views.specs.Rebuilding.{IsFree}
-use Rattle.views.proofs.MarkLaws.{give_of-same}
+use Rattle.shape_changes.proofs.Kept.{give_of-same}
 
 -- a mark leaves those that aren't lost
 module _ (old : Members) (clean : Bool) (lost : ℕ) (slots : List ℕ) (is : slots ≡ planned_spares old (marking old clean) lost) where

@@ -24,7 +24,7 @@ use Rattle.shape_changes.specs.Steady.{AreUnlost}
 use Rattle.shape_changes.specs.Marking.{adding, marking}
 use Rattle.views.specs.Numbers.{IsSpareSb}
 use Rattle.views.specs.Rebuilding.{IsFree, AreSparesFree, with_spare}
-use Rattle.views.proofs.Without.{live-is}
+use Rattle.shape_changes.proofs.Without.{live-is}
 
 -- ---- tests
 

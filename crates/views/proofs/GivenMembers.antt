@@ -21,8 +21,7 @@ use Rattle.row_io.specs.Rows.{reading_of, IsHolder}
 use Rattle.views.specs.Placed.{IsPlaced}
 use Rattle.shape_changes.specs.Steady.{AreUnlost}
 use Rattle.views.proofs.HeldRows.{recovered_of}
-use Rattle.views.proofs.Without.{any-holds}
-use Rattle.shape_changes.proofs.Without.{any-held}
+use Rattle.shape_changes.proofs.Without.{any-holds, any-held}
 use Rattle.views.proofs.Gives.{state_given, with_given, holder-given, IsGivable}
 
 -- the offset from which a slot recovers; 0 where it is whole

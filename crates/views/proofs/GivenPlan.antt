@@ -29,10 +29,9 @@ use Rattle.shape_changes.specs.Giving as law
 use Rattle.views.proofs.Gives.{give-here, give-other, roles-given}
 use Rattle.views.proofs.GivenMembers.{IsReceiver, W, givable, own-here, own-other, placed-given}
 use Rattle.views.proofs.MarkEnds.{count-is}
-use Rattle.views.proofs.PlacedLaws.{state-without}
+use Rattle.shape_changes.proofs.Without.{state-without, without-holder}
 use Rattle.shape_changes.proofs.ChangeViews.{planned-live}
 use Rattle.shape_changes.proofs.Kept.{without-less, still-missing}
-use Rattle.shape_changes.proofs.Without.{without-holder}
 use Rattle.shape_changes.proofs.PlannedRoles.{says-shared}
 
 -- ---- a view that loses roles is placed, if its live slots can be written

@@ -15,7 +15,6 @@ pub mod LackingLists
 pub mod Stripes
 pub mod AddedMembers
 pub mod AddedRows
-pub mod Without
 pub mod Ready
 pub mod Planned
 pub mod MarkEnds

@@ -19,8 +19,8 @@ use Rattle.superblocks.proofs.UpdateReads.{some-or-all}
 use Rattle.views.specs.Placed.{AreLess}
 use Rattle.shape_changes.specs.Marking.{marking}
 use Rattle.shape_changes.specs.Safety.{HasLiveSlot}
-use Rattle.views.proofs.MarkLaws.{give_of-same}
-use Rattle.views.proofs.Without.{any-without, live-is}
+use Rattle.shape_changes.proofs.Kept.{give_of-same}
+use Rattle.shape_changes.proofs.Without.{any-without, live-is}
 
 -- ---- a live slot is left, or none
 

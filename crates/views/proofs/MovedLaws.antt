@@ -19,9 +19,9 @@ use Rattle.shape_changes.specs.Steady.{AreUnlost}
 use Rattle.views.specs.Moving.{Grows, IsMoved}
 use Rattle.views.specs.Rebuilding.{IsFree}
 use Rattle.views.specs.Lacking.{lacking}
-use Rattle.views.proofs.PlacedLaws.{kept-roles, none-lost, places-same, state-without}
+use Rattle.views.proofs.PlacedLaws.{kept-roles, none-lost, places-same}
+use Rattle.shape_changes.proofs.Without.{state-without, in-both}
 use Rattle.views.proofs.HeldRows.{state-less}
-use Rattle.views.proofs.Without.{in-both}
 use Rattle.views.proofs.MemberLaws.{less-without, none_missing, placed-without, unlost-without}
 
 -- ---- the tape

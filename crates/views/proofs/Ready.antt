@@ -22,7 +22,7 @@ use Rattle.superblock_reads.proofs.SaidSlots.{role-known, spare-known}
 use Rattle.row_io.specs.Rows.{members_without}
 use Rattle.shape_changes.specs.Marking.{marking}
 use Rattle.shape_changes.specs.Held.{IsHeldBy}
-use Rattle.views.proofs.Without.{in-both, any-holds, live-is, live-before}
+use Rattle.shape_changes.proofs.Without.{in-both, any-holds, live-is, live-before}
 
 both : (a b : Bool) → (a && b) ≡ true → (a ≡ true) × (b ≡ true)
 both true b e = (refl, e)

@@ -32,6 +32,7 @@ use Rattle.shape_views.specs.Windows.{IsOfRegion}
 use Rattle.shape_views.proofs.Stands.{for-still, final-still, list-still}
 use Rattle.shape_changes.specs.Held.{IsHeldBy}
 use Rattle.shape_changes.specs.Steady.{IsMoreTold, AreGoneTold}
+use Rattle.shape_changes.proofs.Stretch.{seen-own}
 use Rattle.views.specs.Whole.{list_size}
 use Rattle.views.specs.Placed.{places_of, IsPlaced}
 use Rattle.views.specs.Lacking.{DoesWithout, AreHoldersFlushed, RowsStand}
@@ -149,18 +150,6 @@ module _ (scope : Scope) (given : Given) (m : Members) (placed : IsPlaced given 
     apart = placed.apart;
     backup = ap (λ (b : Bool). cond (not b || has_room scope (reach_of m.newest)) None (Some BackupAbsent)) placed.still;
   }
-
--- a slot that is looked at isn't the backup's
-pub seen-own : (scope : Scope) (slot : ℕ) → is_seen scope slot ≡ true → scope.backup ≡ Some slot → ⊥
-seen-own scope slot seen is = of (has_slot scope.given slot) (is_backup scope.backup slot) seen (ap (λ (o : Option ℕ). is_backup o slot) is ∙ itself slot)
-  where
-    itself : (n : ℕ) → (n == n) ≡ true
-    itself n = grind (arith, nat_tests)
-
-    of : (a b : Bool) → (a && not b) ≡ true → b ≡ true → ⊥
-    of true true e here = absurd (cc)
-    of true false e here = absurd (cc)
-    of false b e here = absurd (cc)
 
 -- so where the superblocks are held
 pub held-own : (scope : Scope) (m : Members) (d : Disk) → IsHeldBy scope m d → (role slot : ℕ) → holder (role_state (reading_of m) role) ≡ Some slot → scope.backup ≡ Some slot → ⊥

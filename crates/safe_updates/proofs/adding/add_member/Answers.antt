@@ -24,7 +24,7 @@ use Rattle.views.proofs.AddedMembers.{addable, placed-with, unlost-roles, free-w
 use Rattle.safe_updates.proofs.AddedSafe.{adding-safe}
 use Rattle.safe_updates.proofs.AddedUpdates.{IsAddedBy, told-added, added-moved, added-risen, added-failed, told-spare, told-none, added-stored, lost-spare}
 use Rattle.views.proofs.LiveLeft.{left-steady}
-use Rattle.views.proofs.MarkLaws.{give_of-same}
+use Rattle.shape_changes.proofs.Kept.{give_of-same}
 use Rattle.views.proofs.MarkedLaws.{grows-marks, others-updated}
 use Rattle.views.proofs.PlacedLaws.{same-count}
 use Rattle.safe_updates.proofs.adding.add_member.Given.{Over}

@@ -10,7 +10,8 @@ use Rattle.row_io.specs.Rows.{reading_of}
 use Rattle.views.specs.Placed.{IsPlaced}
 use Rattle.shape_changes.specs.Marking.{marking}
 use Rattle.safe_updates.specs.Named.{AreDataKept}
-use Rattle.views.proofs.MarkLaws.{few-planned, give_of-same}
+use Rattle.views.proofs.MarkLaws.{few-planned}
+use Rattle.shape_changes.proofs.Kept.{give_of-same}
 use Rattle.views.proofs.MovedLaws.{moved-less}
 use Rattle.safe_updates.proofs.SparesLaws.{spare-left, spare-stays, free-told}
 use Rattle.views.proofs.MarkedLaws.{grows-marks, others-updated, failed-marked}
