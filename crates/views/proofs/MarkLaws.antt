@@ -67,7 +67,6 @@ same-is : (role : ℕ) (found : Option ℕ) → is_same role found ≡ true → 
 same-is role None is = absurd (cc)
 same-is role (Some other) is = ap (λ (n : ℕ). Some n) (grind (arith, nat_tests, is))
 
-
 both : (a b : Bool) → (a && b) ≡ true → (a ≡ true) × (b ≡ true)
 both true b e = (refl, e)
 both false b e = absurd (cc)
