@@ -10,8 +10,8 @@ use Rattle.views.specs.Whole.{list_size}
 use Rattle.views.specs.Placed.{places_of}
 use Rattle.array_kept.specs.Kept.{scope_in, IsReady}
 use Rattle.array_kept.specs.Calls.{IsUnaddable}
-use Rattle.array_kept.proofs.AddLaws.{slot-there, unadded_reply}
-use Rattle.array_kept.proofs.AddedKept.{kept-unadded}
+use Rattle.calls_kept.proofs.AddLaws.{slot-there, unadded_reply}
+use Rattle.calls_kept.proofs.AddedKept.{kept-unadded}
 use Rattle.array_kept.proofs.LossLaws.{ended-behind}
 use Rattle.array_kept.proofs.ReadyLaws.{ready, scope-same}
 use Rattle.array.proofs.array.Array.add.Goals as goal

@@ -17,9 +17,9 @@ use Rattle.array_kept.specs.Kept.{scope_in, IsKept}
 use Rattle.array_kept.specs.Calls.{IsFirstOffset, IsUnaddable}
 use Rattle.views.specs.Lacking.{AreUnnamed}
 use Rattle.views.specs.Rebuilding.{AreSparesFree}
-use Rattle.array_kept.proofs.AddLaws.{slot-there, slot-free, slot-does, slot-unspare, slot-fits, slot-room, slot-of-scope, is-free, second-half, stored-as, added_reply, faulted_reply}
-use Rattle.array_kept.proofs.AddedKept.{AddsSafe, with_carried, carries-number, carries-only, kept-looked, looked-others, looked-grows, kept-spare, kept-lost}
-use Rattle.array_kept.proofs.AddedLosses.{add-done, others-lost, since-added, spares-added}
+use Rattle.calls_kept.proofs.AddLaws.{slot-there, slot-free, slot-does, slot-unspare, slot-fits, slot-room, slot-of-scope, is-free, second-half, stored-as, added_reply, faulted_reply}
+use Rattle.calls_kept.proofs.AddedKept.{AddsSafe, with_carried, carries-number, carries-only, kept-looked, looked-others, looked-grows, kept-spare, kept-lost}
+use Rattle.calls_kept.proofs.AddedLosses.{add-done, others-lost, since-added, spares-added}
 use Rattle.call_entries.proofs.CallLaws.{losses-are}
 use Rattle.views.proofs.Flushed.{contents-added}
 use Rattle.views.proofs.MovedLaws.{grows-then}

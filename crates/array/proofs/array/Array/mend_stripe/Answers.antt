@@ -15,11 +15,11 @@ use Rattle.call_entries.proofs.CallLaws.{losses-are}
 use Rattle.views.proofs.LackingLaws.{lost-since, does-without}
 use Rattle.array_kept.proofs.ReadyLaws.{ready, scope-same, list-same}
 use Rattle.array_kept.proofs.ReplyLaws.{unwritten-of, refused-for}
-use Rattle.array_kept.proofs.ReadLaws.{some-of}
+use Rattle.calls_kept.proofs.ReadLaws.{some-of}
 use Rattle.array_kept.proofs.LossLaws.{losses-behind, ended-behind, behind-alone}
 use Rattle.call_entries.proofs.StepLaws.{losses-go_on, still-open}
 use Rattle.array_kept.proofs.StepsLeft.{left-mended, steps-fewer, steps-kept}
-use Rattle.array_kept.proofs.MendLaws.{is-pending, next-stripe, degraded-unmended, degraded-mended}
+use Rattle.calls_kept.proofs.MendLaws.{is-pending, next-stripe, degraded-unmended, degraded-mended}
 use Rattle.array_kept.proofs.DegradedLaws.{kept-refused, unwritten-here}
 use Rattle.safe_updates.specs.First.{write_refusal}
 use Rattle.array.proofs.array.Array.mend_stripe.Goals as goal

@@ -24,7 +24,7 @@ use Rattle.array_kept.proofs.ReadyLaws.{ready, scope-same, list-same}
 use Rattle.array_kept.proofs.DegradedLaws.{refused-here, kept-refused, unread-here}
 use Rattle.array_kept.proofs.LossLaws.{losses-behind, ended-behind}
 use Rattle.array_kept.proofs.ReplyLaws.{refused_reply, lost_reply, inside-losses, replied, read_kind, unread-of, refused-for}
-use Rattle.array_kept.proofs.ReadLaws.{kept-unread, kept-read, fetched, some-of}
+use Rattle.calls_kept.proofs.ReadLaws.{kept-unread, kept-read, fetched, some-of}
 use Rattle.call_entries.proofs.CallLaws.{losses-are, torn-losses}
 use Rattle.safe_updates.specs.First.{read_refusal}
 use Rattle.array.proofs.FirstLaws.{call-within}

@@ -20,8 +20,8 @@ use Rattle.array_kept.proofs.ReadyLaws.{ready, scope-same, list-same}
 use Rattle.array_kept.proofs.DegradedLaws.{refused-here, kept-refused, pending-of, unwritten-here}
 use Rattle.array_kept.proofs.LossLaws.{losses-behind, losses-failure, ended-behind, ended-failure, torn-told}
 use Rattle.array_kept.proofs.ReplyLaws.{refused_reply, failed_reply, inside-losses, replied, write_kind, unwritten-of, refused-for}
-use Rattle.array_kept.proofs.ReadLaws.{some-of}
-use Rattle.array_kept.proofs.WriteLaws.{kept-unwritten, kept-wrote}
+use Rattle.calls_kept.proofs.ReadLaws.{some-of}
+use Rattle.calls_kept.proofs.WriteLaws.{kept-unwritten, kept-wrote}
 use Rattle.views.proofs.MemberLaws.{list-few}
 use Rattle.call_entries.proofs.CallLaws.{losses-are, torn-losses}
 use Rattle.safe_updates.specs.First.{write_refusal}

@@ -42,11 +42,11 @@ use Rattle.array_kept.proofs.KeptLaws.{StayPlaced, rebuilds-before, mended-are, 
 use Rattle.views.proofs.LackingLaws.{since-missing}
 use Rattle.views.proofs.LackingLists.{list-moved, among-moved}
 use Rattle.array_kept.proofs.LedgerLaws.{told_by, told-unclean, add-none, add-one}
-use Rattle.array_kept.proofs.RebuildFilled.{rebuilt-here, rebuilt-other}
-use Rattle.array_kept.proofs.RebuildGiven.{receiver-spare, few-given, free-then, missing-given, list-given, among-given, rebuilt-given, none-recovered}
-use Rattle.array_kept.proofs.RebuildLaws.{AreQuiet, quiet-behind, kept-listed}
+use Rattle.calls_kept.proofs.RebuildFilled.{rebuilt-here, rebuilt-other}
+use Rattle.calls_kept.proofs.RebuildGiven.{receiver-spare, few-given, free-then, missing-given, list-given, among-given, rebuilt-given, none-recovered}
+use Rattle.calls_kept.proofs.RebuildLaws.{AreQuiet, quiet-behind, kept-listed}
 use Rattle.array_kept.proofs.RecordLaws.{told-more, gone-lately}
-use Rattle.array_kept.proofs.SteppedLaws.{call-stepping}
+use Rattle.calls_kept.proofs.SteppedLaws.{call-stepping}
 use Rattle.call_entries.proofs.StepLaws.{left-stepped}
 use Rattle.array_kept.proofs.StepsLeft.{left-taken}
 use Rattle.array_kept.proofs.OnlyLaws.{gone-behind-losses, taken-spares, TellsOnly}

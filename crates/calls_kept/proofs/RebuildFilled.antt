@@ -49,9 +49,9 @@ use Rattle.views.proofs.FilledParts.{list-filled, row-filled, full-kept}
 use Rattle.array_kept.proofs.KeptLaws.{StayPlaced, LeavesSafe, NamesSafe, rebuilds-before, left-lost, mended-are, leaves-named, work-kept}
 use Rattle.views.proofs.LackingWrites.{recovering-before}
 use Rattle.array_kept.proofs.LedgerLaws.{add-none, add-one}
-use Rattle.array_kept.proofs.RebuildLaws.{AreQuiet, quiet-behind, losses-end, some-lost, kept-listed}
+use Rattle.calls_kept.proofs.RebuildLaws.{AreQuiet, quiet-behind, losses-end, some-lost, kept-listed}
 use Rattle.call_entries.proofs.StepLaws.{faults-are, left-stepped}
-use Rattle.array_kept.proofs.SteppedLaws.{call-stepping}
+use Rattle.calls_kept.proofs.SteppedLaws.{call-stepping}
 use Rattle.array_kept.proofs.StepsLeft.{left-filled}
 use Rattle.array_kept.proofs.ToldLosses.{role-told}
 use Rattle.array_kept.proofs.OnlyLaws.{MakeSpares}

@@ -55,7 +55,7 @@ use Rattle.shape_changes.proofs.Since.{since-none}
 use Rattle.views.proofs.SoundViews.{throughout-opening}
 use Rattle.shape_changes.proofs.Steady.{safe-is-seen}
 use Rattle.views.proofs.Still.{still-placed, length-still, open-still, gone-still}
-use Rattle.array_kept.proofs.AbsentLaws.{AreAbsent, absents-legal, absents-are, absents-length, absents-limit, absents-left, absents-values, absents-now, absents-end, absents-keep, absents-ended, absents-told, absents-missing, absents-spares, absents-rebuilt}
+use Rattle.calls_kept.proofs.AbsentLaws.{AreAbsent, absents-legal, absents-are, absents-length, absents-limit, absents-left, absents-values, absents-now, absents-end, absents-keep, absents-ended, absents-told, absents-missing, absents-spares, absents-rebuilt}
 use Rattle.call_entries.proofs.StepLaws.{used-more}
 
 -- ---- the resync of an array that opened dirty

@@ -45,7 +45,7 @@ use Rattle.views.specs.Status.{left_of}
 use Rattle.shape_views.specs.Views.{Ledger}
 use Rattle.shape_changes.specs.Steady.{AreViewsRight, IsSafeOver, IsSafeStretch, KeepsSafe, AreGoneTold, IsUncleanTold, IsMoreTold, with_number}
 use Rattle.array_kept.specs.Kept.{world_in, ledger_now, AreTold, IsKept, IsSafe, AreOnlyTold}
-use Rattle.array_kept.proofs.AddedLosses.{IsAddDone, with-placed, stays-added, does-added, told-added, left-refused, left-carried, left-added, spares-added}
+use Rattle.calls_kept.proofs.AddedLosses.{IsAddDone, with-placed, stays-added, does-added, told-added, left-refused, left-carried, left-added, spares-added}
 use Rattle.views.proofs.AddedRows.{list-with, among-with, rebuilt-with}
 use Rattle.call_entries.proofs.CallLaws.{GivesNone, losses-are, ends-losses, builds-losses, last_end-behind}
 use Rattle.array_kept.proofs.DegradedLaws.{degraded-quiet, rebuilt-moved, leaves-named, stays-moved, kept-alone, kept-refused, too-many-here}
@@ -64,7 +64,7 @@ use Rattle.shape_changes.proofs.Steady.{views-told}
 use Rattle.array_kept.proofs.OnlyLaws.{MakeSpares, gone-behind-losses, spares-behind-losses, added-makes, only-more, TellsOnly}
 use Rattle.views.proofs.HeldRows.{missing-moved, vacant-missing}
 use Rattle.views.proofs.Still.{gone-still}
-use Rattle.array_kept.proofs.AddLaws.{lowest}
+use Rattle.calls_kept.proofs.AddLaws.{lowest}
 use Rattle.call_entries.proofs.LosingLaws.{entries-both}
 use Rattle.std.proofs.lemmas.List.Folds.{list_any-append}
 use Rattle.std.specs.List.{list_any}

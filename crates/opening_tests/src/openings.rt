@@ -1,7 +1,7 @@
 //! Openings of arrays that real md wrote, of a reshape and of arrays that are made, against values that were worked out by
 //! hand. The device's uuid was computed by Python.
 
-use crate::arrays::{SHAPE, SPEC, bank_of, made, opened, put_all};
+use array_samples::{SHAPE, SPEC, bank_of, made, opened, put_all};
 use array::CreateSpec;
 use assemble::{Opened, refusal_of_create};
 use bank::{Bank, MemoryBank, Op};

@@ -29,7 +29,7 @@ use Rattle.views.specs.Rebuilding.{AreSparesFree, AreRebuilt, AreRowsFull, with_
 use Rattle.views.specs.Lacking.{HaveFailedSince, RowsStand}
 use Rattle.views.proofs.GivenMembers.{IsReceiver, W, state-here, state-other, holder-then, offset-same, rows-other, spare-then, spare-before}
 use Rattle.views.proofs.HeldRows.{vacant-missing}
-use Rattle.array_kept.proofs.RebuildGiven.{few-given, free-then}
+use Rattle.calls_kept.proofs.RebuildGiven.{few-given, free-then}
 use Rattle.views.proofs.Stripes.{stripes-whole}
 
 -- ---- what the slot has of the role

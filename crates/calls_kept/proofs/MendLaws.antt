@@ -47,7 +47,7 @@ use Rattle.views.proofs.LackingWrites.{recovering-before}
 use Rattle.array_kept.proofs.RecordLaws.{AreSilent}
 use Rattle.array_kept.proofs.ReadyLaws.{AreStill, silent-behind, still-behind}
 use Rattle.call_entries.proofs.StepLaws.{left-stepped}
-use Rattle.array_kept.proofs.SteppedLaws.{call-stepping}
+use Rattle.calls_kept.proofs.SteppedLaws.{call-stepping}
 use Rattle.array_kept.proofs.StepsLeft.{left-mended}
 use Rattle.array_kept.proofs.KeptLaws.{StayPlaced, LeavesSafe, LeavesWork, leaves-as, leaves-unsettled, unbuilt-still, built-still, stripes-are, mended-are, same-now, whole-still, newest-old}
 use Rattle.array_kept.proofs.DegradedLaws.{stays-moved, rows-same, degraded-after, work-behind, none-ended, told-behind, call-refused, unwritten-here, only-behind}

@@ -31,7 +31,7 @@ use Rattle.call_entries.proofs.CallLaws.{losses-are, ends-losses, builds-losses}
 use Rattle.array_kept.proofs.RecordLaws.{AreSilent}
 use Rattle.array_kept.proofs.ReadyLaws.{AreStill, silent-behind, still-behind}
 use Rattle.call_entries.proofs.StepLaws.{left-stepped}
-use Rattle.array_kept.proofs.SteppedLaws.{call-stepping}
+use Rattle.calls_kept.proofs.SteppedLaws.{call-stepping}
 use Rattle.array_kept.proofs.StepsLeft.{left-ended}
 use Rattle.array_kept.proofs.KeptLaws.{LeavesSafe, LeavesWork, built-still, whole-still}
 use Rattle.array_kept.proofs.DegradedLaws.{stays-moved, degraded-after, holds-still, good-still, rebuilt-still, told-behind, only-behind}

@@ -52,12 +52,12 @@ use Rattle.array_kept.proofs.LedgerLaws.{told_by, allowed-more, told-now, told-u
 use Rattle.call_entries.proofs.LeftLaws.{fold-left}
 use Rattle.call_entries.proofs.LosingLaws.{entries-both}
 use Rattle.array_kept.proofs.NowLaws.{values-more}
-use Rattle.array_kept.proofs.RebuildEnded.{rows-full, whole-spare, role-lost, holder-still, holder-before, spare-still, moved-vacant}
-use Rattle.array_kept.proofs.RebuildFilled.{not-vacant}
-use Rattle.array_kept.proofs.RebuildGiven.{receiver-recovering, few-given, free-then, missing-given, list-given, among-given, rebuilt-given, whole-here}
-use Rattle.array_kept.proofs.RebuildLaws.{AreQuiet, quiet-behind, losses-end, call-stepped_on, kept-listed}
+use Rattle.calls_kept.proofs.RebuildEnded.{rows-full, whole-spare, role-lost, holder-still, holder-before, spare-still, moved-vacant}
+use Rattle.calls_kept.proofs.RebuildFilled.{not-vacant}
+use Rattle.calls_kept.proofs.RebuildGiven.{receiver-recovering, few-given, free-then, missing-given, list-given, among-given, rebuilt-given, whole-here}
+use Rattle.calls_kept.proofs.RebuildLaws.{AreQuiet, quiet-behind, losses-end, call-stepped_on, kept-listed}
 use Rattle.array_kept.proofs.RecordLaws.{AreSilent, told-more, gone-lately}
-use Rattle.array_kept.proofs.SteppedLaws.{told-stepped}
+use Rattle.calls_kept.proofs.SteppedLaws.{told-stepped}
 use Rattle.call_entries.proofs.StepLaws.{faults-are, left-stepped}
 use Rattle.array_kept.proofs.StepsLeft.{left-whole}
 use Rattle.array_kept.proofs.ToldLosses.{role-told}

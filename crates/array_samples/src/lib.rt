@@ -1,4 +1,5 @@
-//! Banks, and the calls of arrays in them.
+//! Banks, and the calls of arrays in them, for tests.
+#![tactic(auto)]
 
 ghost use Rattle.std.specs.Prelude.{◌≡◌};
 ghost use Rattle.flat_history.specs.Flat.{next_number};
