@@ -277,7 +277,6 @@ module _ {tells : Type 0} {given : Given} {tape tape' : List Operation} {scope :
         → IsSafe (world_in given tape' scope first) given members' work' (entries ++ entries_of who end (early ++ late))
     safe-by stretch last t fills room alike =
         let world = world_in given tape scope first in
-        let size = list_size (places_of members) in
         let g = grows.more t in
         let added = entries_of who end (early ++ late) in
         let old = safe-old added t fills room alike in
@@ -301,7 +300,6 @@ module _ {tells : Type 0} {given : Given} {tape tape' : List Operation} {scope :
         → IsSafe (world_in given tape' scope first) given members' work' (entries ++ entries_of who end events)
     safe-adding t =
         let world = world_in given tape scope first in
-        let size = list_size (places_of members) in
         let told = told_by world work' entries (entries_of who end events) in
         subst (λ (l : List Event). FillsRight (world_in given tape' scope first) (entries ++ entries_of who end l) → HasRoomForEvents (world_in given tape' scope first) → OpensAlike (world_in given tape' scope first)
         → IsSafe (world_in given tape' scope first) given members' work' (entries ++ entries_of who end l)) no_more

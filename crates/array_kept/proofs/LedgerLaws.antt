@@ -58,11 +58,11 @@ told_by world work entries more = record {
 abbrev pub CarriesMore : Work → Work → Type 0
 CarriesMore old new = (number : ℕ) → is_carried old number ≡ true → is_carried new number ≡ true
 
--- These entries tell as much, with the first of them made by a mark.
+-- what the first j entries tell of a mark by which the first k were made
 abbrev pub judged_by : World → List Entry → ℕ → ℕ → Ledger
 judged_by world entries k j = ledger_of world entries k j (take j entries)
 
--- what is gone and unclean by them is so by the entries alone
+-- what is gone by the entries alone is so by them, and so is what is unclean
 judged-gone : (world : World) (entries : List Entry) (k j : ℕ) → KeepShape entries → (role : ℕ) → is_gone_by entries k j role ≡ true → (judged_by world entries k j).gone role ≡ true
 judged-gone world entries k j keep role is = (losses-gone world entries k j keep).gone role ∙ is
 

@@ -31,8 +31,7 @@ use Rattle.flat_history.specs.Transfers.{last_end_from}
 use Rattle.flat_history.proofs.OneShapeGrowing.{one, IsOneShapeCall, call-faults, gone-more}
 use Rattle.views.specs.declared.work.Work.{Work}
 use Rattle.call_entries.specs.Losing.{losses_of}
-use Rattle.views.specs.Whole.{list_size}
-use Rattle.views.specs.Placed.{places_of, is_vacant, IsPlaced}
+use Rattle.views.specs.Placed.{is_vacant, IsPlaced}
 use Rattle.shape_changes.specs.Marking.{AreOthersPresent}
 use Rattle.views.specs.Moving.{Grows, IsMoved}
 use Rattle.shape_changes.specs.Safety.{HasRoomLeft, IsRisen}
@@ -79,9 +78,6 @@ module _ {tells : Type 0} {given : Given} {tape tape' : List Operation} {scope :
     → IsSafeOver world given told members tape → KeepsSafe world given told members' tape tape') where
   abbrev W : World
   W = world_in given tape scope first
-
-  abbrev size : ℕ
-  size = list_size (places_of members)
 
   abbrev L : ℕ → Sector
   L = now (opening_list W) entries
