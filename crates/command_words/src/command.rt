@@ -1,6 +1,6 @@
 //! The command that the words name.
 
-ghost use Rattle.std.specs.Prelude.{◌≡◌, map, option_map, string_bytes, IfOk};
+ghost use Rattle.std.specs.Prelude.{◌≡◌, true, map, option_map, string_bytes, IfOk, OnErr};
 ghost use Rattle.command_words.specs.Words.{asked_by, command_in, is_memory, is_run};
 
 use crate::paths::{Paths, paths_of};
@@ -36,9 +36,11 @@ fn is_run(words: &[String]) -> bool
     }
 }
 
-/// The command that the words name, and `None` where they are no command's form.
+/// The command that the words name, and `None` where they are no command's form. Memory is wanted for the words of a run
+/// alone.
 pub fn command_of(alloc: Global, words: &[String]) -> Result<Option<Command>, NoMemory>
-    ensures { IfOk result (λ found. option_map asked_by found ≡ command_in (map string_bytes words.now)) }
+    ensures named { IfOk result (λ found. option_map asked_by found ≡ command_in (map string_bytes words.now)) }
+    ensures short { OnErr result (is_run (map string_bytes words.now) ≡ true) }
 {
     if is_memory(words) {
         return Ok(Some(Command::Memory));

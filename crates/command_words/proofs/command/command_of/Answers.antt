@@ -3,14 +3,14 @@ use Rattle.command_words.specs.Words.{told_by, paths_in}
 use Rattle.command_words.proofs.Named.{run_in}
 use Rattle.command_words.proofs.command.command_of.Goals as goal
 
-pub returns-in-Ok-Some : goal.returns-in-Ok-Some
-returns-in-Ok-Some c =
+pub returns-in-Ok-Some-clause-named : goal.returns-in-Ok-Some-clause-named
+returns-in-Ok-Some-clause-named c =
     let words = map string_bytes c.args.words.now in
     run_in words (Some (told_by c.in-Ok-Some.paths)) (search rules) (search rules)
     (subst (λ found. option_map told_by found ≡ paths_in words) c.in-Ok-Some.field-0-is c.in-Ok-Some.ensures)
 
-pub returns-in-Ok-None : goal.returns-in-Ok-None
-returns-in-Ok-None c =
+pub returns-in-Ok-None-clause-named : goal.returns-in-Ok-None-clause-named
+returns-in-Ok-None-clause-named c =
     let words = map string_bytes c.args.words.now in
     run_in words None (search rules) (search rules)
     (subst (λ found. option_map told_by found ≡ paths_in words) c.in-Ok-None.field-0-is c.in-Ok-None.ensures)
