@@ -1,0 +1,6 @@
+//! The updates of the superblocks by which a reshape begins, goes on and ends.
+#![tactic(auto)]
+
+mod position;
+
+pub use position::record_position;
