@@ -1,18 +1,39 @@
 //! A reshape begins.
 
-ghost use Rattle.std.specs.Prelude.{◌≡◌, ◌+◌, ◌<◌, ◌≤◌, ◌^◌, ◌&&◌, nat_lt, ℕ, false, pos, ◌-ℤ◌, IsTrue};
-ghost use Rattle.md_base.specs.Shapes.{is_valid_shape};
+ghost use Rattle.std.specs.Prelude.{◌≡◌, ◌+◌, ◌-◌, ◌<◌, ◌≤◌, ◌^◌, ◌&&◌, nat_lt, ℕ, true, false, not, min, length, pos, ◌-ℤ◌, None, IsTrue};
+ghost use Rattle.bank.specs.Given.{NeverFalls};
+ghost use Rattle.bank.specs.Tape.{disk};
+ghost use Rattle.md_base.specs.Shapes.{is_valid_shape, has_slot};
 ghost use Rattle.md_base.specs.Search.{tabulate, count_below};
+ghost use Rattle.md_base.specs.declared.status.Role.TheVariants.{Whole};
 ghost use Rattle.geometry.specs.Geometry.{AreInForce};
-ghost use Rattle.superblocks.specs.Reading.{is_reshaping, shape_of};
+ghost use Rattle.superblocks.specs.Reading.{Scope, is_reshaping, shape_of, role_state};
 ghost use Rattle.superblocks.specs.Reads.{has_spare};
-ghost use Rattle.reshape_updates.specs.Beginning.{goes_back, map_with_reshape, first_position, with_reshape, give_where, new_give, beginning};
+ghost use Rattle.superblocks.specs.Outcome.{live_set, AreLive};
+ghost use Rattle.superblocks.specs.Updating.{AreLosses};
+ghost use Rattle.row_io.specs.Rows.{reading_of};
+ghost use Rattle.flat_history.specs.World.{World};
+ghost use Rattle.flat_history.specs.Stands.{backup_absent};
+ghost use Rattle.flat_history.specs.Sound.{OpensFit};
+ghost use Rattle.shape_views.specs.Regions.{AreShapesFit, ArePlaced};
+ghost use Rattle.shape_views.specs.Views.{Ledger};
+ghost use Rattle.shape_changes.specs.Safety.{HasRoomLeft, IsRisen};
+ghost use Rattle.shape_changes.specs.Steady.{IsSafeOver, AreGoneTold};
+ghost use Rattle.shape_changes.specs.Updates.{planned_view, IsLessView};
+ghost use Rattle.shape_changes.specs.Changing.{IsChanged, IsSafeChange};
+ghost use Rattle.shape_changes.specs.Giving.{IsToldOf};
+ghost use Rattle.shape_changes.specs.Flushed.{IsBeginning};
+ghost use Rattle.shape_ends.specs.Ends.{IsCleared, IsBegun};
+ghost use Rattle.shape_ends.specs.Plans.{AreGivenFit};
+ghost use Rattle.reshape_updates.specs.Beginning.{goes_back, map_with_reshape, first_position, with_reshape, HasBegun, give_where, new_give, beginning};
 
+use bank::Bank;
 use geometry::{data_disks, list_end};
 use md_base::{Shape, SlotList};
 use sb1::{Features, Sb};
+use superblock_updates::update;
 use superblocks::says::shape_of;
-use superblocks::{Change, Give, Members};
+use superblocks::{Change, Give, Lostness, Members};
 
 const RESHAPE_BITS: u32 = 4 + 32;
 
@@ -108,4 +129,42 @@ fn beginning(members: &Members, to: &Shape) -> Change
         gives: new_gives(&members.spares, now.disks, to.disks),
         added: None,
     }
+}
+
+/// Begins a reshape to this shape, of the same level, in the superblocks of all live slots of an array of one shape. The
+/// lowest spares get its new roles; enough of them are needed. Answers the slots that were lost in this.
+pub fn begin_update<B: Bank>(members: &mut Members, bank: &mut B, to: &Shape) -> Lostness
+    requires live { AreLive (B.given bank.old) members.old }
+    requires still { is_reshaping members.old.newest ≡ false }
+    requires roles { length members.old.roles ≡ (shape_of members.old.newest).disks }
+    requires in_force { AreInForce (shape_of members.old.newest) to.now members.old.newest.size }
+    requires level { to.now.level ≡ members.old.newest.level }
+    requires spares { to.now.disks ≤ (shape_of members.old.newest).disks + count_below 32 (has_spare members.old.spares) }
+    ensures begun { IsChanged B.tells (B.given bank.old) (beginning members.old to.now) members.old members.new (B.tape bank.old) (B.tape bank.new) }
+    ensures newest { HasBegun members.old.newest to.now members.new.newest }
+    ensures fit { AreShapesFit members.new.newest }
+    ensures events { members.new.lost ≡ members.old.lost → members.new.newest.events ≡ min (members.old.newest.events + 1) (2 ^ 64 - 1) }
+    ensures beginning { IsBeginning members.old (beginning members.old to.now) }
+    ensures plan { (named : ℕ) → IsBegun members.old (planned_view members.old (beginning members.old to.now) named) }
+    ensures taken { (role : ℕ) → (shape_of members.old.newest).disks ≤ role → role < to.now.disks
+        → (slot : ℕ) × (has_spare members.old.spares slot ≡ true) × (has_slot members.new.lost slot ≡ false → role_state (reading_of members.new) role ≡ Whole slot) }
+    ensures less { IsLessView (planned_view members.old (beginning members.old to.now) members.old.lost) members.new }
+    ensures placed { (scope : Scope) → ArePlaced scope (B.given bank.old) members.old → backup_absent scope members.new.newest ≡ None
+        → AreGivenFit scope (B.given bank.old) members.old (beginning members.old to.now) members.old.lost → ArePlaced scope (B.given bank.new) members.new }
+    ensures rise { IsRisen B.tells members.old members.new (B.tape bank.old) (B.tape bank.new) }
+    ensures result { (s : ℕ) → has_slot result s ≡ (has_slot members.new.lost s && not (has_slot members.old.lost s)) }
+    ensures losses { AreLosses (live_set members.old (beginning members.old to.now)) members.old.lost members.new.lost (B.faults_of bank.old) (B.faults_of bank.new) }
+    ensures safe { B.tells → (world : World) → (told more : Ledger) → HasRoomLeft members.old (B.tape bank.old) (B.tape bank.new)
+        → ArePlaced world.scope (B.given bank.old) (planned_view members.old (beginning members.old to.now) members.old.lost)
+        → IsCleared world.scope (disk (B.given bank.old).start (B.tape bank.old))
+        → IsToldOf world.scope (planned_view members.old (beginning members.old to.now) members.old.lost) (disk (B.given bank.old).start (B.tape bank.old)) told more
+        → AreGoneTold told members.old → AreGoneTold more members.new → ((number : ℕ) → told.carried number ≡ true → more.carried number ≡ true)
+        → IsSafeOver world (B.given bank.old) told members.old (B.tape bank.old)
+        → IsSafeChange (OpensFit world) world.scope (B.given bank.old) told more members.new (B.tape bank.old) (B.tape bank.new) }
+    ensures live { AreLive (B.given bank.new) members.new }
+    ensures counts { NeverFalls (B.faults_of bank.old) (B.faults_of bank.new) }
+    ensures given { B.given bank.new ≡ B.given bank.old }
+{
+    let change = beginning(members, to);
+    update(members, bank, &change)
 }

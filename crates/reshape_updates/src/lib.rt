@@ -4,4 +4,5 @@
 mod beginning;
 mod position;
 
+pub use beginning::begin_update;
 pub use position::record_position;
