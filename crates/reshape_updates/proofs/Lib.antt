@@ -5,3 +5,4 @@ pub mod Counts
 pub mod NewRoles
 pub mod Taken
 pub mod BegunPlan
+pub mod EndedPlan

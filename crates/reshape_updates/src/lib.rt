@@ -2,7 +2,9 @@
 #![tactic(auto)]
 
 mod beginning;
+mod ending;
 mod position;
 
 pub use beginning::begin_update;
+pub use ending::end_update;
 pub use position::record_position;
