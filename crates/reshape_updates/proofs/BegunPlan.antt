@@ -82,8 +82,14 @@ module _ (old : Members) (to : Shape) (still : is_reshaping old.newest ≡ false
     count = (let a = old-count in let b = new-count in omega (arith, a, b));
     each = λ s. elim (new-or old.spares first to.disks s) [
       | inl same ↦ inl same
-      | inr (role, new) ↦ inr (inl (role, None, new.gets, new.spare, (let b = new-count in let lt = new.below in omega (arith, b, lt)),
-          λ t kept. vacant role (let mine = new.mine in omega (arith, mine)) t))
+      | inr (role, new) ↦ inr (inl (
+        role,
+        None,
+        new.gets,
+        new.spare,
+        (let b = new-count in let lt = new.below in omega (arith, b, lt)),
+        λ t kept. vacant role (let mine = new.mine in omega (arith, mine)) t,
+      ))
     ];
     apart = λ s t role a b one two. new-apart old.spares first to.disks s t role (new-given old.spares first to.disks s role a one).0 (new-given old.spares first to.disks t role b two).0;
     one = λ s t first' second. absurd (let none = no-recovery s in let clash = sym none ∙ first' in cc);

@@ -138,8 +138,11 @@ module _ (old : Members) (active : is_reshaping old.newest ≡ true) (fit : AreS
           ⊎ ((give_of (ending old).gives s ≡ Spare) × (role : ℕ) × (get_or old.roles role Missing ≡ Whole s))
       of lt true is =
           let found = any-holds s (drop disks old.roles) is in
-          inr (get_or-tabulate 32 (dropped_give old.roles disks) s Same lt ∙ ap (λ (b : Bool). cond b Spare Same) is, disks + found.0,
-          held-whole (disks + found.0) (get_or old.roles (disks + found.0) Missing) refl (ap holder (sym (get_or-drop disks old.roles found.0 Missing)) ∙ found.1))
+          inr (
+            get_or-tabulate 32 (dropped_give old.roles disks) s Same lt ∙ ap (λ (b : Bool). cond b Spare Same) is,
+            disks + found.0,
+            held-whole (disks + found.0) (get_or old.roles (disks + found.0) Missing) refl (ap holder (sym (get_or-drop disks old.roles found.0 Missing)) ∙ found.1),
+          )
       of lt false is = inl (get_or-tabulate 32 (dropped_give old.roles disks) s Same lt ∙ ap (λ (b : Bool). cond b Spare Same) is, λ lt. is)
 
   pub dropped-roles : (s : ℕ) → IsRoleGive (give_of (ending old).gives s)

@@ -42,13 +42,16 @@ module _ (spares : List ℕ) (first disks : ℕ) where
   ]
     where
       of : slot < 32 → (a b : Bool) → has_spare spares slot ≡ a → nat_lt (new_role spares first slot) disks ≡ b → (give_of Gives slot ≡ Same) ⊎ ((role : ℕ) × IsGivenNew slot role)
-      of lt true true is there = inr (new_role spares first slot, record {
-        small = lt;
-        spare = is;
-        mine = refl;
-        below = lt-true (new_role spares first slot) disks there;
-        gets = in-range slot lt ∙ (λ i. give_where (is i && there i) (new_role spares first slot));
-      })
+      of lt true true is there = inr (
+        new_role spares first slot,
+        record {
+          small = lt;
+          spare = is;
+          mine = refl;
+          below = lt-true (new_role spares first slot) disks there;
+          gets = in-range slot lt ∙ (λ i. give_where (is i && there i) (new_role spares first slot));
+        },
+      )
       of lt true false is there = inl (in-range slot lt ∙ (λ i. give_where (is i && there i) (new_role spares first slot)))
       of lt false b is there = inl (in-range slot lt ∙ ap (λ (t : Bool). give_where (t && nat_lt (new_role spares first slot) disks) (new_role spares first slot)) is)
 
@@ -88,11 +91,13 @@ module _ (spares : List ℕ) (first disks : ℕ) where
   new-taken role from below enough =
       let found = count-find 32 (role - first) (has_spare spares) (omega (arith, from, below, enough)) in
       let mine : new_role spares first found.0 ≡ role = (let count = found.3 in omega (arith, count, from)) in
-      let there : nat_lt (new_role spares first found.0) disks ≡ true = true-lt (new_role spares first found.0) disks (omega (arith, mine, below)) in
-      (found.0, record {
-        small = found.1;
-        spare = found.2;
-        mine = mine;
-        below = below;
-        gets = in-range found.0 found.1 ∙ (λ i. give_where (found.2 i && there i) (mine i));
-      })
+      let there : nat_lt (new_role spares first found.0) disks ≡ true = true-lt (new_role spares first found.0) disks (omega (arith, mine, below)) in (
+        found.0,
+        record {
+          small = found.1;
+          spare = found.2;
+          mine = mine;
+          below = below;
+          gets = in-range found.0 found.1 ∙ (λ i. give_where (found.2 i && there i) (mine i));
+        },
+      )

@@ -50,7 +50,11 @@ fn goes_back(now: &Shape, to: &Shape) -> bool
 fn map_with_reshape(map: u32, back: bool) -> u32
     ensures { result ≡ map_with_reshape map back }
 {
-    let bits = if back { RESHAPE_BITS } else { Features::RESHAPE_ACTIVE.0 };
+    let bits = if back {
+        RESHAPE_BITS
+    } else {
+        Features::RESHAPE_ACTIVE.0
+    };
     map & !RESHAPE_BITS | bits
 }
 
@@ -59,7 +63,11 @@ fn first_position(now: &Shape, to: &Shape, size: u64) -> u64
     requires { AreInForce now.now to.now size }
     ensures { result ≡ first_position now.now to.now size }
 {
-    if goes_back(now, to) { list_end(now, to, size) } else { 0 }
+    if goes_back(now, to) {
+        list_end(now, to, size)
+    } else {
+        0
+    }
 }
 
 // One count less another.
@@ -95,7 +103,10 @@ fn give_for(is_spare: bool, role: u32, disks: u32) -> Give
     ensures { result ≡ give_where (is_spare && nat_lt role disks) role }
 {
     if is_spare && role < disks {
-        Give::Role { role, recovery: None }
+        Give::Role {
+            role,
+            recovery: None,
+        }
     } else {
         Give::Same
     }

@@ -55,7 +55,11 @@ fn is_backward(sb: &Sb) -> bool
 fn recording(members: &Members, span: &Span) -> Change
     ensures { result ≡ recording span.now members.now }
 {
-    let reshape_position = if is_backward(&members.newest) { span.lo } else { span.hi };
+    let reshape_position = if is_backward(&members.newest) {
+        span.lo
+    } else {
+        span.hi
+    };
     Change {
         shared: Sb {
             reshape_position,
