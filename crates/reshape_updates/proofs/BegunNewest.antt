@@ -1,23 +1,22 @@
 -- What the superblocks say once a reshape has begun.
 use Rattle.std.proofs.Common.{◌≡◌, ◌⊎◌, ℕ, ◌+◌, ◌-◌, ◌*◌, ◌/◌, ◌%◌, ◌^◌, ◌<◌, ◌≤◌, ◌==◌, Bool, true, false, cond, not, ◌&&◌, ◌||◌, nat_lt, min, max, bit_and, bit_or, Option, Some, None, unwrap_or, inl, inr, refl, sym, ◌∙◌, ap, ap₂, subst, arith}
-use Rattle.std.specs.Prelude.{pos, ◌-ℤ◌, ℤ}
+use Rattle.std.specs.Prelude.{pos, ◌-ℤ◌}
 use Rattle.std.specs.Int.{bit_at}
-use Rattle.std.proofs.lemmas.Bool.{cases_lt}
 use Rattle.std.proofs.lemmas.Nat.{div-add-mod'}
 use Rattle.std.proofs.lemmas.Bool.Decides.{nat_tests}
-use Rattle.std.proofs.lemmas.Nat.Bits.{bit_at_and, bit_at_or, bit_at-lt}
+use Rattle.std.proofs.lemmas.Nat.Bits.{bit_at_and, bit_at_or}
 use Rattle.md_base.specs.declared.places.Shape.{Shape}
 use Rattle.md_base.specs.Shapes.{data_disks, tolerance_of, is_multiple, is_valid_shape}
 use Rattle.sb1.specs.declared.sb.Sb.{Sb}
 use Rattle.layout.proofs.Limits.{limited, IsLimited}
 use Rattle.geometry.specs.Geometry.{AreInForce, list_end, is_size}
-use Rattle.superblocks.specs.Reading.{is_reshaping, is_backward, is_negative, is_zero, shape_of, target_of, final_shape, role_count, list_length, count_of}
+use Rattle.superblocks.specs.Reading.{is_reshaping, is_backward, is_zero, shape_of, final_shape, role_count, list_length, count_of}
 use Rattle.md_base.specs.declared.answers.Refusal.{Refusal}
 use Rattle.md_base.specs.declared.answers.Refusal.TheVariants.{PositionNotOnUnit}
 use Rattle.superblocks.specs.Verdict.{off_unit, unit_of}
 use Rattle.shape_views.specs.Regions.{AreShapesFit}
 use Rattle.reshape_updates.specs.Beginning.{goes_back, map_with_reshape, with_reshape, HasBegun}
-use Rattle.reshape_updates.proofs.Differences.{former-count, negative-is, difference-less, difference-more}
+use Rattle.reshape_updates.proofs.Differences.{former-count, negative-is}
 
 -- ---- the feature map
 

@@ -1,18 +1,15 @@
 -- The change that begins a reshape is what the laws of a begin ask for.
-use Rattle.std.proofs.Common.{◌≡◌, inl, inr, ℕ, ◌+◌, ◌<◌, ◌≤◌, ◌&&◌, true, false, Bool, cond, max, length, List, Option, Some, None, unwrap_or, get_or, refl, sym, ◌∙◌, ap, subst, arith}
+use Rattle.std.proofs.Common.{◌≡◌, inl, inr, ℕ, ◌+◌, ◌<◌, ◌≤◌, false, Bool, cond, max, length, Option, Some, None, unwrap_or, get_or, refl, sym, ◌∙◌, ap, subst, arith}
 use Rattle.std.proofs.lemmas.List.{get_or_past}
 use Rattle.md_base.specs.declared.places.Shape.{Shape}
-use Rattle.md_base.specs.declared.status.Role.{Role}
 use Rattle.md_base.specs.declared.status.Role.TheVariants.{Missing}
-use Rattle.md_base.specs.Shapes.{has_slot}
 use Rattle.md_base.specs.Search.{count_below}
 use Rattle.sb1.specs.declared.sb.Sb.{Sb}
 use Rattle.geometry.specs.Geometry.{AreInForce}
 use Rattle.layout.proofs.Limits.{limited}
-use Rattle.superblocks.specs.declared.change.Give.{Give}
 use Rattle.superblocks.specs.declared.change.Give.TheVariants as give
 use Rattle.superblocks.specs.declared.members.Members.{Members}
-use Rattle.superblocks.specs.Reading.{is_reshaping, is_backward, shape_of, target_of, final_shape, role_count, list_length, holder}
+use Rattle.superblocks.specs.Reading.{is_reshaping, shape_of, final_shape, role_count, holder}
 use Rattle.superblocks.specs.Reads.{SaysSame, has_spare}
 use Rattle.superblocks.specs.Update.{IsRoleGive, give_of, is_recovery}
 use Rattle.superblocks.specs.Updating.{planned_newest}
@@ -20,13 +17,13 @@ use Rattle.shape_views.specs.Regions.{AreShapesFit}
 use Rattle.shape_views.proofs.Alike.{shape-alike, final-alike, length-alike}
 use Rattle.shape_changes.specs.Kinds.{IsTaking}
 use Rattle.shape_changes.specs.Flushed.{IsBeginning}
-use Rattle.shape_changes.specs.Updates.{planned_view, IsAtStart}
+use Rattle.shape_changes.specs.Updates.{planned_view}
 use Rattle.shape_changes.proofs.PlannedRoles.{says-shared}
 use Rattle.shape_changes.proofs.KeptSafe.{fits-alike}
 use Rattle.shape_ends.specs.Ends.{IsBegun}
 use Rattle.shape_ends.proofs.PlanRoles.{planned-begun}
-use Rattle.reshape_updates.specs.Beginning.{with_reshape, HasBegun, beginning}
-use Rattle.reshape_updates.proofs.BegunNewest.{active, old-shape, new-shape, start, has-begun, count-is, fits}
+use Rattle.reshape_updates.specs.Beginning.{HasBegun, beginning}
+use Rattle.reshape_updates.proofs.BegunNewest.{active, old-shape, start, has-begun, count-is, fits}
 use Rattle.reshape_updates.proofs.NewRoles.{IsGivenNew, new-or, new-given, new-apart, new-taken}
 
 -- what says the same has begun too

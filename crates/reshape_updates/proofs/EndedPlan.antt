@@ -1,17 +1,15 @@
 -- The change that ends a reshape is what the laws of an end ask for.
-use Rattle.std.proofs.Common.{◌≡◌, ◌⊎◌, inl, inr, ℕ, ◌+◌, ◌-◌, ◌*◌, ◌^◌, ◌<◌, ◌≤◌, ◌==◌, ◌||◌, true, false, Bool, not, cond, min, max, bit_and, length, drop, List, Option, Some, None, unwrap_or, get_or, refl, sym, ◌∙◌, ap, ap₂, subst, arith}
+use Rattle.std.proofs.Common.{◌≡◌, ◌⊎◌, inl, inr, ℕ, ◌+◌, ◌-◌, ◌^◌, ◌<◌, ◌≤◌, ◌==◌, ◌||◌, true, false, Bool, not, cond, min, max, length, drop, Option, Some, None, unwrap_or, get_or, refl, sym, ◌∙◌, ap, subst, arith}
 use Rattle.std.specs.Prelude.{pos, ◌-ℤ◌}
 use Rattle.std.specs.Int.{bit_at}
-use Rattle.std.specs.List.{list_any}
 use Rattle.std.proofs.lemmas.Bool.{cases_lt}
 use Rattle.std.proofs.lemmas.List.{get_or_past, get_or-drop}
 use Rattle.std.proofs.lemmas.Nat.Bits.{bit_at_and}
 use Rattle.md_base.specs.declared.places.Shape.{Shape}
 use Rattle.md_base.specs.declared.status.Role.{Role}
 use Rattle.md_base.specs.declared.status.Role.TheVariants.{Missing, Whole, Recovering}
-use Rattle.md_base.specs.declared.answers.Refusal.{Refusal}
 use Rattle.md_base.specs.declared.answers.Refusal.TheVariants.{PositionNotOnUnit, BackupAbsent}
-use Rattle.md_base.specs.Shapes.{has_slot, data_disks, is_multiple, is_valid_shape}
+use Rattle.md_base.specs.Shapes.{is_multiple, is_valid_shape}
 use Rattle.md_base.proofs.Tabulated.{length-tabulate, get_or-tabulate}
 use Rattle.sb1.specs.declared.sb.Sb.{Sb}
 use Rattle.geometry.specs.Geometry.{is_size, unit}
@@ -20,10 +18,10 @@ use Rattle.superblocks.specs.declared.change.Give.{Give}
 use Rattle.superblocks.specs.declared.change.Give.TheVariants.{Same, Spare}
 use Rattle.superblocks.specs.declared.change.Give.TheVariants as give
 use Rattle.superblocks.specs.declared.members.Members.{Members}
-use Rattle.superblocks.specs.Reading.{Scope, is_reshaping, is_backward, shape_of, target_of, final_shape, role_count, list_length, role_state, holder, count_of}
+use Rattle.superblocks.specs.Reading.{Scope, is_reshaping, shape_of, final_shape, role_count, list_length, role_state, holder, count_of}
 use Rattle.superblocks.specs.Reads.{SaysSame}
-use Rattle.superblocks.specs.Verdict.{off_unit, unit_of}
-use Rattle.superblocks.specs.Update.{IsRoleGive, give_of, is_held_by, planned_role}
+use Rattle.superblocks.specs.Verdict.{unit_of}
+use Rattle.superblocks.specs.Update.{IsRoleGive, give_of, planned_role}
 use Rattle.superblocks.specs.Updating.{planned_newest}
 use Rattle.superblock_reads.proofs.SaidLists.{role-holder}
 use Rattle.row_io.specs.Rows.{reading_of}
@@ -36,7 +34,7 @@ use Rattle.shape_changes.proofs.PlannedRoles.{says-shared, count-planned}
 use Rattle.shape_changes.proofs.KeptSafe.{fits-alike}
 use Rattle.shape_changes.proofs.Without.{any-holds, any-held}
 use Rattle.shape_ends.specs.Ends.{IsEnded}
-use Rattle.shape_ends.specs.Plans.{HasNoneRecovering, AreGivenFit}
+use Rattle.shape_ends.specs.Plans.{HasNoneRecovering}
 use Rattle.shape_ends.proofs.PlanRoles.{planned-ended}
 use Rattle.shape_ends.proofs.PlanPlaced.{planned-placed}
 use Rattle.bank.specs.Given.{Given}

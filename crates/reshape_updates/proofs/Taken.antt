@@ -1,7 +1,6 @@
 -- What holds of roles that spares take.
-use Rattle.std.proofs.Common.{◌≡◌, ◌⊎◌, inl, inr, ℕ, ◌<◌, ◌≤◌, Bool, true, false, Option, Some, None, get_or, refl, sym, ◌∙◌, ap, subst, arith}
+use Rattle.std.proofs.Common.{◌≡◌, ◌⊎◌, inl, inr, ℕ, ◌<◌, Bool, true, false, Option, Some, None, get_or, refl, sym, ◌∙◌, ap, subst}
 use Rattle.md_base.specs.Shapes.{has_slot}
-use Rattle.md_base.specs.declared.status.Role.{Role}
 use Rattle.md_base.specs.declared.status.Role.TheVariants.{Missing, Whole}
 use Rattle.md_base.proofs.Tabulated.{get_or-tabulate}
 use Rattle.superblocks.specs.declared.change.Give.{Give}
@@ -16,7 +15,7 @@ use Rattle.row_io.specs.Rows.{reading_of}
 use Rattle.shape_changes.specs.Kinds.{IsTaking}
 use Rattle.shape_changes.specs.Updates.{planned_view, HasOneHolder}
 use Rattle.shape_changes.proofs.PlannedRoles.{planned-held}
-use Rattle.shape_ends.proofs.PlanRoles.{IsPlanned, planned-or}
+use Rattle.shape_ends.proofs.PlanRoles.{planned-or}
 
 module _ (old : Members) (change : Change) (t : IsTaking old change) where
   abbrev IsGivenNow : ℕ → ℕ → Type 0

@@ -1,5 +1,5 @@
 -- The change that begins a reshape, and what the superblocks say then.
-use Rattle.std.specs.Prelude.{◌≡◌, ℕ, ◌+◌, ◌-◌, ◌^◌, Bool, true, ◌&&◌, nat_lt, if◌then◌else◌, bit_and, bit_or, List, Option, None, pos, ◌-ℤ◌}
+use Rattle.std.specs.Prelude.{◌≡◌, ℕ, ◌+◌, ◌-◌, ◌^◌, Bool, true, ◌&&◌, nat_lt, if◌then◌else◌, bit_and, bit_or, List, None, pos, ◌-ℤ◌}
 use Rattle.md_base.specs.declared.places.Shape.{Shape}
 use Rattle.md_base.specs.Shapes.{data_disks}
 use Rattle.md_base.specs.Search.{tabulate, count_below}

@@ -1,19 +1,17 @@
-use Rattle.std.proofs.Common.{◌≡◌, ◌≤◌, ◌<◌, ◌&&◌, ℕ, true, false, not, None, refl, sym, ◌∙◌, ap, subst, min, ◌+◌, ◌-◌, arith, List, get_or}
+use Rattle.std.proofs.Common.{◌≡◌, ◌≤◌, ◌&&◌, ℕ, not, refl, sym, ◌∙◌, ap, subst, min, ◌+◌, ◌-◌, arith, List, get_or}
 use Rattle.std.specs.Prelude.{◌^◌}
 use Rattle.md_base.specs.Shapes.{has_slot}
 use Rattle.md_base.specs.declared.status.Role.{Role}
-use Rattle.md_base.specs.declared.status.Role.TheVariants.{Missing, Whole}
+use Rattle.md_base.specs.declared.status.Role.TheVariants.{Missing}
 use Rattle.bank.specs.Given.{Given}
 use Rattle.bank.specs.Tape.{disk}
 use Rattle.superblocks.specs.declared.change.Change.{Change}
 use Rattle.superblocks.specs.declared.members.Members.{Members}
-use Rattle.superblocks.specs.Reading.{Scope, role_count, shape_of, role_state}
-use Rattle.superblocks.specs.Reads.{SaysSame, has_spare}
+use Rattle.superblocks.specs.Reading.{role_count, shape_of}
+use Rattle.superblocks.specs.Reads.{SaysSame}
 use Rattle.superblocks.specs.Update.{IsRoleGive, give_of}
 use Rattle.superblocks.specs.Updating.{AreLosses, planned_newest}
 use Rattle.superblocks.specs.Outcome.{with_added, live_set, AreLive, AreGivesOfLive}
-use Rattle.row_io.specs.Rows.{reading_of}
-use Rattle.flat_history.specs.Stands.{backup_absent}
 use Rattle.flat_history.specs.Sound.{OpensFit}
 use Rattle.shape_views.specs.Regions.{ArePlaced}
 use Rattle.shape_views.proofs.Alike.{backup-alike}

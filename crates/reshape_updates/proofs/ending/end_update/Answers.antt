@@ -1,18 +1,16 @@
-use Rattle.std.proofs.Common.{◌≡◌, ◌≤◌, ◌<◌, ◌&&◌, ℕ, true, false, not, None, nat_lt, length, inl, inr, Some, refl, sym, ◌∙◌, ap, subst, min, ◌+◌, ◌-◌, arith, List, get_or}
+use Rattle.std.proofs.Common.{◌≡◌, ◌≤◌, ◌<◌, ◌&&◌, ℕ, true, not, nat_lt, length, inr, refl, sym, ◌∙◌, ap, subst, min, ◌+◌, ◌-◌, arith, List}
 use Rattle.std.specs.Prelude.{◌^◌}
 use Rattle.md_base.specs.Shapes.{has_slot}
 use Rattle.md_base.specs.declared.status.Role.{Role}
-use Rattle.md_base.specs.declared.status.Role.TheVariants.{Missing, Whole}
 use Rattle.bank.specs.Given.{Given}
 use Rattle.bank.specs.Tape.{disk}
 use Rattle.superblocks.specs.declared.change.Change.{Change}
 use Rattle.superblocks.specs.declared.members.Members.{Members}
-use Rattle.superblocks.specs.Reading.{Scope, role_count, shape_of, role_state, holder}
+use Rattle.superblocks.specs.Reading.{role_count, holder}
 use Rattle.superblocks.specs.Reads.{SaysSame, has_spare}
 use Rattle.superblocks.specs.Update.{IsRoleGive, give_of}
 use Rattle.superblocks.specs.Updating.{AreLosses, planned_newest}
 use Rattle.superblocks.specs.Outcome.{with_added, live_set, AreLive, AreGivesOfLive}
-use Rattle.row_io.specs.Rows.{reading_of}
 use Rattle.flat_history.specs.Sound.{OpensFit}
 use Rattle.shape_views.specs.Regions.{ArePlaced}
 use Rattle.shape_changes.specs.Changing.{IsChanged}
@@ -21,7 +19,6 @@ use Rattle.std.proofs.lemmas.Bool.Decides.{nat_tests}
 use Rattle.shape_changes.specs.Updates.{IsLessView, planned_view}
 use Rattle.shape_changes.proofs.CalledLaws.{changed-by}
 use Rattle.shape_changes.proofs.ChangeSafe.{told-changed, risen-changed}
-use Rattle.shape_changes.proofs.PlannedRoles.{count-planned}
 use Rattle.shape_changes.proofs.PlansLose.{plans-lose}
 use Rattle.shape_ends.proofs.LessPlaced.{less-placed}
 use Rattle.shape_changes.specs.Kinds.{IsDropping}
@@ -32,10 +29,7 @@ use Rattle.shape_changes.proofs.FitKinds.{dropping-is-fit, dropping-live}
 use Rattle.shape_changes.proofs.KeptSafe.{steady-right, told-plan}
 use Rattle.shape_ends.proofs.GrownLaws.{ends}
 use Rattle.superblock_reads.proofs.SaidSlots.{has-slots_below}
-use Rattle.superblocks.specs.Outcome.{planned_roles, planned_spares}
 use Rattle.superblocks.specs.Update.{is_planned_spare}
-use Rattle.superblocks.specs.declared.change.Give.{Give}
-use Rattle.superblocks.proofs.ReadLists.{by_bool}
 use Rattle.md_base.proofs.Tabulated.{length-tabulate}
 use Rattle.superblocks.specs.Outcome.{planned_state}
 use Rattle.reshape_updates.specs.Ending.{ending}

@@ -1,9 +1,8 @@
-use Rattle.std.proofs.Common.{◌≡◌, ◌∙◌, ap, drop, List}
+use Rattle.std.proofs.Common.{◌∙◌, ap, drop, List}
 use Rattle.std.specs.Option.{is_some}
-use Rattle.std.specs.List.{list_any}
 use Rattle.std.proofs.lemmas.List.{take_rest}
 use Rattle.md_base.specs.declared.status.Role.{Role}
-use Rattle.superblocks.specs.Update.{is_held_by, role_from}
+use Rattle.superblocks.specs.Update.{role_from}
 use Rattle.superblocks.proofs.SlotSets.{some_role}
 use Rattle.reshape_updates.proofs.ending.holds_from.Goals as goal
 

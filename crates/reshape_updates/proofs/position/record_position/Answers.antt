@@ -1,4 +1,4 @@
-use Rattle.std.proofs.Common.{◌≡◌, ◌≤◌, ◌&&◌, ℕ, not, refl, sym, ◌∙◌, ap, subst, min, ◌+◌, ◌-◌, arith}
+use Rattle.std.proofs.Common.{◌≡◌, ◌≤◌, ◌&&◌, ℕ, not, refl, sym, subst, min, ◌+◌, ◌-◌, arith}
 use Rattle.std.specs.Prelude.{◌^◌}
 use Rattle.bank.specs.Given.{Given}
 use Rattle.superblocks.specs.declared.change.Change.{Change}
@@ -15,7 +15,7 @@ use Rattle.shape_changes.specs.Changing.{IsChanged}
 use Rattle.shape_changes.specs.Updates.{IsLessView, planned_view}
 use Rattle.shape_changes.proofs.CalledLaws.{changed-by}
 use Rattle.shape_changes.proofs.ChangeSafe.{told-changed, risen-changed}
-use Rattle.shape_changes.proofs.ChangeViews.{new-less, later-says}
+use Rattle.shape_changes.proofs.ChangeViews.{new-less}
 use Rattle.shape_changes.proofs.Kept.{give_of-same, kept-less}
 use Rattle.shape_changes.proofs.KeptSafe.{record-safe}
 use Rattle.shape_ends.proofs.LessPlaced.{less-placed}
