@@ -18,7 +18,7 @@ use Rattle.superblocks.specs.declared.change.Give.{Give}
 use Rattle.superblocks.specs.declared.change.Give.TheVariants.{Same, Spare}
 use Rattle.superblocks.specs.declared.change.Give.TheVariants as give
 use Rattle.superblocks.specs.declared.members.Members.{Members}
-use Rattle.superblocks.specs.Reading.{Scope, is_reshaping, shape_of, final_shape, role_count, list_length, role_state, holder, count_of}
+use Rattle.superblocks.specs.Reading.{Scope, is_reshaping, is_backward, shape_of, final_shape, role_count, list_length, role_state, holder, count_of}
 use Rattle.superblocks.specs.Reads.{SaysSame}
 use Rattle.superblocks.specs.Verdict.{unit_of}
 use Rattle.superblocks.specs.Update.{IsRoleGive, give_of, planned_role}
@@ -35,7 +35,8 @@ use Rattle.shape_changes.proofs.KeptSafe.{fits-alike}
 use Rattle.shape_changes.proofs.Without.{any-holds, any-held}
 use Rattle.shape_ends.specs.Ends.{IsEnded}
 use Rattle.shape_ends.specs.Plans.{HasNoneRecovering}
-use Rattle.shape_ends.proofs.PlanRoles.{planned-ended}
+use Rattle.shape_ends.proofs.PlanRoles.{plans-keep, planned-ended}
+use Rattle.shape_ends.proofs.GrownStanding.{grown-without}
 use Rattle.shape_ends.proofs.PlanPlaced.{planned-placed}
 use Rattle.bank.specs.Given.{Given}
 use Rattle.reshape_updates.specs.Ending.{with_new_shape, HasEnded, holds_from, dropped_give, ending}
@@ -194,3 +195,13 @@ module _ (old : Members) (active : is_reshaping old.newest ≡ true) (fit : AreS
   plan-placed-is scope given named placed = planned-placed scope given old (ending old) named placed refl (count-planned old (ending old)) planned-fits-is
       (sym (backup-alike (ending old).shared (planned_newest (ending old).shared old.newest) (says-shared old (ending old)) scope) ∙ no-backup old.newest active fit scope)
       (λ s role recovery gets. absurd (no-role s role recovery gets))
+
+  -- Forward the old shape can do without what the new one can.
+  pub without-is : (scope : Scope) (given : Given) (named : ℕ) → ArePlaced scope given old → (is_backward old.newest ≡ true → DoWithout (planned_view old (ending old) named) → DoWithout old)
+      → DoWithout (planned_view old (ending old) named) → DoWithout old
+  without-is scope given named placed back few = of (is_backward old.newest) refl
+    where
+      of : (b : Bool) → is_backward old.newest ≡ b → DoWithout old
+      of true is = back is few
+      of false is = grown-without scope given old (planned_view old (ending old) named) placed active is planned-ended-is.still planned-ended-is.shape
+          (plans-keep old (ending old) named (final_shape old.newest).disks (λ s role recovery gets. absurd (no-role s role recovery gets)) refl (λ on. whole)).1 few

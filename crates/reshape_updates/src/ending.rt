@@ -128,7 +128,7 @@ pub fn end_update<B: Bank>(members: &mut Members, bank: &mut B) -> Lostness
     ensures losses { AreLosses (live_set members.old (ending members.old)) members.old.lost members.new.lost (B.faults_of bank.old) (B.faults_of bank.new) }
     ensures safe { B.tells → (world : World) → (told more : Ledger) → HasRoomLeft members.old (B.tape bank.old) (B.tape bank.new)
         → ArePlaced world.scope (B.given bank.old) members.old
-        → (DoWithout (planned_view members.old (ending members.old) members.old.lost) → DoWithout members.old)
+        → (is_backward members.old.newest ≡ true → DoWithout (planned_view members.old (ending members.old) members.old.lost) → DoWithout members.old)
         → IsToldWith told more (planned_view members.old (ending members.old) members.old.lost)
         → (is_backward members.old.newest ≡ true)
         ⊎ IsGrown (OpensFit world) world.scope told more members.old (planned_view members.old (ending members.old) members.old.lost) (disk (B.given bank.old).start (B.tape bank.old))

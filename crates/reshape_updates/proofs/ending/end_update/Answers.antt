@@ -33,7 +33,7 @@ use Rattle.superblocks.specs.Update.{is_planned_spare}
 use Rattle.md_base.proofs.Tabulated.{length-tabulate}
 use Rattle.superblocks.specs.Outcome.{planned_state}
 use Rattle.reshape_updates.specs.Ending.{ending}
-use Rattle.reshape_updates.proofs.EndedPlan.{ended-alike, count-is, few, disks-are, disks-below, dropped-roles, dropped-spare, dropping, dropping-one, planned-ended-is, planned-fits-is, is-ended, plan-placed-is}
+use Rattle.reshape_updates.proofs.EndedPlan.{ended-alike, count-is, few, disks-are, disks-below, dropped-roles, dropped-spare, dropping, dropping-one, planned-ended-is, planned-fits-is, is-ended, plan-placed-is, without-is}
 use Rattle.reshape_updates.proofs.MoreLess.{less-then}
 use Rattle.reshape_updates.proofs.ending.end_update.Given.{Over}
 use Rattle.reshape_updates.proofs.ending.end_update.Goals.{After-update}
@@ -170,7 +170,7 @@ returns-clause-safe g c = λ tell world told more room placed without tells way 
     safe-change (OpensFit world) world.scope given told more (ch g c) m c.update.new.members before after so refl (dropping-live m (ch g c) (drops g c)) room (λ steady. record {
       fit = dropping-is-fit world.scope steady.former m (ch g c) (disk given.start before) steady.since (drops g c);
       right = ends (OpensFit world) world.scope given told more m (planned_view m (ch g c) m.lost) (disk given.start before)
-          (is-ended m c.requires.active c.requires.fit c.requires.roles c.requires.small c.requires.whole c.requires.last m.lost without)
+          (is-ended m c.requires.active c.requires.fit c.requires.roles c.requires.small c.requires.whole c.requires.last m.lost (without-is m c.requires.active c.requires.fit c.requires.roles c.requires.small c.requires.whole world.scope given m.lost placed without))
           (plan-placed-is m c.requires.active c.requires.fit c.requires.roles c.requires.small c.requires.whole world.scope given m.lost placed) tells way
           (steady-right (OpensFit world) world.scope given told m (disk given.start before) steady gone);
       gone = told-plan more given (ch g c) m c.update.new.members before after so gone';
