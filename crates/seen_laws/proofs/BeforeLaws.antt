@@ -1,5 +1,5 @@
 -- What was seen before what.
-use Rattle.std.proofs.Common.{◌≡◌, ℕ, suc, ◌+◌, ◌≤◌, Bool, true, false, List, [], ◌∷◌, ◌++◌, length, drop, refl, sym, ap, ◌∙◌, subst, Option, Some, None, unwrap_or, arith, append_assoc, append-nil, length-append}
+use Rattle.std.proofs.Common.{◌≡◌, ℕ, ◌≤◌, Bool, true, false, List, [], ◌∷◌, ◌++◌, length, drop, refl, sym, ap, ◌∙◌, subst, Option, Some, None, arith, append_assoc, append-nil, length-append}
 use Rattle.std.specs.Option.{option_map_or}
 use Rattle.std.specs.List.{All}
 use Rattle.std.proofs.lemmas.List.Elements.{All-head, All-tail}
@@ -7,14 +7,13 @@ use Rattle.std.proofs.Math.Seq.{drop-append_seam}
 use Rattle.md_base.specs.declared.answers.Who.{Who}
 use Rattle.bank.specs.declared.bank.Operation.{Operation}
 use Rattle.flat_history.specs.declared.events.Entry.{Entry}
-use Rattle.flat_history.specs.declared.events.Request.{Request}
 use Rattle.flat_history.specs.Flat.{last_of}
 use Rattle.flat_history.specs.Transfers.{last_end_from}
 use Rattle.flat_history.specs.Growing.{BeginAnother}
 use Rattle.flat_history.specs.OneShape.{IsOfCall}
-use Rattle.flat_history.specs.Seen.{Seen, BeginsWith, ends_call}
+use Rattle.flat_history.specs.Seen.{Seen}
 use Rattle.flat_history.proofs.OneShapeGrowing.{none-another}
-use Rattle.seen_laws.specs.Callers.{IsWhole, RepliesFrom, IsBefore, IsCalled, CallsComeLater, SeenGoesOn, ShorterIsBefore}
+use Rattle.seen_laws.specs.Callers.{IsWhole, RepliesFrom, IsBefore, CallsComeLater, SeenGoesOn, ShorterIsBefore}
 use Rattle.seen_laws.proofs.PlaceLaws.{last-behind, ends, goes-on, call-apart}
 
 -- ---- lists that begin one list
@@ -71,6 +70,20 @@ apart-end xs (e ∷ c) ys apart = subst (λ (last : Option Entry). BeginAnother 
 
 -- ---- later
 
+-- what was seen begins itself
+pub seen-self : {tells : Type 0} (x : Seen) → IsBefore tells x x
+seen-self x = record {
+  begins = record {
+    scope = refl;
+    first = refl;
+    start = λ t. refl;
+    tape = λ t. ([], sym (append-nil x.world.tape));
+    entries = ([], sym (append-nil x.entries));
+  };
+  apart = none-another (last_of x.entries);
+  later = λ t. tt;
+}
+
 pub seen-on : {tells : Type 0} → SeenGoesOn tells
 seen-on {tells} x y z p q =
     let a = p.begins.entries.0 in
@@ -80,8 +93,10 @@ seen-on {tells} x y z p q =
         scope = q.begins.scope ∙ p.begins.scope;
         first = q.begins.first ∙ p.begins.first;
         start = λ t. q.begins.start t ∙ p.begins.start t;
-        tape = λ t. ((p.begins.tape t).0 ++ (q.begins.tape t).0,
-            (q.begins.tape t).1 ∙ ap (λ (l : List Operation). l ++ (q.begins.tape t).0) (p.begins.tape t).1 ∙ append_assoc x.world.tape (p.begins.tape t).0 (q.begins.tape t).0);
+        tape = λ t. (
+          (p.begins.tape t).0 ++ (q.begins.tape t).0,
+          (q.begins.tape t).1 ∙ ap (λ (l : List Operation). l ++ (q.begins.tape t).0) (p.begins.tape t).1 ∙ append_assoc x.world.tape (p.begins.tape t).0 (q.begins.tape t).0,
+        );
         entries = (a ++ b, q.begins.entries.1 ∙ ap (λ (l : List Entry). l ++ b) p.begins.entries.1 ∙ append_assoc x.entries a b);
       };
       apart = apart-both (last_of x.entries) a b p.apart (λ none.
@@ -115,12 +130,15 @@ module _ {tells : Type 0} (x y now : Seen) (whole : IsWhole tells x) (whole' : I
   tapes-rise : tells → (c : List Entry) → between.0 ≡ c → length x.world.tape ≤ length y.world.tape
   tapes-rise t [] is =
       let same : y.entries ≡ x.entries = between.1 ∙ ap (λ (l : List Entry). x.entries ++ l) is ∙ append-nil x.entries in
-      let ended : length x.world.tape ≡ length y.world.tape = sym (whole t) ∙ ap (λ (l : List Entry). last_end_from x.world.first l) (sym same) ∙ ap (λ (n : ℕ). last_end_from n y.entries) (sym firsts) ∙ whole' t in
+      let ended : length x.world.tape ≡ length y.world.tape = sym (whole t) ∙ ap (λ (l : List Entry). last_end_from x.world.first l) (sym same)
+      ∙ ap (λ (n : ℕ). last_end_from n y.entries) (sym firsts) ∙ whole' t in
       omega (arith, ended)
   tapes-rise t (e ∷ c) is =
-      let from : length x.world.tape ≤ last_end_from y.world.first (e ∷ c) = last-from (length x.world.tape) y.world.first e c (subst (λ (l : List Entry). RepliesFrom (length x.world.tape) l) is (later-between t)) in
+      let from : length x.world.tape ≤ last_end_from y.world.first (e ∷ c) = last-from (length x.world.tape) y.world.first e c
+      (subst (λ (l : List Entry). RepliesFrom (length x.world.tape) l) is (later-between t)) in
       let ended : last_end_from y.world.first (e ∷ c) ≡ length y.world.tape =
-      sym (end-behind y.world.first x.entries e c) ∙ ap (λ (l : List Entry). last_end_from y.world.first (x.entries ++ l)) (sym is) ∙ ap (λ (l : List Entry). last_end_from y.world.first l) (sym between.1) ∙ whole' t in
+      sym (end-behind y.world.first x.entries e c) ∙ ap (λ (l : List Entry). last_end_from y.world.first (x.entries ++ l)) (sym is)
+      ∙ ap (λ (l : List Entry). last_end_from y.world.first l) (sym between.1) ∙ whole' t in
       omega (arith, from, ended)
 
   shorter : IsBefore tells x y
@@ -150,8 +168,11 @@ one-reply who mark (e ∷ []) reply own last le =
     no : {b : Bool} → b ≡ true → b ≡ false → ⊥
     no on off = cc
 one-reply who mark (e ∷ n ∷ r) reply own last le =
-    let after = All-tail (IsOfCall who) e (n ∷ r) own in
-    ((λ on. absurd (no on (goes-on who e n (r ++ reply ∷ []) (All-head (IsOfCall who) e (n ∷ r) own) (All-head (IsOfCall who) n r after)))), one-reply who mark (n ∷ r) reply after last le)
+    let after = All-tail (IsOfCall who) e (n ∷ r) own in (
+      (λ on. absurd (no on (goes-on who e n (r ++ reply ∷ []) (All-head (IsOfCall who) e (n ∷ r) own) (All-head (IsOfCall who) n r after)))),
+      one-reply who mark
+          (n ∷ r) reply after last le,
+    )
   where
     no : {b : Bool} → b ≡ true → b ≡ false → ⊥
     no on off = cc
@@ -170,7 +191,8 @@ calls-later {tells} size old new who request c begins whole = record {
 }
   where
     ends-new : last_end_from new.world.first new.entries ≡ c.reply.end
-    ends-new = ap (λ (l : List Entry). last_end_from new.world.first l) (c.is ∙ sym (append_assoc old.entries c.inner (c.reply ∷ []))) ∙ end-behind new.world.first (old.entries ++ c.inner) c.reply []
+    ends-new = ap (λ (l : List Entry). last_end_from new.world.first l) (c.is ∙ sym (append_assoc old.entries c.inner (c.reply ∷ [])))
+        ∙ end-behind new.world.first (old.entries ++ c.inner) c.reply []
 
     after : tells → length old.world.tape ≤ c.reply.end
     after t =
