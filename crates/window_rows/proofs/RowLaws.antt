@@ -21,16 +21,16 @@ use Rattle.list_io.proofs.FullLaws.{data_here, full-data, new-full, sector_there
 use Rattle.window_rows.specs.Copies.{IsCopied, IsOwnRow, HasFullData, IsChangedAt, IsRowsPlace}
 
 -- a sector of the window that lies in the buffer is the full one of its place
-pub copied_here : (shape : Shape) → is_valid_shape shape ≡ true → (span : Span) (buffer : List ℕ) (end : ℕ) (list : ℕ → Sector) (role row x : ℕ) → IsCopied span buffer end list
+pub copied_here : (shape : Shape) → is_valid_shape shape ≡ true → (span : Span) (buffer : List ℕ) (tail : Span) (list : ℕ → Sector) (role row x : ℕ) → IsCopied span buffer tail list
     → place shape x ≡ record { role = role; row = row } → geometry.IsIn x span → sector_of buffer (x - span.lo) ≡ full_sector shape list row role
-copied_here shape valid span buffer end list role row x copied at inside = copied.window x inside ∙ sym (full-data shape list role row x valid at)
+copied_here shape valid span buffer tail list role row x copied at inside = copied.window x inside ∙ sym (full-data shape list role row x valid at)
 
 -- and a sector that is none of the window is zero
-pub zero_here : (shape : Shape) → is_valid_shape shape ≡ true → (span : Span) (buffer : List ℕ) (end : ℕ) (list : ℕ → Sector) (role row x : ℕ) → IsOwnRow shape span end row → IsCopied span buffer end list
+pub zero_here : (shape : Shape) → is_valid_shape shape ≡ true → (span : Span) (buffer : List ℕ) (tail : Span) (list : ℕ → Sector) (role row x : ℕ) → IsOwnRow shape span tail row → IsCopied span buffer tail list
     → place shape x ≡ record { role = role; row = row } → (geometry.IsIn x span → ⊥) → zero_sector ≡ full_sector shape list row role
-zero_here shape valid span buffer end list role row x own copied at outside = elim (own x (ap (λ (p : Place). p.row) at)) [
+zero_here shape valid span buffer tail list role row x own copied at outside = elim (own x (ap (λ (p : Place). p.row) at)) [
   | inl inside ↦ absurd (outside inside)
-  | inr past ↦ sym (full-data shape list role row x valid at ∙ copied.tail x past)
+  | inr past ↦ sym (full-data shape list role row x valid at ∙ copied.zeros x past)
 ]
 
 -- a row of full data has a full new row

@@ -5,13 +5,13 @@ use Rattle.std.proofs.lemmas.List.{length-replicate, get_or-replicate, get_or_pa
 use Rattle.md_base.specs.declared.places.Shape.{Shape}
 use Rattle.md_base.specs.declared.places.Span.{Span}
 use Rattle.md_base.specs.Sectors.{Sector, IsSector, zero_sector}
-use Rattle.md_base.specs.Shapes.{is_valid_shape, stripe_sectors}
+use Rattle.md_base.specs.Shapes.{is_valid_shape, is_multiple, data_disks, stripe_sectors}
 use Rattle.bank.specs.Given.{Given}
 use Rattle.bank.specs.declared.bank.Operation.{Operation}
 use Rattle.bank.specs.Tape.{Contents, EachMark, IsIn, disk}
 use Rattle.bank.proofs.Marks.{each_mark-map, each_mark-then}
 use Rattle.layout.specs.Layout.{place}
-use Rattle.layout.proofs.Places.{chunk_some}
+use Rattle.layout.proofs.Places.{chunk_some, place-sector_below}
 use Rattle.geometry.specs.Geometry.{ceiling, rows}
 use Rattle.geometry.specs.Geometry as geometry
 use Rattle.geometry.proofs.Divisions.{next_multiple, quotient}
@@ -29,7 +29,7 @@ use Rattle.shape_views.specs.Regions.{AreShapesFit}
 use Rattle.shape_views.specs.Windows.{IsLess, IsWrittenAt, IsWindowPlace, IsCopying}
 use Rattle.shape_views.proofs.UnderWay.{window-row}
 use Rattle.shape_changes.specs.Updates.{IsPastPlace}
-use Rattle.window_rows.specs.Copies.{IsRoomFor, IsCopied, IsZeroFrom, IsOwnRow, IsStripeOf, IsPastStripe, IsChangedAt, IsRowsPlace}
+use Rattle.window_rows.specs.Copies.{IsRoomFor, tail_of, IsCopied, IsZeroIn, IsOwnRow, IsStripeOf, IsPastStripe, IsChangedAt, IsRowsPlace}
 
 -- ---- rows one after another
 
@@ -59,12 +59,12 @@ marks_more {tells = tells} start start' m m' from to row old mid new same is low
 module _ (mid new : Members) (lost : ℕ) (is : new ≡ members_without lost mid) (before between after : Contents) (shape : Shape) (from row : ℕ) (low : from ≤ row)
     (others : (other : ℕ) → other ≢ row → IsRowKept (reading_of mid) between after other) where
   -- one row more is full
-  pub full_more : (span : Span) (end : ℕ) (list : ℕ → Sector)
-      → ((r : ℕ) → from ≤ r → r < row → IsOwnRow shape span end r → IsFull (reading_of mid) between shape list r)
-      → (IsOwnRow shape span end row → IsFull (reading_of new) after shape list row)
-      → (r : ℕ) → from ≤ r → r < row + 1 → IsOwnRow shape span end r → IsFull (reading_of new) after shape list r
-  full_more span end list was here r above lt own = elim (cases_eq r row) [
-    | inl same ↦ subst (λ (n : ℕ). IsFull (reading_of new) after shape list n) (sym same) (here (subst (λ (n : ℕ). IsOwnRow shape span end n) same own))
+  pub full_more : (span : Span) (tail : Span) (list : ℕ → Sector)
+      → ((r : ℕ) → from ≤ r → r < row → IsOwnRow shape span tail r → IsFull (reading_of mid) between shape list r)
+      → (IsOwnRow shape span tail row → IsFull (reading_of new) after shape list row)
+      → (r : ℕ) → from ≤ r → r < row + 1 → IsOwnRow shape span tail r → IsFull (reading_of new) after shape list r
+  full_more span tail list was here r above lt own = elim (cases_eq r row) [
+    | inl same ↦ subst (λ (n : ℕ). IsFull (reading_of new) after shape list n) (sym same) (here (subst (λ (n : ℕ). IsOwnRow shape span tail n) same own))
     | inr ne ↦ full_later mid new lost between after shape list r is (others r ne) (was r above (omega (arith, lt, ne)) own)
   ]
 
@@ -87,14 +87,14 @@ zero_whole = record {
 }
 
 -- the sectors that stand in a row of a window are whole: they lie in the buffer, or are zero
-pub own_whole : (shape : Shape) (span : Span) (buffer : List ℕ) (end : ℕ) (list : ℕ → Sector) (row : ℕ) → IsRoomFor span buffer → ((at : ℕ) → get_or buffer at 0 < 256)
-    → IsOwnRow shape span end row → IsCopied span buffer end list → AreWholeIn shape list row
-own_whole shape span buffer end list row room small own copied x at = elim (own x at) [
+pub own_whole : (shape : Shape) (span : Span) (buffer : List ℕ) (tail : Span) (list : ℕ → Sector) (row : ℕ) → IsRoomFor span buffer → ((at : ℕ) → get_or buffer at 0 < 256)
+    → IsOwnRow shape span tail row → IsCopied span buffer tail list → AreWholeIn shape list row
+own_whole shape span buffer tail list row room small own copied x at = elim (own x at) [
   | inl inside ↦
       let low = inside.0 in
       let high = inside.1 in
       subst IsSector (copied.window x inside) (whole_sector buffer (span.hi - span.lo) (x - span.lo) room small (omega (arith, low, high)))
-  | inr past ↦ subst IsSector (sym (copied.tail x past)) zero_whole
+  | inr past ↦ subst IsSector (sym (copied.zeros x past)) zero_whole
 ]
 
 pub row_stands : (r : Reading) (c : Contents) (shape : Shape) (list : ℕ → Sector) (row : ℕ) → AreWholeIn shape list row → IsFull r c shape list row → RowStands r c shape list row
@@ -133,7 +133,7 @@ module _ (shape : Shape) (valid : is_valid_shape shape ≡ true) (span : Span) (
   stripe_high = next_multiple stripe (ceiling span.hi (stripe_sectors shape)) shape.chunk of.1
 
 module _ (m : Members) (fit : AreShapesFit m.newest) (shape : Shape) (is : shape ≡ final_shape m.newest) (span : Span) (next : next_window m.newest ≡ Some span) (stripe : ℕ)
-    (of : IsStripeOf shape span stripe) where
+    (of : IsStripeOf shape span stripe) (whole : is_multiple m.newest.size shape.chunk ≡ true) where
   valid : is_valid_shape shape ≡ true
   valid = subst (λ (s : Shape). is_valid_shape s ≡ true) (sym is) fit.valid.final
 
@@ -149,15 +149,15 @@ module _ (m : Members) (fit : AreShapesFit m.newest) (shape : Shape) (is : shape
       let below = (window-row m.newest fit span next last (in_window last (omega (arith, some)) (omega (arith, some)))).below in
       omega (arith, below, some)
 
-  -- each sector that stands there is the window's, or stands behind the list
-  pub own_row : (i : ℕ) → i < shape.chunk → IsOwnRow shape span (list_length m.newest) (stripe * shape.chunk + i)
+  -- each sector that stands there is the window's, or one of the tail
+  pub own_row : (i : ℕ) → i < shape.chunk → IsOwnRow shape span (tail_of m.newest) (stripe * shape.chunk + i)
   own_row i lt x at =
       let row : ℕ = stripe * shape.chunk + i in
       let w = window-row m.newest fit span next row (in_window row (omega arith) (omega (arith, lt))) in
       let there : (place (final_shape m.newest) x).row ≡ row = subst (λ (s : Shape). (place s x).row ≡ row) is at in
       elim (w.ends x there) [
         | inl high ↦ inl (w.begins x there, high)
-        | inr past ↦ inr past
+        | inr past ↦ inr (past, subst (λ (s : Shape). x < data_disks s * m.newest.size) is (place-sector_below shape valid x m.newest.size whole (let below = stripe_below in omega (arith, at, lt, below))))
       ]
 
   pub copying : (d e : ℕ → ℕ → List Sector) → IsChangedAt (IsRowsPlace (reading_of m) (stripe * shape.chunk) (stripe * shape.chunk + shape.chunk)) d e → IsCopying m span d e
@@ -169,7 +169,8 @@ module _ (m : Members) (fit : AreShapesFit m.newest) (shape : Shape) (is : shape
 abbrev pub nothing : Span
 nothing = record { lo = 0; hi = 0 }
 
-module _ (m : Members) (shape : Shape) (valid : is_valid_shape shape ≡ true) (is : shape ≡ final_shape m.newest) (stripe : ℕ) (past : IsPastStripe shape m.newest.size (list_length m.newest) stripe) where
+module _ (m : Members) (shape : Shape) (valid : is_valid_shape shape ≡ true) (is : shape ≡ final_shape m.newest) (stripe : ℕ) (past : IsPastStripe shape m.newest.size (list_length m.newest) stripe)
+    (whole : is_multiple m.newest.size shape.chunk ≡ true) where
   pub past_below : stripe * shape.chunk + shape.chunk ≤ m.newest.size
   past_below =
       let few = next_multiple stripe (m.newest.size / shape.chunk) shape.chunk past.1 in
@@ -180,13 +181,13 @@ module _ (m : Members) (shape : Shape) (valid : is_valid_shape shape ≡ true) (
   begins = mul-le-mul_right shape.chunk past.0
 
   -- no sector of the list stands there
-  pub past_row : (i : ℕ) → IsOwnRow shape nothing (list_length m.newest) (stripe * shape.chunk + i)
-  past_row i x at = elim (cases_lt x (list_length m.newest)) [
+  pub past_row : (i : ℕ) → i < shape.chunk → IsOwnRow shape nothing (tail_of m.newest) (stripe * shape.chunk + i)
+  past_row i lt x at = elim (cases_lt x (list_length m.newest)) [
     | inl below ↦ absurd (
         let held = (rows_hold shape (record { lo = 0; hi = list_length m.newest }) x valid (omega arith, below)).1 in
         omega (arith, held, at, begins)
         )
-    | inr behind ↦ inr behind
+    | inr behind ↦ inr (behind, subst (λ (s : Shape). x < data_disks s * m.newest.size) is (place-sector_below shape valid x m.newest.size whole (let below = past_below in omega (arith, at, lt, below))))
   ]
 
   pub zeroing : (d e : ℕ → ℕ → List Sector) → IsChangedAt (IsRowsPlace (reading_of m) (stripe * shape.chunk) (stripe * shape.chunk + shape.chunk)) d e → IsWrittenAt (IsPastPlace m) d e
@@ -199,6 +200,6 @@ module _ (m : Members) (shape : Shape) (valid : is_valid_shape shape ≡ true) (
         place = there.place;
       })
 
--- a list that is zero from its end on has nothing of no window
-pub nothing_copied : (end : ℕ) (list : ℕ → Sector) (buffer : List ℕ) → IsZeroFrom end list → IsCopied nothing buffer end list
-nothing_copied end list buffer zero = record { window = λ x inside. absurd (let low = inside.1 in omega (arith, low)); tail = zero }
+-- a list that is zero in its tail has nothing of no window
+pub nothing_copied : (tail : Span) (list : ℕ → Sector) (buffer : List ℕ) → IsZeroIn tail list → IsCopied nothing buffer tail list
+nothing_copied tail list buffer zeros = record { window = λ x inside. absurd (let low = inside.1 in omega (arith, low)); zeros = zeros }

@@ -3,12 +3,13 @@ use Rattle.std.specs.Prelude.{◌≡◌, ◌⊎◌, ℕ, ◌+◌, ◌-◌, ◌*�
 use Rattle.md_base.specs.declared.places.Shape.{Shape}
 use Rattle.md_base.specs.declared.places.Span.{Span}
 use Rattle.md_base.specs.Sectors.{Sector, zero_sector}
-use Rattle.md_base.specs.Shapes.{stripe_sectors}
+use Rattle.md_base.specs.Shapes.{data_disks, stripe_sectors}
+use Rattle.sb1.specs.declared.sb.Sb.{Sb}
 use Rattle.bank.specs.Tape.{Contents}
 use Rattle.layout.specs.Layout.{place, row_roles}
 use Rattle.geometry.specs.Geometry.{ceiling, IsIn}
 use Rattle.parity.specs.Rows.{sector_of}
-use Rattle.superblocks.specs.Reading.{Reading, role_state, holder, data_offset_of}
+use Rattle.superblocks.specs.Reading.{Reading, final_shape, list_length, role_state, holder, data_offset_of}
 use Rattle.row_io.specs.Rows.{is_held}
 use Rattle.row_io.specs.Writes.{is_parity}
 use Rattle.list_io.specs.Full.{full_sector, RowStands}
@@ -23,20 +24,24 @@ HasWindow span buffer list = (x : ℕ) → IsIn x span → sector_of buffer (x -
 abbrev pub IsRoomFor : Span → List ℕ → Type 0
 IsRoomFor span buffer = length buffer ≡ 512 * (span.hi - span.lo)
 
--- the list is zero from its end on
-abbrev pub IsZeroFrom : ℕ → (ℕ → Sector) → Type 0
-IsZeroFrom end list = (x : ℕ) → end ≤ x → list x ≡ zero_sector
+-- the places that the new shape has behind the list's end
+abbrev pub tail_of : Sb → Span
+tail_of newest = record { lo = list_length newest; hi = data_disks (final_shape newest) * newest.size }
 
--- A list that has the buffer's sectors in the window, and zeros from its end on.
-pub record IsCopied (span : Span) (buffer : List ℕ) (end : ℕ) (list : ℕ → Sector) : Type 0 where
+-- the list is zero there
+abbrev pub IsZeroIn : Span → (ℕ → Sector) → Type 0
+IsZeroIn tail list = (x : ℕ) → IsIn x tail → list x ≡ zero_sector
+
+-- A list that has the buffer's sectors in the window, and zeros in its tail.
+pub record IsCopied (span : Span) (buffer : List ℕ) (tail : Span) (list : ℕ → Sector) : Type 0 where
   pub window : HasWindow span buffer list
-  pub tail : IsZeroFrom end list
+  pub zeros : IsZeroIn tail list
 
 -- ---- the rows
 
--- each sector that has its place in the row by this shape is the window's, or stands behind the end
-abbrev pub IsOwnRow : Shape → Span → ℕ → ℕ → Type 0
-IsOwnRow shape span end row = (x : ℕ) → (place shape x).row ≡ row → IsIn x span ⊎ (end ≤ x)
+-- each sector that has its place in the row by this shape is the window's, or one of the tail
+abbrev pub IsOwnRow : Shape → Span → Span → ℕ → Type 0
+IsOwnRow shape span tail row = (x : ℕ) → (place shape x).row ≡ row → IsIn x span ⊎ IsIn x tail
 
 -- the bytes of a row have the full sector of each data role
 abbrev pub HasFullData : Shape → (ℕ → Sector) → ℕ → List ℕ → Type 0

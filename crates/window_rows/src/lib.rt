@@ -1,6 +1,7 @@
 //! The rows of a window that is copied: read by the old shape, written by the new one stripe by stripe, and zeroed behind the list.
 #![tactic(auto)]
 
+pub mod laws;
 mod reads;
 mod rows;
 mod stripes;

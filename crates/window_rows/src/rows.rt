@@ -2,6 +2,7 @@
 
 ghost use Rattle.std.specs.Prelude.{◌≡◌, ◌≢◌, ◌+◌, ◌-◌, ◌*◌, ◌^◌, ◌<◌, ◌≤◌, ℕ, true, false, length, IsTrue};
 ghost use Rattle.bank.specs.Tape.{EachMark, disk};
+ghost use Rattle.md_base.specs.declared.places.Span.{Span};
 ghost use Rattle.md_base.specs.Sectors.{Sector, zero_sector};
 ghost use Rattle.md_base.specs.Shapes.{is_valid_shape};
 ghost use Rattle.layout.specs.Layout.{row_roles};
@@ -65,7 +66,7 @@ fn put_role(
     requires role { role < shape.now.disks }
     requires buffer { IsRoomFor span.now buffer.now }
     requires whole { IsRowOf shape.now.disks into.old }
-    ensures full { (end : ℕ) (list : ℕ → Sector) → IsOwnRow shape.now span.now end row → IsCopied span.now buffer.now end list
+    ensures full { (tail : Span) (list : ℕ → Sector) → IsOwnRow shape.now span.now tail row → IsCopied span.now buffer.now tail list
         → is_parity (row_roles shape.now row) role ≡ false → sector_of into.new role ≡ full_sector shape.now list row role }
     ensures others { (r : ℕ) → r ≢ role → sector_of into.new r ≡ sector_of into.old r }
 {
@@ -87,7 +88,7 @@ pub fn window_row(shape: &Shape, span: &Span, buffer: &[u8], row: u64, into: &mu
     requires row { row < 2 ^ 53 }
     requires buffer { IsRoomFor span.now buffer.now }
     requires whole { IsRowOf shape.now.disks into.old }
-    ensures full { (end : ℕ) (list : ℕ → Sector) → IsOwnRow shape.now span.now end row → IsCopied span.now buffer.now end list → HasFullData shape.now list row into.new }
+    ensures full { (tail : Span) (list : ℕ → Sector) → IsOwnRow shape.now span.now tail row → IsCopied span.now buffer.now tail list → HasFullData shape.now list row into.new }
 {
     for role in 0..shape.disks {
         put_role(shape, span, buffer, row, role, into);
@@ -121,7 +122,7 @@ pub fn copy_row<B: Bank>(
     ensures lost { AreLost shape.now members.old members.new result (B.faults_of bank.old) (B.faults_of bank.new) }
     ensures each_mark { let start = (B.given bank.old).start in EachMark B.tells start (B.tape bank.old) (B.tape bank.new)
         (IsChangedAt (IsRowsPlace (reading_of members.old) row (row + 1)) (disk start (B.tape bank.old))) }
-    ensures full { (end : ℕ) (list : ℕ → Sector) → IsOwnRow shape.now span.now end row → IsCopied span.now buffer.now end list → B.tells
+    ensures full { (tail : Span) (list : ℕ → Sector) → IsOwnRow shape.now span.now tail row → IsCopied span.now buffer.now tail list → B.tells
         → IsFull (reading_of members.new) (present (B.given bank.new) (B.tape bank.new)) shape.now list row }
     ensures others { B.tells → (other : ℕ) → other ≢ row → IsRowKept (reading_of members.old)
         (present (B.given bank.old) (B.tape bank.old)) (present (B.given bank.new) (B.tape bank.new)) other }

@@ -2,6 +2,7 @@
 
 ghost use Rattle.std.specs.Prelude.{◌≡◌, ◌⊎◌, ◌+◌, ◌*◌, ◌<◌, ◌≤◌, ℕ, true, length, Some, OnOk};
 ghost use Rattle.bank.specs.Tape.{EachMark, disk};
+ghost use Rattle.md_base.specs.declared.places.Span.{Span};
 ghost use Rattle.md_base.specs.Sectors.{Sector};
 ghost use Rattle.superblocks.specs.Reading.{final_shape, list_length, next_window};
 ghost use Rattle.row_io.specs.Rows.{present, reading_of, IsTolerated};
@@ -12,7 +13,7 @@ ghost use Rattle.list_io.specs.Writing.{IsFull, IsRowKept, AreBehind, AreSuperbl
 ghost use Rattle.shape_views.specs.Regions.{AreShapesFit};
 ghost use Rattle.shape_views.specs.Windows.{IsWrittenAt, IsCopying};
 ghost use Rattle.shape_changes.specs.Updates.{IsPastPlace};
-ghost use Rattle.window_rows.specs.Copies.{IsRoomFor, IsCopied, IsZeroFrom, IsOwnRow, IsStripeOf, IsPastStripe, IsChangedAt, IsRowsPlace};
+ghost use Rattle.window_rows.specs.Copies.{IsRoomFor, tail_of, IsCopied, IsZeroIn, IsOwnRow, IsStripeOf, IsPastStripe, IsChangedAt, IsRowsPlace};
 
 use crate::rows::copy_row;
 use bank::Bank;
@@ -55,8 +56,8 @@ fn copy_rows<B: Bank>(
     ensures lost { AreLost shape.now members.old members.new result.lost (B.faults_of bank.old) (B.faults_of bank.new) }
     ensures each_mark { let start = (B.given bank.old).start in EachMark B.tells start (B.tape bank.old) (B.tape bank.new)
         (IsChangedAt (IsRowsPlace (reading_of members.old) from to) (disk start (B.tape bank.old))) }
-    ensures full { (end : ℕ) (list : ℕ → Sector) → IsCopied span.now buffer.now end list → B.tells
-        → (row : ℕ) → from ≤ row → row < result.next → IsOwnRow shape.now span.now end row
+    ensures full { (tail : Span) (list : ℕ → Sector) → IsCopied span.now buffer.now tail list → B.tells
+        → (row : ℕ) → from ≤ row → row < result.next → IsOwnRow shape.now span.now tail row
         → IsFull (reading_of members.new) (present (B.given bank.new) (B.tape bank.new)) shape.now list row }
     ensures others { B.tells → (row : ℕ) → (row < from) ⊎ (result.next ≤ row) → IsRowKept (reading_of members.new)
         (present (B.given bank.old) (B.tape bank.old)) (present (B.given bank.new) (B.tape bank.new)) row }
@@ -111,8 +112,8 @@ fn put_stripe<B: Bank>(
     ensures answer { IsAnswer shape.now true (reading_of members.new) (λ role. ⊥) result.answer }
     ensures each_mark { let start = (B.given bank.old).start in let first = stripe * shape.now.chunk in EachMark B.tells start (B.tape bank.old) (B.tape bank.new)
         (IsChangedAt (IsRowsPlace (reading_of members.old) first (first + shape.now.chunk)) (disk start (B.tape bank.old))) }
-    ensures full { (end : ℕ) (list : ℕ → Sector) → IsCopied span.now buffer.now end list → B.tells
-        → (i : ℕ) → done ≤ i → i < result.done → IsOwnRow shape.now span.now end (stripe * shape.now.chunk + i)
+    ensures full { (tail : Span) (list : ℕ → Sector) → IsCopied span.now buffer.now tail list → B.tells
+        → (i : ℕ) → done ≤ i → i < result.done → IsOwnRow shape.now span.now tail (stripe * shape.now.chunk + i)
         → IsFull (reading_of members.new) (present (B.given bank.new) (B.tape bank.new)) shape.now list (stripe * shape.now.chunk + i) }
     ensures others { B.tells → (row : ℕ) → (row < stripe * shape.now.chunk + done) ⊎ (stripe * shape.now.chunk + result.done ≤ row)
         → IsRowKept (reading_of members.new) (present (B.given bank.old) (B.tape bank.old)) (present (B.given bank.new) (B.tape bank.new)) row }
@@ -175,7 +176,7 @@ pub fn copy_stripe<B: Bank>(
     ensures answer { IsAnswer shape.now true (reading_of members.new) (λ role. ⊥) result.answer }
     ensures each_mark { let start = (B.given bank.old).start in EachMark B.tells start (B.tape bank.old) (B.tape bank.new)
         (λ e. IsCopying members.old span.now (disk start (B.tape bank.old)) e × AreSuperblocksKept (disk start (B.tape bank.old)) e) }
-    ensures stands { B.tells → (list : ℕ → Sector) → IsCopied span.now buffer.now (list_length members.old.newest) list → (i : ℕ) → done ≤ i → i < result.done
+    ensures stands { B.tells → (list : ℕ → Sector) → IsCopied span.now buffer.now (tail_of members.old.newest) list → (i : ℕ) → done ≤ i → i < result.done
         → RowStands (reading_of members.new) (present (B.given bank.new) (B.tape bank.new)) shape.now list (stripe * shape.now.chunk + i) }
     ensures others { B.tells → (row : ℕ) → (row < stripe * shape.now.chunk + done) ⊎ (stripe * shape.now.chunk + result.done ≤ row)
         → IsRowKept (reading_of members.new) (present (B.given bank.old) (B.tape bank.old)) (present (B.given bank.new) (B.tape bank.new)) row }
@@ -209,7 +210,7 @@ pub fn zero_stripe<B: Bank>(
     ensures answer { IsAnswer shape.now true (reading_of members.new) (λ role. ⊥) result.answer }
     ensures each_mark { let start = (B.given bank.old).start in EachMark B.tells start (B.tape bank.old) (B.tape bank.new)
         (λ e. IsWrittenAt (IsPastPlace members.old) (disk start (B.tape bank.old)) e × AreSuperblocksKept (disk start (B.tape bank.old)) e) }
-    ensures stands { B.tells → (list : ℕ → Sector) → IsZeroFrom (list_length members.old.newest) list → (i : ℕ) → done ≤ i → i < result.done
+    ensures stands { B.tells → (list : ℕ → Sector) → IsZeroIn (tail_of members.old.newest) list → (i : ℕ) → done ≤ i → i < result.done
         → RowStands (reading_of members.new) (present (B.given bank.new) (B.tape bank.new)) shape.now list (stripe * shape.now.chunk + i) }
     ensures others { B.tells → (row : ℕ) → (row < stripe * shape.now.chunk + done) ⊎ (stripe * shape.now.chunk + result.done ≤ row)
         → IsRowKept (reading_of members.new) (present (B.given bank.old) (B.tape bank.old)) (present (B.given bank.new) (B.tape bank.new)) row }

@@ -27,7 +27,7 @@ returns-clause-each_mark g c =
     (λ told e writing. row_changed (reading_of c.args.members.now) c.args.shape.now c.args.row c.window_row.new.into 65535 d e writing) c.write_row.ensures.each_mark
 
 pub returns-clause-full : goal.returns-clause-full
-returns-clause-full g c = λ end list own copied told.
+returns-clause-full g c = λ tail list own copied told.
     let given = g.B.Bank.given c.args.bank.now in
     let old = g.B.Bank.tape c.args.bank.now in
     let did = c.write_row.ensures in
@@ -38,7 +38,7 @@ returns-clause-full g c = λ end list own copied told.
     (all_others_stand (reading_of c.args.members.now) (present given old) shape c.requires.row.valid c.args.row bytes)
     (marks_last {P = IsWriting (reading_of c.args.members.now) shape c.args.row bytes 65535 (disk given.start old)} did.each_mark told)
     (did.written told c.requires.tolerated)
-    (new_full shape c.requires.row.valid list c.args.row bytes (c.window_row.ensures.full end list own copied))
+    (new_full shape c.requires.row.valid list c.args.row bytes (c.window_row.ensures.full tail list own copied))
 
 pub returns-clause-others : goal.returns-clause-others
 returns-clause-others g c = λ told.

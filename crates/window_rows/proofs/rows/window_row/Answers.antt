@@ -12,12 +12,12 @@ loop-role-preserved c =
     let did = c.put_role.ensures in
     record {
       size = omega (arith, c.put_role.auto.into, was.size);
-      full = λ end list own copied role lt here. elim (cases_eq role c.loop-role.role) [
+      full = λ tail list own copied role lt here. elim (cases_eq role c.loop-role.role) [
         | inl same ↦ subst (λ (r : ℕ). sector_of c.put_role.new.into r ≡ full_sector c.args.shape.now list c.args.row r) (sym same)
-            (did.full end list own copied (ap (is_parity (row_roles c.args.shape.now c.args.row)) (sym same) ∙ here))
-        | inr other ↦ did.others role other ∙ was.full end list own copied role (omega (arith, lt, other)) here
+            (did.full tail list own copied (ap (is_parity (row_roles c.args.shape.now c.args.row)) (sym same) ∙ here))
+        | inr other ↦ did.others role other ∙ was.full tail list own copied role (omega (arith, lt, other)) here
       ];
     }
 
 pub returns : goal.returns
-returns c = record { full = λ end list own copied role lt here. c.loop-role.invariant.full end list own copied role (omega (arith, lt, c.loop-role-test.false)) here }
+returns c = record { full = λ tail list own copied role lt here. c.loop-role.invariant.full tail list own copied role (omega (arith, lt, c.loop-role-test.false)) here }

@@ -23,12 +23,12 @@ returns-then-lost-ne0-clause-each_mark g c =
     was.marks c.copy_row-lost.ensures.each_mark
 
 pub returns-then-lost-ne0-clause-full : goal.returns-then-lost-ne0-clause-full
-returns-then-lost-ne0-clause-full g c = λ end list copied told.
+returns-then-lost-ne0-clause-full g c = λ tail list copied told.
     let did = c.copy_row-lost.ensures in
     let between = present (g.B.Bank.given c.loop-row.bank) (g.B.Bank.tape c.loop-row.bank) in
     let after = present (g.B.Bank.given c.copy_row-lost.new.bank) (g.B.Bank.tape c.copy_row-lost.new.bank) in
     full_more c.loop-row.members c.copy_row-lost.new.members c.copy_row-lost.result did.lost.members between between after c.args.shape.now c.args.from c.loop-row.row c.loop-row.auto.row
-    (did.others told) c.args.span.now end list (c.loop-row.invariant.full end list copied told) (λ own. did.full end list own copied told)
+    (did.others told) c.args.span.now tail list (c.loop-row.invariant.full tail list copied told) (λ own. did.full tail list own copied told)
 
 pub returns-then-lost-ne0-clause-others : goal.returns-then-lost-ne0-clause-others
 returns-then-lost-ne0-clause-others g c = λ told.
@@ -56,8 +56,8 @@ loop-row-preserved g c =
       marks = marks_more (g.B.Bank.given c.args.bank.now) (g.B.Bank.given c.loop-row.bank) c.args.members.now mid c.args.from c.args.to row
           (g.B.Bank.tape c.args.bank.now) (g.B.Bank.tape c.loop-row.bank) (g.B.Bank.tape c.copy_row-lost.new.bank) was.given was.members c.loop-row.auto.row c.loop-row-test.true
           was.marks did.each_mark;
-      full = λ end list copied told. full_more mid new lost did.lost.members between between after shape c.args.from row c.loop-row.auto.row (did.others told) c.args.span.now end list
-          (was.full end list copied told) (λ own. did.full end list own copied told);
+      full = λ tail list copied told. full_more mid new lost did.lost.members between between after shape c.args.from row c.loop-row.auto.row (did.others told) c.args.span.now tail list
+          (was.full tail list copied told) (λ own. did.full tail list own copied told);
       others = λ told. kept_more mid new lost did.lost.members before between after shape c.args.from row c.loop-row.auto.row (did.others told) (was.others told);
       members = none_then mid new lost did.lost.members none ∙ was.members;
       given = did.given ∙ was.given;
@@ -70,4 +70,4 @@ returns-clause-lost g c =
     (none_lost c.args.shape.now c.args.members.now (g.B.Bank.faults_of c.args.bank.now) (g.B.Bank.faults_of c.loop-row.bank) c.loop-row.invariant.never_falls)
 
 pub returns-clause-full : goal.returns-clause-full
-returns-clause-full g c = λ end list copied told row low high. c.loop-row.invariant.full end list copied told row low (omega (arith, high, c.loop-row-test.false))
+returns-clause-full g c = λ tail list copied told row low high. c.loop-row.invariant.full tail list copied told row low (omega (arith, high, c.loop-row-test.false))
