@@ -1,5 +1,5 @@
 -- Members that are placed have the rows of both shapes.
-use Rattle.std.proofs.Common.{◌≡◌, ◌^◌, ◌≤◌, ℕ, ◌∙◌, length, max, arith}
+use Rattle.std.proofs.Common.{◌≡◌, ◌^◌, ◌≤◌, ℕ, ◌&&◌, nat_le, true, length, arith}
 use Rattle.std.specs.Prelude.{IsTrue}
 use Rattle.std.proofs.lemmas.Bool.{and_parts}
 use Rattle.std.proofs.lemmas.Bool.Decides.{nat_tests}
@@ -21,10 +21,12 @@ module _ (scope : Scope) (given : Given) (m : Members) (placed : ArePlaced scope
       let old = (limited (shape_of m.newest) placed.fit.valid.old).most in
       let new = (limited (final_shape m.newest) placed.fit.valid.final).most in
       let roles = placed.roles in
+      let limits : (nat_le 1 m.newest.size && nat_le m.newest.size (2 ^ 48)) ≡ true = (and_parts (nat_le 1 m.newest.size && nat_le m.newest.size (2 ^ 48)) (is_multiple m.newest.size shape.chunk) size).0 in
+      let below : nat_le m.newest.size (2 ^ 48) ≡ true = (and_parts (nat_le 1 m.newest.size) (nat_le m.newest.size (2 ^ 48)) limits).1 in
       record {
         valid = valid;
         multiple = (and_parts _ _ size).1;
-        short = let parts = (and_parts _ _ (and_parts _ _ size).0).1 in grind (arith, nat_tests, parts);
+        short = grind (arith, nat_tests, below);
         roles = few;
         few = omega (arith, old, new, roles);
         holders = placed.holders;
