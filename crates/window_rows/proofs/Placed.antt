@@ -1,5 +1,5 @@
 -- Members that are placed have the rows of both shapes.
-use Rattle.std.proofs.Common.{◌≡◌, ◌^◌, ◌≤◌, ℕ, ◌&&◌, nat_le, true, length, arith}
+use Rattle.std.proofs.Common.{◌≡◌, ◌^◌, ◌≤◌, ◌&&◌, nat_le, true, length, arith}
 use Rattle.std.specs.Prelude.{IsTrue}
 use Rattle.std.proofs.lemmas.Bool.{and_parts}
 use Rattle.std.proofs.lemmas.Bool.Decides.{nat_tests}

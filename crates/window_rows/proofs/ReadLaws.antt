@@ -1,12 +1,11 @@
 -- The sectors of the next window stand by the old shape, and so do all of their rows.
-use Rattle.std.proofs.Common.{◌≡◌, ◌⊎◌, inl, inr, ℕ, ◌+◌, ◌-◌, ◌*◌, ◌/◌, ◌<◌, ◌≤◌, nat_le, nat_lt, Bool, true, false, cond, if◌then◌else◌, List, [], Option, Some, None, unwrap_or, option_map, refl, sym, ◌∙◌, ap, subst, arith}
+use Rattle.std.proofs.Common.{◌≡◌, inl, inr, ℕ, ◌+◌, ◌-◌, ◌<◌, ◌≤◌, nat_lt, Bool, true, false, if◌then◌else◌, [], Option, Some, None, unwrap_or, option_map, refl, sym, ◌∙◌, ap, subst, arith}
 use Rattle.std.specs.Int.{◌∣◌}
 use Rattle.std.proofs.lemmas.Bool.{cases_lt}
 use Rattle.std.proofs.lemmas.Bool.Decides.{nat_tests}
 use Rattle.md_base.specs.declared.places.Shape.{Shape}
 use Rattle.md_base.specs.declared.places.Span.{Span}
-use Rattle.md_base.specs.declared.places.Side.{Side}
-use Rattle.md_base.specs.declared.places.Side.TheVariants.{Old, New}
+use Rattle.md_base.specs.declared.places.Side.TheVariants.{Old}
 use Rattle.md_base.specs.Sectors.{Sector}
 use Rattle.bank.specs.Tape.{Contents}
 use Rattle.layout.specs.Layout.{place}
@@ -17,7 +16,7 @@ use Rattle.region_laws.specs.Regions.{IsUnderWay}
 use Rattle.region_laws.proofs.RegionLaws.{by-old, forward-is, backward-is, new-ahead, new-behind}
 use Rattle.superblocks.specs.declared.members.Members.{Members}
 use Rattle.superblocks.specs.Reading.{is_backward, shape_of, final_shape, list_length, next_window, data_offset_of}
-use Rattle.row_io.specs.Rows.{reading_of, is_held, held_slot, held_sector}
+use Rattle.row_io.specs.Rows.{reading_of, is_held, held_sector}
 use Rattle.list_io.specs.Full.{DataStands}
 use Rattle.list_io.specs.Calls.{IsListed}
 use Rattle.flat_history.specs.Stands.{shape_for}
@@ -40,7 +39,7 @@ ahead-window old new size position span way is =
     let at = forward-is old new size position span is in
     let lo = at.1 in
     let hi = at.2 in
-    let on : unit old new ∣ position = elim way.on_unit [ | inl on ↦ on | inr last ↦ absurd (let below = at.0 in omega (arith, below, last)) ] in
+    let on : unit old new ∣ position = elim way.on_unit [ inl on ↦ on | inr last ↦ absurd (let below = at.0 in omega (arith, below, last)) ] in
     let some = (the_unit old new way.force.old_valid way.force.new_valid).positive in
     record {
       order = let below = at.0 in omega (arith, lo, hi, below, some);

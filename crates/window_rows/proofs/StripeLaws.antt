@@ -1,5 +1,5 @@
 -- Rows one after another, and the rows of a stripe.
-use Rattle.std.proofs.Common.{◌≡◌, ◌≢◌, ◌⊎◌, inl, inr, ℕ, ◌+◌, ◌-◌, ◌*◌, ◌/◌, ◌<◌, ◌≤◌, true, List, get_or, Some, refl, sym, ◌∙◌, ap, subst, arith}
+use Rattle.std.proofs.Common.{◌≡◌, ◌≢◌, ◌⊎◌, inl, inr, ℕ, ◌+◌, ◌-◌, ◌*◌, ◌/◌, ◌<◌, ◌≤◌, true, List, get_or, Some, sym, ◌∙◌, subst, arith}
 use Rattle.std.proofs.lemmas.Bool.{cases_lt, cases_eq}
 use Rattle.std.proofs.lemmas.List.{length-replicate, get_or-replicate, get_or_past}
 use Rattle.md_base.specs.declared.places.Shape.{Shape}
@@ -18,7 +18,7 @@ use Rattle.geometry.proofs.Divisions.{next_multiple, quotient}
 use Rattle.geometry.proofs.Rows.{rows_hold}
 use Rattle.std.proofs.Math.Nat.{mul-le-mul_right}
 use Rattle.superblocks.specs.declared.members.Members.{Members}
-use Rattle.superblocks.specs.Reading.{Reading, final_shape, list_length, next_window, role_state, holder, data_offset_of}
+use Rattle.superblocks.specs.Reading.{Reading, final_shape, list_length, next_window}
 use Rattle.row_io.specs.Rows.{reading_of, members_without}
 use Rattle.row_io.proofs.Turns.{marks_last}
 use Rattle.row_io.proofs.NewRow.{whole_sector}

@@ -53,14 +53,7 @@ fn clear_sector(into: &mut [u8], index: usize)
 
 // Puts the sector of the list that has its place at this role of a row there: one of the window from the buffer, and zeros
 // for one that isn't. A parity role stays as it is.
-fn put_role(
-    shape: &Shape,
-    span: &Span,
-    buffer: &[u8],
-    row: u64,
-    role: u32,
-    into: &mut [u8],
-)
+fn put_role(shape: &Shape, span: &Span, buffer: &[u8], row: u64, role: u32, into: &mut [u8])
     requires shape { IsTrue (is_valid_shape shape.now) }
     requires row { row < 2 ^ 53 }
     requires role { role < shape.now.disks }

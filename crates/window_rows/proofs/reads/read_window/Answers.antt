@@ -1,10 +1,10 @@
-use Rattle.std.proofs.Common.{◌≡◌, ◌+◌, ◌-◌, ◌*◌, ◌/◌, ◌≤◌, ℕ, true, length, min, sym, ◌∙◌, ap, subst, arith}
+use Rattle.std.proofs.Common.{◌≡◌, ◌+◌, ◌-◌, ◌*◌, ◌/◌, ◌≤◌, ℕ, length, min, sym, subst, arith}
 use Rattle.std.proofs.Math.Nat.{mul-le-mul_right}
 use Rattle.md_base.specs.declared.places.Shape.{Shape}
 use Rattle.md_base.specs.Shapes.{data_disks}
 use Rattle.layout.proofs.Limits.{limited}
 use Rattle.parity.specs.Rows.{sector_of}
-use Rattle.superblocks.specs.Reading.{shape_of, final_shape, list_length}
+use Rattle.superblocks.specs.Reading.{shape_of, final_shape}
 use Rattle.row_io.specs.Rows.{present, reading_of}
 use Rattle.row_io.proofs.RowBytes.{on_ok}
 use Rattle.list_io.specs.Calls.{IsListed}

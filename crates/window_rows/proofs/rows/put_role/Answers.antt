@@ -1,4 +1,4 @@
-use Rattle.std.proofs.Common.{ℕ, ◌∙◌, arith}
+use Rattle.std.proofs.Common.{◌∙◌}
 use Rattle.list_io.proofs.FullLaws.{sector_there}
 use Rattle.window_rows.proofs.RowLaws.{copied_here, zero_here}
 use Rattle.window_rows.proofs.rows.put_role.Goals as goal

@@ -1,9 +1,8 @@
-use Rattle.std.proofs.Common.{◌≡◌, ◌⊎◌, ◌+◌, ◌<◌, ◌≤◌, ℕ, sym, ◌∙◌, subst, arith}
+use Rattle.std.proofs.Common.{◌≡◌, ◌<◌, sym, ◌∙◌, subst, arith}
 use Rattle.superblocks.specs.declared.members.Members.{Members}
-use Rattle.row_io.specs.Rows.{present, reading_of}
+use Rattle.row_io.specs.Rows.{present}
 use Rattle.row_io.proofs.Written.{members_without-none}
 use Rattle.list_io.specs.Calls.{AreLost}
-use Rattle.list_io.specs.Writing.{IsRowKept}
 use Rattle.list_io.proofs.LossLaws.{none_lost, rows_by, row_in}
 use Rattle.list_io.proofs.PutLaws.{none_then}
 use Rattle.window_rows.proofs.StripeLaws.{marks_more, full_more, kept_more}

@@ -1,4 +1,4 @@
-use Rattle.std.proofs.Common.{◌≡◌, ◌+◌, ◌*◌, ◌<◌, ℕ, get_or, arith}
+use Rattle.std.proofs.Common.{◌+◌, ◌*◌, ◌<◌, ℕ, get_or, arith}
 use Rattle.bank.specs.Tape.{disk}
 use Rattle.bank.proofs.Marks.{each_mark-map}
 use Rattle.row_io.specs.Rows.{present, reading_of}
