@@ -1,0 +1,4 @@
+pub mod RowLaws
+pub mod StripeLaws
+pub mod ReadLaws
+pub mod Placed

@@ -1,0 +1,205 @@
+-- Rows one after another, and the rows of a stripe.
+use Rattle.std.proofs.Common.{◌≡◌, ◌≢◌, ◌⊎◌, inl, inr, ℕ, ◌+◌, ◌-◌, ◌*◌, ◌/◌, ◌<◌, ◌≤◌, true, List, get_or, Some, sym, ◌∙◌, subst, arith}
+use Rattle.std.proofs.lemmas.Bool.{cases_lt, cases_eq}
+use Rattle.std.proofs.lemmas.List.{length-replicate, get_or-replicate, get_or_past}
+use Rattle.md_base.specs.declared.places.Shape.{Shape}
+use Rattle.md_base.specs.declared.places.Span.{Span}
+use Rattle.md_base.specs.Sectors.{Sector, IsSector, zero_sector}
+use Rattle.md_base.specs.Shapes.{is_valid_shape, is_multiple, data_disks, stripe_sectors}
+use Rattle.bank.specs.Given.{Given}
+use Rattle.bank.specs.declared.bank.Operation.{Operation}
+use Rattle.bank.specs.Tape.{Contents, EachMark, IsIn, disk}
+use Rattle.bank.proofs.Marks.{each_mark-map, each_mark-then}
+use Rattle.layout.specs.Layout.{place}
+use Rattle.layout.proofs.Places.{chunk_some, place-sector_below}
+use Rattle.geometry.specs.Geometry.{ceiling, rows}
+use Rattle.geometry.specs.Geometry as geometry
+use Rattle.geometry.proofs.Divisions.{next_multiple, quotient}
+use Rattle.geometry.proofs.Rows.{rows_hold}
+use Rattle.std.proofs.Math.Nat.{mul-le-mul_right}
+use Rattle.superblocks.specs.declared.members.Members.{Members}
+use Rattle.superblocks.specs.Reading.{Reading, final_shape, list_length, next_window}
+use Rattle.row_io.specs.Rows.{reading_of, members_without}
+use Rattle.row_io.proofs.Turns.{marks_last}
+use Rattle.row_io.proofs.NewRow.{whole_sector}
+use Rattle.list_io.specs.Full.{AreWholeIn, RowStands}
+use Rattle.list_io.specs.Writing.{IsFull, IsRowKept, AreBehind, AreSuperblocksKept}
+use Rattle.list_io.proofs.PutLaws.{full_later, kept_then, full_stands}
+use Rattle.shape_views.specs.Regions.{AreShapesFit}
+use Rattle.shape_views.specs.Windows.{IsLess, IsWrittenAt, IsWindowPlace, IsCopying}
+use Rattle.shape_views.proofs.UnderWay.{window-row}
+use Rattle.shape_changes.specs.Updates.{IsPastPlace}
+use Rattle.window_rows.specs.Copies.{IsRoomFor, tail_of, IsCopied, IsZeroIn, IsOwnRow, IsStripeOf, IsPastStripe, IsChangedAt, IsRowsPlace}
+
+-- ---- rows one after another
+
+changed_then : (P Q : ℕ → ℕ → Type 0) (d e f : ℕ → ℕ → List Sector) → ((s k : ℕ) → Q s k → P s k) → IsChangedAt P d e → IsChangedAt Q e f → IsChangedAt P d f
+changed_then P Q d e f wider one two s k = at (one s k) (two s k)
+  where
+    at : (e s k ≡ d s k) ⊎ P s k → (f s k ≡ e s k) ⊎ Q s k → (f s k ≡ d s k) ⊎ P s k
+    at (inl same) (inl still) = inl (still ∙ same)
+    at (inr place) there = inr place
+    at (inl same) (inr place) = inr (wider s k place)
+
+-- one row more, at each mark
+pub marks_more : {tells : Type 0} (start start' : Given) (m m' : Members) (from to row : ℕ) (old mid new : List Operation) → start' ≡ start → m' ≡ m → from ≤ row → row < to
+    → EachMark tells start.start old mid (IsChangedAt (IsRowsPlace (reading_of m) from to) (disk start.start old))
+    → EachMark tells start'.start mid new (IsChangedAt (IsRowsPlace (reading_of m') row (row + 1)) (disk start'.start mid))
+    → EachMark tells start.start old new (IsChangedAt (IsRowsPlace (reading_of m) from to) (disk start.start old))
+marks_more {tells = tells} start start' m m' from to row old mid new same is low high marks more =
+    let P = IsRowsPlace (reading_of m) from to in
+    let Q = IsRowsPlace (reading_of m) row (row + 1) in
+    each_mark-then marks (each_mark-map (IsChangedAt P (disk start.start old))
+    (λ told e next. changed_then P Q (disk start.start old) (disk start.start mid) e
+    (λ s k there. record { role = there.role; row = there.row; held = there.held; low = omega (arith, low, there.low); high = omega (arith, high, there.high); place = there.place })
+    (marks_last {P = IsChangedAt P (disk start.start old)} marks told) next)
+    (subst (λ (n : Members). EachMark tells start.start mid new (IsChangedAt (IsRowsPlace (reading_of n) row (row + 1)) (disk start.start mid))) is
+    (subst (λ (s : Given). EachMark tells s.start mid new (IsChangedAt (IsRowsPlace (reading_of m') row (row + 1)) (disk s.start mid))) same more)))
+
+module _ (mid new : Members) (lost : ℕ) (is : new ≡ members_without lost mid) (before between after : Contents) (shape : Shape) (from row : ℕ) (low : from ≤ row)
+    (others : (other : ℕ) → other ≢ row → IsRowKept (reading_of mid) between after other) where
+  -- one row more is full
+  pub full_more : (span : Span) (tail : Span) (list : ℕ → Sector)
+      → ((r : ℕ) → from ≤ r → r < row → IsOwnRow shape span tail r → IsFull (reading_of mid) between shape list r)
+      → (IsOwnRow shape span tail row → IsFull (reading_of new) after shape list row)
+      → (r : ℕ) → from ≤ r → r < row + 1 → IsOwnRow shape span tail r → IsFull (reading_of new) after shape list r
+  full_more span tail list was here r above lt own = elim (cases_eq r row) [
+    | inl same ↦ subst (λ (n : ℕ). IsFull (reading_of new) after shape list n) (sym same) (here (subst (λ (n : ℕ). IsOwnRow shape span tail n) same own))
+    | inr ne ↦ full_later mid new lost between after shape list r is (others r ne) (was r above (omega (arith, lt, ne)) own)
+  ]
+
+  -- and each other one is as it was
+  pub kept_more : ((r : ℕ) → (r < from) ⊎ (row ≤ r) → IsRowKept (reading_of mid) before between r)
+      → (r : ℕ) → (r < from) ⊎ (row + 1 ≤ r) → IsRowKept (reading_of new) before after r
+  kept_more was r (inl below) = kept_then mid new lost before between after r is (was r (inl below)) (others r (λ same. omega (arith, below, same, low)))
+  kept_more was r (inr above) = kept_then mid new lost before between after r is (was r (inr (omega (arith, above)))) (others r (λ same. omega (arith, above, same)))
+
+-- ---- what a row that is full stands for
+
+zero_whole : IsSector zero_sector
+unfolding zero_sector
+zero_whole = record {
+  whole = length-replicate {A = ℕ} 512 0;
+  bytes = λ at. elim (cases_lt at 512) [
+    | inl below ↦ subst (λ (n : ℕ). n < 256) (sym (get_or-replicate 512 at 0 0 below)) (omega arith)
+    | inr past ↦ subst (λ (n : ℕ). n < 256) (sym (get_or_past zero_sector at 0 (omega (arith, length-replicate {A = ℕ} 512 0, past)))) (omega arith)
+  ];
+}
+
+-- the sectors that stand in a row of a window are whole: they lie in the buffer, or are zero
+pub own_whole : (shape : Shape) (span : Span) (buffer : List ℕ) (tail : Span) (list : ℕ → Sector) (row : ℕ) → IsRoomFor span buffer → ((at : ℕ) → get_or buffer at 0 < 256)
+    → IsOwnRow shape span tail row → IsCopied span buffer tail list → AreWholeIn shape list row
+own_whole shape span buffer tail list row room small own copied x at = elim (own x at) [
+  | inl inside ↦
+      let low = inside.0 in
+      let high = inside.1 in
+      subst IsSector (copied.window x inside) (whole_sector buffer (span.hi - span.lo) (x - span.lo) room small (omega (arith, low, high)))
+  | inr past ↦ subst IsSector (sym (copied.zeros x past)) zero_whole
+]
+
+pub row_stands : (r : Reading) (c : Contents) (shape : Shape) (list : ℕ → Sector) (row : ℕ) → AreWholeIn shape list row → IsFull r c shape list row → RowStands r c shape list row
+row_stands r c shape list row whole full =
+    let both = full_stands r c shape list row full in
+    record { whole = whole; sectors = both.0; parity = both.1 }
+
+-- ---- what a stop may leave
+
+-- no place of a holder's rows is among the superblocks
+pub superblocks_kept : (r : Reading) (from to : ℕ) (d e : ℕ → ℕ → List Sector) → AreBehind r → IsChangedAt (IsRowsPlace r from to) d e → AreSuperblocksKept d e
+superblocks_kept r from to d e behind changed slot at low = by (changed slot at)
+  where
+    by : (e slot at ≡ d slot at) ⊎ IsRowsPlace r from to slot at → e slot at ≡ d slot at
+    by (inl same) = same
+    by (inr there) = absurd (
+        let begins = behind there.role slot there.held in
+        let place = there.place in
+        omega (arith, low, begins, place)
+        )
+
+written_as : (P Q : ℕ → ℕ → Type 0) (d e : ℕ → ℕ → List Sector) → ((s k : ℕ) → P s k → Q s k) → IsChangedAt P d e → IsWrittenAt Q d e
+written_as P Q d e to changed s k = by (changed s k)
+  where
+    by : (e s k ≡ d s k) ⊎ P s k → IsLess (d s k) (e s k) ⊎ Q s k
+    by (inl same) = inl (λ v there. subst (λ (l : List Sector). IsIn l v) same there)
+    by (inr there) = inr (to s k there)
+
+-- ---- a stripe of a window
+
+module _ (shape : Shape) (valid : is_valid_shape shape ≡ true) (span : Span) (stripe : ℕ) (of : IsStripeOf shape span stripe) where
+  pub stripe_low : (rows shape span.lo span.hi).lo ≤ stripe * shape.chunk
+  stripe_low = mul-le-mul_right shape.chunk of.0
+
+  pub stripe_high : stripe * shape.chunk + shape.chunk ≤ (rows shape span.lo span.hi).hi
+  stripe_high = next_multiple stripe (ceiling span.hi (stripe_sectors shape)) shape.chunk of.1
+
+module _ (m : Members) (fit : AreShapesFit m.newest) (shape : Shape) (is : shape ≡ final_shape m.newest) (span : Span) (next : next_window m.newest ≡ Some span) (stripe : ℕ)
+    (of : IsStripeOf shape span stripe) (whole : is_multiple m.newest.size shape.chunk ≡ true) where
+  valid : is_valid_shape shape ≡ true
+  valid = subst (λ (s : Shape). is_valid_shape s ≡ true) (sym is) fit.valid.final
+
+  in_window : (row : ℕ) → stripe * shape.chunk ≤ row → row < stripe * shape.chunk + shape.chunk → geometry.IsIn row (rows (final_shape m.newest) span.lo span.hi)
+  in_window row low high = subst (λ (s : Shape). geometry.IsIn row (rows s span.lo span.hi)) is
+      (omega (arith, low, stripe_low shape valid span stripe of), omega (arith, high, stripe_high shape valid span stripe of))
+
+  -- the members have its rows
+  pub stripe_below : stripe * shape.chunk + shape.chunk ≤ m.newest.size
+  stripe_below =
+      let some : 0 < shape.chunk = chunk_some shape valid in
+      let last : ℕ = stripe * shape.chunk + shape.chunk - 1 in
+      let below = (window-row m.newest fit span next last (in_window last (omega (arith, some)) (omega (arith, some)))).below in
+      omega (arith, below, some)
+
+  -- each sector that stands there is the window's, or one of the tail
+  pub own_row : (i : ℕ) → i < shape.chunk → IsOwnRow shape span (tail_of m.newest) (stripe * shape.chunk + i)
+  own_row i lt x at =
+      let row : ℕ = stripe * shape.chunk + i in
+      let w = window-row m.newest fit span next row (in_window row (omega arith) (omega (arith, lt))) in
+      let there : (place (final_shape m.newest) x).row ≡ row = subst (λ (s : Shape). (place s x).row ≡ row) is at in
+      elim (w.ends x there) [
+        | inl high ↦ inl (w.begins x there, high)
+        | inr past ↦ inr (past, subst (λ (s : Shape). x < data_disks s * m.newest.size) is (place-sector_below shape valid x m.newest.size whole (let below = stripe_below in omega (arith, at, lt, below))))
+      ]
+
+  pub copying : (d e : ℕ → ℕ → List Sector) → IsChangedAt (IsRowsPlace (reading_of m) (stripe * shape.chunk) (stripe * shape.chunk + shape.chunk)) d e → IsCopying m span d e
+  copying d e = written_as (IsRowsPlace (reading_of m) (stripe * shape.chunk) (stripe * shape.chunk + shape.chunk)) (IsWindowPlace m span) d e
+      (λ s k there. record { role = there.role; row = there.row; held = there.held; written = in_window there.row there.low there.high; place = there.place })
+
+-- ---- a stripe behind the list
+
+abbrev pub nothing : Span
+nothing = record { lo = 0; hi = 0 }
+
+module _ (m : Members) (shape : Shape) (valid : is_valid_shape shape ≡ true) (is : shape ≡ final_shape m.newest) (stripe : ℕ) (past : IsPastStripe shape m.newest.size (list_length m.newest) stripe)
+    (whole : is_multiple m.newest.size shape.chunk ≡ true) where
+  pub past_below : stripe * shape.chunk + shape.chunk ≤ m.newest.size
+  past_below =
+      let few = next_multiple stripe (m.newest.size / shape.chunk) shape.chunk past.1 in
+      let q = quotient m.newest.size shape.chunk (chunk_some shape valid) in
+      omega (arith, few, q.0)
+
+  begins : (rows shape 0 (list_length m.newest)).hi ≤ stripe * shape.chunk
+  begins = mul-le-mul_right shape.chunk past.0
+
+  -- no sector of the list stands there
+  pub past_row : (i : ℕ) → i < shape.chunk → IsOwnRow shape nothing (tail_of m.newest) (stripe * shape.chunk + i)
+  past_row i lt x at = elim (cases_lt x (list_length m.newest)) [
+    | inl below ↦ absurd (
+        let held = (rows_hold shape (record { lo = 0; hi = list_length m.newest }) x valid (omega arith, below)).1 in
+        omega (arith, held, at, begins)
+        )
+    | inr behind ↦ inr (behind, subst (λ (s : Shape). x < data_disks s * m.newest.size) is (place-sector_below shape valid x m.newest.size whole (let below = past_below in omega (arith, at, lt, below))))
+  ]
+
+  pub zeroing : (d e : ℕ → ℕ → List Sector) → IsChangedAt (IsRowsPlace (reading_of m) (stripe * shape.chunk) (stripe * shape.chunk + shape.chunk)) d e → IsWrittenAt (IsPastPlace m) d e
+  zeroing d e = written_as (IsRowsPlace (reading_of m) (stripe * shape.chunk) (stripe * shape.chunk + shape.chunk)) (IsPastPlace m) d e
+      (λ s k there. record {
+        role = there.role;
+        row = there.row;
+        held = there.held;
+        past = subst (λ (s : Shape). (rows s 0 (list_length m.newest)).hi ≤ there.row) is (omega (arith, begins, there.low));
+        place = there.place;
+      })
+
+-- a list that is zero in its tail has nothing of no window
+pub nothing_copied : (tail : Span) (list : ℕ → Sector) (buffer : List ℕ) → IsZeroIn tail list → IsCopied nothing buffer tail list
+nothing_copied tail list buffer zeros = record { window = λ x inside. absurd (let low = inside.1 in omega (arith, low)); zeros = zeros }

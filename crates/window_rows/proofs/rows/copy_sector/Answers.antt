@@ -1,0 +1,6 @@
+use Rattle.std.proofs.Common.{arith}
+use Rattle.row_io.proofs.RowBytes.{sector-put_other}
+use Rattle.window_rows.proofs.rows.copy_sector.Goals as goal
+
+pub returns-clause-others : goal.returns-clause-others
+returns-clause-others c = λ i ne. sector-put_other c.args.into.now c.copy_from_slice.new.self c.args.index i c.requires.index (omega (arith, c.copy_from_slice.auto.self, c.requires.index)) ne

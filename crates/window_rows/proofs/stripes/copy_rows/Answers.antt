@@ -1,0 +1,72 @@
+use Rattle.std.proofs.Common.{◌≡◌, ◌<◌, sym, ◌∙◌, subst, arith}
+use Rattle.superblocks.specs.declared.members.Members.{Members}
+use Rattle.row_io.specs.Rows.{present}
+use Rattle.row_io.proofs.Written.{members_without-none}
+use Rattle.list_io.specs.Calls.{AreLost}
+use Rattle.list_io.proofs.LossLaws.{none_lost, rows_by, row_in}
+use Rattle.list_io.proofs.PutLaws.{none_then}
+use Rattle.window_rows.proofs.StripeLaws.{marks_more, full_more, kept_more}
+use Rattle.window_rows.proofs.stripes.copy_rows.Goals as goal
+
+pub copy_row-lost-requires-clause-row : goal.copy_row-lost-requires-clause-row
+copy_row-lost-requires-clause-row g c =
+    let was = c.loop-row.invariant in
+    row_in (rows_by c.args.members.now 0 was.given (was.members ∙ members_without-none c.args.members.now) c.requires.rows)
+    (subst (λ (m : Members). c.loop-row.row < m.newest.size) (sym was.members) (omega (arith, c.requires.below, c.loop-row-test.true)))
+
+pub returns-then-lost-ne0-clause-each_mark : goal.returns-then-lost-ne0-clause-each_mark
+returns-then-lost-ne0-clause-each_mark g c =
+    let was = c.loop-row.invariant in
+    marks_more (g.B.Bank.given c.args.bank.now) (g.B.Bank.given c.loop-row.bank) c.args.members.now c.loop-row.members c.args.from c.args.to c.loop-row.row
+    (g.B.Bank.tape c.args.bank.now) (g.B.Bank.tape c.loop-row.bank) (g.B.Bank.tape c.copy_row-lost.new.bank) was.given was.members c.loop-row.auto.row c.loop-row-test.true
+    was.marks c.copy_row-lost.ensures.each_mark
+
+pub returns-then-lost-ne0-clause-full : goal.returns-then-lost-ne0-clause-full
+returns-then-lost-ne0-clause-full g c = λ tail list copied told.
+    let did = c.copy_row-lost.ensures in
+    let between = present (g.B.Bank.given c.loop-row.bank) (g.B.Bank.tape c.loop-row.bank) in
+    let after = present (g.B.Bank.given c.copy_row-lost.new.bank) (g.B.Bank.tape c.copy_row-lost.new.bank) in
+    full_more c.loop-row.members c.copy_row-lost.new.members c.copy_row-lost.result did.lost.members between between after c.args.shape.now c.args.from c.loop-row.row c.loop-row.auto.row
+    (did.others told) c.args.span.now tail list (c.loop-row.invariant.full tail list copied told) (λ own. did.full tail list own copied told)
+
+pub returns-then-lost-ne0-clause-others : goal.returns-then-lost-ne0-clause-others
+returns-then-lost-ne0-clause-others g c = λ told.
+    let did = c.copy_row-lost.ensures in
+    let before = present (g.B.Bank.given c.args.bank.now) (g.B.Bank.tape c.args.bank.now) in
+    let between = present (g.B.Bank.given c.loop-row.bank) (g.B.Bank.tape c.loop-row.bank) in
+    let after = present (g.B.Bank.given c.copy_row-lost.new.bank) (g.B.Bank.tape c.copy_row-lost.new.bank) in
+    kept_more c.loop-row.members c.copy_row-lost.new.members c.copy_row-lost.result did.lost.members before between after c.args.shape.now c.args.from c.loop-row.row c.loop-row.auto.row
+    (did.others told) (c.loop-row.invariant.others told)
+
+pub loop-row-preserved : goal.loop-row-preserved
+loop-row-preserved g c =
+    let was = c.loop-row.invariant in
+    let did = c.copy_row-lost.ensures in
+    let row = c.loop-row.row in
+    let mid = c.loop-row.members in
+    let new = c.copy_row-lost.new.members in
+    let lost = c.copy_row-lost.result in
+    let shape = c.args.shape.now in
+    let before = present (g.B.Bank.given c.args.bank.now) (g.B.Bank.tape c.args.bank.now) in
+    let between = present (g.B.Bank.given c.loop-row.bank) (g.B.Bank.tape c.loop-row.bank) in
+    let after = present (g.B.Bank.given c.copy_row-lost.new.bank) (g.B.Bank.tape c.copy_row-lost.new.bank) in
+    let none : lost ≡ 0 = omega (arith, c.if-lost-ne0.false) in
+    record {
+      marks = marks_more (g.B.Bank.given c.args.bank.now) (g.B.Bank.given c.loop-row.bank) c.args.members.now mid c.args.from c.args.to row
+          (g.B.Bank.tape c.args.bank.now) (g.B.Bank.tape c.loop-row.bank) (g.B.Bank.tape c.copy_row-lost.new.bank) was.given was.members c.loop-row.auto.row c.loop-row-test.true
+          was.marks did.each_mark;
+      full = λ tail list copied told. full_more mid new lost did.lost.members between between after shape c.args.from row c.loop-row.auto.row (did.others told) c.args.span.now tail list
+          (was.full tail list copied told) (λ own. did.full tail list own copied told);
+      others = λ told. kept_more mid new lost did.lost.members before between after shape c.args.from row c.loop-row.auto.row (did.others told) (was.others told);
+      members = none_then mid new lost did.lost.members none ∙ was.members;
+      given = did.given ∙ was.given;
+      never_falls = λ s. omega (arith, was.never_falls s, did.lost.never_falls s);
+    }
+
+pub returns-clause-lost : goal.returns-clause-lost
+returns-clause-lost g c =
+    subst (λ (m : Members). AreLost c.args.shape.now c.args.members.now m 0 (g.B.Bank.faults_of c.args.bank.now) (g.B.Bank.faults_of c.loop-row.bank)) (sym c.loop-row.invariant.members)
+    (none_lost c.args.shape.now c.args.members.now (g.B.Bank.faults_of c.args.bank.now) (g.B.Bank.faults_of c.loop-row.bank) c.loop-row.invariant.never_falls)
+
+pub returns-clause-full : goal.returns-clause-full
+returns-clause-full g c = λ tail list copied told row low high. c.loop-row.invariant.full tail list copied told row low (omega (arith, high, c.loop-row-test.false))
