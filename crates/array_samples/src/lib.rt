@@ -10,7 +10,6 @@ use bank::{Bank, MemoryBank};
 use md_base::{Fault, Shape, Who};
 use sb1::{Sb, sectors_of};
 use std::alloc::Global;
-use std::process::Abort;
 use std::test::Fail;
 
 pub const SHAPE: Shape = Shape {
@@ -44,56 +43,73 @@ pub fn bank_of(
 }
 
 /// Writes the superblock of a slot.
-pub fn put(rt: &impl Abort, bank: &mut MemoryBank, slot: u32, sb: &Sb) {
-    assert!(rt; slot < bank.slots() && bank.len(slot) >= 10);
-    assert!(rt; sb.magic == 0xa92b_4efc && sb.major == 1);
-    assert!(rt; sb.super_offset == 8 && sb.max_dev <= 384);
+pub fn put(bank: &mut MemoryBank, slot: u32, sb: &Sb) -> Result<(), Fail> {
+    if slot >= bank.slots() || bank.len(slot) < 10 {
+        return Err(Fail::from("no room for a superblock"));
+    }
+    if sb.magic != 0xa92b_4efc || sb.major != 1 || sb.super_offset != 8 || sb.max_dev > 384 {
+        return Err(Fail::from("no superblock"));
+    }
     let sectors = sectors_of(sb);
-    assert!(rt; bank.write(slot, 8, &sectors).is_ok());
+    match bank.write(slot, 8, &sectors) {
+        Ok(()) => Ok(()),
+        Err(_) => Err(Fail::from("not written")),
+    }
 }
 
 /// Stores these superblocks in the first slots.
-pub fn put_all(rt: &impl Abort, bank: &mut MemoryBank, superblocks: &[Sb]) {
-    assert!(rt; superblocks.len() <= 32);
-    for slot in 0..superblocks.len() as u32 {
-        put(rt, bank, slot, &superblocks[slot as usize]);
+pub fn put_all(bank: &mut MemoryBank, superblocks: &[Sb]) -> Result<(), Fail> {
+    if superblocks.len() > 32 {
+        return Err(Fail::from("too many superblocks"));
     }
+    for slot in 0..superblocks.len() as u32 {
+        put(bank, slot, &superblocks[slot as usize])?;
+    }
+    Ok(())
 }
 
+/// What an opening answers.
 pub fn opened(
-    rt: &impl Abort,
     alloc: Global,
     bank: &mut MemoryBank,
     backup: Option<u32>,
-) -> Result<Opened, Fault> {
-    assert!(rt; bank.slots() <= 32);
-    if let Some(slot) = backup {
-        assert!(rt; slot < bank.slots());
+) -> Result<Result<Opened, Fault>, Fail> {
+    if bank.slots() > 32 {
+        return Err(Fail::from("too many slots"));
     }
-    open(alloc, bank, backup, None)
+    if let Some(slot) = backup {
+        if slot >= bank.slots() {
+            return Err(Fail::from("no backup"));
+        }
+    }
+    Ok(open(alloc, bank, backup, None))
 }
 
-/// The last of five slots is the backup.
+/// What it answers to make an array. The last of five slots is the backup.
 pub fn made(
-    rt: &impl Abort,
     alloc: Global,
     bank: &mut MemoryBank,
     spec: &CreateSpec,
-) -> Result<Opened, Fault> {
-    assert!(rt; bank.slots() == 5);
-    make(alloc, bank, Some(4), spec)
+) -> Result<Result<Opened, Fault>, Fail> {
+    if bank.slots() != 5 {
+        return Err(Fail::from("not five slots"));
+    }
+    Ok(make(alloc, bank, Some(4), spec))
 }
 
 /// The last slot is the backup, or none is.
 pub fn created(
-    rt: &impl Abort,
     alloc: Global,
     bank: MemoryBank,
     backup: Option<u32>,
 ) -> Result<Array<MemoryBank>, Fail> {
-    assert!(rt; bank.slots() <= 32);
+    if bank.slots() > 32 {
+        return Err(Fail::from("too many slots"));
+    }
     if let Some(slot) = backup {
-        assert!(rt; slot < 32 && slot + 1 == bank.slots());
+        if slot >= 32 || slot + 1 != bank.slots() {
+            return Err(Fail::from("no backup"));
+        }
     }
     match create(alloc, bank, backup, SPEC) {
         Ok(array) => Ok(array),
@@ -101,20 +117,25 @@ pub fn created(
     }
 }
 
+/// What an assembly answers.
 pub fn found(
-    rt: &impl Abort,
     alloc: Global,
     bank: MemoryBank,
     backup: Option<u32>,
     uuid: Option<[u8; 16]>,
-) -> Result<Array<MemoryBank>, (MemoryBank, Fault)> {
-    assert!(rt; bank.slots() <= 32);
-    if let Some(slot) = backup {
-        assert!(rt; slot < bank.slots());
+) -> Result<Result<Array<MemoryBank>, (MemoryBank, Fault)>, Fail> {
+    if bank.slots() > 32 {
+        return Err(Fail::from("too many slots"));
     }
-    assemble(alloc, bank, backup, uuid)
+    if let Some(slot) = backup {
+        if slot >= bank.slots() {
+            return Err(Fail::from("no backup"));
+        }
+    }
+    Ok(assemble(alloc, bank, backup, uuid))
 }
 
+/// The next call of caller 3.
 pub fn next_call(array: &Array<MemoryBank>) -> Who
     ensures caller { result.caller ≡ 3 }
     ensures number { result.number ≡ next_number result.caller array.now.entries }

@@ -1,9 +1,9 @@
 //! Arrays that run: made or found, written, read and to be resynced; and those in which a role is being rebuilt, or can be.
 
+use array::Array;
 use array_samples::{
     SHAPE, SPEC, bank_of, created, found, made, next_call, put, put_all, read, write,
 };
-use array::Array;
 use bank::{Bank, MemoryBank};
 use flat_history::{Event, LostCause};
 use md_base::{Fault, Refusal, Role, Shape, Status};
@@ -14,12 +14,8 @@ use std::process::Abort;
 use std::test::Fail;
 
 // The array that is found in five slots, the last of which is the backup.
-fn found_again(
-    rt: &impl Abort,
-    alloc: Global,
-    bank: MemoryBank,
-) -> Result<Array<MemoryBank>, Fail> {
-    match found(rt, alloc, bank, Some(4), Some([7; 16])) {
+fn found_again(alloc: Global, bank: MemoryBank) -> Result<Array<MemoryBank>, Fail> {
+    match found(alloc, bank, Some(4), Some([7; 16]))? {
         Ok(array) => Ok(array),
         Err(_) => Err(Fail::from("not found")),
     }
@@ -58,10 +54,10 @@ fn write_and_read(rt: &impl Abort, array: &mut Array<MemoryBank>) {
 
 // The second array is that which the first one left.
 fn compare_written(rt: &impl Abort, alloc: Global) -> Result<(), Fail> {
-    let mut array = created(rt, alloc, bank_of(alloc, &[64; 5], 400, &[])?, Some(4))?;
+    let mut array = created(alloc, bank_of(alloc, &[64; 5], 400, &[])?, Some(4))?;
     assert!(rt; array.visible() == 80 && array.resync() == None && array.left() == 0);
     assert!(rt; write(&mut array, 7, 5) == Ok(()));
-    let mut array = found_again(rt, alloc, stopped(array)?)?;
+    let mut array = found_again(alloc, stopped(array)?)?;
     assert!(rt; read(&mut array, 7) == Some(5) && read(&mut array, 9) == Some(0));
     Ok(())
 }
@@ -69,8 +65,8 @@ fn compare_written(rt: &impl Abort, alloc: Global) -> Result<(), Fail> {
 // Call 142 reads the superblock of slot 1, behind the calls that made the array. Sector 8 has its place on that slot's role.
 fn compare_absent(rt: &impl Abort, alloc: Global) -> Result<(), Fail> {
     let mut bank = bank_of(alloc, &[64; 5], 400, &[142])?;
-    made(rt, alloc, &mut bank, &SPEC).expect(rt, "an array");
-    let mut array = found_again(rt, alloc, bank)?;
+    made(alloc, &mut bank, &SPEC)?.expect(rt, "an array");
+    let mut array = found_again(alloc, bank)?;
     loses(rt, &array, 1, LostCause::Absent);
     write_and_read(rt, &mut array);
     Ok(())
@@ -79,16 +75,16 @@ fn compare_absent(rt: &impl Abort, alloc: Global) -> Result<(), Fail> {
 // An array of 5 stripes that no update marked clean is found with none of them mended, and the end of its resync to do.
 fn compare_dirty(rt: &impl Abort, alloc: Global) -> Result<(), Fail> {
     let mut bank = bank_of(alloc, &[64; 5], 400, &[])?;
-    let opened = made(rt, alloc, &mut bank, &SPEC).expect(rt, "an array");
+    let opened = made(alloc, &mut bank, &SPEC)?.expect(rt, "an array");
     for slot in 0..3 {
         let dirty = Sb {
             dev_number: slot,
             resync_offset: 0,
             ..opened.members.newest
         };
-        put(rt, &mut bank, slot, &dirty);
+        put(&mut bank, slot, &dirty)?;
     }
-    let array = found_again(rt, alloc, bank)?;
+    let array = found_again(alloc, bank)?;
     assert!(rt; array.resync() == Some(0) && array.left() == 6);
     Ok(())
 }
@@ -133,15 +129,14 @@ fn members(features: u32, entries: u32, free: u16) -> [Sb; 3] {
 
 // What is found in three slots of 4,096 sectors with these superblocks.
 fn found_in_three(
-    rt: &impl Abort,
     alloc: Global,
     superblocks: &[Sb; 3],
 ) -> Result<Result<Array<MemoryBank>, (MemoryBank, Fault)>, Fail> {
     let mut bank = bank_of(alloc, &[4096; 3], 64, &[])?;
     for slot in 0..3u32 {
-        put(rt, &mut bank, slot, &superblocks[slot as usize]);
+        put(&mut bank, slot, &superblocks[slot as usize])?;
     }
-    Ok(found(rt, alloc, bank, None, None))
+    found(alloc, bank, None, None)
 }
 
 // What the array tells of itself.
@@ -152,7 +147,7 @@ fn status_of(rt: &impl Abort, array: &mut Array<MemoryBank>) -> Status {
 
 // The tables of so many entries tell a spare or a faulty device in those without a role.
 fn compare_recovering(rt: &impl Abort, alloc: Global, entries: u32, free: u16) -> Result<(), Fail> {
-    let mut array = match found_in_three(rt, alloc, &members(0, entries, free))? {
+    let mut array = match found_in_three(alloc, &members(0, entries, free))? {
         Ok(array) => array,
         Err(_) => return Err(Fail::from("not found")),
     };
@@ -175,7 +170,7 @@ fn compare_recovering(rt: &impl Abort, alloc: Global, entries: u32, free: u16) -
 
 // The refusal tells the bit of a bitmap alone.
 fn compare_bitmap(rt: &impl Abort, alloc: Global) -> Result<(), Fail> {
-    match found_in_three(rt, alloc, &members(1, 128, 0xffff))? {
+    match found_in_three(alloc, &members(1, 128, 0xffff))? {
         Err((_, Fault::Refused(refusal))) => assert!(rt; refusal == Refusal::Unsupported(1)),
         _ => return Err(Fail::from("not refused")),
     }
@@ -187,8 +182,8 @@ fn compare_bitmap(rt: &impl Abort, alloc: Global) -> Result<(), Fail> {
 fn compare_spare(rt: &impl Abort, alloc: Global) -> Result<(), Fail> {
     let spare = members_of(alloc, &SPARE, &SPARE_MEMBERS)?;
     let mut bank = bank_of(alloc, &[288; 6], 64, &[6])?;
-    put_all(rt, &mut bank, spare.as_slice());
-    let mut array = match found(rt, alloc, bank, Some(5), None) {
+    put_all(&mut bank, spare.as_slice())?;
+    let mut array = match found(alloc, bank, Some(5), None)? {
         Ok(array) => array,
         Err(_) => return Err(Fail::from("not found")),
     };
@@ -208,17 +203,17 @@ fn compare_spare(rt: &impl Abort, alloc: Global) -> Result<(), Fail> {
 // 32 of the list is its sector 16 + 16, and is filled in.
 fn compare_past(rt: &impl Abort, alloc: Global) -> Result<(), Fail> {
     let mut bank = bank_of(alloc, &[64; 5], 400, &[])?;
-    let opened = made(rt, alloc, &mut bank, &SPEC).expect(rt, "an array");
+    let opened = made(alloc, &mut bank, &SPEC)?.expect(rt, "an array");
     let second = Sb {
         dev_number: 1,
         feature_map: 2,
         recovery_offset: 8,
         ..opened.members.newest
     };
-    put(rt, &mut bank, 1, &second);
+    put(&mut bank, 1, &second)?;
     assert!(rt; bank.slots() == 5 && bank.len(1) == 64);
     assert!(rt; bank.write(1, 32, &[9; 1024]).is_ok());
-    let mut array = found_again(rt, alloc, bank)?;
+    let mut array = found_again(alloc, bank)?;
     loses(rt, &array, 1, LostCause::Recovering);
     assert!(rt; array.rebuilt(1) == 1 && array.left() == 5);
     assert!(rt; read(&mut array, 32) == Some(0));

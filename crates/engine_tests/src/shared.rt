@@ -2,8 +2,8 @@
 
 ghost use Rattle.shared_array.specs.Replies.{IsAskable};
 
-use array_samples::{bank_of, created, fail, found, next_call, read, write};
 use array::Array;
+use array_samples::{bank_of, created, fail, found, next_call, read, write};
 use bank::MemoryBank;
 use flat_history::{Event, Request};
 use md_base::{Fault, Refusal, Sectors};
@@ -14,11 +14,11 @@ use std::test::Fail;
 
 // An array that was written and halted, and is found again.
 fn dirty(rt: &impl Abort, alloc: Global) -> Result<Array<MemoryBank>, Fail> {
-    let mut array = created(rt, alloc, bank_of(alloc, &[64; 4], 400, &[])?, Some(3))?;
+    let mut array = created(alloc, bank_of(alloc, &[64; 4], 400, &[])?, Some(3))?;
     assert!(rt; write(&mut array, 7, 5).is_ok());
     let who = next_call(&array);
     let (bank, _) = array.halt(who);
-    match found(rt, alloc, bank, Some(3), None) {
+    match found(alloc, bank, Some(3), None)? {
         Ok(array) => Ok(array),
         Err(_) => Err(Fail::from("not found")),
     }
@@ -93,7 +93,7 @@ fn compare_resync(rt: &impl Abort, alloc: Global) -> Result<(), Fail> {
 // An array with a spare in slot 3, two chunks of which are written; then role 1 is lost. A step gives role 1 to the spare, five
 // rebuild its stripes and one ends: so role 2 may be lost then.
 fn compare_rebuild(rt: &impl Abort, alloc: Global) -> Result<(), Fail> {
-    let mut array = created(rt, alloc, bank_of(alloc, &[64; 5], 400, &[])?, None)?;
+    let mut array = created(alloc, bank_of(alloc, &[64; 5], 400, &[])?, None)?;
     let who = next_call(&array);
     assert!(rt; array.add(who, 3).is_ok());
     let mut chunks = [5; 8192];

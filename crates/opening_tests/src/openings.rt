@@ -1,8 +1,8 @@
 //! Openings of arrays that real md wrote, of a reshape and of arrays that are made, against values that were worked out by
 //! hand. The device's uuid was computed by Python.
 
-use array_samples::{SHAPE, SPEC, bank_of, made, opened, put_all};
 use array::CreateSpec;
+use array_samples::{SHAPE, SPEC, bank_of, made, opened, put_all};
 use assemble::{Opened, refusal_of_create};
 use bank::{Bank, MemoryBank, Op};
 use md_base::{Fault, Refusal, Role, Shape};
@@ -36,16 +36,15 @@ fn is_refused(refusal: Refusal, wanted: &Answer) -> bool {
 
 // Whether an opening answers so.
 fn opens(
-    rt: &impl Abort,
     alloc: Global,
     bank: &mut MemoryBank,
     backup: Option<u32>,
     wanted: &Answer,
-) -> bool {
-    match opened(rt, alloc, bank, backup) {
-        Ok(opened) => says(&opened, wanted),
-        Err(Fault::Refused(refusal)) => is_refused(refusal, wanted),
-        Err(_) => false,
+) -> Result<bool, Fail> {
+    match opened(alloc, bank, backup)? {
+        Ok(opened) => Ok(says(&opened, wanted)),
+        Err(Fault::Refused(refusal)) => Ok(is_refused(refusal, wanted)),
+        Err(_) => Ok(false),
     }
 }
 
@@ -62,8 +61,8 @@ fn compare(
 ) -> Result<(), Fail> {
     for (lengths, failing, backup, wanted, ops) in openings {
         let mut bank = bank_of(alloc, lengths, 64, failing)?;
-        put_all(rt, &mut bank, superblocks);
-        assert!(rt; opens(rt, alloc, &mut bank, *backup, wanted), "{wanted:?}");
+        put_all(&mut bank, superblocks)?;
+        assert!(rt; opens(alloc, &mut bank, *backup, wanted)?, "{wanted:?}");
         assert!(rt; bank.ops() == *ops, "{wanted:?}");
     }
     Ok(())
@@ -149,8 +148,8 @@ const OF_RESHAPE: [Opening; 4] = [
 // Each slot is flushed once, in order.
 fn compare_flushes(rt: &impl Abort, alloc: Global, superblocks: &[Sb]) -> Result<(), Fail> {
     let mut bank = bank_of(alloc, &[288; 4], 64, &[])?;
-    put_all(rt, &mut bank, superblocks);
-    assert!(rt; opened(rt, alloc, &mut bank, None).is_ok());
+    put_all(&mut bank, superblocks)?;
+    assert!(rt; opened(alloc, &mut bank, None)?.is_ok());
     assert!(rt; bank.ops() == 12);
     assert!(rt; bank.op(8) == Op::Flush { slot: 0 } && bank.op(11) == Op::Flush { slot: 3 });
     Ok(())
@@ -264,14 +263,13 @@ const MADE: Answer = Ok((&[A, B, C], &[], 31, 0));
 
 // The refusal of an array that is to be made, if it is one.
 fn refusal(
-    rt: &impl Abort,
     alloc: Global,
     bank: &mut MemoryBank,
     spec: &CreateSpec,
-) -> Option<Refusal> {
-    match made(rt, alloc, bank, spec) {
-        Err(Fault::Refused(refusal)) => Some(refusal),
-        _ => None,
+) -> Result<Option<Refusal>, Fail> {
+    match made(alloc, bank, spec)? {
+        Err(Fault::Refused(refusal)) => Ok(Some(refusal)),
+        _ => Ok(None),
     }
 }
 
@@ -290,15 +288,15 @@ const OTHER: CreateSpec = CreateSpec {
 // is opened as it was made. Slot 2 has it then, and isn't written by one of two disks and its uuid.
 fn compare_made(rt: &impl Abort, alloc: Global) -> Result<(), Fail> {
     let mut bank = bank_of(alloc, &[64; 5], 400, &[])?;
-    let array = made(rt, alloc, &mut bank, &SPEC).expect(rt, "an array");
+    let array = made(alloc, &mut bank, &SPEC)?.expect(rt, "an array");
     assert!(rt; array.given == 31 && array.members.roles.as_slice() == [A, B, C].as_slice());
     assert!(rt; array.members.spares.as_slice().is_empty());
     assert!(rt; bank.ops() == 5 + 3 * 41 + 3 * 2);
     compare_shown(rt, &mut bank, &SHOWN);
-    assert!(rt; refusal(rt, alloc, &mut bank, &TWO) == Some(Refusal::UuidInUse(2)));
+    assert!(rt; refusal(alloc, &mut bank, &TWO)? == Some(Refusal::UuidInUse(2)));
     assert!(rt; bank.ops() == 139);
-    assert!(rt; opens(rt, alloc, &mut bank, Some(4), &MADE));
-    assert!(rt; made(rt, alloc, &mut bank, &OTHER).is_ok());
+    assert!(rt; opens(alloc, &mut bank, Some(4), &MADE)?);
+    assert!(rt; made(alloc, &mut bank, &OTHER)?.is_ok());
     Ok(())
 }
 
@@ -318,7 +316,7 @@ fn compare_faults(rt: &impl Abort, alloc: Global, faults: &[(u64, u32)]) -> Resu
     for (call, slot) in faults {
         let mut bank = bank_of(alloc, &[64; 5], 400, &[*call])?;
         assert!(rt;
-            refusal(rt, alloc, &mut bank, &SPEC) == Some(Refusal::SlotFault(*slot)),
+            refusal(alloc, &mut bank, &SPEC)? == Some(Refusal::SlotFault(*slot)),
             "{call}"
         );
     }
