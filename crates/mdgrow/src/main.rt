@@ -1,12 +1,16 @@
 //! The program: makes the source, the sink and the bank that its words ask for, runs, and ends with the run's status.
 #![tactic(auto)]
 
-ghost use Rattle.std.specs.Prelude.{◌≡◌, ◌≤◌, length, map, string_bytes, None, IfOk};
-ghost use Rattle.runner.specs.Words.{command_in};
+ghost use Rattle.std.specs.Prelude.{◌≡◌, ◌≤◌, length, map, string_bytes, Some, None, IfOk};
+ghost use Rattle.command_words.specs.Words.{command_in, told_by};
+ghost use Rattle.command_words.specs.Words.Asked.{Memory as IsMemory, Run as IsRun};
 
 use bank::MemoryBank;
-use runner::{Command, Pace, command_of, run};
+use bank_file::{FileBank, FileFault};
+use command_words::{Command, Paths, command_of};
+use runner::{Pace, run};
 use std::alloc::{AllocError, Global};
+use std::fs::{File, Files};
 use std::process::ExitCode;
 use std::rt::Env;
 use std::sync::Wait;
@@ -30,6 +34,11 @@ fn steps(_turn: u64, left: u64) -> u64
 {
     if left < 16 { 1 } else { 16 }
 }
+
+// The status of a run that could not begin, since a file can't be opened, and of one for which memory is short.
+const CANNOT_OPEN: u8 = 7;
+
+const NO_MEMORY: u8 = 6;
 
 // How a run ended: its status, and the number of the first bad line, where there is one.
 #[derive(Clone, Copy)]
@@ -67,7 +76,9 @@ fn run_without_command<R: Print + AllocGlobal + Threads + Wait + Sync>(
 fn run_memory<R: Input + Print + AllocGlobal + Threads + Wait + Sync>(
     rt: &R,
     words: &[String],
-) -> Result<Ended, AllocError> {
+) -> Result<Ended, AllocError>
+    requires { command_in (map string_bytes words.now) ≡ Some IsMemory }
+{
     let alloc = rt.alloc();
     let mut source = StdSource::new(rt.reader());
     let mut sink = StdSink::new(io::writer(rt));
@@ -80,6 +91,49 @@ fn run_memory<R: Input + Print + AllocGlobal + Threads + Wait + Sync>(
     })
 }
 
+// Tells the path of a file that can't be opened, so that nothing is run.
+fn cannot_open<R: Eprint>(rt: &R, path: &str) -> Ended {
+    let _ = eprintln!(rt; "mdgrow: cannot open {path}");
+    Ended {
+        status: CANNOT_OPEN,
+        bad_line: 0,
+    }
+}
+
+// Runs a script's file over image files.
+fn run_files<R: Files<File = File> + Print + Eprint + AllocGlobal + Threads + Wait + Sync>(
+    rt: &R,
+    words: &[String],
+    paths: &Paths,
+) -> Ended
+    requires { command_in (map string_bytes words.now) ≡ Some (IsRun (told_by paths.now)) }
+{
+    let alloc = rt.alloc();
+    let Ok(script) = File::open(rt, paths.script.as_str()) else {
+        return cannot_open(rt, paths.script.as_str());
+    };
+    let bank = match FileBank::from_paths(rt, alloc, &paths.slots) {
+        Ok(bank) => bank,
+        Err(FileFault::CannotOpen(place)) => {
+            return cannot_open(rt, paths.slots[place as usize].as_str());
+        }
+        Err(FileFault::NoMemory) => {
+            return Ended {
+                status: NO_MEMORY,
+                bad_line: 0,
+            };
+        }
+    };
+    let mut source = StdSource::new(script);
+    let mut sink = StdSink::new(io::writer(rt));
+    let pace = Pace::new(|turn, left| steps(turn, left));
+    let report = run(rt, alloc, words, &mut source, &mut sink, bank, pace);
+    Ended {
+        status: report.status,
+        bad_line: report.bad_line,
+    }
+}
+
 fn words_of<R: Env + AllocGlobal>(rt: &R) -> io::Result<Vec<String>> {
     let mut words = Vec::new(rt.alloc());
     for word in env::args(rt)?.skip(1) {
@@ -88,13 +142,18 @@ fn words_of<R: Env + AllocGlobal>(rt: &R) -> io::Result<Vec<String>> {
     Ok(words)
 }
 
-fn run_words<R: Env + Input + Print + AllocGlobal + Threads + Wait + Sync>(
-    rt: &R,
-) -> io::Result<Ended> {
+fn run_words<
+    R: Env + Files<File = File> + Input + Print + Eprint + AllocGlobal + Threads + Wait + Sync,
+>(rt: &R) -> io::Result<Ended> {
     let words = words_of(rt)?;
-    match command_of(&words) {
-        Some(Command::Memory) => Ok(run_memory(rt, &words)?),
-        None => Ok(run_without_command(rt, &words)?),
+    match command_of(rt.alloc(), &words) {
+        Ok(Some(Command::Memory)) => Ok(run_memory(rt, &words)?),
+        Ok(Some(Command::Run(paths))) => Ok(run_files(rt, &words, &paths)),
+        Ok(None) => Ok(run_without_command(rt, &words)?),
+        Err(_) => Ok(Ended {
+            status: NO_MEMORY,
+            bad_line: 0,
+        }),
     }
 }
 
@@ -116,7 +175,7 @@ fn main(rt: HostRuntime) -> ExitCode {
         Ok(ended) => ended,
         Err(error) => Ended {
             status: if error.kind() == io::ErrorKind::OutOfMemory {
-                6
+                NO_MEMORY
             } else {
                 2
             },

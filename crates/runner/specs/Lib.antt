@@ -11,5 +11,4 @@ pub mod Showing
 pub mod Shown
 pub mod Source
 pub mod States
-pub mod Words
 pub mod Written

@@ -7,8 +7,6 @@ use Rattle.flat_history.specs.declared.events.Event.TheVariants.{Halted}
 use Rattle.flat_history.specs.Flat.{last_of}
 use Rattle.script.specs.Script.{script_of}
 use Rattle.script.specs.declared.lines.Numbered.{Numbered}
-use Rattle.runner.specs.declared.words.Command.{Command}
-use Rattle.runner.specs.declared.words.Command.TheVariants.{Memory}
 use Rattle.runner.specs.declared.report.LineReply.{LineReply}
 use Rattle.runner.specs.declared.sessions.Stop.{Stop}
 use Rattle.runner.specs.declared.sessions.Stop.TheVariants.{WriteFault, NoMemory as WantsMemory}
@@ -129,7 +127,3 @@ pub record IsNothing (sunk : Sunk) (epochs : List Epoch) (lines : List LineReply
   pub epochs_are : epochs ≡ []
   pub taken : sunk.tells → sunk.new ≡ sunk.old
   pub shown : sunk.shown ≡ 0
-
--- a command needs so many slots
-abbrev pub slots_for : Command → ℕ
-slots_for Memory = 8

@@ -9,7 +9,6 @@ mod sessions;
 mod shows;
 mod states;
 mod text;
-mod words;
 
 pub use asks::{ask_flush, ask_read, ask_steps, ask_wait, ask_write};
 pub use pace::Pace;
@@ -19,4 +18,3 @@ pub use sessions::{Made, Session, Stop, perform};
 pub use shows::ask_show;
 pub use states::{State, answer, entry_of};
 pub use text::{LONGEST_TEXT, TextFault, read_text};
-pub use words::{Command, command_of};

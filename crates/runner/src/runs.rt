@@ -1,23 +1,23 @@
 //! A whole run, from the words and the script's text to the replies' text.
 
-ghost use Rattle.std.specs.Prelude.{◌≡◌, ◌≢◌, ◌↔◌, ◌⊎◌, ◌<◌, ◌≤◌, ◌+◌, ◌-◌, ◌^◌, ℕ, List, [], length, map, string_bytes, Option, Some, None, Ok, IfOk, IfSome, IsTrue, vec_len, vec_capacity};
+ghost use Rattle.std.specs.Prelude.{◌≡◌, ◌≢◌, ◌⊎◌, ◌<◌, ◌≤◌, ◌+◌, ◌-◌, ◌^◌, ℕ, true, List, [], length, map, string_bytes, Option, Some, None, Ok, IfOk, IfSome, IsTrue, vec_len, vec_capacity};
 ghost use Rattle.std.specs.List.{AllPass};
 ghost use Rattle.bank.specs.Given.{NeverFalls};
 ghost use Rattle.views.specs.Moving.{Grows};
 ghost use Rattle.text_io.specs.Causes.{HasRisen};
 ghost use Rattle.script.specs.Script.{script_of, is_within_limits};
+ghost use Rattle.command_words.specs.Words.{asked_by as asked_of, command_in, is_run, slots_for, backup_in};
 ghost use Rattle.runner.specs.Pace.{AnswersSteps, asked_by};
 ghost use Rattle.runner.specs.Ended.{IsRunKept, AreLegal, AreRight, AreRising, AreFormer};
 ghost use Rattle.runner.specs.Histories.{history_of, histories_of};
 ghost use Rattle.runner.specs.Kept.{AreKept};
 ghost use Rattle.runner.specs.Making.{setting_of};
-ghost use Rattle.runner.specs.Runs.{mark_behind, status_for, stop_of, slots_for, IsAfterLines, IsBeforeLines, IsNothing, sunk_of, AreLinesPerformed, IsScriptPerformed, IsScriptBad, AreLossesFailed, AreEndedAt, IsEnded};
+ghost use Rattle.runner.specs.Runs.{mark_behind, status_for, stop_of, IsAfterLines, IsBeforeLines, IsNothing, sunk_of, AreLinesPerformed, IsScriptPerformed, IsScriptBad, AreLossesFailed, AreEndedAt, IsEnded};
 ghost use Rattle.runner.specs.Sessions.{counted, taken_whole, IsTaken};
 ghost use Rattle.runner.specs.Shown.{report_text, has_refusal};
 ghost use Rattle.runner.specs.Source.{IsTextOf};
 ghost use Rattle.runner.specs.States.{histories_in, bank_in, RunsOwn, IsFitBank};
 ghost use Rattle.runner.specs.Written.{IsWritten};
-ghost use Rattle.runner.specs.Words.{command_in};
 
 use crate::asks::script_call;
 use crate::pace::Pace;
@@ -25,17 +25,14 @@ use crate::report::Report;
 use crate::sessions::{Session, Stop, perform};
 use crate::states::State;
 use crate::text::{TextFault, read_text};
-use crate::words::{Command, command_of};
 use bank::Bank;
+use command_words::{Command, command_of};
 use flat_history::Epoch;
 use script::{Numbered, ScriptFault, read_script};
 use std::alloc::Global;
 use std::sync::Wait;
 use std::thread::Threads;
 use text_io::{Sink, Source};
-
-// The backup slot of a bank in memory.
-const BACKUP: u32 = 7;
 
 const DONE: u8 = 0;
 
@@ -193,29 +190,30 @@ fn run_lines<B: Bank, K: Sink>(
     }
 }
 
-// A run of the script that the source gives. The backup is the last of the eight slots.
+// A run of the script that the source gives.
 fn run_script<B: Bank, S: Source, K: Sink>(
     alloc: Global,
     script: &mut S,
     out: &mut K,
     bank: B,
+    backup: Option<u32>,
 ) -> Report<B>
-    requires slots { (B.given bank).slots ≡ 8 }
+    requires bank { IsFitBank (B.given bank) backup }
     ensures status { result.status ≤ 6 }
     ensures good_words { result.status ≢ 2 }
     ensures bad_line { result.status ≡ 3 → IsScriptBad S.tells (S.left script.old) (S.left script.new) result.bad_line }
     ensures read_fault { result.status ≡ 4 → HasRisen (S.faults_of script.old) (S.faults_of script.new) }
     ensures write_fault { result.status ≡ 5 → HasRisen (K.faults_of out.old) (K.faults_of out.new) }
-    ensures performed { IsAfterLines result.status → IsScriptPerformed S.tells (S.left script.old) (S.left script.new) (setting_of B.tells (B.given bank) (B.tape bank) (B.tape result.bank) (Some 7) (B.faults_of bank) (B.faults_of result.bank)) (sunk_of K.tells (K.taken out.old) (K.taken out.new) result.shown) result.status result.epochs.items result.lines.items }
-    ensures short { result.status ≡ 6 → IsScriptPerformed S.tells (S.left script.old) (S.left script.new) (setting_of B.tells (B.given bank) (B.tape bank) (B.tape result.bank) (Some 7) (B.faults_of bank) (B.faults_of result.bank)) (sunk_of K.tells (K.taken out.old) (K.taken out.new) result.shown) result.status result.epochs.items result.lines.items
+    ensures performed { IsAfterLines result.status → IsScriptPerformed S.tells (S.left script.old) (S.left script.new) (setting_of B.tells (B.given bank) (B.tape bank) (B.tape result.bank) backup (B.faults_of bank) (B.faults_of result.bank)) (sunk_of K.tells (K.taken out.old) (K.taken out.new) result.shown) result.status result.epochs.items result.lines.items }
+    ensures short { result.status ≡ 6 → IsScriptPerformed S.tells (S.left script.old) (S.left script.new) (setting_of B.tells (B.given bank) (B.tape bank) (B.tape result.bank) backup (B.faults_of bank) (B.faults_of result.bank)) (sunk_of K.tells (K.taken out.old) (K.taken out.new) result.shown) result.status result.epochs.items result.lines.items
         ⊎ (IsNothing (sunk_of K.tells (K.taken out.old) (K.taken out.new) result.shown) result.epochs.items result.lines.items × (result.bank ≡ bank)) }
     ensures nothing { IsBeforeLines result.status → IsNothing (sunk_of K.tells (K.taken out.old) (K.taken out.new) result.shown) result.epochs.items result.lines.items }
     ensures untouched { IsBeforeLines result.status → result.bank ≡ bank }
-    ensures legal { B.tells → AreLegal (B.given bank) (B.tape result.bank) (Some 7) result.epochs.items }
-    ensures right { B.tells → AreRight (B.given bank) (B.tape result.bank) (Some 7) result.epochs.items }
-    ensures kept { B.tells → AreKept (B.given bank) (B.tape result.bank) (Some 7) result.epochs.items }
+    ensures legal { B.tells → AreLegal (B.given bank) (B.tape result.bank) backup result.epochs.items }
+    ensures right { B.tells → AreRight (B.given bank) (B.tape result.bank) backup result.epochs.items }
+    ensures kept { B.tells → AreKept (B.given bank) (B.tape result.bank) backup result.epochs.items }
     ensures ended { B.tells → AreEndedAt (length (B.tape result.bank)) result.epochs.items }
-    ensures losses { AreLossesFailed (setting_of B.tells (B.given bank) (B.tape bank) (B.tape result.bank) (Some 7) (B.faults_of bank) (B.faults_of result.bank)) result.epochs.items }
+    ensures losses { AreLossesFailed (setting_of B.tells (B.given bank) (B.tape bank) (B.tape result.bank) backup (B.faults_of bank) (B.faults_of result.bank)) result.epochs.items }
     ensures never_falls { NeverFalls (B.faults_of bank) (B.faults_of result.bank) }
     ensures grows { Grows B.tells (B.tape bank) (B.tape result.bank) }
     ensures source_never_falls { S.faults_of script.old ≤ S.faults_of script.new }
@@ -228,16 +226,37 @@ fn run_script<B: Bank, S: Source, K: Sink>(
         Err(TextFault::NoMemory) => return nothing_done(alloc, bank, NO_MEMORY, 0),
     };
     match read_script(alloc, text.as_slice()) {
-        Ok(lines) => run_lines(alloc, bank, Some(BACKUP), lines.as_slice(), out),
+        Ok(lines) => run_lines(alloc, bank, backup, lines.as_slice(), out),
         Err(ScriptFault::BadLine(line)) => nothing_done(alloc, bank, BAD_LINE, line),
         Err(ScriptFault::NoMemory) => nothing_done(alloc, bank, NO_MEMORY, 0),
+    }
+}
+
+// The backup slot of a command's bank, the last one, where it has one.
+fn backup_of<B: Bank>(words: &[String], command: &Command, bank: &B) -> Option<u32>
+    requires asked { command_in (map string_bytes words.now) ≡ Some (asked_of command.now) }
+    requires slots { (B.given bank.now).slots ≡ slots_for (asked_of command.now) }
+    ensures backup { result ≡ backup_in (map string_bytes words.now) }
+    ensures fits { IsFitBank (B.given bank.now) result }
+{
+    let _ = words;
+    match command {
+        Command::Memory => Some(bank.slots() - 1),
+        Command::Run(paths) => {
+            if paths.has_backup {
+                Some(bank.slots() - 1)
+            } else {
+                None
+            }
+        }
     }
 }
 
 /// Reads the words, then the whole script, and then performs its lines, one after another, on the arrays that they make and
 /// find on the bank. Each reply is one piece for the sink, which is pushed before the next line. An array that still runs at the
 /// end is halted. The words are those of the command after the program's name; `memory` wants a bank of eight slots, the
-/// last of which is the backup. The pace is that of background work, of which there is none so far.
+/// last of which is the backup, and `run` one with a slot for each of its images and for its backup, which is the last. The pace
+/// is that of background work, of which there is none so far.
 pub fn run<
     R: Threads + Wait + Sync,
     B: Bank + Send,
@@ -257,20 +276,21 @@ pub fn run<
     requires callable { F.IsAlwaysCallable (asked_by pace) }
     requires answers { AnswersSteps (F.post (asked_by pace)) }
     ensures status { result.status ≤ 6 }
-    ensures bad_words { result.status ≡ 2 ↔ command_in (map string_bytes words.now) ≡ None }
+    ensures bad_words { result.status ≡ 2 → command_in (map string_bytes words.now) ≡ None }
+    ensures no_command { command_in (map string_bytes words.now) ≡ None → (result.status ≡ 2) ⊎ ((result.status ≡ 6) × (is_run (map string_bytes words.now) ≡ true)) }
     ensures bad_line { result.status ≡ 3 → IsScriptBad S.tells (S.left script.old) (S.left script.new) result.bad_line }
     ensures read_fault { result.status ≡ 4 → HasRisen (S.faults_of script.old) (S.faults_of script.new) }
     ensures write_fault { result.status ≡ 5 → HasRisen (K.faults_of out.old) (K.faults_of out.new) }
-    ensures performed { IsAfterLines result.status → IsScriptPerformed S.tells (S.left script.old) (S.left script.new) (setting_of B.tells (B.given bank) (B.tape bank) (B.tape result.bank) (Some 7) (B.faults_of bank) (B.faults_of result.bank)) (sunk_of K.tells (K.taken out.old) (K.taken out.new) result.shown) result.status result.epochs.items result.lines.items }
-    ensures short { result.status ≡ 6 → IsScriptPerformed S.tells (S.left script.old) (S.left script.new) (setting_of B.tells (B.given bank) (B.tape bank) (B.tape result.bank) (Some 7) (B.faults_of bank) (B.faults_of result.bank)) (sunk_of K.tells (K.taken out.old) (K.taken out.new) result.shown) result.status result.epochs.items result.lines.items
+    ensures performed { IsAfterLines result.status → IsScriptPerformed S.tells (S.left script.old) (S.left script.new) (setting_of B.tells (B.given bank) (B.tape bank) (B.tape result.bank) (backup_in (map string_bytes words.now)) (B.faults_of bank) (B.faults_of result.bank)) (sunk_of K.tells (K.taken out.old) (K.taken out.new) result.shown) result.status result.epochs.items result.lines.items }
+    ensures short { result.status ≡ 6 → IsScriptPerformed S.tells (S.left script.old) (S.left script.new) (setting_of B.tells (B.given bank) (B.tape bank) (B.tape result.bank) (backup_in (map string_bytes words.now)) (B.faults_of bank) (B.faults_of result.bank)) (sunk_of K.tells (K.taken out.old) (K.taken out.new) result.shown) result.status result.epochs.items result.lines.items
         ⊎ (IsNothing (sunk_of K.tells (K.taken out.old) (K.taken out.new) result.shown) result.epochs.items result.lines.items × (result.bank ≡ bank)) }
     ensures nothing { IsBeforeLines result.status → IsNothing (sunk_of K.tells (K.taken out.old) (K.taken out.new) result.shown) result.epochs.items result.lines.items }
     ensures untouched { IsBeforeLines result.status → result.bank ≡ bank }
-    ensures legal { B.tells → AreLegal (B.given bank) (B.tape result.bank) (Some 7) result.epochs.items }
-    ensures right { B.tells → AreRight (B.given bank) (B.tape result.bank) (Some 7) result.epochs.items }
-    ensures kept { B.tells → AreKept (B.given bank) (B.tape result.bank) (Some 7) result.epochs.items }
+    ensures legal { B.tells → AreLegal (B.given bank) (B.tape result.bank) (backup_in (map string_bytes words.now)) result.epochs.items }
+    ensures right { B.tells → AreRight (B.given bank) (B.tape result.bank) (backup_in (map string_bytes words.now)) result.epochs.items }
+    ensures kept { B.tells → AreKept (B.given bank) (B.tape result.bank) (backup_in (map string_bytes words.now)) result.epochs.items }
     ensures ended { B.tells → AreEndedAt (length (B.tape result.bank)) result.epochs.items }
-    ensures losses { AreLossesFailed (setting_of B.tells (B.given bank) (B.tape bank) (B.tape result.bank) (Some 7) (B.faults_of bank) (B.faults_of result.bank)) result.epochs.items }
+    ensures losses { AreLossesFailed (setting_of B.tells (B.given bank) (B.tape bank) (B.tape result.bank) (backup_in (map string_bytes words.now)) (B.faults_of bank) (B.faults_of result.bank)) result.epochs.items }
     ensures never_falls { NeverFalls (B.faults_of bank) (B.faults_of result.bank) }
     ensures grows { Grows B.tells (B.tape bank) (B.tape result.bank) }
     ensures source_never_falls { S.faults_of script.old ≤ S.faults_of script.new }
@@ -278,8 +298,13 @@ pub fn run<
     ensures given { B.given result.bank ≡ B.given bank }
 {
     let _ = pace;
-    match command_of(words) {
-        None => nothing_done(alloc, bank, BAD_WORDS, 0),
-        Some(Command::Memory) => run_script(alloc, script, out, bank),
-    }
+    let command = match command_of(alloc, words) {
+        Ok(command) => command,
+        Err(_) => return nothing_done(alloc, bank, NO_MEMORY, 0),
+    };
+    let Some(command) = command else {
+        return nothing_done(alloc, bank, BAD_WORDS, 0);
+    };
+    let backup = backup_of(words, &command, &bank);
+    run_script(alloc, script, out, bank, backup)
 }

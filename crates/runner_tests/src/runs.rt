@@ -1,10 +1,12 @@
 //! Runs whose replies are worked out by hand.
 
-ghost use Rattle.std.specs.Prelude.{◌≡◌, ◌≤◌, length, IfOk};
+ghost use Rattle.std.specs.Prelude.{◌≡◌, ◌≤◌, length, map, string_bytes, IfOk, IfSome};
+ghost use Rattle.command_words.specs.Words.{asked_by, command_in, slots_for};
 
 use bank::MemoryBank;
+use command_words::{Command, command_of};
 use runner::{Pace, Report, run};
-use std::alloc::Global;
+use std::alloc::{AllocError, Global};
 use std::process::Abort;
 use std::sync::Wait;
 use std::test::Fail;
@@ -58,11 +60,35 @@ fn source_of(alloc: Global, row: &Row) -> Result<MemorySource, Fail> {
     Ok(MemorySource::new(text, pulls))
 }
 
-// Eight slots, of which the seventh is too short for the arrays of these tests.
-fn bank_of(alloc: Global, row: &Row) -> Result<MemoryBank, Fail>
-    ensures { IfOk result (λ bank. length bank.start ≡ 8) }
+// So many slots as the command needs.
+fn slots_of(command: &Command) -> usize
+    ensures { result ≡ slots_for (asked_by command.now) }
 {
-    let lengths = Vec::from_slice(alloc, &[64u64, 64, 64, 64, 64, 64, 48, 64])?;
+    match command {
+        Command::Memory => 8,
+        Command::Run(paths) => paths.slots.len(),
+    }
+}
+
+// Those that the words' command needs; words that are none get no slot.
+fn count_of(alloc: Global, words: &[String]) -> Result<usize, Fail>
+    ensures { IfOk result (λ slots. IfSome (command_in (map string_bytes words.now)) (λ command. slots ≡ slots_for command)) }
+{
+    match command_of(alloc, words) {
+        Ok(Some(command)) => Ok(slots_of(&command)),
+        Ok(None) => Ok(0),
+        Err(_) => Err(AllocError {}.into()),
+    }
+}
+
+// So many slots, of which the seventh is too short for the arrays of these tests.
+fn bank_of(alloc: Global, row: &Row, slots: usize) -> Result<MemoryBank, Fail>
+    ensures { IfOk result (λ bank. length bank.start ≡ slots) }
+{
+    let mut lengths = vec![in alloc; 64; slots]?;
+    if slots > 6 {
+        lengths[6] = 48;
+    }
     let calls = Vec::from_slice(alloc, row.calls)?;
     Ok(MemoryBank::new(alloc, lengths, 800, calls)?)
 }
@@ -84,7 +110,7 @@ fn ran<R: Threads + Wait + Sync>(
     let mut source = source_of(alloc, row)?;
     let pushes = Vec::from_slice(alloc, row.pushes)?;
     let mut sink = MemorySink::new(alloc, 4096, pushes)?;
-    let bank = bank_of(alloc, row)?;
+    let bank = bank_of(alloc, row, count_of(alloc, &words)?)?;
     let pace = Pace::new(|turn, left| steps(turn, left));
     let report = run(rt, alloc, &words, &mut source, &mut sink, bank, pace);
     let taken = Vec::from_slice(alloc, sink.bytes())?;
@@ -346,6 +372,24 @@ const COMING_AND_GOING: [Row; 20] = [
     },
 ];
 
+// Four slots each, the last of which is the backup or a member.
+const NAMED: [Row; 2] = [
+    Row {
+        words: &["run", "--backup", "k", "s", "a", "b", "c"],
+        lines: "add 3\n",
+        status: 1,
+        output: b"created\nrefused 6 SlotTaken 3\n",
+        ..PLAIN
+    },
+    Row {
+        words: &["run", "s", "a", "b", "c", "d"],
+        lines: "add 3\nadd 4\n",
+        status: 1,
+        output: b"created\nadded 3\nrefused 30 NoSuchSlot 4\n",
+        ..PLAIN
+    },
+];
+
 const ENDING: [Row; 7] = [
     Row {
         words: &["run"],
@@ -394,5 +438,6 @@ fn runs_of_scripts(rt: HostRuntime) -> Result<(), Fail> {
     compare(&rt, rt.alloc(), &ANSWERED)?;
     compare(&rt, rt.alloc(), &SHOWN)?;
     compare(&rt, rt.alloc(), &COMING_AND_GOING)?;
+    compare(&rt, rt.alloc(), &NAMED)?;
     compare(&rt, rt.alloc(), &ENDING)
 }
