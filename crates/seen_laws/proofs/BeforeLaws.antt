@@ -71,6 +71,20 @@ apart-end xs (e ∷ c) ys apart = subst (λ (last : Option Entry). BeginAnother 
 
 -- ---- later
 
+-- what was seen begins itself
+pub seen-self : {tells : Type 0} (x : Seen) → IsBefore tells x x
+seen-self x = record {
+  begins = record {
+    scope = refl;
+    first = refl;
+    start = λ t. refl;
+    tape = λ t. ([], sym (append-nil x.world.tape));
+    entries = ([], sym (append-nil x.entries));
+  };
+  apart = none-another (last_of x.entries);
+  later = λ t. tt;
+}
+
 pub seen-on : {tells : Type 0} → SeenGoesOn tells
 seen-on {tells} x y z p q =
     let a = p.begins.entries.0 in
@@ -80,8 +94,10 @@ seen-on {tells} x y z p q =
         scope = q.begins.scope ∙ p.begins.scope;
         first = q.begins.first ∙ p.begins.first;
         start = λ t. q.begins.start t ∙ p.begins.start t;
-        tape = λ t. ((p.begins.tape t).0 ++ (q.begins.tape t).0,
-            (q.begins.tape t).1 ∙ ap (λ (l : List Operation). l ++ (q.begins.tape t).0) (p.begins.tape t).1 ∙ append_assoc x.world.tape (p.begins.tape t).0 (q.begins.tape t).0);
+        tape = λ t. (
+          (p.begins.tape t).0 ++ (q.begins.tape t).0,
+          (q.begins.tape t).1 ∙ ap (λ (l : List Operation). l ++ (q.begins.tape t).0) (p.begins.tape t).1 ∙ append_assoc x.world.tape (p.begins.tape t).0 (q.begins.tape t).0,
+        );
         entries = (a ++ b, q.begins.entries.1 ∙ ap (λ (l : List Entry). l ++ b) p.begins.entries.1 ∙ append_assoc x.entries a b);
       };
       apart = apart-both (last_of x.entries) a b p.apart (λ none.

@@ -181,7 +181,7 @@ module _ (size : ℕ) (start since old new : List Entry) (who : Who) (request : 
   replied-new =
       let is : new ≡ (old ++ c.inner) ++ c.reply ∷ [] = c.is ∙ sym (append_assoc old c.inner (c.reply ∷ [])) in
       let there : MatchOption (slice_get ((old ++ c.inner) ++ c.reply ∷ []) (length (old ++ c.inner))) ⊥
-          (λ e. IsReplyTo size (take (length (old ++ c.inner)) ((old ++ c.inner) ++ c.reply ∷ [])) e request) =
+      (λ e. IsReplyTo size (take (length (old ++ c.inner)) ((old ++ c.inner) ++ c.reply ∷ [])) e request) =
       subst (λ (found : Option Entry). MatchOption found ⊥ (λ e. IsReplyTo size (take (length (old ++ c.inner)) ((old ++ c.inner) ++ c.reply ∷ [])) e request)) (sym (reads (old ++ c.inner) c.reply))
       (subst (λ (l : List Entry). IsReplyTo size l c.reply request) (sym (take-append_seam (old ++ c.inner) (c.reply ∷ []))) c.answers) in
       subst₂ (λ (l : List Entry) (n : ℕ). MatchOption (slice_get l n) ⊥ (λ e. IsReplyTo size (take n l) e request)) (sym is) at-reply there

@@ -1,0 +1,4 @@
+//! An array behind a lock.
+#![tactic(auto)]
+
+mod serving;
