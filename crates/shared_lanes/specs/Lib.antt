@@ -1,2 +1,3 @@
 pub mod Serving
 pub mod ServingLaws
+pub mod Lanes

@@ -1,4 +1,8 @@
-//! An array behind a lock.
+//! An array that several callers share, one at a time.
 #![tactic(auto)]
 
+mod lanes;
 mod serving;
+
+pub use lanes::{Pass, Shared, call, close, meet, start};
+pub use serving::Answering;
