@@ -1,5 +1,5 @@
 -- What was seen before what.
-use Rattle.std.proofs.Common.{◌≡◌, ℕ, suc, ◌+◌, ◌≤◌, Bool, true, false, List, [], ◌∷◌, ◌++◌, length, drop, refl, sym, ap, ◌∙◌, subst, Option, Some, None, unwrap_or, arith, append_assoc, append-nil, length-append}
+use Rattle.std.proofs.Common.{◌≡◌, ℕ, ◌≤◌, Bool, true, false, List, [], ◌∷◌, ◌++◌, length, drop, refl, sym, ap, ◌∙◌, subst, Option, Some, None, arith, append_assoc, append-nil, length-append}
 use Rattle.std.specs.Option.{option_map_or}
 use Rattle.std.specs.List.{All}
 use Rattle.std.proofs.lemmas.List.Elements.{All-head, All-tail}
@@ -7,14 +7,13 @@ use Rattle.std.proofs.Math.Seq.{drop-append_seam}
 use Rattle.md_base.specs.declared.answers.Who.{Who}
 use Rattle.bank.specs.declared.bank.Operation.{Operation}
 use Rattle.flat_history.specs.declared.events.Entry.{Entry}
-use Rattle.flat_history.specs.declared.events.Request.{Request}
 use Rattle.flat_history.specs.Flat.{last_of}
 use Rattle.flat_history.specs.Transfers.{last_end_from}
 use Rattle.flat_history.specs.Growing.{BeginAnother}
 use Rattle.flat_history.specs.OneShape.{IsOfCall}
-use Rattle.flat_history.specs.Seen.{Seen, BeginsWith, ends_call}
+use Rattle.flat_history.specs.Seen.{Seen}
 use Rattle.flat_history.proofs.OneShapeGrowing.{none-another}
-use Rattle.seen_laws.specs.Callers.{IsWhole, RepliesFrom, IsBefore, IsCalled, CallsComeLater, SeenGoesOn, ShorterIsBefore}
+use Rattle.seen_laws.specs.Callers.{IsWhole, RepliesFrom, IsBefore, CallsComeLater, SeenGoesOn, ShorterIsBefore}
 use Rattle.seen_laws.proofs.PlaceLaws.{last-behind, ends, goes-on, call-apart}
 
 -- ---- lists that begin one list

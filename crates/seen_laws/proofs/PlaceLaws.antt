@@ -1,5 +1,5 @@
 -- The calls of each caller in a history, and one call more.
-use Rattle.std.proofs.Common.{◌≡◌, ◌≢◌, ℕ, zero, suc, ◌+◌, ◌-◌, ◌<◌, ◌≤◌, ◌&&◌, ◌==◌, Bool, true, false, not, cond, eqb, List, [], ◌∷◌, ◌++◌, length, map, take, drop, refl, sym, ap, ◌∙◌, subst, subst₂, Option, Some, None, MatchOption, slice_get, unwrap_or, arith, append_assoc, append-nil, length-append, eq-eqb, ne_eqb}
+use Rattle.std.proofs.Common.{◌≡◌, ◌≢◌, ℕ, zero, suc, ◌+◌, ◌-◌, ◌&&◌, ◌==◌, Bool, true, false, not, cond, List, [], ◌∷◌, ◌++◌, length, take, drop, refl, sym, ap, ◌∙◌, subst, subst₂, Option, Some, None, MatchOption, slice_get, unwrap_or, arith, append_assoc, append-nil, length-append, eq-eqb, ne_eqb}
 use Rattle.std.specs.List.{All}
 use Rattle.std.proofs.lemmas.List.{take-append-le, map-append}
 use Rattle.std.proofs.lemmas.List.Elements.{All-nil, All-cons, All-append, All-head, All-tail}
@@ -9,7 +9,7 @@ use Rattle.std.proofs.Math.Seq.{drop-append_seam, drop-length, take-append_seam}
 use Rattle.md_base.specs.declared.answers.Who.{Who}
 use Rattle.flat_history.specs.declared.events.Entry.{Entry}
 use Rattle.flat_history.specs.declared.events.Request.{Request}
-use Rattle.flat_history.specs.Flat.{is_same_call, last_of, next_number}
+use Rattle.flat_history.specs.Flat.{last_of, next_number}
 use Rattle.flat_history.specs.Growing.{BeginAnother}
 use Rattle.flat_history.specs.OneShape.{IsOfCall}
 use Rattle.flat_history.specs.Seen.{ends_call, reply_places}

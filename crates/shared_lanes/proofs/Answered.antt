@@ -11,7 +11,7 @@ use Rattle.turn_lock.specs.declared.call.Call.{Call}
 use Rattle.turn_lock.specs.declared.view.Known.{Known}
 use Rattle.turn_lock.specs.declared.lock.Pass.{Pass}
 use Rattle.turn_lock.specs.Turns.{Called, mine_of}
-use Rattle.shared_lanes.specs.Serving.{most_entries, size_of, IsServed, requests_of, array_ways}
+use Rattle.shared_lanes.specs.Serving.{most_entries, size_of, requests_of, array_ways}
 use Rattle.shared_lanes.specs.Lanes.{own_requests, IsToldBy, IsAnswered}
 
 module _ {B : Type 0} (tells : Type 0) (given : B → Given) (tape : B → List Operation) (faults : B → ℕ → ℕ) (pass pass' : Pass (Parts B) Request) (request : Request) where

@@ -1,32 +1,30 @@
 -- The laws of an array, for a lock.
-use Rattle.std.proofs.Common.{◌≡◌, ◌≢◌, ◌⊎◌, inl, inr, ℕ, ◌+◌, ◌-◌, ◌*◌, ◌<◌, ◌≤◌, Bool, true, false, List, [], ◌∷◌, ◌++◌, length, map, min, refl, sym, ap, ◌∙◌, subst, arith, append-nil, length-append}
+use Rattle.std.proofs.Common.{◌≡◌, ◌≢◌, ◌⊎◌, inl, inr, ℕ, ◌-◌, ◌*◌, ◌<◌, ◌≤◌, true, false, List, [], ◌∷◌, ◌++◌, length, refl, sym, ap, ◌∙◌, subst, arith, length-append}
 use Rattle.std.proofs.lemmas.List.{map-append}
 use Rattle.std.proofs.lemmas.Bool.{cases_lt}
 use Rattle.std.proofs.lemmas.List.Elements.{All-nil}
 use Rattle.md_base.specs.declared.answers.Who.{Who}
 use Rattle.md_base.specs.Shapes.{data_disks}
 use Rattle.bank.specs.declared.bank.Operation.{Operation}
-use Rattle.bank.specs.Given.{Given, Sizes, sizes}
+use Rattle.bank.specs.Given.{Given, sizes}
 use Rattle.flat_history.specs.declared.events.Entry.{Entry}
 use Rattle.flat_history.specs.declared.events.Event.{Event}
-use Rattle.flat_history.specs.declared.events.Event.TheVariants.{Shown}
 use Rattle.flat_history.specs.declared.events.Request.{Request}
 use Rattle.flat_history.specs.declared.events.Request.TheVariants.{Show as AsksShow}
 use Rattle.flat_history.specs.Flat.{next_number}
 use Rattle.flat_history.specs.OneShape.{IsOfCall}
-use Rattle.flat_history.specs.Seen.{Seen, BeginsWith}
-use Rattle.superblocks.specs.Reading.{Scope}
+use Rattle.flat_history.specs.Seen.{BeginsWith}
 use Rattle.views.specs.Parts.{Parts}
 use Rattle.shared_array.specs.declared.reply.Reply.{Reply}
 use Rattle.shared_array.specs.declared.reply.Reply.TheVariants.{Done, NoMemory as Short}
 use Rattle.array_kept.specs.Calls.{IsEndOf}
-use Rattle.shared_array.specs.Replies.{IsPerformed, IsLater}
+use Rattle.shared_array.specs.Replies.{IsPerformed}
 use Rattle.turn_lock.specs.declared.call.Call.{Call}
 use Rattle.turn_lock.specs.Ways.{IsLawful}
-use Rattle.seen_laws.specs.Callers.{IsShownAs, IsBefore, HasCalled, IsCalled}
+use Rattle.seen_laws.specs.Callers.{IsShownAs, HasCalled, IsCalled}
 use Rattle.seen_laws.proofs.PlaceLaws.{none-has_called, counted, unmoved}
 use Rattle.seen_laws.proofs.BeforeLaws.{seen-self, seen-on, shorter-before, calls-later}
-use Rattle.shared_lanes.specs.Serving.{most_entries, sectors_of, size_of, seen_of, IsEarlier, is_done, next_call, IsServed, requests_of, HasMade, array_ways}
+use Rattle.shared_lanes.specs.Serving.{most_entries, sectors_of, size_of, seen_of, IsEarlier, next_call, IsServed, requests_of, HasMade, array_ways}
 
 -- ---- earlier and later
 
