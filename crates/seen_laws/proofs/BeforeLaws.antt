@@ -130,12 +130,15 @@ module _ {tells : Type 0} (x y now : Seen) (whole : IsWhole tells x) (whole' : I
   tapes-rise : tells → (c : List Entry) → between.0 ≡ c → length x.world.tape ≤ length y.world.tape
   tapes-rise t [] is =
       let same : y.entries ≡ x.entries = between.1 ∙ ap (λ (l : List Entry). x.entries ++ l) is ∙ append-nil x.entries in
-      let ended : length x.world.tape ≡ length y.world.tape = sym (whole t) ∙ ap (λ (l : List Entry). last_end_from x.world.first l) (sym same) ∙ ap (λ (n : ℕ). last_end_from n y.entries) (sym firsts) ∙ whole' t in
+      let ended : length x.world.tape ≡ length y.world.tape = sym (whole t) ∙ ap (λ (l : List Entry). last_end_from x.world.first l) (sym same)
+      ∙ ap (λ (n : ℕ). last_end_from n y.entries) (sym firsts) ∙ whole' t in
       omega (arith, ended)
   tapes-rise t (e ∷ c) is =
-      let from : length x.world.tape ≤ last_end_from y.world.first (e ∷ c) = last-from (length x.world.tape) y.world.first e c (subst (λ (l : List Entry). RepliesFrom (length x.world.tape) l) is (later-between t)) in
+      let from : length x.world.tape ≤ last_end_from y.world.first (e ∷ c) = last-from (length x.world.tape) y.world.first e c
+      (subst (λ (l : List Entry). RepliesFrom (length x.world.tape) l) is (later-between t)) in
       let ended : last_end_from y.world.first (e ∷ c) ≡ length y.world.tape =
-      sym (end-behind y.world.first x.entries e c) ∙ ap (λ (l : List Entry). last_end_from y.world.first (x.entries ++ l)) (sym is) ∙ ap (λ (l : List Entry). last_end_from y.world.first l) (sym between.1) ∙ whole' t in
+      sym (end-behind y.world.first x.entries e c) ∙ ap (λ (l : List Entry). last_end_from y.world.first (x.entries ++ l)) (sym is)
+      ∙ ap (λ (l : List Entry). last_end_from y.world.first l) (sym between.1) ∙ whole' t in
       omega (arith, from, ended)
 
   shorter : IsBefore tells x y
@@ -165,8 +168,11 @@ one-reply who mark (e ∷ []) reply own last le =
     no : {b : Bool} → b ≡ true → b ≡ false → ⊥
     no on off = cc
 one-reply who mark (e ∷ n ∷ r) reply own last le =
-    let after = All-tail (IsOfCall who) e (n ∷ r) own in
-    ((λ on. absurd (no on (goes-on who e n (r ++ reply ∷ []) (All-head (IsOfCall who) e (n ∷ r) own) (All-head (IsOfCall who) n r after)))), one-reply who mark (n ∷ r) reply after last le)
+    let after = All-tail (IsOfCall who) e (n ∷ r) own in (
+      (λ on. absurd (no on (goes-on who e n (r ++ reply ∷ []) (All-head (IsOfCall who) e (n ∷ r) own) (All-head (IsOfCall who) n r after)))),
+      one-reply who mark
+          (n ∷ r) reply after last le,
+    )
   where
     no : {b : Bool} → b ≡ true → b ≡ false → ⊥
     no on off = cc
@@ -185,7 +191,8 @@ calls-later {tells} size old new who request c begins whole = record {
 }
   where
     ends-new : last_end_from new.world.first new.entries ≡ c.reply.end
-    ends-new = ap (λ (l : List Entry). last_end_from new.world.first l) (c.is ∙ sym (append_assoc old.entries c.inner (c.reply ∷ []))) ∙ end-behind new.world.first (old.entries ++ c.inner) c.reply []
+    ends-new = ap (λ (l : List Entry). last_end_from new.world.first l) (c.is ∙ sym (append_assoc old.entries c.inner (c.reply ∷ [])))
+        ∙ end-behind new.world.first (old.entries ++ c.inner) c.reply []
 
     after : tells → length old.world.tape ≤ c.reply.end
     after t =

@@ -81,7 +81,8 @@ own-place : (who : Who) (place : ℕ) (inner : List Entry) (reply : Entry) → A
 own-place who place [] reply own last =
     ap (λ (b : Bool). place_first (b && true) place []) (eq-eqb reply.caller who.caller last.0) ∙ ap (λ (n : ℕ). n ∷ []) (omega arith)
 own-place who place (e ∷ []) reply own last =
-    ap (λ (b : Bool). place_first b place (reply_places who.caller (place + 1) (reply ∷ []))) (not-there (e.caller == who.caller) (goes-on who e reply [] (All-head (IsOfCall who) e [] own) last))
+    ap (λ (b : Bool). place_first b place (reply_places who.caller (place + 1) (reply ∷ [])))
+    (not-there (e.caller == who.caller) (goes-on who e reply [] (All-head (IsOfCall who) e [] own) last))
     ∙ own-place who (place + 1) [] reply (All-tail (IsOfCall who) e [] own) last ∙ ap (λ (n : ℕ). n ∷ []) (omega arith)
   where
     not-there : (b : Bool) {c : Bool} → c ≡ false → (b && c) ≡ false
@@ -182,7 +183,8 @@ module _ (size : ℕ) (start since old new : List Entry) (who : Who) (request : 
       let is : new ≡ (old ++ c.inner) ++ c.reply ∷ [] = c.is ∙ sym (append_assoc old c.inner (c.reply ∷ [])) in
       let there : MatchOption (slice_get ((old ++ c.inner) ++ c.reply ∷ []) (length (old ++ c.inner))) ⊥
       (λ e. IsReplyTo size (take (length (old ++ c.inner)) ((old ++ c.inner) ++ c.reply ∷ [])) e request) =
-      subst (λ (found : Option Entry). MatchOption found ⊥ (λ e. IsReplyTo size (take (length (old ++ c.inner)) ((old ++ c.inner) ++ c.reply ∷ [])) e request)) (sym (reads (old ++ c.inner) c.reply))
+      subst (λ (found : Option Entry). MatchOption found ⊥ (λ e. IsReplyTo size (take (length (old ++ c.inner)) ((old ++ c.inner) ++ c.reply ∷ [])) e request))
+      (sym (reads (old ++ c.inner) c.reply))
       (subst (λ (l : List Entry). IsReplyTo size l c.reply request) (sym (take-append_seam (old ++ c.inner) (c.reply ∷ []))) c.answers) in
       subst₂ (λ (l : List Entry) (n : ℕ). MatchOption (slice_get l n) ⊥ (λ e. IsReplyTo size (take n l) e request)) (sym is) at-reply there
 
@@ -202,7 +204,8 @@ module _ (size : ℕ) (start since old new : List Entry) (who : Who) (request : 
   pub unmoved : (other : ℕ) (requests : List (Request × ℕ)) → other ≢ who.caller → HasCalled size start old other requests → HasCalled size start new other requests
   unmoved other requests ne was = record {
     places = was.places ∙ sym (append-nil (reply_places other (length start) (drop (length start) old)))
-        ∙ ap (λ (l : List ℕ). reply_places other (length start) (drop (length start) old) ++ l) (sym (no-place who other (length start + length since) (c.inner ++ c.reply ∷ []) ne all))
+        ∙ ap (λ (l : List ℕ). reply_places other (length start) (drop (length start) old) ++ l)
+        (sym (no-place who other (length start + length since) (c.inner ++ c.reply ∷ []) ne all))
         ∙ sym (places-new other);
     answered = still requests was.answered;
   }

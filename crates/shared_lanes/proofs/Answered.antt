@@ -30,7 +30,8 @@ module _ {B : Type 0} (tells : Type 0) (given : B → Given) (tape : B → List 
   told (Done at event) k = (k.answered.0, λ few. one-more k.found k.after at k.answered.0.replied.1 k.answered.1 few)
   told Short k = (k.answered.0, ap requests_of k.answered.1)
 
-  pub answered : (reply : Reply) → Called (array_ways tells given tape faults) pass.seat.me.0 pass.caller request reply pass'.seat.me.0 → IsAnswered tells given tape faults pass request reply pass'
+  pub answered : (reply : Reply) → Called (array_ways tells given tape faults) pass.seat.me.0 pass.caller request reply pass'.seat.me.0
+      → IsAnswered tells given tape faults pass request reply pass'
   answered reply k = record {
     found = k.found;
     after = k.after;

@@ -95,7 +95,8 @@ module _ {B : Type 0} {tells : Type 0} {given : B → Given} {tape : B → List 
       no : false ≡ true → ⊥
       no e = cc
 
-  longer : (old new : Parts B) (caller : ℕ) (request : Request) (reply : Reply) → IsServed tells given tape faults old new caller request reply → length old.entries < length new.entries
+  longer : (old new : Parts B) (caller : ℕ) (request : Request) (reply : Reply) → IsServed tells given tape faults old new caller request reply
+      → length old.entries < length new.entries
   longer old new caller request reply served =
       let c = served-called old new caller request reply served in
       let is = ap (λ (l : List Entry). length l) c.is in
@@ -105,7 +106,8 @@ module _ {B : Type 0} {tells : Type 0} {given : B → Given} {tape : B → List 
 
   -- ---- the same bank and list
 
-  same-sectors : (old new : Parts B) (caller : ℕ) (request : Request) (reply : Reply) → IsServed tells given tape faults old new caller request reply → sectors_of new ≡ sectors_of old
+  same-sectors : (old new : Parts B) (caller : ℕ) (request : Request) (reply : Reply) → IsServed tells given tape faults old new caller request reply
+      → sectors_of new ≡ sectors_of old
   same-sectors old new caller request reply served = λ i. data_disks (served.later.same.shape i) * served.later.same.size i
 
   begins-with : (old new : Parts B) (caller : ℕ) (request : Request) (reply : Reply) → IsServed tells given tape faults old new caller request reply
@@ -121,9 +123,11 @@ module _ {B : Type 0} {tells : Type 0} {given : B → Given} {tape : B → List 
         entries = (c.inner ++ c.reply ∷ [], c.is);
       }
 
-  earlier : (old new : Parts B) (caller : ℕ) (request : Request) (reply : Reply) → IsServed tells given tape faults old new caller request reply → IsEarlier tells given tape old new
+  earlier : (old new : Parts B) (caller : ℕ) (request : Request) (reply : Reply) → IsServed tells given tape faults old new caller request reply
+      → IsEarlier tells given tape old new
   earlier old new caller request reply served = record {
-    before = calls-later (sectors_of old) (seen_of given tape old) (seen_of given tape new) (next_call caller old.entries) request (served-called old new caller request reply served)
+    before = calls-later (sectors_of old) (seen_of given tape old) (seen_of given tape new) (next_call caller old.entries) request
+        (served-called old new caller request reply served)
         (begins-with old new caller request reply served) served.ended;
     sectors = same-sectors old new caller request reply served;
     given_is = served.later.given_is;
@@ -133,11 +137,14 @@ module _ {B : Type 0} {tells : Type 0} {given : B → Given} {tape : B → List 
   -- ---- own calls
 
   -- a call on a list of the start's size
-  call-since : (start x y : Parts B) (caller : ℕ) (request : Request) (reply : Reply) → IsEarlier tells given tape start x → IsServed tells given tape faults x y caller request reply
+  call-since : (start x y : Parts B) (caller : ℕ) (request : Request) (reply : Reply) → IsEarlier tells given tape start x
+      → IsServed tells given tape faults x y caller request reply
       → IsCalled (sectors_of start) (next_call caller x.entries) request x.entries y.entries
-  call-since start x y caller request reply begins served = subst (λ (n : ℕ). IsCalled n (next_call caller x.entries) request x.entries y.entries) begins.sectors (served-called x y caller request reply served)
+  call-since start x y caller request reply begins served = subst (λ (n : ℕ). IsCalled n (next_call caller x.entries) request x.entries y.entries) begins.sectors
+      (served-called x y caller request reply served)
 
-  own : (start x y : Parts B) (caller : ℕ) (request : Request) (reply : Reply) (mine : List (Call Request)) → IsEarlier tells given tape start x → IsServed tells given tape faults x y caller request reply
+  own : (start x y : Parts B) (caller : ℕ) (request : Request) (reply : Reply) (mine : List (Call Request)) → IsEarlier tells given tape start x
+      → IsServed tells given tape faults x y caller request reply
       → HasMade start x caller mine → HasMade start y caller (mine ++ record { request = request; at = size_of y - 1 } ∷ [])
   own start x y caller request reply mine begins served made few =
       let more = longer x y caller request reply served in
@@ -149,7 +156,8 @@ module _ {B : Type 0} {tells : Type 0} {given : B → Given} {tape : B → List 
       (counted (sectors_of start) start.entries begins.before.begins.entries.0 x.entries y.entries (next_call caller x.entries) request begins.before.begins.entries.1
       (call-since start x y caller request reply begins served) (requests_of mine) (made before))
 
-  others : (start x y : Parts B) (caller other : ℕ) (request : Request) (reply : Reply) (mine : List (Call Request)) → IsEarlier tells given tape start x → IsServed tells given tape faults x y caller request reply
+  others : (start x y : Parts B) (caller other : ℕ) (request : Request) (reply : Reply) (mine : List (Call Request)) → IsEarlier tells given tape start x
+      → IsServed tells given tape faults x y caller request reply
       → other ≢ caller → HasMade start x other mine → HasMade start y other mine
   others start x y caller other request reply mine begins served ne made few =
       let more = longer x y caller request reply served in
@@ -162,8 +170,11 @@ array_lawful tells given tape faults = record {
   same = λ x sound. record { before = seen-self (seen_of given tape x); sectors = refl; given_is = refl; full = λ full. refl };
   further = λ x y z p q. earlier-on x y z p q;
   either = λ x y now sx sy sn p q le. earlier-of x y now sx sy p q le;
-  grows = λ x y caller request reply sound served. (served.ended, earlier x y caller request reply served,
-      (let more = longer x y caller request reply served in let fits = served.fits in omega (arith, more, fits)));
+  grows = λ x y caller request reply sound served. (
+    served.ended,
+    earlier x y caller request reply served,
+    (let more = longer x y caller request reply served in let fits = served.fits in omega (arith, more, fits)),
+  );
   none = λ x caller sound. λ few. none-has_called (sectors_of x) x.entries caller;
   own = λ start x y caller request reply mine sound begins served made. λ few. own start x y caller request reply mine begins served made few;
   others = λ start x y caller other request reply mine sound begins served ne made. λ few. others start x y caller other request reply mine begins served ne made few;
