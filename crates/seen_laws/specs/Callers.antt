@@ -24,7 +24,7 @@ abbrev pub RepliesFrom : ℕ → List Entry → Type 0
 RepliesFrom mark [] = ⊤
 RepliesFrom mark (e ∷ entries) = (ends_call e entries ≡ true → mark ≤ e.end) × RepliesFrom mark entries
 
--- Less was seen before more: the same epoch, with further calls of its own behind, which were answered later.
+-- Less was seen before more: of the same epoch, with whole calls behind that were answered later.
 pub record IsBefore (tells : Type 0) (less more : Seen) : Type 0 where
   pub begins : BeginsWith tells less more
   pub apart : BeginAnother (last_of less.entries) begins.entries.0
@@ -32,11 +32,12 @@ pub record IsBefore (tells : Type 0) (less more : Seen) : Type 0 where
 
 -- ---- which calls were made
 
--- the entry answers the request, over a list of so many sectors, behind these entries; a status tells that size
+-- a status was shown, of a list of so many sectors
 abbrev pub IsShownAs : ℕ → Event → Type 0
 IsShownAs size (Shown status) = (status.length ≡ size) × (status.visible ≡ size)
 IsShownAs size event = ⊥
 
+-- the entry is a reply that fits the request, over a list of so many sectors, behind these entries
 abbrev pub IsReplyTo : ℕ → List Entry → Entry → Request → Type 0
 IsReplyTo size before e AsksShow = IsShownAs size e.event
 IsReplyTo size before e request = OneShapeFits size before e request

@@ -1,0 +1,44 @@
+-- The passes of a shared array: what each has seen of it, and which calls are its own.
+use Rattle.std.specs.Prelude.{◌≡◌, ℕ, ◌<◌, List, [], ◌∷◌, ◌++◌}
+use Rattle.bank.specs.declared.bank.Operation.{Operation}
+use Rattle.bank.specs.Given.{Given}
+use Rattle.flat_history.specs.declared.events.Request.{Request}
+use Rattle.views.specs.Parts.{Parts}
+use Rattle.shared_array.specs.declared.reply.Reply.{Reply}
+use Rattle.shared_array.specs.declared.reply.Reply.TheVariants.{Done, NoMemory as Short}
+use Rattle.turn_lock.specs.declared.lock.Pass.{Pass}
+use Rattle.turn_lock.specs.Turns.{OnKnown, OnSeen, mine_of}
+use Rattle.shared_lanes.specs.Serving.{most_entries, IsEarlier, IsServed, HasMade, requests_of}
+
+-- the pass has seen an array of which this holds
+abbrev pub Sees : {B : Type 0} → Pass (Parts B) Request → (Parts B → Type 0) → Type 0
+Sees pass Fact = OnSeen pass.seat.me.0 Fact
+
+-- its lock was begun with this array
+abbrev pub IsBegunWith : {B : Type 0} → Pass (Parts B) Request → Parts B → Type 0
+IsBegunWith pass start = OnKnown pass.seat.me.0 (λ k. k.start ≡ start)
+
+-- its own requests, each with the place of its reply
+abbrev pub own_requests : {B : Type 0} → Pass (Parts B) Request → List (Request × ℕ)
+own_requests pass = requests_of (mine_of pass.seat.me.0.hands)
+
+-- A reply tells where the request stands among the pass's own; where memory was short nothing was done.
+abbrev pub IsToldBy : {B : Type 0} → Type 0 → (B → Given) → (B → List Operation) → (B → ℕ → ℕ) → Pass (Parts B) Request → Pass (Parts B) Request → Request
+    → Parts B → Parts B → Reply → Type 0
+IsToldBy tells given tape faults pass pass' request found after (Done at event) =
+    IsServed tells given tape faults found after pass.caller request (Done at event)
+    × (at < most_entries → own_requests pass' ≡ own_requests pass ++ (request, at) ∷ [])
+IsToldBy tells given tape faults pass pass' request found after Short = (after ≡ found) × (own_requests pass' ≡ own_requests pass)
+
+-- A request was answered on the array as it was found, whose history begins with all that the pass had seen; the pass has then seen the array
+-- as the call left it. Since the lock was begun its caller has made just the pass's own requests.
+pub record IsAnswered {B : Type 0} (tells : Type 0) (given : B → Given) (tape : B → List Operation) (faults : B → ℕ → ℕ) (pass : Pass (Parts B) Request)
+    (request : Request) (reply : Reply) (pass' : Pass (Parts B) Request) : Type 0 where
+  pub found : Parts B
+  pub after : Parts B
+  pub start : Parts B
+  pub later : Sees pass (λ x. IsEarlier tells given tape x found)
+  pub seen : Sees pass' (λ x. x ≡ after)
+  pub begun : IsBegunWith pass start × IsBegunWith pass' start
+  pub told : IsToldBy tells given tape faults pass pass' request found after reply
+  pub made : HasMade start after pass.caller (mine_of pass'.seat.me.0.hands)

@@ -1,0 +1,61 @@
+//! An array that answers the requests of numbered callers.
+ghost use Rattle.std.specs.Prelude.{◌≡◌};
+
+use array::Array;
+use bank::Bank;
+use flat_history::Request;
+use md_base::Who;
+use shared_array::{Reply, perform};
+use std::alloc::Global;
+use std::marker::Model;
+use turn_lock::Served;
+
+/// An array that answers callers; contracts see it as the array.
+#[derive(Drop)]
+pub struct Answering<B: Bank> {
+    array: Array<B>,
+}
+
+impl<B: Bank> Model for Answering<B> {
+    ghost use Rattle.views.specs.Parts.{Parts};
+
+    ghost Value = { Parts B };
+
+    ghost view = { λ a. a.array };
+}
+
+impl<B: Bank> Answering<B> {
+    pub(crate) fn new(array: Array<B>) -> Answering<B>
+        ensures { result ≡ array }
+    {
+        Answering { array }
+    }
+
+    pub(crate) fn into_array(self) -> Array<B>
+        ensures { result ≡ self }
+    {
+        let Answering { array } = self;
+        array
+    }
+}
+
+impl<B: Bank> Served<Request, Reply> for Answering<B> {
+    ghost use Rattle.shared_lanes.specs.Serving.{array_ways};
+    ghost use Rattle.shared_lanes.specs.ServingLaws.{array_lawful};
+
+    ghost ways = { array_ways B.tells B.given B.tape B.faults_of };
+
+    fn size(&self) -> u64 {
+        (self.array.epoch().entries.len() as u64).min(1 << 61)
+    }
+
+    fn serve(&mut self, alloc: Global, caller: u32, request: Request) -> Reply {
+        if self.array.epoch().entries.len() as u64 >= 1 << 61 {
+            return Reply::NoMemory;
+        }
+        let number = self.array.next_number(caller);
+        perform(alloc, &mut self.array, Who { caller, number }, request)
+    }
+
+    ghost lawful = { array_lawful B.tells B.given B.tape B.faults_of };
+}
