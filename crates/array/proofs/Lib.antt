@@ -1,1 +1,2 @@
 mod StillKept
+pub mod FirstLaws

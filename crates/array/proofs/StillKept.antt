@@ -44,7 +44,7 @@ kept-still {given = given} {scope = scope} {first = first} {entries = entries} {
   good = λ t. subst (λ (l : List Operation). DoesWithout members → OpensFit (world_in given l scope first) → RowsStandBelow (mended_rows work.resync members) members (present given l) (now (opening_list (world_in given l scope first)) entries)) (sym (same t)) (was.good t);
   rebuilt = λ t. subst (λ (l : List Operation). DoesWithout members → OpensFit (world_in given l scope first) → AreRebuilt work members (present given l) (now (opening_list (world_in given l scope first)) entries)) (sym (same t)) (was.rebuilt t);
   safe = λ t. subst (λ (l : List Operation). FillsRight (world_in given l scope first) entries → HasRoomForEvents (world_in given l scope first) → OpensAlike (world_in given l scope first)
-      → IsSafe (world_in given l scope first) given (list_size (places_of members)) members work entries) (sym (same t)) (was.safe t);
+      → IsSafe (world_in given l scope first) given members work entries) (sym (same t)) (was.safe t);
 }
 
 pub ready-still : {tells : Type 0} {given given' : Given} {tape tape' : List Operation} {uuid : List ℕ} {slots : ℕ} {backup : Option ℕ} {first : ℕ} {entries : List Entry} {members : Members} {work : Work}

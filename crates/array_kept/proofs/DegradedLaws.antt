@@ -22,7 +22,7 @@ use Rattle.superblocks.specs.declared.members.Members.{Members}
 use Rattle.md_base.specs.declared.status.Role.{Role}
 use Rattle.md_base.specs.declared.status.Role.TheVariants.{Recovering}
 use Rattle.superblocks.specs.Reading.{Scope, shape_of, role_state, rows_held, holder, is_clean}
-use Rattle.row_io.specs.Rows.{reading_of, present, is_missing, missing_count}
+use Rattle.row_io.specs.Rows.{reading_of, present, is_missing}
 use Rattle.flat_history.specs.declared.events.Entry.{Entry}
 use Rattle.flat_history.specs.declared.events.Event.{Event}
 use Rattle.flat_history.specs.declared.events.Event.TheVariants.{Refused, Read, Wrote, Torn, Lost, Failed, Shown, Halted}
@@ -41,7 +41,7 @@ use Rattle.views.proofs.HeldRows.{missing-moved, missing-before, vacant-missing,
 use Rattle.views.proofs.LackingLaws.{since-missing}
 use Rattle.call_entries.specs.Losing.{losses_of}
 use Rattle.views.specs.Moving.{Grows, IsMoved}
-use Rattle.views.specs.Marking.{AreOthersPresent}
+use Rattle.shape_changes.specs.Marking.{AreOthersPresent}
 use Rattle.array_kept.specs.Kept.{world_in, AreTold, AreFillsRight, AreRebuildsRight, AreSectorsWhole, IsKept}
 use Rattle.views.specs.Status.{rebuilt_of, left_of}
 use Rattle.views.specs.Lacking.{AreLostSince, AreTooMany, IsUnread, IsUnwritten, DoesWithout, ListStands, RowsStandBelow, mended_rows, are_mended}
@@ -50,10 +50,10 @@ use Rattle.array_kept.proofs.KeptLaws.{StayPlaced, LeavesSafe, LeavesWork, Names
 use Rattle.array_kept.proofs.StepsLeft.{left-moved}
 use Rattle.views.proofs.LackingWrites.{recovering-before, full-later}
 use Rattle.array_kept.proofs.LedgerLaws.{OnlyAdd, add-none, add-one, add-losses, ends-nothing, pending-more}
-use Rattle.views.proofs.Steady.{safe-is-seen}
-use Rattle.views.specs.Safety.{IsRisen}
-use Rattle.views.specs.Views.{Ledger, AreViewsRight}
-use Rattle.views.specs.Steady.{IsSafeOver, KeepsSafe}
+use Rattle.shape_changes.proofs.Steady.{safe-is-seen}
+use Rattle.shape_changes.specs.Safety.{IsRisen}
+use Rattle.shape_views.specs.Views.{Ledger}
+use Rattle.shape_changes.specs.Steady.{AreViewsRight, IsSafeOver, KeepsSafe}
 use Rattle.bank.proofs.Marks.{each_mark-along}
 use Rattle.flat_history.specs.Losses.{was_dirty, is_resync_end, is_unsynced, settles}
 use Rattle.flat_history.specs.Sound.{OpensFit, LosesNoRole}
@@ -71,10 +71,10 @@ use Rattle.array_kept.proofs.IdleLaws.{nothing-left}
 use Rattle.superblocks.specs.Reads.{has_spare}
 
 -- nothing is done
-keeps-still : (world : World) (given : Given) (size : ℕ) (told : Ledger) (members : Members) (tape : List Operation) → IsSafeOver world given size told members tape → KeepsSafe world given size told members tape tape
-keeps-still world given size told members tape safe = record {
-  marks = subst (λ (l : List Operation). EachMark ⊤ given.start tape l (AreViewsRight (OpensFit world) world.scope given size told)) (append-nil tape)
-      (each_mark-along ⊤ given.start tape [] (AreViewsRight (OpensFit world) world.scope given size told) (safe-is-seen (OpensFit world) world.scope given size told members tape safe));
+keeps-still : (world : World) (given : Given) (told : Ledger) (members : Members) (tape : List Operation) → IsSafeOver world given told members tape → KeepsSafe world given told members tape tape
+keeps-still world given told members tape safe = record {
+  marks = subst (λ (l : List Operation). EachMark ⊤ given.start tape l (AreViewsRight (OpensFit world) world.scope given told)) (append-nil tape)
+      (each_mark-along ⊤ given.start tape [] (AreViewsRight (OpensFit world) world.scope given told) (safe-is-seen (OpensFit world) world.scope given told members tape safe));
   next = safe;
 }
 
@@ -530,7 +530,7 @@ module _ {tells : Type 0} {given : Given} {tape : List Operation} {scope : Scope
       (told-more members entries (entries_of who end (event ∷ [])) none was.told) (only-more members entries (entries_of who end (event ∷ [])) loses makes was.only) call (λ t s k apart. refl)
       (leaves-named who end was opens caller at_end moved grows (event ∷ []) silent (add-one (one who end event) [] adds settles keeps none add-none) (risen-still members tape)
       (told-more members entries (entries_of who end (event ∷ [])) none was.told) refl
-      (λ t world size told room gone unclean safe. keeps-still world given size told members tape safe))
+      (λ t world told room gone unclean safe. keeps-still world given told members tape safe))
 
   -- all of the list is visible
   seen-before : tells → visible_of (length (opening_list (world_in given tape scope first))) entries ≡ list_size (places_of members)

@@ -10,9 +10,9 @@ use Rattle.bank.specs.declared.bank.Operation.{Operation}
 use Rattle.superblocks.specs.declared.members.Members.{Members}
 use Rattle.superblocks.specs.Reading.{Scope, shape_of, role_state, is_whole, holder}
 use Rattle.superblocks.specs.Reads.{has_spare}
-use Rattle.row_io.specs.Rows.{reading_of, is_missing}
+use Rattle.row_io.specs.Rows.{reading_of}
 use Rattle.flat_history.specs.declared.events.Entry.{Entry}
-use Rattle.flat_history.specs.OneShape.{opening_in, is_gone_now, is_spare_now, IsNoneGone, IsNoneSpare, IsNothingLeft}
+use Rattle.flat_history.specs.OneShape.{opening_in, is_gone_now, is_spare_now, IsNothingLeft}
 use Rattle.views.specs.declared.work.Work.{Work}
 use Rattle.views.specs.Placed.{is_vacant}
 use Rattle.views.specs.Status.{stripes_of, rebuilt_of, vacant_count, spare_count, resync_left, role_left, recovery_left, left_of}

@@ -33,12 +33,12 @@ use Rattle.flat_history.proofs.OneShapeGone.{keep-both}
 use Rattle.flat_history.proofs.SoundLaws.{fit-before}
 use Rattle.views.specs.declared.work.Work.{Work}
 use Rattle.views.specs.Whole.{list_size}
-use Rattle.views.specs.Placed.{places_of, AreWhole, IsPlaced, AreUnlost}
+use Rattle.views.specs.Placed.{places_of, AreWhole, IsPlaced}
+use Rattle.shape_changes.specs.Steady.{AreUnlost, IsSafeOver, KeepsSafe, AreGoneTold, IsUncleanTold}
 use Rattle.call_entries.specs.Losing.{losses_of}
 use Rattle.views.specs.Moving.{Grows}
-use Rattle.views.specs.Safety.{HasRoomLeft, IsRisen}
-use Rattle.views.specs.Views.{Ledger}
-use Rattle.views.specs.Steady.{IsSafeOver, KeepsSafe, AreGoneTold, IsUncleanTold}
+use Rattle.shape_changes.specs.Safety.{HasRoomLeft, IsRisen}
+use Rattle.shape_views.specs.Views.{Ledger}
 use Rattle.views.specs.Status.{stripes_of, left_of}
 use Rattle.views.specs.Rebuilding.{AreSparesFree, AreRebuilt, is_rebuilt, HasNoRebuilt}
 use Rattle.views.specs.Lacking.{DoesWithout, ListStands, RowsStandBelow, mended_rows}
@@ -55,6 +55,7 @@ use Rattle.call_entries.proofs.StepLaws.{record-goes_on, used-more}
 use Rattle.array_kept.proofs.SafeLaws.{begun-of, room-before, alike-before, room-now, safe-called}
 use Rattle.array_kept.proofs.LedgerLaws.{told_by, CarriesMore, OnlyAdd, pending-more, unsettled-still, unsettled-by, none-lost-before, told-more as more-told, told-now, told-unclean, more-safe, newest-allowed}
 use Rattle.array_kept.proofs.OnlyLaws.{TellsOnly}
+use Rattle.views.proofs.Still.{gone-still}
 
 -- The members are of the same array as before, and each has its place.
 pub record StayPlaced (given : Given) (old new : Members) : Type 0 where
@@ -70,7 +71,7 @@ pub record LeavesSafe (tells : Type 0) (given : Given) (tape : List Operation) (
   pub dirty : DoesWithout members → IsSome work.resync → is_clean members.newest ≡ false
   pub unclean : is_clean members.newest ≡ false → (is_some work.resync || is_unsettled entries) ≡ true
   pub safe : tells → FillsRight (world_in given tape scope first) entries → HasRoomForEvents (world_in given tape scope first) → OpensAlike (world_in given tape scope first)
-      → IsSafe (world_in given tape scope first) given (list_size (places_of members)) members work entries
+      → IsSafe (world_in given tape scope first) given members work entries
 
 -- What a call leaves of what is under way: a resync that mended no stripe yet had mended none before, it mended no more stripes than there
 -- are, and it is pending unless the history ended it; where it is, or no role was lost, no role was rebuilt; and the steps left are told rightly.
@@ -85,8 +86,8 @@ pub record LeavesWork (old new : Work) (members : Members) (entries added : List
 
 -- what names the missing members keeps an array safe
 abbrev pub NamesSafe : Type 0 → Given → Members → Members → List Operation → List Operation → Type 0
-NamesSafe tells given old new before after = tells → (world : World) → (size : ℕ) → (told : Ledger) → HasRoomLeft old before after → AreGoneTold told new → IsUncleanTold told old
-    → IsSafeOver world given size told old before → KeepsSafe world given size told new before after
+NamesSafe tells given old new before after = tells → (world : World) → (told : Ledger) → HasRoomLeft old before after → AreGoneTold told new → IsUncleanTold told old
+    → IsSafeOver world given told old before → KeepsSafe world given told new before after
 
 -- ---- roles that were rebuilt
 
@@ -239,7 +240,7 @@ module _ {tells : Type 0} {given : Given} {tape tape' : List Operation} {scope :
   holds-before added t fills does = was.holds t does (rebuilds-by was (fills-before added fills))
 
   pub safe-old : (added : List Entry) (t : tells) → FillsRight (world_in given tape' scope first) (entries ++ added) → HasRoomForEvents (world_in given tape' scope first) → OpensAlike (world_in given tape' scope first)
-      → IsSafe (world_in given tape scope first) given (list_size (places_of members)) members work entries
+      → IsSafe (world_in given tape scope first) given members work entries
   safe-old added t fills room alike = was.safe t (fills-before added (fills-here (entries ++ added) t fills))
       (room-before (world_in given tape scope first) (grows.more t).0 (was.recorded t).begun (subst (λ (l : List Operation). HasRoomForEvents (world_in given l scope first)) (grows.more t).1 room))
       (alike-before (world_in given tape scope first) (grows.more t).0 (was.recorded t).begun (subst (λ (l : List Operation). OpensAlike (world_in given l scope first)) (grows.more t).1 alike))
@@ -263,53 +264,49 @@ module _ {tells : Type 0} {given : Given} {tape tape' : List Operation} {scope :
   module _ (work' : Work) (carries : CarriesMore work work') (early late : List Event) (silent-early : AreSilent who end early) (silent : AreSilent who end (early ++ late)) (adds : OnlyAdd (entries_of who end early))
       (keep : KeepShape (entries_of who end (early ++ late))) (rise : IsRisen tells members members' tape tape') where
     abbrev pub IsTold : Ledger → Members → List Operation → Type 0
-    IsTold told m l = IsSafeOver (world_in given tape scope first) given (list_size (places_of members)) told m l
+    IsTold told m l = IsSafeOver (world_in given tape scope first) given told m l
 
     -- A call whose marks are seen right by the history and the first of its entries, and its end by all of them.
     pub safe-by : ((t : tells) → FillsRight (world_in given tape scope first) (entries ++ entries_of who end (early ++ late)) → HasRoomLeft members tape tape'
         → IsTold (told_by (world_in given tape scope first) work' entries (entries_of who end early)) members tape
-        → KeepsSafe (world_in given tape scope first) given (list_size (places_of members)) (told_by (world_in given tape scope first) work' entries (entries_of who end early)) members' tape tape')
+        → KeepsSafe (world_in given tape scope first) given (told_by (world_in given tape scope first) work' entries (entries_of who end early)) members' tape tape')
         → ((t : tells) → FillsRight (world_in given tape scope first) (entries ++ entries_of who end (early ++ late)) → HasRoomLeft members tape tape'
         → IsTold (told_by (world_in given tape scope first) work' entries (entries_of who end early)) members tape
         → IsTold (ledger_now (world_in given tape scope first) work' (entries ++ entries_of who end (early ++ late))) members' tape')
         → tells → FillsRight (world_in given tape' scope first) (entries ++ entries_of who end (early ++ late)) → HasRoomForEvents (world_in given tape' scope first) → OpensAlike (world_in given tape' scope first)
-        → IsSafe (world_in given tape' scope first) given (list_size (places_of members')) members' work' (entries ++ entries_of who end (early ++ late))
+        → IsSafe (world_in given tape' scope first) given members' work' (entries ++ entries_of who end (early ++ late))
     safe-by stretch last t fills room alike =
         let world = world_in given tape scope first in
-        let size = list_size (places_of members) in
         let g = grows.more t in
         let added = entries_of who end (early ++ late) in
         let old = safe-old added t fills room alike in
         let here = fills-here (entries ++ added) t fills in
         let left = room-left added t fills room alike in
         let told = told_by world work' entries (entries_of who end early) in
-        let began = more-safe (OpensFit world) scope given size (ledger_now world work entries) told members (disk given.start tape) (more-told world size work work' carries entries (entries_of who end early) adds) old.now in
-        subst (λ (n : ℕ). IsSafe (world_in given tape' scope first) given n members' work' (entries ++ added)) (sym size-is)
-        (safe-called given tape scope first size entries members members' work work' who early late g.0 tape' end g.1 (at_end t ∙ ap (λ (l : List Operation). length l) g.1) was.sizes_are (begun-of world (was.recorded t)) old
-        (length-more size entries (entries_of who end early) was.sized (silent-early.length size)) (length-more size entries added was.sized (silent.length size))
+        let began = more-safe (OpensFit world) scope given (ledger_now world work entries) told members (disk given.start tape) (more-told world work work' carries entries (entries_of who end early) adds) old.now in
+        safe-called given tape scope first entries members members' work work' who early late g.0 tape' end g.1 (at_end t ∙ ap (λ (l : List Operation). length l) g.1) was.sizes_are (begun-of world (was.recorded t)) old
         (keep-both entries added (entries-keep (opening_in world) (length tape) [] entries (kept-legal was t (fills-before added here))) keep) adds.gives fills
-        (record { left = rise.left; events = λ u live. rise.events t live }) (stretch t here left began) (last t here left began))
+        (record { left = rise.left; events = λ u live. rise.events t live }) (stretch t here left began) (last t here left began)
 
   -- a call that settles nothing
   module _ (work' : Work) (carries : CarriesMore work work') (events : List Event) (silent : AreSilent who end events) (adds : OnlyAdd (entries_of who end events)) (rise : IsRisen tells members members' tape tape')
       (stretch : (t : tells) → FillsRight (world_in given tape scope first) (entries ++ entries_of who end events) → HasRoomLeft members tape tape'
-      → IsSafeOver (world_in given tape scope first) given (list_size (places_of members)) (told_by (world_in given tape scope first) work' entries (entries_of who end events)) members tape
-      → KeepsSafe (world_in given tape scope first) given (list_size (places_of members)) (told_by (world_in given tape scope first) work' entries (entries_of who end events)) members' tape tape') where
+      → IsSafeOver (world_in given tape scope first) given (told_by (world_in given tape scope first) work' entries (entries_of who end events)) members tape
+      → KeepsSafe (world_in given tape scope first) given (told_by (world_in given tape scope first) work' entries (entries_of who end events)) members' tape tape') where
     no_more : events ++ [] ≡ events
     no_more = append-nil events
 
     pub safe-adding : tells → FillsRight (world_in given tape' scope first) (entries ++ entries_of who end events) → HasRoomForEvents (world_in given tape' scope first) → OpensAlike (world_in given tape' scope first)
-        → IsSafe (world_in given tape' scope first) given (list_size (places_of members')) members' work' (entries ++ entries_of who end events)
+        → IsSafe (world_in given tape' scope first) given members' work' (entries ++ entries_of who end events)
     safe-adding t =
         let world = world_in given tape scope first in
-        let size = list_size (places_of members) in
         let told = told_by world work' entries (entries_of who end events) in
         subst (λ (l : List Event). FillsRight (world_in given tape' scope first) (entries ++ entries_of who end l) → HasRoomForEvents (world_in given tape' scope first) → OpensAlike (world_in given tape' scope first)
-        → IsSafe (world_in given tape' scope first) given (list_size (places_of members')) members' work' (entries ++ entries_of who end l)) no_more
+        → IsSafe (world_in given tape' scope first) given members' work' (entries ++ entries_of who end l)) no_more
         (safe-by work' carries events [] silent (subst (AreSilent who end) (sym no_more) silent) adds (subst (λ (l : List Event). KeepShape (entries_of who end l)) (sym no_more) adds.keep) rise
         (λ t fills. stretch t (subst (λ (l : List Event). FillsRight world (entries ++ entries_of who end l)) no_more fills))
-        (λ t fills room began. subst (λ (l : List Event). IsSafeOver world given size (ledger_now world work' (entries ++ entries_of who end l)) members' tape') (sym no_more)
-        (more-safe (OpensFit world) scope given size told (ledger_now world work' (entries ++ entries_of who end events)) members' (disk given.start tape') (told-now world size work work' carries entries (entries_of who end events) adds)
+        (λ t fills room began. subst (λ (l : List Event). IsSafeOver world given (ledger_now world work' (entries ++ entries_of who end l)) members' tape') (sym no_more)
+        (more-safe (OpensFit world) scope given told (ledger_now world work' (entries ++ entries_of who end events)) members' (disk given.start tape') (told-now world work work' carries entries (entries_of who end events) adds)
         (stretch t (subst (λ (l : List Event). FillsRight world (entries ++ entries_of who end l)) no_more fills) room began).next)) t)
 
     -- and leaves the mark and the resync as they are
@@ -344,8 +341,9 @@ module _ {tells : Type 0} {given : Given} {tape tape' : List Operation} {scope :
       → NamesSafe tells given members members' tape tape' → LeavesSafe tells given tape' scope first (entries ++ entries_of who end events) members' work'
   leaves-named work' carries events silent adds rise told resync without clean named =
       leaves-alike work' carries events silent adds rise
-      (λ t fills room began. named t (world_in given tape scope first) (list_size (places_of members)) (told_by (world_in given tape scope first) work' entries (entries_of who end events)) room told
-      (λ is. told-unclean (world_in given tape scope first) (list_size (places_of members)) work work' carries entries (entries_of who end events) adds (is_some work.resync) (was.recorded t).dirty (was.unclean is)) began)
+      (λ t fills room began. named t (world_in given tape scope first) (told_by (world_in given tape scope first) work' entries (entries_of who end events)) room
+      (gone-still (told_by (world_in given tape scope first) work' entries (entries_of who end events)) members' stays.placed.still told)
+      (λ is. told-unclean (world_in given tape scope first) work work' carries entries (entries_of who end events) adds (is_some work.resync) (was.recorded t).dirty (was.unclean is)) began)
       resync without clean
 
   -- ---- what is kept after it
@@ -487,7 +485,7 @@ leaves-as {given = given} {tape = tape} {scope = scope} {first = first} {entries
       record {
         past = safe.past;
         sound = safe.sound;
-        now = subst (λ (l : List Bool). IsSafeOver world given (list_size (places_of members)) (ledger_now world (record work { carried = l }) entries) members tape) (sym carried) safe.now;
+        now = subst (λ (l : List Bool). IsSafeOver world given (ledger_now world (record work { carried = l }) entries) members tape) (sym carried) safe.now;
         counted = safe.counted;
       };
 }

@@ -1,74 +1,85 @@
 -- What a call tells, as the ledger by which its marks are judged.
-use Rattle.std.proofs.Common.{◌≡◌, ℕ, zero, suc, ◌+◌, ◌-◌, ◌/◌, ◌<◌, ◌≤◌, ◌⊎◌, inl, inr, Bool, true, false, not, cond, ◌&&◌, ◌||◌, List, [], ◌∷◌, ◌++◌, length, take, drop, refl, sym, ◌∙◌, ap, ap₂, subst, arith, length-append, append_assoc, slice_range}
+use Rattle.std.proofs.Common.{◌≡◌, ℕ, zero, suc, ◌+◌, ◌-◌, ◌/◌, ◌<◌, ◌≤◌, ◌⊎◌, inl, inr, Bool, true, false, not, cond, ◌&&◌, ◌||◌, List, [], ◌∷◌, ◌++◌, length, take, drop, refl, sym, ◌∙◌, ap, ap₂, subst, arith, length-append, append_assoc, slice_range, nat_lt}
 use Rattle.std.specs.Prelude.{fold, slice_index_or}
 use Rattle.std.specs.List.{list_any, list_all}
 use Rattle.std.proofs.Math.Seq.{take-append_seam, drop-append_seam, take-length}
 use Rattle.std.proofs.lemmas.Bool.{cases_lt}
 use Rattle.std.proofs.lemmas.Bool.Decides.{nat_tests}
 use Rattle.std.proofs.lemmas.List.Folds.{list_any-append}
+use Rattle.std.proofs.lemmas.List.Sums.{fold-append}
 use Rattle.md_base.specs.Sectors.{Sector, sectors_of}
 use Rattle.md_base.proofs.SectorLaws.{length-sectors_of}
 use Rattle.md_base.specs.declared.answers.Who.{Who}
 use Rattle.bank.specs.Given.{Given}
 use Rattle.bank.specs.Tape.{IsIn}
 use Rattle.superblocks.specs.declared.members.Members.{Members}
-use Rattle.superblocks.specs.Reading.{Scope}
+use Rattle.superblocks.specs.Reading.{Scope, is_reshaping}
 use Rattle.list_io.specs.Writing.{IsWritten}
 use Rattle.flat_history.specs.declared.events.Entry.{Entry}
 use Rattle.flat_history.specs.declared.events.Event.{Event}
 use Rattle.flat_history.specs.declared.events.Event.TheVariants.{Wrote, Torn, Flushed, Stopped, Lost, SpareLost, Resized}
 use Rattle.flat_history.specs.declared.events.LostCause.TheVariants.{Fault}
-use Rattle.flat_history.specs.Flat.{values_after, values_of, first_values, now, covers, sector_at, behind}
+use Rattle.flat_history.specs.Flat.{values_after, values_of, first_values, now, covers, sector_at, behind, length_after, length_of, resized}
 use Rattle.flat_history.specs.Losses.{was_dirty, is_resync_end, is_unsynced, settles, unsettles}
 use Rattle.flat_history.specs.Plain.{entries_of, loses_role}
 use Rattle.flat_history.specs.World.{World, opening_list}
 use Rattle.flat_history.specs.OneShape.{ShapeOpening, IsOneShapeEvent, AreOneShape, is_lost, is_gone_now, gives_role, is_gone_by, is_unsettled, is_written, keeps_shape_event, KeepShape}
-use Rattle.flat_history.proofs.OneShapeGone.{gone-or_lost}
+use Rattle.flat_history.proofs.OneShapeGone.{gone-or_lost, losses-gone}
 use Rattle.flat_history.proofs.OneShapeGrowing.{gone-more}
 use Rattle.array_kept.specs.Kept.{ledger_now}
 use Rattle.views.specs.declared.work.Work.{Work}
 use Rattle.views.specs.Numbers.{is_carried}
-use Rattle.views.specs.Views.{Ledger, ledger_of}
-use Rattle.views.specs.Steady.{IsSafeNow, IsMoreTold, settled_ledger}
+use Rattle.shape_views.specs.Views.{Ledger, ledger_of}
+use Rattle.shape_changes.specs.Steady.{IsSafeNow, IsMoreTold, AreWritesAllowed, settled_ledger}
+use Rattle.views.specs.Whole.{list_size}
+use Rattle.views.specs.Placed.{places_of}
+use Rattle.views.proofs.Still.{length-still}
 use Rattle.call_entries.proofs.CallLaws.{AreLossEvents, GivesNone}
 use Rattle.views.proofs.LackingLists.{row-sector}
 use Rattle.call_entries.proofs.LosingLaws.{entries-both}
 use Rattle.views.proofs.MemberLaws.{without-none}
 use Rattle.array_kept.proofs.NowLaws.{values-more, sectors_of-at}
-use Rattle.views.proofs.Steady.{losing-stays-safe}
+use Rattle.shape_changes.proofs.Steady.{losing-stays-safe}
 
 -- ---- the ledger of a call
 
 -- by the history before the call, the first of its entries, and the numbers that are known with it
 abbrev pub told_by : World → Work → List Entry → List Entry → Ledger
 told_by world work entries more = record {
+  size = length_of (length (opening_list world)) (entries ++ more);
   values = values_of (opening_list world) (entries ++ more);
   gone = is_gone_now (entries ++ more);
   unclean = is_unsynced world entries || (is_unsettled entries || list_any (λ e. unsettles e.event) more);
+  reshaping = false;
   carried = is_carried work;
 }
-
--- each number is told
-abbrev pub any_carried : Ledger → Ledger
-any_carried told = record told { carried = λ number. true }
-
-pub any-carried : (size : ℕ) (told : Ledger) → IsMoreTold size told (any_carried told)
-any-carried size told = record { values = λ x lt v may. may; gone = λ role is. is; unclean = λ is. is; carried = λ number is. refl }
 
 -- superblocks of the array bear no fewer numbers
 abbrev pub CarriesMore : Work → Work → Type 0
 CarriesMore old new = (number : ℕ) → is_carried old number ≡ true → is_carried new number ≡ true
 
--- it judges a mark at which the call's entries aren't made yet, where the first of them give no role back
-pub told-ledger : (world : World) (work : Work) (entries more rest : List Entry) → GivesNone more
-    → ledger_of world (entries ++ (more ++ rest)) (length entries) (length (entries ++ more)) ≡ any_carried (told_by world work entries more)
-told-ledger world work entries more rest none =
-    λ i. record {
-      values = values_of (opening_list world) (first i);
-      gone = λ role. gone role i;
-      unclean = is_unsynced world (take-append_seam entries (more ++ rest) i) || (is_unsettled (take-append_seam entries (more ++ rest) i) || list_any (λ e. unsettles e.event) (range i));
-      carried = λ number. true;
-    }
+-- what the first j entries tell of a mark by which the first k were made
+abbrev pub judged_by : World → List Entry → ℕ → ℕ → Ledger
+judged_by world entries k j = ledger_of world entries k j (take j entries)
+
+-- what is gone by the entries alone is so by them, and so is what is unclean
+judged-gone : (world : World) (entries : List Entry) (k j : ℕ) → KeepShape entries → (role : ℕ) → is_gone_by entries k j role ≡ true → (judged_by world entries k j).gone role ≡ true
+judged-gone world entries k j keep role is = (losses-gone world entries k j keep).gone role ∙ is
+
+judged-unclean : (world : World) (entries : List Entry) (k j : ℕ) → KeepShape entries → (is_unsynced world (take k entries) || is_written entries k j) ≡ true → (judged_by world entries k j).unclean ≡ true
+judged-unclean world entries k j keep is = (losses-gone world entries k j keep).unclean ∙ is
+
+-- A mark at which the call's entries aren't made yet is judged by as much, where the first of them give no role back.
+pub told-ledger : (world : World) (work : Work) (entries more rest : List Entry) → GivesNone more → KeepShape (entries ++ (more ++ rest))
+    → IsMoreTold (told_by world work entries more) (judged_by world (entries ++ (more ++ rest)) (length entries) (length (entries ++ more)))
+told-ledger world work entries more rest none keep = record {
+  size = ap (length_of (length (opening_list world))) (sym first);
+  values = λ x lt v may. subst (λ (l : List Entry). IsIn (values_of (opening_list world) l x) v) (sym first) may;
+  gone = λ role is. judged-gone world (entries ++ (more ++ rest)) (length entries) (length (entries ++ more)) keep role (gone role ∙ is);
+  unclean = λ is. judged-unclean world (entries ++ (more ++ rest)) (length entries) (length (entries ++ more)) keep (unclean ∙ is);
+  reshaping = λ is. refl;
+  carried = λ number is. refl;
+}
   where
     first : take (length (entries ++ more)) (entries ++ (more ++ rest)) ≡ entries ++ more
     first = ap (take (length (entries ++ more))) (sym (append_assoc entries more rest)) ∙ take-append_seam (entries ++ more) rest
@@ -79,18 +90,23 @@ told-ledger world work entries more rest none =
     range : slice_range (entries ++ (more ++ rest)) (length entries) (length (entries ++ more)) ≡ more
     range = ap₂ (λ (n : ℕ) (l : List Entry). take n l) count (drop-append_seam entries (more ++ rest)) ∙ take-append_seam more rest
 
+    unclean : (is_unsynced world (take (length entries) (entries ++ (more ++ rest))) || is_written (entries ++ (more ++ rest)) (length entries) (length (entries ++ more)))
+        ≡ (is_unsynced world entries || (is_unsettled entries || list_any (λ e. unsettles e.event) more))
+    unclean = λ i. is_unsynced world (take-append_seam entries (more ++ rest) i) || (is_unsettled (take-append_seam entries (more ++ rest) i) || list_any (λ e. unsettles e.event) (range i))
+
     gone : (role : ℕ) → is_gone_by (entries ++ (more ++ rest)) (length entries) (length (entries ++ more)) role ≡ is_gone_now (entries ++ more) role
     gone role = (λ i. is_gone_now (take-append_seam entries (more ++ rest) i) role || is_lost (range i) role) ∙ sym (gone-or_lost entries more role (none role))
 
--- the whole history's judges one at which each entry is made
-pub now-ledger : (world : World) (work : Work) (entries : List Entry) → ledger_of world entries (length entries) (length entries) ≡ any_carried (ledger_now world work entries)
-now-ledger world work entries =
-    λ i. record {
-      values = values_of (opening_list world) (take-length entries i);
-      gone = λ role. gone role i;
-      unclean = is_unsynced world (take-length entries i) || unwritten i;
-      carried = λ number. true;
-    }
+-- And one at which each entry is made is judged by as much as the whole history tells.
+pub now-ledger : (world : World) (work : Work) (entries : List Entry) → KeepShape entries → IsMoreTold (ledger_now world work entries) (judged_by world entries (length entries) (length entries))
+now-ledger world work entries keep = record {
+  size = ap (length_of (length (opening_list world))) (sym (take-length entries));
+  values = λ x lt v may. subst (λ (l : List Entry). IsIn (values_of (opening_list world) l x) v) (sym (take-length entries)) may;
+  gone = λ role is. judged-gone world entries (length entries) (length entries) keep role (gone role ∙ is);
+  unclean = λ is. judged-unclean world entries (length entries) (length entries) keep ((λ i. is_unsynced world (take-length entries i) || unwritten i) ∙ is);
+  reshaping = λ is. refl;
+  carried = λ number is. refl;
+}
   where
     none : (test : Entry → Bool) (n : ℕ) (l : List Entry) → n ≡ 0 → list_any test (take n l) ≡ false
     none test n l is = ap (λ (m : ℕ). list_any test (take m l)) is
@@ -116,19 +132,29 @@ neither : (a b : Bool) → (a || b) ≡ false → (a ≡ false) × (b ≡ false)
 neither true b e = absurd (cc)
 neither false b e = (refl, e)
 
--- These entries settle nothing, keep the shape, and give no role back: whatever value a sector may have, it may have after them.
+-- These entries settle nothing, keep the shape and the length, and give no role back: whatever value a sector may have, it may have after them.
 pub record OnlyAdd (more : List Entry) : Type 0 where
+  pub length_is : (n : ℕ) → length_of n more ≡ n
   pub values : (x : ℕ) (values : List Sector) (v : Sector) → IsIn values v → IsIn (fold (λ values e. values_after x values e.event) values more) v
   pub settles : list_any (λ e. settles e.event) more ≡ false
   pub keep : KeepShape more
   pub gives : GivesNone more
 
 pub add-none : OnlyAdd []
-add-none = record { values = λ x values v may. may; settles = refl; keep = refl; gives = λ role. refl }
+add-none = record { length_is = λ n. refl; values = λ x values v may. may; settles = refl; keep = refl; gives = λ role. refl }
+
+-- an event that adds values for each sector keeps the length
+keeps-length : (event : Event) → ((x : ℕ) (values : List Sector) (v : Sector) → IsIn values v → IsIn (values_after x values event) v) → (n : ℕ) → length_after n event ≡ n
+keeps-length (Resized m) adds n = absurd (subst (λ (b : Bool). IsIn (resized b ([] ∷ [])) []) (past m) (adds m ([] ∷ []) [] (inl refl)))
+  where
+    past : (m : ℕ) → nat_lt m m ≡ false
+    past m = grind (arith, nat_tests)
+keeps-length event adds n = refl
 
 pub add-one : (e : Entry) (more : List Entry) → ((x : ℕ) (values : List Sector) (v : Sector) → IsIn values v → IsIn (values_after x values e.event) v) → settles e.event ≡ false → keeps_shape_event e.event ≡ true
     → GivesNone (e ∷ []) → OnlyAdd more → OnlyAdd (e ∷ more)
 add-one e more adds unsettled keeps none rest = record {
+  length_is = λ n. rest.length_is (length_after n e.event) ∙ keeps-length e.event adds n;
   values = λ x values v may. rest.values x (values_after x values e.event) v (adds x values v may);
   settles = ap (λ (b : Bool). b || list_any (λ e. settles e.event) more) unsettled ∙ rest.settles;
   keep = ap (λ (b : Bool). b && list_all (λ e. keeps_shape_event e.event) more) keeps ∙ rest.keep;
@@ -246,13 +272,19 @@ unsynced-more world entries more none = pending-more (was_dirty world) entries m
 pub none-lost-before : (entries more : List Entry) → ((role : ℕ) → is_lost (entries ++ more) role ≡ false) → (role : ℕ) → is_lost entries role ≡ false
 none-lost-before entries more none role = (neither (is_lost entries role) (is_lost more role) (sym (list_any-append (λ e. loses_role role e.event) entries more) ∙ none role)).0
 
-module _ (world : World) (size : ℕ) (old work : Work) (carries : CarriesMore old work) (entries more : List Entry) (adds : OnlyAdd more) where
+module _ (world : World) (old work : Work) (carries : CarriesMore old work) (entries more : List Entry) (adds : OnlyAdd more) where
+  -- the list keeps its length
+  pub told-length : length_of (length (opening_list world)) (entries ++ more) ≡ length_of (length (opening_list world)) entries
+  told-length = fold-append (λ (n : ℕ) (e : Entry). length_after n e.event) (length (opening_list world)) entries more ∙ adds.length_is (length_of (length (opening_list world)) entries)
+
   -- a call tells more than the history before it
-  pub told-more : IsMoreTold size (ledger_now world old entries) (told_by world work entries more)
+  pub told-more : IsMoreTold (ledger_now world old entries) (told_by world work entries more)
   told-more = record {
+    size = sym told-length;
     values = λ x lt v may. subst (λ (l : List Sector). IsIn l v) (sym (values-more (opening_list world) entries more x)) (adds.values x (values_of (opening_list world) entries x) v may);
     gone = λ role is. gone-more role entries more (adds.gives role) is;
     unclean = λ is. by (is_unsynced world entries) (is_unsettled entries) is;
+    reshaping = λ is. is;
     carried = carries;
   }
     where
@@ -261,11 +293,13 @@ module _ (world : World) (size : ℕ) (old work : Work) (carries : CarriesMore o
       by false b e = or_left b (list_any (λ e. unsettles e.event) more) e
 
   -- and its end no less than the call
-  pub told-now : IsMoreTold size (told_by world work entries more) (ledger_now world work (entries ++ more))
+  pub told-now : IsMoreTold (told_by world work entries more) (ledger_now world work (entries ++ more))
   told-now = record {
+    size = refl;
     values = λ x lt v may. may;
     gone = λ role is. is;
     unclean = λ is. ap₂ (λ (a b : Bool). a || b) (unsynced-more world entries more (none-ends more adds.settles)) (unsettled-more entries more adds.settles) ∙ is;
+    reshaping = λ is. is;
     carried = λ number is. is;
   }
 
@@ -273,11 +307,18 @@ module _ (world : World) (size : ℕ) (old work : Work) (carries : CarriesMore o
   pub told-unclean : (unsynced : Bool) → is_unsynced world entries ≡ unsynced → (unsynced || is_unsettled entries) ≡ true → (told_by world work entries more).unclean ≡ true
   told-unclean unsynced same is = told-more.unclean (ap (λ (b : Bool). b || is_unsettled entries) same ∙ is)
 
+-- a list whose sectors may stand now is allowed by more entries
+pub allowed-more : (opened : List Sector) (entries more : List Entry) (members : Members) → is_reshaping members.newest ≡ false → OnlyAdd more → (list : ℕ → Sector)
+    → ((x : ℕ) → x < list_size (places_of members) → IsIn (values_of opened entries x) (list x)) → AreWritesAllowed members (values_of opened (entries ++ more)) list
+allowed-more opened entries more members still adds list newest x lt =
+    subst (λ (l : List Sector). IsIn l (list x)) (sym (values-more opened entries more x))
+    (adds.values x (values_of opened entries x) (list x) (newest x (subst (λ (n : ℕ). x < n) (length-still members still) lt)))
+
 -- what is told of an array is told if more is
-pub more-safe : (sound : Type 0) (scope : Scope) (given : Given) (size : ℕ) (told more : Ledger) (members : Members) (d : ℕ → ℕ → List Sector) → IsMoreTold size told more
-    → IsSafeNow sound scope given size told members d → IsSafeNow sound scope given size more members d
-more-safe sound scope given size told more members d is safe =
-    subst (λ (m : Members). IsSafeNow sound scope given size more m d) (without-none members) (losing-stays-safe sound scope given size 0 told more members d is safe)
+pub more-safe : (sound : Type 0) (scope : Scope) (given : Given) (told more : Ledger) (members : Members) (d : ℕ → ℕ → List Sector) → IsMoreTold told more
+    → IsSafeNow sound scope given told members d → IsSafeNow sound scope given more members d
+more-safe sound scope given told more members d is safe =
+    subst (λ (m : Members). IsSafeNow sound scope given more m d) (without-none members) (losing-stays-safe sound scope given 0 told more members d is safe)
 
 -- ---- the newest value of a sector
 
@@ -361,11 +402,17 @@ torn-in at body x values has is = subst (λ (b : Bool). IsIn (cond b (behind (se
 
 -- A flush or a stop behind the call's losses leaves each sector its newest value, and so does the end of a resync.
 pub settled-now : (world : World) (size : ℕ) (work : Work) (unsynced : Bool) (entries more rest : List Entry) → is_unsynced world (entries ++ (more ++ rest)) ≡ unsynced
+    → length_of (length (opening_list world)) (entries ++ more) ≡ size → length_of (length (opening_list world)) (entries ++ (more ++ rest)) ≡ size
     → ((x : ℕ) → x < size → IsIn (values_of (opening_list world) (entries ++ (more ++ rest)) x) (now (opening_list world) entries x)) → GivesNone rest
-    → IsMoreTold size (settled_ledger unsynced (now (opening_list world) entries) (told_by world work entries more)) (ledger_now world work (entries ++ (more ++ rest)))
-settled-now world size work unsynced entries more rest dirty newest none = record {
-  values = λ x lt v only. elim only [ inl same ↦ subst (λ (w : Sector). IsIn (values_of (opening_list world) (entries ++ (more ++ rest)) x) w) (sym same) (newest x lt) | inr none ↦ absurd none ];
+    → IsMoreTold (settled_ledger unsynced (now (opening_list world) entries) (told_by world work entries more)) (ledger_now world work (entries ++ (more ++ rest)))
+settled-now world size work unsynced entries more rest dirty sized sized-all newest none = record {
+  size = sized ∙ sym sized-all;
+  values = λ x lt v only. elim only [
+    | inl same ↦ subst (λ (w : Sector). IsIn (values_of (opening_list world) (entries ++ (more ++ rest)) x) w) (sym same) (newest x (subst (λ (n : ℕ). x < n) sized lt))
+    | inr none ↦ absurd none
+  ];
   gone = λ role is. subst (λ (l : List Entry). is_gone_now l role ≡ true) (append_assoc entries more rest) (gone-more role (entries ++ more) rest (none role) is);
   unclean = λ is. or_left (is_unsynced world (entries ++ (more ++ rest))) (is_unsettled (entries ++ (more ++ rest))) (dirty ∙ is);
+  reshaping = λ is. is;
   carried = λ number is. is;
 }

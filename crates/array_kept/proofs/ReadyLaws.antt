@@ -4,12 +4,10 @@ use Rattle.std.specs.Prelude.{fold, slice_index_or}
 use Rattle.md_base.specs.Sectors.{Sector, sectors_of}
 use Rattle.md_base.specs.declared.answers.Who.{Who}
 use Rattle.md_base.proofs.SectorLaws.{length-sectors_of}
-use Rattle.parity.specs.Rows.{IsSector}
 use Rattle.md_base.specs.Shapes.{has_slot}
 use Rattle.bank.specs.Given.{Given, NeverFalls}
-use Rattle.bank.specs.Tape.{Contents, IsIn}
+use Rattle.bank.specs.Tape.{IsIn}
 use Rattle.bank.specs.declared.bank.Operation.{Operation}
-use Rattle.bank.proofs.Laws.{contents-earlier}
 use Rattle.superblocks.specs.declared.members.Members.{Members}
 use Rattle.superblocks.specs.Reading.{Scope}
 use Rattle.flat_history.specs.declared.events.Entry.{Entry}
@@ -17,8 +15,7 @@ use Rattle.flat_history.specs.declared.events.Epoch.{Epoch}
 use Rattle.flat_history.specs.declared.events.Event.{Event}
 use Rattle.flat_history.specs.declared.events.Event.TheVariants.{Flushed, Stopped}
 use Rattle.flat_history.specs.Flat.{now, values_after, visible_of}
-use Rattle.flat_history.specs.World.{World, opening_list, contents_at}
-use Rattle.flat_history.specs.Growing.{grown}
+use Rattle.flat_history.specs.World.{World, opening_list}
 use Rattle.flat_history.specs.Transfers.{IsReadOver}
 use Rattle.flat_history.specs.Plain.{entries_of}
 use Rattle.flat_history.specs.OneShape.{ShapeOpening, opening_in, IsOneShapeLegal, KeepShape}

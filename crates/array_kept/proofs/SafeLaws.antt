@@ -1,5 +1,5 @@
 -- A call whose marks are seen right leaves an array safe.
-use Rattle.std.proofs.Common.{◌≡◌, inl, inr, ℕ, ◌+◌, ◌-◌, ◌<◌, ◌≤◌, ◌&&◌, ◌||◌, Bool, true, not, List, [], ◌∷◌, ◌++◌, length, take, take_all, Option, Some, None, refl, sym, ◌∙◌, ap, subst, arith, length-append, append_assoc}
+use Rattle.std.proofs.Common.{◌≡◌, inl, inr, ℕ, ◌+◌, ◌-◌, ◌<◌, ◌≤◌, ◌&&◌, ◌||◌, ◌⊎◌, Bool, false, not, List, [], ◌∷◌, ◌++◌, length, take, take_all, Option, Some, None, refl, sym, ◌∙◌, ap, subst, arith, length-append, append_assoc}
 use Rattle.std.specs.Prelude.{◌^◌, IfSome, ⊤}
 use Rattle.std.proofs.Math.Seq.{take-append_seam, drop-append_seam, take-length}
 use Rattle.std.proofs.lemmas.Bool.{cases_lt}
@@ -10,37 +10,37 @@ use Rattle.bank.specs.declared.bank.Operation.{Operation}
 use Rattle.bank.specs.Given.{Given, sizes}
 use Rattle.bank.specs.Tape.{Contents, IsIn, disk}
 use Rattle.bank.proofs.Laws.{contents-earlier}
-use Rattle.parity.specs.Rows.{IsSector}
 use Rattle.superblocks.specs.declared.members.Members.{Members}
 use Rattle.superblocks.specs.Reading.{Scope, Reading, reading}
 use Rattle.superblocks.specs.Found.{AreLikeNewest}
 use Rattle.flat_history.specs.declared.events.Entry.{Entry}
 use Rattle.flat_history.specs.declared.events.Event.{Event}
 use Rattle.flat_history.specs.Flat.{length_of, values_of}
-use Rattle.flat_history.specs.Losses.{was_dirty, is_resync_end, is_unsynced}
-use Rattle.flat_history.specs.World.{World, opening_list, contents_at, reading_at}
+use Rattle.flat_history.specs.Losses.{was_dirty, is_resync_end, is_unsynced, is_gone, unsettles}
+use Rattle.flat_history.specs.World.{World, contents_at, reading_at, may_hold}
 use Rattle.flat_history.specs.Opened.{IsSound}
 use Rattle.flat_history.specs.Sound.{OpensFit, FillsRight}
 use Rattle.flat_history.specs.CrashSafe.{made_by, may_be_made, first_call_len, IsSafeAt}
 use Rattle.flat_history.specs.Growing.{grown, EndBy}
 use Rattle.flat_history.specs.Epochs.{HasRoomForEvents, OpensAlike}
-use Rattle.flat_history.specs.OneShape.{ShapeOpening, is_lost, is_gone_now, is_gone_by, is_written, is_unsettled, KeepShape}
+use Rattle.flat_history.specs.OneShape.{ShapeOpening, is_lost, is_gone_now, is_unsettled, KeepShape}
 use Rattle.flat_history.specs.Plain.{entries_of}
 use Rattle.flat_history.proofs.GrowingLaws.{calls-owe}
+use Rattle.flat_history.proofs.OneShapeGone.{losses-gone, never-gone_by}
 use Rattle.flat_history.proofs.OneShapeLegal.{opening-grown as shape-grown}
-use Rattle.views.specs.Safety.{HasLiveSlot, HasRoomLeft, IsRisen}
+use Rattle.shape_changes.specs.Safety.{HasLiveSlot, HasRoomLeft, IsRisen}
 use Rattle.views.specs.declared.work.Work.{Work}
 use Rattle.views.specs.Numbers.{is_carried}
 use Rattle.array_kept.specs.Kept.{world_in, ledger_now, IsRecorded, IsCounted, IsSafe}
-use Rattle.views.specs.Views.{Ledger, ledger_of, AreViewsRight, IsJudgedBy}
-use Rattle.views.specs.Steady.{IsSafeNow, IsSafeOver, KeepsSafe}
-use Rattle.views.proofs.Judged.{views-are-safe}
+use Rattle.shape_views.specs.Views.{Disk, Ledger, IsJudgedBy}
+use Rattle.shape_views.proofs.Judged.{views-safe}
+use Rattle.shape_changes.specs.Steady.{AreViewsRight, IsMoreTold, IsSafeNow, IsSafeOver, KeepsSafe}
 use Rattle.call_entries.proofs.LosingLaws.{entries-both}
 use Rattle.call_entries.proofs.CallLaws.{GivesNone}
-use Rattle.array_kept.proofs.LedgerLaws.{told_by, any_carried, any-carried, told-ledger, now-ledger, none-lost-before}
+use Rattle.array_kept.proofs.LedgerLaws.{told_by, judged_by, told-ledger, now-ledger, none-lost-before}
 use Rattle.array_kept.proofs.MadeLaws.{made-past, made-both, made-before, length-entries, call-length, made-from, ends-by, opening-grown}
 use Rattle.views.proofs.SoundViews.{throughout-kept}
-use Rattle.views.proofs.Steady.{safe-is-seen, views-told}
+use Rattle.shape_changes.proofs.Steady.{safe-is-seen, views-told}
 
 -- ---- room for events
 
@@ -98,72 +98,88 @@ module _ (world : World) (ops : List Operation) (within : world.first ≤ length
   unsynced-grown : (entries : List Entry) → is_unsynced (grown world ops) entries ≡ is_unsynced world entries
   unsynced-grown entries = ap (λ (b : Bool). b && not (list_any (λ e. is_resync_end e.event) entries)) dirty-grown
 
-  ledger-grown : (entries : List Entry) (k j : ℕ) → ledger_of (grown world ops) entries k j ≡ ledger_of world entries k j
-  ledger-grown entries k j = λ i. record {
-    values = values_of (opening-grown world ops within i) (take j entries);
-    gone = is_gone_by entries k j;
-    unclean = unsynced-grown (take k entries) i || is_written entries k j;
-    carried = λ number. true;
+  told-grown : (work : Work) (entries more : List Entry) → told_by (grown world ops) work entries more ≡ told_by world work entries more
+  told-grown work entries more = λ i. record {
+    size = length_of (length (opening-grown world ops within i)) (entries ++ more);
+    values = values_of (opening-grown world ops within i) (entries ++ more);
+    gone = is_gone_now (entries ++ more);
+    unclean = unsynced-grown entries i || (is_unsettled entries || list_any (λ e. unsettles e.event) more);
+    reshaping = false;
+    carried = is_carried work;
   }
 
   now-grown : (work : Work) (entries : List Entry) → ledger_now (grown world ops) work entries ≡ ledger_now world work entries
   now-grown work entries = λ i. record {
+    size = length_of (length (opening-grown world ops within i)) entries;
     values = values_of (opening-grown world ops within i) entries;
     gone = is_gone_now entries;
     unclean = unsynced-grown entries i || is_unsettled entries;
+    reshaping = false;
     carried = is_carried work;
   }
 
+-- ---- a mark that is judged
+
+-- what is filled in is right by the entries alone
+fills-by : (world : World) (entries : List Entry) (k j : ℕ) → k ≤ j → KeepShape entries → FillsRight world (take j entries) → ((role : ℕ) → is_gone world entries k j role ≡ false) ⊎ OpensFit world
+fills-by world entries k j le keep (inl none) = inl (λ role. (losses-gone world entries k j keep).gone role ∙ never-gone_by entries k j role le (none role))
+fills-by world entries k j le keep (inr fit) = inr fit
+
+-- Where each view is right by a ledger that tells no more than the first j entries, the mark is safe.
+seen-safe : (world : World) (given : Given) (entries : List Entry) (mark j : ℕ) (told : Ledger) (d : Disk) → mark ≤ length world.tape → IsJudgedBy world given entries mark j (take j entries)
+    → IsMoreTold told (judged_by world entries (made_by mark entries) j) → ((s k : ℕ) (v : Sector) → IsIn (may_hold world mark s k) v → IsIn (d s k) v)
+    → AreViewsRight (OpensFit world) world.scope given told d → IsSafeAt world entries mark
+seen-safe world given entries mark j told d in_time judged more within views =
+    views-safe world given entries mark d in_time within (λ c drawn. record {
+      j = j;
+      judged = take j entries;
+      by = judged;
+      seen = views-told (OpensFit world) given told (judged_by world entries (made_by mark entries) j) more world.scope d views c (record { eighth = λ s _. drawn s 8; ninth = λ s _. drawn s 9 });
+    })
+
 -- ---- the mark at which each entry is made
 
-module _ (world : World) (given : Given) (size : ℕ) (entries : List Entry) (start : given.start ≡ world.start) (sizes_are : world.scope.sizes ≡ sizes given) (ends : EndBy (length world.tape) entries)
-    (sized : length_of (length (opening_list world)) entries ≡ size) (keep : KeepShape entries) (fills : FillsRight world entries) where
+module _ (world : World) (given : Given) (entries : List Entry) (start : given.start ≡ world.start) (sizes_are : world.scope.sizes ≡ sizes given) (ends : EndBy (length world.tape) entries)
+    (keep : KeepShape entries) (fills : FillsRight world entries) where
   made-all : made_by (length world.tape) entries ≡ length entries
   made-all = made-past (length world.tape) entries ends
 
-  judged-last : IsJudgedBy world given entries (length world.tape) (length entries) size
+  judged-last : IsJudgedBy world given entries (length world.tape) (length entries) (take (length entries) entries)
   judged-last = record {
-    start = start;
     sizes_are = sizes_are;
-    within = omega arith;
     made = let all = made-all in omega (arith, all);
     running = let all = made-all in omega (arith, all);
-    sized = subst (λ (l : List Entry). length_of (length (opening_list world)) l ≡ size) (sym (take-length entries)) sized;
-    keep = keep;
-    fills = subst (λ (l : List Entry). FillsRight world l) (sym (take-length entries)) fills;
+    by = inl refl;
+    fills = fills-by world entries (made_by (length world.tape) entries) (length entries) (let all = made-all in omega (arith, all)) keep (subst (λ (l : List Entry). FillsRight world l) (sym (take-length entries)) fills);
   }
 
   -- where what it may leave is seen right by them, it is safe
-  pub safe-last : (work : Work) → AreViewsRight (OpensFit world) world.scope given size (ledger_now world work entries) (disk given.start world.tape) → IsSafeAt world entries (length world.tape)
+  pub safe-last : (work : Work) → AreViewsRight (OpensFit world) world.scope given (ledger_now world work entries) (disk given.start world.tape) → IsSafeAt world entries (length world.tape)
   safe-last work views =
-      views-are-safe world given entries (length world.tape) (length entries) size (disk given.start world.tape) judged-last
+      seen-safe world given entries (length world.tape) (length entries) (ledger_now world work entries) (disk given.start world.tape) (omega arith) judged-last
+      (subst (λ (k : ℕ). IsMoreTold (ledger_now world work entries) (judged_by world entries k (length entries))) (sym made-all) (now-ledger world work entries keep))
       (λ s k v may. subst (λ (l : List Operation). IsIn (disk given.start l s k) v) (take_all (length world.tape) world.tape (omega arith))
       (subst (λ (c : Contents). IsIn (disk c (take (length world.tape) world.tape) s k) v) (sym start) may))
-      (subst (λ (told : Ledger). AreViewsRight (OpensFit world) world.scope given size told (disk given.start world.tape))
-      (sym (ap (λ (k : ℕ). ledger_of world entries k (length entries)) made-all ∙ now-ledger world work entries))
-      (views-told (OpensFit world) given size (ledger_now world work entries) (any_carried (ledger_now world work entries)) (any-carried size (ledger_now world work entries)) world.scope (disk given.start world.tape) views))
+      views
 
 -- ---- a call
 
 -- what is needed of a history before it
-pub record IsBegun (world : World) (size : ℕ) (entries : List Entry) : Type 0 where
+pub record IsBegun (world : World) (entries : List Entry) : Type 0 where
   pub begun : world.first ≤ length world.tape
-  pub opened : length (opening_list world) ≡ size
   pub ends : EndBy (length world.tape) entries
 
-pub begun-of : {size : ℕ} {resync : Option ℕ} {members : Members} {entries : List Entry} (world : World) → IsRecorded world size resync members entries → IsBegun world size entries
-begun-of world was = record { begun = was.begun; opened = was.opened; ends = was.ends }
+pub begun-of : {size : ℕ} {resync : Option ℕ} {members : Members} {entries : List Entry} (world : World) → IsRecorded world size resync members entries → IsBegun world entries
+begun-of world was = record { begun = was.begun; ends = was.ends }
 
 -- The call enters some events that are told while it runs, and others behind them that stand only for its end.
-module _ (given : Given) (tape : List Operation) (scope : Scope) (first size : ℕ) (entries : List Entry) (old new : Members) (work work' : Work) (who : Who) (early late : List Event) (ops : List Operation)
-    (sizes_are : scope.sizes ≡ sizes given) (begun : IsBegun (world_in given tape scope first) size entries)
-    (sized : length_of size (entries ++ entries_of who (length (tape ++ ops)) early) ≡ size)
-    (sized-all : length_of size (entries ++ entries_of who (length (tape ++ ops)) (early ++ late)) ≡ size)
+module _ (given : Given) (tape : List Operation) (scope : Scope) (first : ℕ) (entries : List Entry) (old new : Members) (work work' : Work) (who : Who) (early late : List Event) (ops : List Operation)
+    (sizes_are : scope.sizes ≡ sizes given) (begun : IsBegun (world_in given tape scope first) entries)
     (keep : KeepShape (entries ++ entries_of who (length (tape ++ ops)) (early ++ late))) (none : GivesNone (entries_of who (length (tape ++ ops)) early))
     (fills : FillsRight (grown (world_in given tape scope first) ops) (entries ++ entries_of who (length (tape ++ ops)) (early ++ late)))
-    (was : IsSafe (world_in given tape scope first) given size old work entries) (rise : IsRisen ⊤ old new tape (tape ++ ops))
-    (stretch : KeepsSafe (world_in given tape scope first) given size (told_by (world_in given tape scope first) work' entries (entries_of who (length (tape ++ ops)) early)) new tape (tape ++ ops))
-    (last : IsSafeOver (world_in given tape scope first) given size (ledger_now (world_in given tape scope first) work' (entries ++ entries_of who (length (tape ++ ops)) (early ++ late))) new (tape ++ ops)) where
+    (was : IsSafe (world_in given tape scope first) given old work entries) (rise : IsRisen ⊤ old new tape (tape ++ ops))
+    (stretch : KeepsSafe (world_in given tape scope first) given (told_by (world_in given tape scope first) work' entries (entries_of who (length (tape ++ ops)) early)) new tape (tape ++ ops))
+    (last : IsSafeOver (world_in given tape scope first) given (ledger_now (world_in given tape scope first) work' (entries ++ entries_of who (length (tape ++ ops)) (early ++ late))) new (tape ++ ops)) where
   abbrev world : World
   world = world_in given tape scope first
 
@@ -191,9 +207,6 @@ module _ (given : Given) (tape : List Operation) (scope : Scope) (first size : �
   longer : length tape ≤ end
   longer = longer-by tape ops
 
-  list-long : length (opening_list later) ≡ size
-  list-long = ap (λ (l : List Sector). length l) (opening-grown world ops begun.begun) ∙ begun.opened
-
   first-all : take (length (entries ++ more)) all ≡ entries ++ more
   first-all = ap (take (length (entries ++ more))) all-parts ∙ take-append_seam (entries ++ more) rest
 
@@ -212,51 +225,52 @@ module _ (given : Given) (tape : List Operation) (scope : Scope) (first size : �
       ∙ ap (λ (l : List Entry). length entries + first_call_len l) (drop-append_seam entries (entries_of who end (early ++ late)))
       ∙ ap (λ (n : ℕ). length entries + n) (call-length who end (early ++ late))
 
-  judged-early : (mark : ℕ) → length tape ≤ mark → mark < end → IsJudgedBy later given all mark (length (entries ++ more)) size
+  judged-early : (mark : ℕ) → length tape ≤ mark → mark < end → IsJudgedBy later given all mark (length (entries ++ more)) (take (length (entries ++ more)) all)
   judged-early mark low high = record {
-    start = refl;
     sizes_are = sizes_are;
-    within = omega (arith, high);
-    made = let few : made_by mark all ≡ length entries = made-early mark low high in let both : length (entries ++ more) ≡ length entries + length more = length-append entries more in omega (arith, few, both);
+    made = made-in;
     running =
         let most : may_be_made all (made_by mark all) ≡ length entries + length (early ++ late) = may-early mark low high in
         let both : length (entries ++ more) ≡ length entries + length more = length-append entries more in
         let count : length more ≡ length early = length-entries who end early in
         let parts : length (early ++ late) ≡ length early + length late = length-append early late in
         omega (arith, most, both, count, parts);
-    sized = subst (λ (n : ℕ). length_of n (take (length (entries ++ more)) all) ≡ size) (sym list-long) (subst (λ (l : List Entry). length_of size l ≡ size) (sym first-all) sized);
-    keep = keep;
-    fills = subst (λ (l : List Entry). FillsRight later l) (sym first-all) (fills-early fills);
+    by = inl refl;
+    fills = fills-by later all (made_by mark all) (length (entries ++ more)) made-in keep (subst (λ (l : List Entry). FillsRight later l) (sym first-all) (fills-early fills));
   }
     where
+      made-in : made_by mark all ≤ length (entries ++ more)
+      made-in = let few : made_by mark all ≡ length entries = made-early mark low high in let both : length (entries ++ more) ≡ length entries + length more = length-append entries more in omega (arith, few, both)
+
       fills-early : FillsRight later all → FillsRight later (entries ++ more)
       fills-early (inl whole) = inl (none-lost-before (entries ++ more) rest (λ role. ap (λ (l : List Entry). is_lost l role) (sym all-parts) ∙ whole role))
       fills-early (inr good) = inr good
 
-  ledger-early : (mark : ℕ) → length tape ≤ mark → mark < end → ledger_of later all (made_by mark all) (length (entries ++ more)) ≡ any_carried (told_by world work' entries more)
-  ledger-early mark low high =
-      ap (λ (k : ℕ). ledger_of later all k (length (entries ++ more))) (made-early mark low high) ∙ ledger-grown world ops begun.begun all (length entries) (length (entries ++ more))
-      ∙ ap (λ (l : List Entry). ledger_of world l (length entries) (length (entries ++ more))) all-is ∙ told-ledger world work' entries more rest none
+  told-early : (mark : ℕ) → length tape ≤ mark → mark < end → IsMoreTold (told_by world work' entries more) (judged_by later all (made_by mark all) (length (entries ++ more)))
+  told-early mark low high =
+      subst (λ (k : ℕ). IsMoreTold (told_by world work' entries more) (judged_by later all k (length (entries ++ more)))) (sym (made-early mark low high))
+      (subst (λ (l : List Entry). IsMoreTold (told_by world work' entries more) (judged_by later l (length entries) (length (entries ++ more)))) (sym all-is)
+      (subst (λ (told : Ledger). IsMoreTold told (judged_by later (entries ++ (more ++ rest)) (length entries) (length (entries ++ more)))) (told-grown world ops begun.begun work' entries more)
+      (told-ledger later work' entries more rest none (subst (λ (l : List Entry). KeepShape l) all-is keep))))
 
   safe-early : (mark : ℕ) → length tape ≤ mark → mark < end → IsSafeAt later all mark
   safe-early mark low high =
-      views-are-safe later given all mark (length (entries ++ more)) size (disk given.start (take mark (tape ++ ops))) (judged-early mark low high) (λ s k v may. may)
-      (subst (λ (told : Ledger). AreViewsRight (OpensFit later) scope given size told (disk given.start (take mark (tape ++ ops)))) (sym (ledger-early mark low high))
-      (views-told (OpensFit later) given size (told_by world work' entries more) (any_carried (told_by world work' entries more)) (any-carried size (told_by world work' entries more)) scope (disk given.start (take mark (tape ++ ops)))
-      (subst (λ (sound : Type 0). AreViewsRight sound scope given size (told_by world work' entries more) (disk given.start (take mark (tape ++ ops)))) (sym (fit-grown world ops begun.begun))
-      (stretch.marks.each tt mark low (omega (arith, high))))))
+      seen-safe later given all mark (length (entries ++ more)) (told_by world work' entries more) (disk given.start (take mark (tape ++ ops))) (omega (arith, high)) (judged-early mark low high) (told-early mark low high)
+      (λ s k v may. may)
+      (subst (λ (sound : Type 0). AreViewsRight sound scope given (told_by world work' entries more) (disk given.start (take mark (tape ++ ops)))) (sym (fit-grown world ops begun.begun))
+      (stretch.marks.each tt mark low (omega (arith, high))))
 
   -- ---- its end
 
-  now-last : IsSafeOver later given size (ledger_now later work' all) new (tape ++ ops)
+  now-last : IsSafeOver later given (ledger_now later work' all) new (tape ++ ops)
   now-last =
-      subst (λ (told : Ledger). IsSafeNow (OpensFit later) scope given size told new (disk given.start (tape ++ ops))) (sym (now-grown world ops begun.begun work' all))
-      (subst (λ (sound : Type 0). IsSafeNow sound scope given size (ledger_now world work' all) new (disk given.start (tape ++ ops))) (sym (fit-grown world ops begun.begun)) last)
+      subst (λ (told : Ledger). IsSafeNow (OpensFit later) scope given told new (disk given.start (tape ++ ops))) (sym (now-grown world ops begun.begun work' all))
+      (subst (λ (sound : Type 0). IsSafeNow sound scope given (ledger_now world work' all) new (disk given.start (tape ++ ops))) (sym (fit-grown world ops begun.begun)) last)
 
   safe-end : IsSafeAt later all end
   safe-end =
-      safe-last later given size all refl sizes_are ends-all (subst (λ (n : ℕ). length_of n all ≡ size) (sym list-long) sized-all) keep fills work'
-      (safe-is-seen (OpensFit later) scope given size (ledger_now later work' all) new (tape ++ ops) now-last)
+      safe-last later given all refl sizes_are ends-all keep fills work'
+      (safe-is-seen (OpensFit later) scope given (ledger_now later work' all) new (tape ++ ops) now-last)
     where
       at-end : (events : List Event) → EndBy end (entries_of who end events)
       at-end [] = tt
@@ -275,10 +289,10 @@ module _ (given : Given) (tape : List Operation) (scope : Scope) (first size : �
     | inr after ↦ let is : mark ≡ end = omega (arith, high, after) in subst (λ (m : ℕ). IsSafeAt later all m) (sym is) safe-end
   ]
 
-  pub safe-call : IsSafe later given size new work' all
+  pub safe-call : IsSafe later given new work' all
   safe-call = record {
     past = calls-owe world entries (entries_of who end (early ++ late)) ops begun.begun begun.ends (made-from (length tape) end who (early ++ late) longer) was.past owed;
-    sound = throughout-kept world given size (told_by world work' entries more) new ops refl begun.begun stretch was.sound;
+    sound = throughout-kept world given (told_by world work' entries more) new ops refl begun.begun refl stretch was.sound;
     now = now-last;
     counted = λ live.
         let counted = was.counted (rise.left live) in
@@ -290,18 +304,17 @@ module _ (given : Given) (tape : List Operation) (scope : Scope) (first size : �
   }
 
 -- the same, over a tape and an end that are given
-abbrev pub IsSafeThen : Given → List Operation → Scope → ℕ → ℕ → List Entry → Members → Members → Work → Who → List Event → List Event → List Operation → ℕ → Type 0
-IsSafeThen given tape scope first size entries old new work' who early late tape' end =
-    length_of size (entries ++ entries_of who end early) ≡ size → length_of size (entries ++ entries_of who end (early ++ late)) ≡ size
-    → KeepShape (entries ++ entries_of who end (early ++ late)) → GivesNone (entries_of who end early) → FillsRight (world_in given tape' scope first) (entries ++ entries_of who end (early ++ late)) → IsRisen ⊤ old new tape tape'
-    → KeepsSafe (world_in given tape scope first) given size (told_by (world_in given tape scope first) work' entries (entries_of who end early)) new tape tape'
-    → IsSafeOver (world_in given tape scope first) given size (ledger_now (world_in given tape scope first) work' (entries ++ entries_of who end (early ++ late))) new tape'
-    → IsSafe (world_in given tape' scope first) given size new work' (entries ++ entries_of who end (early ++ late))
+abbrev pub IsSafeThen : Given → List Operation → Scope → ℕ → List Entry → Members → Members → Work → Who → List Event → List Event → List Operation → ℕ → Type 0
+IsSafeThen given tape scope first entries old new work' who early late tape' end =
+    KeepShape (entries ++ entries_of who end (early ++ late)) → GivesNone (entries_of who end early) → FillsRight (world_in given tape' scope first) (entries ++ entries_of who end (early ++ late)) → IsRisen ⊤ old new tape tape'
+    → KeepsSafe (world_in given tape scope first) given (told_by (world_in given tape scope first) work' entries (entries_of who end early)) new tape tape'
+    → IsSafeOver (world_in given tape scope first) given (ledger_now (world_in given tape scope first) work' (entries ++ entries_of who end (early ++ late))) new tape'
+    → IsSafe (world_in given tape' scope first) given new work' (entries ++ entries_of who end (early ++ late))
 
-pub safe-called : (given : Given) (tape : List Operation) (scope : Scope) (first size : ℕ) (entries : List Entry) (old new : Members) (work work' : Work) (who : Who) (early late : List Event) (ops tape' : List Operation) (end : ℕ)
-    → tape' ≡ tape ++ ops → end ≡ length (tape ++ ops) → scope.sizes ≡ sizes given → IsBegun (world_in given tape scope first) size entries → IsSafe (world_in given tape scope first) given size old work entries
-    → IsSafeThen given tape scope first size entries old new work' who early late tape' end
-safe-called given tape scope first size entries old new work work' who early late ops tape' end grown_is end_is sizes_are begun was =
-    subst (λ (l : List Operation). IsSafeThen given tape scope first size entries old new work' who early late l end) (sym grown_is)
-    (subst (IsSafeThen given tape scope first size entries old new work' who early late (tape ++ ops)) (sym end_is)
-    (λ sized sized-all keep none fills rise stretch last. safe-call given tape scope first size entries old new work work' who early late ops sizes_are begun sized sized-all keep none fills was rise stretch last))
+pub safe-called : (given : Given) (tape : List Operation) (scope : Scope) (first : ℕ) (entries : List Entry) (old new : Members) (work work' : Work) (who : Who) (early late : List Event) (ops tape' : List Operation) (end : ℕ)
+    → tape' ≡ tape ++ ops → end ≡ length (tape ++ ops) → scope.sizes ≡ sizes given → IsBegun (world_in given tape scope first) entries → IsSafe (world_in given tape scope first) given old work entries
+    → IsSafeThen given tape scope first entries old new work' who early late tape' end
+safe-called given tape scope first entries old new work work' who early late ops tape' end grown_is end_is sizes_are begun was =
+    subst (λ (l : List Operation). IsSafeThen given tape scope first entries old new work' who early late l end) (sym grown_is)
+    (subst (IsSafeThen given tape scope first entries old new work' who early late (tape ++ ops)) (sym end_is)
+    (λ keep none fills rise stretch last. safe-call given tape scope first entries old new work work' who early late ops sizes_are begun keep none fills was rise stretch last))

@@ -26,9 +26,10 @@ use Rattle.flat_history.specs.Losses.{was_dirty}
 use Rattle.flat_history.specs.Epochs.{OpensAlike}
 use Rattle.flat_history.specs.Plain.{entries_of}
 use Rattle.flat_history.specs.OneShape.{opening_in, is_absent_at_first}
-use Rattle.views.specs.Held.{IsHeldBy}
+use Rattle.shape_changes.specs.Held.{IsHeldBy}
 use Rattle.views.specs.Whole.{list_size}
-use Rattle.views.specs.Placed.{places_of, IsPlaced, AreUnlost}
+use Rattle.views.specs.Placed.{places_of, IsPlaced}
+use Rattle.shape_changes.specs.Steady.{AreUnlost}
 use Rattle.views.specs.Lacking.{ListStands, RowsStand, AreHoldersFlushed}
 use Rattle.array_kept.specs.Kept.{world_in, AreSectorsWhole, AreUsed}
 use Rattle.flat_history.specs.Opened.{OpensGood}

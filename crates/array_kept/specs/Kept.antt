@@ -20,10 +20,10 @@ use Rattle.flat_history.specs.Epochs.{HasRoomForEvents, OpensAlike}
 use Rattle.flat_history.specs.Growing.{EndBy, IsSafeThroughout}
 use Rattle.flat_history.specs.OneShape.{opening_in, is_gone_now, is_spare_now, is_unsettled, IsOneShapeLegal, is_used_now}
 use Rattle.views.specs.Whole.{list_size}
-use Rattle.views.specs.Views.{Ledger}
-use Rattle.views.specs.Steady.{IsSafeOver}
-use Rattle.views.specs.Placed.{places_of, AreWhole, IsPlaced, AreUnlost}
-use Rattle.views.specs.Safety.{HasLiveSlot}
+use Rattle.shape_views.specs.Views.{Ledger}
+use Rattle.shape_changes.specs.Steady.{IsSafeOver, AreUnlost}
+use Rattle.views.specs.Placed.{places_of, AreWhole, IsPlaced}
+use Rattle.shape_changes.specs.Safety.{HasLiveSlot}
 use Rattle.views.specs.declared.work.Work.{Work}
 use Rattle.views.specs.Status.{stripes_of, left_of}
 use Rattle.views.specs.Numbers.{is_carried}
@@ -83,22 +83,24 @@ pub record IsCounted (world : World) (members : Members) : Type 0 where
   pub is : reading_at world world.first ≡ Some found
   pub events : members.newest.events + world.first ≤ found.newest.events + length world.tape
 
--- what the whole history tells: the values of each sector, the roles that are gone, and whether a write may be unsettled; and the numbers
--- that are known
+-- what the whole history tells: how long the list is and the values of each sector, the roles that are gone, and whether a write may be
+-- unsettled; and the numbers that are known. The array has no reshape yet.
 abbrev pub ledger_now : World → Work → List Entry → Ledger
 ledger_now world work entries = record {
+  size = length_of (length (opening_list world)) entries;
   values = values_of (opening_list world) entries;
   gone = is_gone_now entries;
   unclean = is_unsynced world entries || is_unsettled entries;
+  reshaping = false;
   carried = is_carried work;
 }
 
 -- Every mark so far is safe and leaves sound images, what a stop may leave now is right, and the next update may start; as long as a live
 -- slot is left, the event count has room.
-pub record IsSafe (world : World) (given : Given) (size : ℕ) (members : Members) (work : Work) (entries : List Entry) : Type 0 where
+pub record IsSafe (world : World) (given : Given) (members : Members) (work : Work) (entries : List Entry) : Type 0 where
   pub past : IsSafeThroughout world entries
   pub sound : OpensFit world → LeavesSoundThroughout world
-  pub now : IsSafeOver world given size (ledger_now world work entries) members world.tape
+  pub now : IsSafeOver world given (ledger_now world work entries) members world.tape
   pub counted : HasLiveSlot members → IsCounted world members
 
 -- The list stands on the members that are there, as long as they suffice, and what is missing or a spare is what was told so; what was rebuilt on recovering
@@ -127,7 +129,7 @@ pub record IsKept (tells : Type 0) (given : Given) (tape : List Operation) (scop
   pub dirty : DoesWithout members → IsSome work.resync → is_clean members.newest ≡ false
   pub unclean : is_clean members.newest ≡ false → (is_some work.resync || is_unsettled entries) ≡ true
   pub safe : tells → FillsRight (world_in given tape scope first) entries → HasRoomForEvents (world_in given tape scope first) → OpensAlike (world_in given tape scope first)
-      → IsSafe (world_in given tape scope first) given (list_size (places_of members)) members work entries
+      → IsSafe (world_in given tape scope first) given members work entries
 
 -- what an array keeps besides: each slot that wasn't found sound has failed, and there is room for the entries of so many steps and of its
 -- end, and buffers for the rows of one call

@@ -21,8 +21,9 @@ use Rattle.flat_history.specs.OneShape.{opening_in, is_absent_at_first, is_used_
 use Rattle.flat_history.specs.Epochs.{OpensAlike}
 use Rattle.flat_history.proofs.GivenLaws.{holder-given}
 use Rattle.views.specs.Whole.{Places, list_size}
-use Rattle.views.specs.Placed.{places_of, IsPlaced, AreUnlost}
-use Rattle.views.specs.Held.{IsHeldBy}
+use Rattle.views.specs.Placed.{places_of, IsPlaced}
+use Rattle.shape_changes.specs.Steady.{AreUnlost}
+use Rattle.shape_changes.specs.Held.{IsHeldBy}
 use Rattle.views.specs.Lacking.{DoesWithout, ListStands, RowsStand, AreHoldersFlushed}
 use Rattle.array_kept.specs.Kept.{world_in, AreSectorsWhole, AreUsed}
 use Rattle.views.specs.Rebuilding.{AreSparesFree, MayHold}

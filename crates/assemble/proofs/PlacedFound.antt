@@ -13,7 +13,7 @@ use Rattle.md_base.specs.declared.places.Shape.{Shape}
 use Rattle.md_base.specs.declared.answers.Refusal.{Refusal}
 use Rattle.md_base.specs.declared.answers.Refusal.TheVariants.{NoSuperblock, BadField}
 use Rattle.md_base.specs.Shapes.{is_valid_shape, is_multiple, is_level, is_layout, has_slot}
-use Rattle.md_base.specs.Search.{tabulate, least_below}
+use Rattle.md_base.specs.Search.{tabulate}
 use Rattle.md_base.proofs.Tabulated.{length-tabulate, get_or-tabulate}
 use Rattle.sb1.specs.declared.sb.Sb.{Sb}
 use Rattle.bank.specs.Given.{Given, sizes}
@@ -27,7 +27,8 @@ use Rattle.superblock_reads.proofs.Accepted.{IsAccepted, is-accepted}
 use Rattle.superblocks.proofs.ValidFields.{few-roles}
 use Rattle.row_io.specs.Rows.{reading_of}
 use Rattle.row_io.proofs.Apart.{readings-are-apart}
-use Rattle.views.specs.Placed.{IsPlaced, AreUnlost}
+use Rattle.views.specs.Placed.{IsPlaced}
+use Rattle.shape_changes.specs.Steady.{AreUnlost}
 use Rattle.views.specs.Rebuilding.{AreSparesFree}
 use Rattle.assemble.specs.Opening.{AreOfGiven, AreCounted}
 use Rattle.assemble.proofs.Judged.{elected-valid, reading-made}

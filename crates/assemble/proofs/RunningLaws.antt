@@ -29,7 +29,8 @@ use Rattle.flat_history.specs.Epochs.{OpensAlike}
 use Rattle.flat_history.specs.Opened.{IsSound, OpensSound}
 use Rattle.array.specs.declared.spec.CreateSpec.{CreateSpec}
 use Rattle.views.specs.Parts.{Parts}
-use Rattle.views.specs.Placed.{places_of, AreWhole, AreUnlost}
+use Rattle.views.specs.Placed.{places_of, AreWhole}
+use Rattle.shape_changes.specs.Steady.{AreUnlost}
 use Rattle.views.specs.Lacking.{DoesWithout}
 use Rattle.views.specs.Rebuilding.{AreSparesFree}
 use Rattle.array_kept.specs.Kept.{world_in, scope_in}

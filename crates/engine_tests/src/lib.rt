@@ -2,10 +2,6 @@
 #![tactic(auto)]
 
 #[cfg(test)]
-mod arrays;
-#[cfg(test)]
-mod openings;
-#[cfg(test)]
 mod running;
 #[cfg(test)]
 mod shared;

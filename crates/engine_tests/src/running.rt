@@ -1,6 +1,6 @@
 //! Arrays that run: made or found, written, read and to be resynced; and those in which a role is being rebuilt, or can be.
 
-use crate::arrays::{
+use array_samples::{
     SHAPE, SPEC, bank_of, created, found, made, next_call, put, put_all, read, write,
 };
 use array::Array;

@@ -2,7 +2,7 @@
 
 ghost use Rattle.shared_array.specs.Replies.{IsAskable};
 
-use crate::arrays::{bank_of, created, fail, found, next_call, read, write};
+use array_samples::{bank_of, created, fail, found, next_call, read, write};
 use array::Array;
 use bank::MemoryBank;
 use flat_history::{Event, Request};

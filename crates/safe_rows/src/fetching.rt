@@ -9,16 +9,16 @@ ghost use Rattle.superblocks.specs.Reading.{shape_of, is_clean};
 ghost use Rattle.row_io.specs.Rows.{reading_of, present};
 ghost use Rattle.list_io.specs.Calls.{AreLost, IsAnswer};
 ghost use Rattle.views.specs.Whole.{list_size};
-ghost use Rattle.views.specs.Placed.{places_of, AreWhole, IsPlaced, AreUnlost};
+ghost use Rattle.views.specs.Placed.{places_of, AreWhole, IsPlaced};
+ghost use Rattle.shape_changes.specs.Steady.{AreUnlost, IsSafeOver, KeepsSafe, AreGoneTold, IsUncleanTold};
 ghost use Rattle.views.specs.Rebuilding.{AreSparesFree};
-ghost use Rattle.views.specs.Marking.{AreOthersPresent};
+ghost use Rattle.shape_changes.specs.Marking.{AreOthersPresent};
 ghost use Rattle.views.specs.Moving.{Grows, IsMoved};
 ghost use Rattle.views.specs.Lacking.{HaveFailedSince, IsAskedBeyond, IsUnread, ListStands, RowsStandBelow};
 ghost use Rattle.safe_updates.specs.First.{read_refusal};
 ghost use Rattle.flat_history.specs.World.{World};
-ghost use Rattle.views.specs.Safety.{HasRoomLeft, IsRisen};
-ghost use Rattle.views.specs.Views.{Ledger};
-ghost use Rattle.views.specs.Steady.{IsSafeOver, KeepsSafe, AreGoneTold, IsUncleanTold};
+ghost use Rattle.shape_changes.specs.Safety.{HasRoomLeft, IsRisen};
+ghost use Rattle.shape_views.specs.Views.{Ledger};
 
 use bank::Bank;
 use list_io::{Outcome, read_list};
@@ -110,9 +110,9 @@ pub fn fetch<B: Bank>(
     ensures kept { AreWhole members.new → members.new ≡ members.old }
     ensures tape { AreWhole members.new → B.tells → B.tape bank.new ≡ B.tape bank.old }
     ensures rise { IsRisen B.tells members.old members.new (B.tape bank.old) (B.tape bank.new) }
-    ensures safe { B.tells → (world : World) → (size : ℕ) → (told : Ledger) → HasRoomLeft members.old (B.tape bank.old) (B.tape bank.new)
-        → AreGoneTold told members.new → IsUncleanTold told members.old → IsSafeOver world (B.given bank.old) size told members.old (B.tape bank.old)
-        → KeepsSafe world (B.given bank.old) size told members.new (B.tape bank.old) (B.tape bank.new) }
+    ensures safe { B.tells → (world : World) → (told : Ledger) → HasRoomLeft members.old (B.tape bank.old) (B.tape bank.new)
+        → AreGoneTold told members.new → IsUncleanTold told members.old → IsSafeOver world (B.given bank.old) told members.old (B.tape bank.old)
+        → KeepsSafe world (B.given bank.old) told members.new (B.tape bank.old) (B.tape bank.new) }
     ensures given { B.given bank.new ≡ B.given bank.old }
     ensures counts { NeverFalls (B.faults_of bank.old) (B.faults_of bank.new) }
 {

@@ -9,16 +9,16 @@ ghost use Rattle.superblocks.specs.Reading.{shape_of, is_clean, role_state};
 ghost use Rattle.row_io.specs.Rows.{reading_of, present};
 ghost use Rattle.list_io.specs.Full.{AreWholeIn, RowStands};
 ghost use Rattle.list_io.specs.Writing.{HasFull};
-ghost use Rattle.views.specs.Placed.{IsPlaced, AreUnlost};
+ghost use Rattle.views.specs.Placed.{IsPlaced};
+ghost use Rattle.shape_changes.specs.Steady.{AreUnlost, IsSafeOver, KeepsSafe, AreGoneTold, AreWritesAllowed};
 ghost use Rattle.views.specs.Rebuilding.{AreSparesFree};
 ghost use Rattle.views.specs.Moving.{Grows, IsMoved};
-ghost use Rattle.views.specs.Safety.{HasRoomLeft, IsRisen};
+ghost use Rattle.shape_changes.specs.Safety.{HasRoomLeft, IsRisen};
 ghost use Rattle.views.specs.Status.{stripes_of};
 ghost use Rattle.views.specs.Lacking.{HaveFailedSince, DoesWithout, IsUnwritten, ListStands, IsOfStripe, mended_rows};
 ghost use Rattle.safe_updates.specs.First.{write_refusal};
 ghost use Rattle.flat_history.specs.World.{World};
-ghost use Rattle.views.specs.Views.{Ledger};
-ghost use Rattle.views.specs.Steady.{IsSafeOver, KeepsSafe, AreGoneTold, AreWritesAllowed};
+ghost use Rattle.shape_views.specs.Views.{Ledger};
 
 use crate::putting::put;
 use bank::Bank;
@@ -97,10 +97,10 @@ pub fn mend<B: Bank>(
         → HasFull (reading_of members.old) (present (B.given bank.old) (B.tape bank.old)) shape.now list row role slot
         → HasFull (reading_of members.new) (present (B.given bank.old) (B.tape bank.new)) shape.now list row role slot }
     ensures rise { IsRisen B.tells members.old members.new (B.tape bank.old) (B.tape bank.new) }
-    ensures safe { B.tells → (world : World) → (size : ℕ) → (told : Ledger) → HasRoomLeft members.old (B.tape bank.old) (B.tape bank.new)
+    ensures safe { B.tells → (world : World) → (told : Ledger) → HasRoomLeft members.old (B.tape bank.old) (B.tape bank.new)
         → AreGoneTold told members.new → told.unclean ≡ true → (list : ℕ → Sector) → ListStands members.old (present (B.given bank.old) (B.tape bank.old)) list
-        → AreWritesAllowed members.old told.values list → IsSafeOver world (B.given bank.old) size told members.old (B.tape bank.old)
-        → KeepsSafe world (B.given bank.old) size told members.new (B.tape bank.old) (B.tape bank.new) }
+        → AreWritesAllowed members.old told.values list → IsSafeOver world (B.given bank.old) told members.old (B.tape bank.old)
+        → KeepsSafe world (B.given bank.old) told members.new (B.tape bank.old) (B.tape bank.new) }
     ensures given { B.given bank.new ≡ B.given bank.old }
     ensures counts { NeverFalls (B.faults_of bank.old) (B.faults_of bank.new) }
     ensures rows { vec_capacity rows.old ≤ vec_capacity rows.new }

@@ -10,17 +10,17 @@ ghost use Rattle.row_io.specs.Rows.{reading_of, present};
 ghost use Rattle.list_io.specs.Buffers.{buffered, AreDistinct, AreStanding, AreTouched, IsTouched};
 ghost use Rattle.list_io.specs.Full.{AreWholeIn, RowStands};
 ghost use Rattle.list_io.specs.Writing.{IsWritten, AreDataFrom, HasFull};
-ghost use Rattle.views.specs.Placed.{places_of, AreWhole, IsPlaced, AreUnlost};
+ghost use Rattle.views.specs.Placed.{places_of, AreWhole, IsPlaced};
+ghost use Rattle.shape_changes.specs.Steady.{AreUnlost, IsSafeOver, KeepsSafe, AreGoneTold, AreWritesAllowed};
 ghost use Rattle.views.specs.Rebuilding.{AreSparesFree};
 ghost use Rattle.views.specs.Moving.{Grows, IsMoved};
 ghost use Rattle.views.specs.Whole.{list_size};
-ghost use Rattle.views.specs.Marking.{AreOthersPresent};
-ghost use Rattle.views.specs.Safety.{HasMarkRoom, HasRoomLeft, IsRisen};
+ghost use Rattle.shape_changes.specs.Marking.{AreOthersPresent};
+ghost use Rattle.shape_changes.specs.Safety.{HasMarkRoom, HasRoomLeft, IsRisen};
 ghost use Rattle.views.specs.Lacking.{HaveFailedSince, AreTooMany, IsUnwritten, ListStands, RowsStandAmong, AreBytes, AreRowsRead, AreRowsWritten, IsListPut};
 ghost use Rattle.safe_updates.specs.First.{write_refusal};
 ghost use Rattle.flat_history.specs.World.{World};
-ghost use Rattle.views.specs.Views.{Ledger};
-ghost use Rattle.views.specs.Steady.{IsSafeOver, KeepsSafe, AreGoneTold, AreWritesAllowed};
+ghost use Rattle.shape_views.specs.Views.{Ledger};
 
 use bank::Bank;
 use list_io::{read_touched, write_touched};
@@ -87,9 +87,9 @@ fn write_stretch<B: Bank>(
     ensures clean { is_clean members.new.newest ≡ is_clean members.old.newest }
     ensures kept { AreWhole members.new → members.new ≡ members.old }
     ensures rise { IsRisen B.tells members.old members.new (B.tape bank.old) (B.tape bank.new) }
-    ensures safe { B.tells → (world : World) → (size : ℕ) → (told : Ledger) → is_clean members.old.newest ≡ false → (list list' : ℕ → Sector) → IsWritten list list' first from.now
-        → (B.tells → AreDataFrom start shape.now list rows.now buffer.old.items) → AreWritesAllowed members.old told.values list' → IsSafeOver world (B.given bank.old) size told members.old (B.tape bank.old)
-        → KeepsSafe world (B.given bank.old) size told members.new (B.tape bank.old) (B.tape bank.new) }
+    ensures safe { B.tells → (world : World) → (told : Ledger) → is_clean members.old.newest ≡ false → (list list' : ℕ → Sector) → IsWritten list list' first from.now
+        → (B.tells → AreDataFrom start shape.now list rows.now buffer.old.items) → AreWritesAllowed members.old told.values list' → IsSafeOver world (B.given bank.old) told members.old (B.tape bank.old)
+        → KeepsSafe world (B.given bank.old) told members.new (B.tape bank.old) (B.tape bank.new) }
     ensures given { B.given bank.new ≡ B.given bank.old }
     ensures counts { NeverFalls (B.faults_of bank.old) (B.faults_of bank.new) }
     ensures size { length buffer.new.items ≡ length buffer.old.items }
@@ -137,10 +137,10 @@ fn put_stretch<B: Bank>(
     ensures clean { is_clean members.new.newest ≡ is_clean members.old.newest }
     ensures kept { AreWhole members.new → members.new ≡ members.old }
     ensures rise { IsRisen B.tells members.old members.new (B.tape bank.old) (B.tape bank.new) }
-    ensures safe { B.tells → (world : World) → (size : ℕ) → (told : Ledger) → HasRoomLeft members.old (B.tape bank.old) (B.tape bank.new)
+    ensures safe { B.tells → (world : World) → (told : Ledger) → HasRoomLeft members.old (B.tape bank.old) (B.tape bank.new)
         → AreGoneTold told members.new → told.unclean ≡ true → is_clean members.old.newest ≡ false → (list list' : ℕ → Sector) → IsWritten list list' first from.now
-        → (B.tells → AreDataFrom start shape.now list rows.now buffer.old.items) → AreWritesAllowed members.old told.values list' → IsSafeOver world (B.given bank.old) size told members.old (B.tape bank.old)
-        → KeepsSafe world (B.given bank.old) size told members.new (B.tape bank.old) (B.tape bank.new) }
+        → (B.tells → AreDataFrom start shape.now list rows.now buffer.old.items) → AreWritesAllowed members.old told.values list' → IsSafeOver world (B.given bank.old) told members.old (B.tape bank.old)
+        → KeepsSafe world (B.given bank.old) told members.new (B.tape bank.old) (B.tape bank.new) }
     ensures given { B.given bank.new ≡ B.given bank.old }
     ensures counts { NeverFalls (B.faults_of bank.old) (B.faults_of bank.new) }
     ensures size { length buffer.new.items ≡ length buffer.old.items }
@@ -197,10 +197,10 @@ fn put_rows<B: Bank>(
     ensures clean { is_clean members.new.newest ≡ is_clean members.old.newest }
     ensures kept { AreWhole members.new → members.new ≡ members.old }
     ensures rise { IsRisen B.tells members.old members.new (B.tape bank.old) (B.tape bank.new) }
-    ensures safe { B.tells → (world : World) → (size : ℕ) → (told : Ledger) → HasRoomLeft members.old (B.tape bank.old) (B.tape bank.new)
+    ensures safe { B.tells → (world : World) → (told : Ledger) → HasRoomLeft members.old (B.tape bank.old) (B.tape bank.new)
         → AreGoneTold told members.new → told.unclean ≡ true → is_clean members.old.newest ≡ false → (list list' : ℕ → Sector) → IsWritten list list' first from.now
-        → (B.tells → AreDataFrom 0 shape.now list rows.now buffer.old.items) → AreWritesAllowed members.old told.values list' → IsSafeOver world (B.given bank.old) size told members.old (B.tape bank.old)
-        → KeepsSafe world (B.given bank.old) size told members.new (B.tape bank.old) (B.tape bank.new) }
+        → (B.tells → AreDataFrom 0 shape.now list rows.now buffer.old.items) → AreWritesAllowed members.old told.values list' → IsSafeOver world (B.given bank.old) told members.old (B.tape bank.old)
+        → KeepsSafe world (B.given bank.old) told members.new (B.tape bank.old) (B.tape bank.new) }
     ensures given { B.given bank.new ≡ B.given bank.old }
     ensures counts { NeverFalls (B.faults_of bank.old) (B.faults_of bank.new) }
     ensures size { length buffer.new.items ≡ length buffer.old.items }
@@ -261,9 +261,9 @@ fn prepare<B: Bank>(
     ensures below { (row : ℕ) → Contains rows.new.items row → row < members.new.newest.size }
     ensures few { length rows.new.items ≤ count }
     ensures rise { IsRisen B.tells members.old members.new (B.tape bank.old) (B.tape bank.new) }
-    ensures safe { B.tells → (world : World) → (size : ℕ) → (told : Ledger) → HasRoomLeft members.old (B.tape bank.old) (B.tape bank.new)
-        → AreGoneTold told members.new → told.unclean ≡ true → IsSafeOver world (B.given bank.old) size told members.old (B.tape bank.old)
-        → KeepsSafe world (B.given bank.old) size told members.new (B.tape bank.old) (B.tape bank.new) }
+    ensures safe { B.tells → (world : World) → (told : Ledger) → HasRoomLeft members.old (B.tape bank.old) (B.tape bank.new)
+        → AreGoneTold told members.new → told.unclean ≡ true → IsSafeOver world (B.given bank.old) told members.old (B.tape bank.old)
+        → KeepsSafe world (B.given bank.old) told members.new (B.tape bank.old) (B.tape bank.new) }
     ensures given { B.given bank.new ≡ B.given bank.old }
     ensures counts { NeverFalls (B.faults_of bank.old) (B.faults_of bank.new) }
     ensures rows { vec_capacity rows.old ≤ vec_capacity rows.new }
@@ -342,11 +342,11 @@ pub fn put<B: Bank>(
     ensures stays { is_clean members.old.newest ≡ false → is_clean members.new.newest ≡ false }
     ensures untouched { result.begun ≡ false → B.tells → AreOthersPresent (present (B.given bank.old) (B.tape bank.old)) (present (B.given bank.old) (B.tape bank.new)) }
     ensures rise { IsRisen B.tells members.old members.new (B.tape bank.old) (B.tape bank.new) }
-    ensures safe { B.tells → (world : World) → (size : ℕ) → (told : Ledger) → HasRoomLeft members.old (B.tape bank.old) (B.tape bank.new)
+    ensures safe { B.tells → (world : World) → (told : Ledger) → HasRoomLeft members.old (B.tape bank.old) (B.tape bank.new)
         → AreGoneTold told members.new → told.unclean ≡ true → (list list' : ℕ → Sector) → IsWritten list list' first from.now
         → ListStands members.old (present (B.given bank.old) (B.tape bank.old)) list → (synced ≡ true → AreWhole members.new ⊎ RowsStandAmong (IsTouched shape.now first count) members.old (present (B.given bank.old) (B.tape bank.old)) list)
-        → (result.begun ≡ true → AreWritesAllowed members.old told.values list') → IsSafeOver world (B.given bank.old) size told members.old (B.tape bank.old)
-        → KeepsSafe world (B.given bank.old) size told members.new (B.tape bank.old) (B.tape bank.new) }
+        → (result.begun ≡ true → AreWritesAllowed members.old told.values list') → IsSafeOver world (B.given bank.old) told members.old (B.tape bank.old)
+        → KeepsSafe world (B.given bank.old) told members.new (B.tape bank.old) (B.tape bank.new) }
     ensures given { B.given bank.new ≡ B.given bank.old }
     ensures counts { NeverFalls (B.faults_of bank.old) (B.faults_of bank.new) }
     ensures rows { vec_capacity rows.old ≤ vec_capacity rows.new }

@@ -15,15 +15,15 @@ use Rattle.superblocks.specs.Stages.{AreLeft}
 use Rattle.superblock_reads.proofs.StageReads.{held-reads}
 use Rattle.superblock_reads.proofs.RoundsRead.{more-held}
 use Rattle.row_io.specs.Rows.{role_without, members_without}
-use Rattle.views.specs.Held.{IsHeldBy}
+use Rattle.shape_changes.specs.Held.{IsHeldBy}
 use Rattle.views.specs.Lacking.{AreUnnamed}
-use Rattle.views.specs.Marking.{marking}
-use Rattle.views.specs.Placed.{IsPlaced, AreUnlost}
+use Rattle.shape_changes.specs.Marking.{marking}
+use Rattle.views.specs.Placed.{IsPlaced}
+use Rattle.shape_changes.specs.Steady.{AreUnlost, IsSteady, IsNamedNow}
 use Rattle.views.specs.Rebuilding.{AreSparesFree}
-use Rattle.views.specs.Views.{Ledger}
-use Rattle.views.specs.Steady.{IsSteady, IsNamedNow}
+use Rattle.shape_views.specs.Views.{Ledger}
 use Rattle.safe_updates.proofs.RolesNamed.{unnamed-named}
-use Rattle.views.proofs.Without.{in-both, any-holds, live-is}
+use Rattle.shape_changes.proofs.Without.{in-both, any-holds, live-is}
 
 -- a slot that is live wasn't lost
 pub live-unlost : (given : Given) (m : Members) → AreUnlost m → AreSparesFree given m → (clean : Bool) (s : ℕ) → has_slot (live_set m (marking m clean)) s ≡ true → has_slot m.lost s ≡ false
@@ -85,12 +85,12 @@ module _ (scope : Scope) (given : Given) (former : Members) (gone : ℕ) (d : �
       now-held : AreHeld scope held.known (bit_or former.lost gone) former.newest former.own d
       now-held = more-held scope held.known former.lost (bit_or former.lost gone) former.newest former.own d first-lost held.updated.held
 
-pub named-held : (sound : Type 0) (scope : Scope) (given : Given) (size : ℕ) (told : Ledger) (m : Members) (d : ℕ → ℕ → List Sector) → IsPlaced given m → AreUnlost m → AreSparesFree given m → AreUnnamed m
-    → IsSteady sound scope given size told m d → IsHeldBy scope m d
-named-held sound scope given size told m d placed unlost free unnamed steady =
+pub named-held : (sound : Type 0) (scope : Scope) (given : Given) (told : Ledger) (m : Members) (d : ℕ → ℕ → List Sector) → IsPlaced given m → AreUnlost m → AreSparesFree given m → AreUnnamed m
+    → IsSteady sound scope given told m d → IsHeldBy scope m d
+named-held sound scope given told m d placed unlost free unnamed steady =
     by (unnamed-named m d placed unnamed steady)
   where
-    by : IsNamedNow sound scope given size told m d → IsHeldBy scope m d
+    by : IsNamedNow sound scope given told m d → IsHeldBy scope m d
     by named =
         let is = named.steady.since.since in
         subst (λ (n : Members). IsHeldBy scope n d) (sym is)

@@ -1,43 +1,43 @@
 -- An update that makes a slot a spare keeps an array safe: each image is seen as before it, or without the slots that were lost, and at its end it
 -- is held, or no live slot is left.
-use Rattle.std.proofs.Common.{◌≡◌, ◌⊎◌, inl, inr, ⊎_elim, ℕ, ◌+◌, ◌^◌, ◌<◌, ◌≤◌, ◌==◌, ◌||◌, ◌&&◌, Bool, true, false, not, cond, nat_lt, bit_or, take, take_all, le_refl, List, length, Option, Some, None, replicate, refl, sym, ◌∙◌, ap, subst, arith}
-use Rattle.std.specs.Prelude.{⊤}
+use Rattle.std.proofs.Common.{◌≡◌, ◌≢◌, ◌⊎◌, inl, inr, ⊎_elim, ℕ, ◌+◌, ◌^◌, ◌<◌, ◌≤◌, ◌==◌, ◌||◌, ◌&&◌, Bool, true, false, not, cond, nat_lt, bit_or, take, take_all, le_refl, List, length, get_or, Option, Some, None, replicate, refl, sym, ◌∙◌, ap, subst, arith}
+use Rattle.std.specs.Prelude.{⊤, bytes_eq}
 use Rattle.std.specs.List.{list_any}
 use Rattle.std.proofs.lemmas.Bool.{cases_eq, cases_lt}
 use Rattle.std.proofs.lemmas.Bool.Decides.{nat_tests}
 use Rattle.md_base.specs.Sectors.{Sector}
 use Rattle.md_base.specs.Shapes.{has_slot}
-use Rattle.md_base.specs.declared.places.Shape.{Shape}
 use Rattle.md_base.specs.declared.status.Role.{Role}
+use Rattle.md_base.specs.declared.status.Role.TheVariants.{Missing}
 use Rattle.sb1.specs.declared.sb.Sb.{Sb}
 use Rattle.bank.specs.declared.bank.Operation.{Operation}
 use Rattle.bank.specs.Given.{Given}
 use Rattle.bank.specs.Tape.{Contents, IsIn, disk}
-use Rattle.layout.specs.Layout.{place}
+use Rattle.bank.proofs.Laws.{kept_in}
 use Rattle.superblocks.specs.declared.members.Members.{Members}
-use Rattle.superblocks.specs.Reading.{Scope, is_clean, shape_of, role_state, holder}
-use Rattle.superblocks.specs.Update.{own_in}
+use Rattle.superblocks.specs.Reading.{Scope, Reading, reading, reading_by, is_seen, is_whole, role_state, holder}
+use Rattle.superblocks.specs.Update.{own_in, planned, give_of, is_held_by}
 use Rattle.superblocks.specs.Updating.{IsSomeLeft}
-use Rattle.superblocks.specs.Outcome.{live_set, with_added}
+use Rattle.superblocks.specs.Outcome.{live_set, with_added, IsStored, IsPlannedOwn, is_in_update, is_left}
 use Rattle.superblocks.specs.Crash.{IsWithin}
-use Rattle.row_io.specs.Rows.{reading_of, is_missing, members_without}
-use Rattle.row_io.proofs.Losses.{holder-of}
-use Rattle.views.specs.Placed.{IsPlaced, AreUnlost, AreLess}
+use Rattle.row_io.specs.Rows.{reading_of, members_without}
+use Rattle.views.specs.Placed.{IsPlaced, AreLess}
+use Rattle.views.specs.Rebuilding.{with_spare, AreSparesFree}
+use Rattle.shape_changes.specs.Steady.{AreUnlost, AreGoneTold, with_number, IsSteady, IsSpent, IsSafeStretch, AreViewsRight}
 use Rattle.views.specs.Lacking.{AreUnnamed}
-use Rattle.views.specs.Marking.{adding, marking}
+use Rattle.shape_changes.specs.Marking.{adding, marking}
 use Rattle.views.specs.Numbers.{IsSpareSb, IsOfScope}
 use Rattle.views.specs.Moving.{IsMoved}
-use Rattle.views.specs.Rebuilding.{with_spare, AreSparesFree}
-use Rattle.views.specs.Views.{Ledger, IsViewRight}
-use Rattle.std.specs.Prelude.{bytes_eq}
+use Rattle.shape_views.specs.Regions.{IsReadOf}
+use Rattle.shape_views.specs.Views.{Disk, Ledger, IsViewRight}
+use Rattle.shape_views.specs.Windows.{IsUpdating}
+use Rattle.shape_views.proofs.Alike.{backup-alike}
+use Rattle.shape_views.proofs.WindowLaws.{updating-right}
 use Rattle.sb1.specs.Superblock.{checksum}
 use Rattle.superblocks.specs.declared.change.Give.{Give}
 use Rattle.superblocks.specs.declared.change.Give.TheVariants.{Same}
-use Rattle.superblocks.specs.Reading.{Reading, reading_by}
-use Rattle.superblocks.specs.Update.{planned, give_of, is_held_by}
-use Rattle.superblocks.specs.Outcome.{IsStored, IsPlannedOwn, is_in_update, is_left}
-use Rattle.superblocks.specs.Reads.{has_spare}
-use Rattle.superblocks.specs.Held.{IsStamped, IsSecondHalf}
+use Rattle.superblocks.specs.Reads.{SaysSame, has_spare, IsReadAs}
+use Rattle.superblocks.specs.Held.{IsStamped, IsSecondHalf, AreDrawn, said_by}
 use Rattle.superblocks.specs.Stages.{AreLeft, AreKept}
 use Rattle.superblocks.specs.Rounds.{round_at}
 use Rattle.superblock_reads.specs.Following.{AreHeldAlone}
@@ -46,94 +46,56 @@ use Rattle.superblock_reads.proofs.Following.{next-held}
 use Rattle.superblock_reads.proofs.RoundReads.{left_set, left-are}
 use Rattle.superblocks.proofs.SlotSets.{has-set_of, none_there}
 use Rattle.superblock_reads.proofs.StageReads.{held-reads}
-use Rattle.superblocks.specs.Reads.{IsReadAs}
-use Rattle.superblocks.specs.Held.{AreDrawn, said_by}
 use Rattle.superblocks.specs.Adding.{IsReadAsPlannedBut, IsReadInAdding, IsReadyToAdd}
-use Rattle.superblocks.proofs.ReadAlike.{tabulate-same}
+use Rattle.superblocks.proofs.ReadAlike.{count-same, tabulate-same}
+use Rattle.superblocks.proofs.ReadLists.{by_bool}
 use Rattle.superblocks.proofs.HeldReads.{known_at}
 use Rattle.superblock_reads.proofs.UpTo.{rounds-parts, end-room}
 use Rattle.superblock_laws.proofs.AddedReads.{added-before, added-fit}
 use Rattle.superblock_laws.proofs.AddedRounds.{in-first-reads, rounds-read, rounds-end, wider}
-use Rattle.views.specs.Held.{IsHeldBy}
-use Rattle.views.specs.Numbers.{AreCarried}
-use Rattle.views.specs.Readings.{IsReadAmong, AreReadAmong}
-use Rattle.views.specs.Safety.{HasMarkRoom}
-use Rattle.views.specs.Steady.{AreGoneTold, with_number, IsSteady, IsSpent, IsSafeStretch}
-use Rattle.views.specs.Views.{AreViewsRight}
+use Rattle.shape_changes.specs.Held.{IsHeldBy}
+use Rattle.shape_changes.specs.Carried.{AreCarried}
+use Rattle.shape_changes.specs.Safety.{HasMarkRoom}
 use Rattle.views.proofs.AddedMembers.{own-here, own-other, live-with, placed-with}
 use Rattle.safe_updates.proofs.AddedNamed.{named-held}
-use Rattle.views.proofs.AddedRows.{offset-with, held-with, data-with, parity-with}
 use Rattle.safe_updates.proofs.AddedSaid.{said-added, roles-are, spares-are}
-use Rattle.safe_updates.proofs.AddedStarts.{slot-unknown, starts as adding-starts}
+use Rattle.safe_updates.proofs.AddedStarts.{says-later, slot-unknown, live-known, starts as adding-starts}
+use Rattle.safe_updates.proofs.AddedViews.{with-less, less-view}
+use Rattle.safe_updates.proofs.MissingLaws.{missing-more}
+use Rattle.safe_updates.proofs.SaidReads.{read-of}
 use Rattle.safe_updates.proofs.AddedUpdates.{IsAddedBy, added-less, added-spares, added-moved, left-in-adding}
-use Rattle.views.proofs.HeldRows.{missing-moved}
-use Rattle.views.proofs.Carried.{IsRewritable, known-rewritable, numbers-touched}
+use Rattle.shape_changes.proofs.Carried.{IsRewritable, known-rewritable, numbers-touched}
 use Rattle.views.proofs.MarkEnds.{some-or-none as mark-left}
-use Rattle.views.proofs.MemberLaws.{less-without, placed-without, without-none}
-use Rattle.views.proofs.ReadOf.{read-of, read-among, disk-somewhere, said-of, still-read}
-use Rattle.views.proofs.Since.{since-none}
+use Rattle.shape_changes.proofs.Without.{state-without, without-none, in-both, any-without, live-is}
+use Rattle.views.proofs.SafeStretch.{gone-before}
+use Rattle.shape_changes.proofs.Stretch.{seen-own}
+use Rattle.shape_changes.proofs.ChangeViews.{known-read, placed-less}
+use Rattle.shape_changes.proofs.Drawn.{disk-somewhere, views-right}
+use Rattle.shape_changes.proofs.KeptSafe.{fits-alike, without-right, steady-right}
+use Rattle.shape_changes.proofs.LessViews.{less-right}
+use Rattle.shape_changes.proofs.Since.{since-none}
+use Rattle.shape_changes.specs.Updates.{IsLessView}
 use Rattle.safe_updates.proofs.SparesLaws.{spares-are as mark-spares}
-use Rattle.views.proofs.Without.{in-both, any-without, live-is}
-use Rattle.views.proofs.ViewsKept.{view-kept, list-same, missing-in, allowed-less, settled-less, did-without}
 
-abbrev Disk : Type 0
-Disk = ℕ → ℕ → List Sector
-
--- ---- a view of members with the new spare
-
-module _ (sound : Type 0) (given : Given) (size : ℕ) (told : Ledger) (m : Members) (slot : ℕ) (sb : Sb) (d : Disk) (with_placed : IsPlaced given (with_spare slot sb m))
-    (untaken : (role : ℕ) → holder (role_state (reading_of m) role) ≡ Some slot → ⊥) where
-  abbrev With : Members
-  With = with_spare slot sb m
-
-  pub view-with : IsViewRight sound given size told m d → IsViewRight sound given size told With d
-  view-with right = record {
-    placed = with_placed;
-    sized = right.sized;
-    gone = right.gone;
-    unclean = right.unclean;
-    held = λ x s lt held v may.
-        let at = place (shape_of m.newest) x in
-        let was = held-with m slot sb untaken at.role at.row s held in
-        right.held x s lt was v (subst (λ (n : ℕ). IsIn (d s (n + at.row)) v) (offset-with m slot sb untaken at.role s (holder-of (reading_of m) at.role at.row s was)) may);
-    settled = λ clean does premise.
-        let settled = right.settled clean does premise in
-        record {
-          list = settled.list;
-          allowed = settled.allowed;
-          rows = λ c drawn row lt.
-              let stands = settled.rows c drawn row lt in
-              record {
-                whole = stands.whole;
-                sectors = data-with m slot sb untaken c (shape_of m.newest) settled.list row stands.sectors;
-                parity = parity-with m slot sb untaken c (shape_of m.newest) settled.list row stands.parity;
-              };
-        };
-  }
-
--- ---- a view of members that lost more slots, whose roles are told
-
-pub view-less : (sound : Type 0) (given : Given) (size : ℕ) (told : Ledger) (lost : ℕ) (old view : Members) (d : Disk) → AreLess lost old view → IsPlaced given view → is_clean view.newest ≡ is_clean old.newest
-    → ((role : ℕ) → role < (shape_of view.newest).disks → is_missing (reading_of view) role ≡ true → told.gone role ≡ true) → IsViewRight sound given size told old d → IsViewRight sound given size told view d
-view-less sound given size told lost old view d less placed same gone right = record {
-  placed = placed;
-  sized = list-same given lost old view right.placed less ∙ right.sized;
-  gone = gone;
-  unclean = λ dirty. right.unclean (sym same ∙ dirty);
-  held = allowed-less given lost old view right.placed less told.values d right.held;
-  settled = λ clean does premise. settled-less given lost old view right.placed less told.values d (right.settled (sym same ∙ clean) (did-without given lost old view right.placed less does) premise);
-}
+-- The array is read there, as one of these members say.
+record IsReadAmong (scope : Scope) (P : Members → Type 0) (c : Contents) : Type 0 where
+  pub found : Reading
+  pub is : reading scope c ≡ Some found
+  pub members : Members
+  pub among : P members
+  pub same : IsReadOf scope members found
 
 -- ---- the update
 
-module _ (sound : Type 0) (scope : Scope) (given : Given) (size : ℕ) (told : Ledger) (former : Members) (missed : ℕ) (new : Members) (slot : ℕ) (sb : Sb) (before after : List Operation)
+module _ (sound : Type 0) (scope : Scope) (given : Given) (told : Ledger) (former : Members) (missed : ℕ) (new : Members) (slot : ℕ) (sb : Sb) (before after : List Operation)
     (did : IsAddedBy ⊤ given slot sb (members_without missed former) new before after) (held : IsHeldBy scope former (disk given.start before)) (unmissed : has_slot missed slot ≡ false)
     (placed : IsPlaced given (members_without missed former)) (with_placed : IsPlaced given (with_spare slot sb (members_without missed former))) (made : IsSpareSb given former.newest slot sb)
     (below : slot < 32) (long : length former.own ≡ 32) (small : bit_or former.lost missed < 2 ^ 32) (untaken : (role : ℕ) → holder (role_state (reading_of (members_without missed former)) role) ≡ Some slot → ⊥)
     (unknown : has_slot held.known slot ≡ false) (left : ℕ)
     (ready : former.newest.events + 1 < 2 ^ 62 → IsReadyToAdd scope held.known left (bit_or former.lost missed) (with_added (members_without missed former) (Some (slot, sb))) (adding (members_without missed former) slot sb)
     (live_set (members_without missed former) (adding (members_without missed former) slot sb)) slot (disk given.start before))
-    (room : HasMarkRoom (members_without missed former) before after) (gone : AreGoneTold told new) (right-first : IsViewRight sound given size told former (disk given.start before))
+    (room : HasMarkRoom (members_without missed former) before after) (gone : AreGoneTold told new) (right-first : IsViewRight sound scope given told former (disk given.start before))
+    (seen : is_seen scope slot ≡ true) (known-live : (s : ℕ) → s ≢ slot → has_slot (live_set (members_without missed former) (adding (members_without missed former) slot sb)) s ≡ true → has_slot held.known s ≡ true)
     (carried : AreCarried scope told.carried former.own (disk given.start before)) where
   abbrev m : Members
   m = members_without missed former
@@ -152,6 +114,10 @@ module _ (sound : Type 0) (scope : Scope) (given : Given) (size : ℕ) (told : L
 
   less : AreLess new.lost (with_spare slot sb m) new
   less = added-less did placed
+
+  -- the array's fields stay
+  says : SaysSame m.newest new.newest
+  says = says-later m.newest new.newest did.newest
 
   few-events : IsSomeLeft Live new.lost ⊎ (length before < length after) → new.newest.events < 2 ^ 62
   few-events grew = let rise = did.rise tt grew in omega (arith, rise, room)
@@ -185,7 +151,7 @@ module _ (sound : Type 0) (scope : Scope) (given : Given) (size : ℕ) (told : L
         is = read.is;
         members = former;
         among = inl refl;
-        same = read-of scope lost former (said_by scope held.known former.own former.newest) c (said-of scope held.known former held.said placed.still) read;
+        same = known-read scope held.known former held.said lost c read;
       }
 
   planned-read : new.newest.events < 2 ^ 62 → (c : Contents) (Unnamed : ℕ → Type 0) → ((s : ℕ) → Unnamed s → s ≡ slot)
@@ -219,12 +185,17 @@ module _ (sound : Type 0) (scope : Scope) (given : Given) (size : ℕ) (told : L
       later)
       (rounds-parts M (adding m slot sb) (with_spare slot sb m).lost Live new.lost new.newest.events Start (disk given.start (take n after)) few (did.rounds.each tt n low high))
 
-  read-at : (n : ℕ) → length before ≤ n → n ≤ length after → AreReadAmong scope Among (disk given.start (take n after))
-  read-at n low high = elim (cases_lt (length before) (length after)) [
-    | inl more ↦ read-among scope Among (disk given.start (take n after)) (disk-somewhere given (take n after)) (at-mark (few-events (inr more)) n low high)
-    | inr short ↦
-        subst (λ (tape : List Operation). AreReadAmong scope Among (disk given.start tape)) (sym (take_all n after (omega (arith, short, low)) ∙ sym (take_all (length before) after short) ∙ did.rounds.earlier tt))
-        (λ c drawn. let r = still-read scope given former before placed.still held c drawn in record { found = r.found; is = r.is; members = r.members; among = inl r.among; same = r.same })
+  -- where nothing was done it is read as before
+  start-read : (c : Contents) → AreDrawn Start c → IsReadAmong scope Among c
+  start-read c drawn =
+      let read = held.updated.reads c drawn in
+      record { found = read.found; is = read.is; members = former; among = inl refl; same = known-read scope held.known former held.said former.lost c read }
+
+  read-at : (n : ℕ) → length before ≤ n → n ≤ length after → (c : Contents) → AreDrawn (disk given.start (take n after)) c → IsReadAmong scope Among c
+  read-at n low high c drawn = elim (cases_lt (length before) (length after)) [
+    | inl more ↦ at-mark (few-events (inr more)) n low high c drawn
+    | inr short ↦ start-read c (subst (λ (tape : List Operation). AreDrawn (disk given.start tape) c)
+        (take_all n after (omega (arith, short, low)) ∙ sym (take_all (length before) after short) ∙ did.rounds.earlier tt) drawn)
   ]
 
   -- ---- each view is right
@@ -234,41 +205,82 @@ module _ (sound : Type 0) (scope : Scope) (given : Given) (size : ℕ) (told : L
   moved = added-moved did placed with_placed did.held
 
   gone-first : AreGoneTold told m
-  gone-first role lt missing = gone role (subst (λ (s : Shape). role < s.disks) (sym moved.shape) lt) (missing-moved moved role missing)
+  gone-first = gone-before given (with_spare slot sb m) new with_placed moved told gone
 
-  right : IsViewRight sound given size told m Start
-  right = view-less sound given size told missed former m Start (less-without former missed) placed refl gone-first right-first
+  right : IsViewRight sound scope given told m Start
+  right = without-right sound scope given told former missed Start right-first gone-first
 
   -- the new number is told too
-  first-more : IsViewRight sound given size More former Start
-  first-more = record { placed = right-first.placed; sized = right-first.sized; gone = right-first.gone; unclean = right-first.unclean; held = right-first.held; settled = right-first.settled }
+  first-more : IsViewRight sound scope given More former Start
+  first-more = record {
+    placed = right-first.placed;
+    sized = right-first.sized;
+    gone = right-first.gone;
+    unclean = right-first.unclean;
+    reshaping = right-first.reshaping;
+    held = right-first.held;
+    sections = right-first.sections;
+    settled = right-first.settled;
+  }
 
-  right-more : IsViewRight sound given size More m Start
-  right-more = record { placed = right.placed; sized = right.sized; gone = right.gone; unclean = right.unclean; held = right.held; settled = right.settled }
+  right-more : IsViewRight sound scope given More m Start
+  right-more = record {
+    placed = right.placed;
+    sized = right.sized;
+    gone = right.gone;
+    unclean = right.unclean;
+    reshaping = right.reshaping;
+    held = right.held;
+    sections = right.sections;
+    settled = right.settled;
+  }
 
-  right-with : IsViewRight sound given size More (with_spare slot sb m) Start
-  right-with = view-with sound given size More m slot sb Start with_placed untaken right-more
+  -- the new spare has no part in it
+  spare-less : IsLessView m (with_spare slot sb m)
+  spare-less = with-less m slot sb untaken
 
-  right-without : (lost : ℕ) → IsWithin lost new.lost → IsViewRight sound given size More (members_without lost (with_spare slot sb m)) Start
-  right-without lost within = view-less sound given size More lost (with_spare slot sb m) (members_without lost (with_spare slot sb m)) Start (less-without (with_spare slot sb m) lost) (placed-without given (with_spare slot sb m) lost with_placed) refl
-      (λ role lt missing. gone role (subst (λ (s : Shape). role < s.disks) (sym less.shape) lt)
-      (missing-in given lost (with_spare slot sb m) (members_without lost (with_spare slot sb m)) with_placed (less-without (with_spare slot sb m) lost) new.lost new less within role missing))
-      right-with
+  right-with : IsViewRight sound scope given More (with_spare slot sb m) Start
+  right-with = less-right sound scope given More m (with_spare slot sb m) Start spare-less
+      (placed-less scope given m (with_spare slot sb m) spare-less right.placed.fit right.placed.backup right.placed) right.gone right-more
 
-  view-at : (n : ℕ) → length before ≤ n → n ≤ length after → (view : Members) → IsViewRight sound given size More view Start → IsViewRight sound given size More view (disk given.start (take n after))
-  view-at n low high view is = view-kept given Start (disk given.start (take n after)) (disk-somewhere given before) (λ s k other. (did.update.marks.each tt n low high).touched.elsewhere s k other) sound size More view is
+  -- a role that lost its slot is missing in the end
+  gone-without : (lost : ℕ) → IsWithin lost new.lost → AreGoneTold told (members_without lost (with_spare slot sb m))
+  gone-without lost within role lt missing = gone role (let same = count-same m.newest new.newest says in omega (arith, lt, same))
+      (ap (λ (s : Role). not (is_whole s)) (ap (λ (l : List Role). get_or l role Missing) less.roles ∙ state-without new.lost m.roles role)
+      ∙ missing-more lost new.lost within (get_or m.roles role Missing) (ap (λ (s : Role). not (is_whole s)) (sym (state-without lost m.roles role)) ∙ missing))
 
-  seen-at : (n : ℕ) → length before ≤ n → n ≤ length after → AreViewsRight sound scope given size More (disk given.start (take n after))
-  seen-at n low high c drawn =
+  right-without : (lost : ℕ) → IsWithin lost new.lost → IsViewRight sound scope given More (members_without lost (with_spare slot sb m)) Start
+  right-without lost within = without-right sound scope given More (with_spare slot sb m) lost Start right-with (gone-without lost within)
+
+  -- the slots that are written aren't the backup's
+  no-backup : (s : ℕ) → has_slot Live s ≡ true → scope.backup ≡ Some s → ⊥
+  no-backup s live = elim (cases_eq s slot) [
+    | inl same ↦ seen-own scope s (ap (is_seen scope) same ∙ seen)
+    | inr other ↦ seen-own scope s (held.updated.held.each s (known-live s other live)).seen
+  ]
+
+  updating : (n : ℕ) → length before ≤ n → n ≤ length after → IsUpdating scope Start (disk given.start (take n after))
+  updating n low high s k = let touched = (did.update.marks.each tt n low high).touched in elim (cases_eq k 8) [
+    | inl same ↦ ⊎_elim (λ live. inr (same, no-backup s live))
+        (λ dead. inl (λ v is. subst (λ (l : List Sector). IsIn l v) (touched.others s k dead) is))
+        (by_bool (has_slot Live s))
+    | inr other ↦ inl (λ v is. kept_in (Start s k) (disk given.start (take n after) s k) v (touched.elsewhere s k other) is)
+  ]
+
+  view-at : (n : ℕ) → length before ≤ n → n ≤ length after → (view : Members) → IsViewRight sound scope given More view Start → IsViewRight sound scope given More view (disk given.start (take n after))
+  view-at n low high view is = updating-right sound scope given More view Start (disk given.start (take n after)) (disk-somewhere given before) (updating n low high) is
+
+  seen-at : (n : ℕ) → length before ≤ n → n ≤ length after → AreViewsRight sound scope given More (disk given.start (take n after))
+  seen-at n low high = views-right sound scope given More (disk given.start (take n after)) (disk-somewhere given (take n after)) (λ c drawn.
       let read = read-at n low high c drawn in
       record {
         found = read.found;
         is = read.is;
         view = read.members;
         same = read.same;
-        right = view-at n low high read.members (⊎_elim (λ is. subst (λ (v : Members). IsViewRight sound given size More v Start) (sym is) first-more)
-            (λ r. subst (λ (v : Members). IsViewRight sound given size More v Start) (sym r.2) (right-without r.0 r.1)) read.among);
-      }
+        right = view-at n low high read.members (⊎_elim (λ is. subst (λ (v : Members). IsViewRight sound scope given More v Start) (sym is) first-more)
+            (λ r. subst (λ (v : Members). IsViewRight sound scope given More v Start) (sym r.2) (right-without r.0 r.1)) read.among);
+      })
 
   -- what holds at each mark holds at the end
   at-end : (P : Disk → Type 0) → ((n : ℕ) → length before ≤ n → n ≤ length after → P (disk given.start (take n after))) → P (disk given.start after)
@@ -393,27 +405,35 @@ module _ (sound : Type 0) (scope : Scope) (given : Given) (size : ℕ) (told : L
       said = said;
     }
 
-    next-steady : IsPlaced given new → is_clean new.newest ≡ is_clean m.newest → IsSteady sound scope given size More new (disk given.start after)
-    next-steady new_placed clean = record {
+    -- the members at the end have no more than those with the spare
+    end-less : IsLessView (with_spare slot sb m) new
+    end-less = less-view new.lost (with_spare slot sb m) new less says
+
+    end-right : IsViewRight sound scope given More new Start
+    end-right = less-right sound scope given More (with_spare slot sb m) new Start end-less
+        (placed-less scope given (with_spare slot sb m) new end-less (fits-alike m.newest new.newest says right.placed.fit) (sym (backup-alike m.newest new.newest says scope) ∙ right.placed.backup) right-with.placed)
+        gone right-with
+
+    next-steady : IsSteady sound scope given More new (disk given.start after)
+    next-steady = record {
       former = new;
       since = since-none scope new (disk given.start after) held-new;
-      right = at-end (IsViewRight sound given size More new)
-          (λ n low high. view-at n low high new (view-less sound given size More new.lost (with_spare slot sb m) new Start less new_placed clean gone right-with));
+      right = at-end (IsViewRight sound scope given More new) (λ n low high. view-at n low high new end-right);
       numbers = numbers-end;
     }
 
-  next-spent : (IsSomeLeft Live new.lost → ⊥) → IsSpent sound scope given size More new (disk given.start after)
-  next-spent none = record { right = at-end (AreViewsRight sound scope given size More) seen-at; none = λ live. none (left-in-adding did placed live) }
+  next-spent : (IsSomeLeft Live new.lost → ⊥) → IsSpent sound scope given More new (disk given.start after)
+  next-spent none = record { right = at-end (AreViewsRight sound scope given More) seen-at; none = λ live. none (left-in-adding did placed live) }
 
   -- a live slot is left, or none
   some-or-none : IsSomeLeft Live new.lost ⊎ (IsSomeLeft Live new.lost → ⊥)
   some-or-none = ⊎_elim (λ some. inl (some.0, live-with m slot sb false some.0 ∙ some.1, some.2)) (λ none. inr (λ some. none (some.0, sym (live-with m slot sb false some.0) ∙ some.1, some.2)))
       (mark-left (with_spare slot sb m) false new.lost)
 
-  pub added-safe : IsPlaced given new → is_clean new.newest ≡ is_clean m.newest → IsSafeStretch sound scope given size More new before after
-  added-safe new_placed clean = record {
+  pub added-safe : IsSafeStretch sound scope given More new before after
+  added-safe = record {
     marks = record { longer = did.update.marks.longer; earlier = did.update.marks.earlier; each = λ one n low high. seen-at n low high };
-    next = ⊎_elim (λ some. inl (next-steady some new_placed clean)) (λ none. inr (next-spent none)) some-or-none;
+    next = ⊎_elim (λ some. inl (next-steady some)) (λ none. inr (next-spent none)) some-or-none;
   }
 
 -- ---- from where it is safe
@@ -431,42 +451,35 @@ pub record IsAddableTo (scope : Scope) (given : Given) (told : Ledger) (m : Memb
   pub unknown : told.carried sb.dev_number ≡ false
   pub second : (sector : Sector) → IsIn (d slot 9) sector → IsSecondHalf sb sector
 
-module _ (sound : Type 0) (scope : Scope) (given : Given) (size : ℕ) (told : Ledger) (new : Members) (slot : ℕ) (sb : Sb) (before after : List Operation) where
+module _ (sound : Type 0) (scope : Scope) (given : Given) (told : Ledger) (new : Members) (slot : ℕ) (sb : Sb) (before after : List Operation) where
   -- from where it is safe, of these members
   abbrev AddsSafely : Members → Type 0
   AddsSafely m = IsPlaced given m → AreUnlost m → AreSparesFree given m → IsAddableTo scope given told m slot sb (disk given.start before) → IsAddedBy ⊤ given slot sb m new before after
-      → HasMarkRoom m before after → AreGoneTold told new → is_clean new.newest ≡ is_clean m.newest → IsSafeStretch sound scope given size (with_number sb.dev_number told) new before after
+      → HasMarkRoom m before after → AreGoneTold told new → IsSafeStretch sound scope given (with_number sb.dev_number told) new before after
 
   -- by former members, of which slots may be lost that aren't named yet, but not this one
-  adding-from : (former : Members) (missed : ℕ) → has_slot missed slot ≡ false → IsHeldBy scope former (disk given.start before) → IsViewRight sound given size told former (disk given.start before)
+  adding-from : (former : Members) (missed : ℕ) → has_slot missed slot ≡ false → IsHeldBy scope former (disk given.start before) → IsViewRight sound scope given told former (disk given.start before)
       → AreCarried scope told.carried former.own (disk given.start before) → AddsSafely (members_without missed former)
-  adding-from former missed unmissed held right carried placed unlost free is did room gone clean =
+  adding-from former missed unmissed held right carried placed unlost free is did room gone =
       let with_placed = placed-with given (members_without missed former) slot sb is.made placed unlost free is.few is.there is.long is.untaken in
-      let moved = added-moved did placed with_placed did.held in
-      added-safe sound scope given size told former missed new slot sb before after did held unmissed placed with_placed is.made (let few = is.few in let lt = is.there in omega (arith, few, lt)) is.long is.small is.untaken
+      added-safe sound scope given told former missed new slot sb before after did held unmissed placed with_placed is.made (let few = is.few in let lt = is.there in omega (arith, few, lt)) is.long is.small is.untaken
       (slot-unknown scope given told.carried former missed slot sb (disk given.start before) held unmissed placed free is.few is.there is.long is.small is.untaken is.unspare is.made is.of_scope carried is.unknown is.second)
       (left_set 32 (live_set (members_without missed former) (adding (members_without missed former) slot sb)) (with_spare slot sb (members_without missed former)).lost)
       (adding-starts scope given told.carried former missed slot sb (disk given.start before) held unmissed placed free is.few is.there is.long is.small is.untaken is.unspare is.made is.of_scope carried is.unknown is.second)
-      room gone right carried moved.placed clean
+      room gone right is.of_scope.seen
+      (live-known scope given told.carried former missed slot sb (disk given.start before) held unmissed placed free is.few is.there is.long is.small is.untaken is.unspare is.made is.of_scope carried is.unknown is.second)
+      carried
 
-  -- the view of the members as they are
-  right-now : (old : Members) → IsPlaced given old → AreUnlost old → AreSparesFree given old → IsAddableTo scope given told old slot sb (disk given.start before) → IsAddedBy ⊤ given slot sb old new before after → AreGoneTold told new
-      → IsSteady sound scope given size told old (disk given.start before) → IsViewRight sound given size told old (disk given.start before)
-  right-now old placed unlost free is did gone steady =
-      let same = steady.since.since in
-      subst (λ (v : Members). IsViewRight sound given size told v (disk given.start before)) (sym same)
-      (view-less sound given size told steady.since.gone steady.former (members_without steady.since.gone steady.former) (disk given.start before) (less-without steady.former steady.since.gone)
-      (subst (IsPlaced given) same placed) refl (subst (AreGoneTold told) same gone-first) steady.right)
-    where
-      moved : IsMoved given (with_spare slot sb old) new
-      moved = added-moved did placed (placed-with given old slot sb is.made placed unlost free is.few is.there is.long is.untaken) did.held
-
-      gone-first : AreGoneTold told old
-      gone-first role lt missing = gone role (subst (λ (s : Shape). role < s.disks) (sym moved.shape) lt) (missing-moved moved role missing)
+  -- what the members miss now is told
+  gone-now : (old : Members) → IsPlaced given old → AreUnlost old → AreSparesFree given old → IsAddableTo scope given told old slot sb (disk given.start before) → IsAddedBy ⊤ given slot sb old new before after → AreGoneTold told new
+      → AreGoneTold told old
+  gone-now old placed unlost free is did gone =
+      let with_placed = placed-with given old slot sb is.made placed unlost free is.few is.there is.long is.untaken in
+      gone-before given (with_spare slot sb old) new with_placed (added-moved did placed with_placed did.held) told gone
 
   -- where it is lost, what is missing is named; else it isn't among those that are to be named yet
-  pub adding-safe : (old : Members) → (has_slot old.lost slot ≡ true → AreUnnamed old) → IsSteady sound scope given size told old (disk given.start before) → AddsSafely old
-  adding-safe old fresh steady placed unlost free is did room gone clean = of (has_slot old.lost slot) refl
+  pub adding-safe : (old : Members) → (has_slot old.lost slot ≡ true → AreUnnamed old) → IsSteady sound scope given told old (disk given.start before) → AddsSafely old
+  adding-safe old fresh steady placed unlost free is did room gone = of (has_slot old.lost slot) refl
     where
       same : old ≡ members_without steady.since.gone steady.former
       same = steady.since.since
@@ -474,12 +487,12 @@ module _ (sound : Type 0) (scope : Scope) (given : Given) (size : ℕ) (told : L
       numbers : AreCarried scope told.carried old.own (disk given.start before)
       numbers = subst (λ (own : List (Option Sb)). AreCarried scope told.carried own (disk given.start before)) (ap (λ (v : Members). v.own) (sym same)) steady.numbers
 
-      of : (b : Bool) → has_slot old.lost slot ≡ b → IsSafeStretch sound scope given size (with_number sb.dev_number told) new before after
+      of : (b : Bool) → has_slot old.lost slot ≡ b → IsSafeStretch sound scope given (with_number sb.dev_number told) new before after
       of true lost = subst AddsSafely (without-none old)
-          (adding-from old 0 (none_there slot) (named-held sound scope given size told old (disk given.start before) placed unlost free (fresh lost) steady)
-          (right-now old placed unlost free is did gone steady) numbers) placed unlost free is did room gone clean
+          (adding-from old 0 (none_there slot) (named-held sound scope given told old (disk given.start before) placed unlost free (fresh lost) steady)
+          (steady-right sound scope given told old (disk given.start before) steady (gone-now old placed unlost free is did gone)) numbers) placed unlost free is did room gone
       of false there = subst AddsSafely (sym same)
-          (adding-from steady.former steady.since.gone (unmissed (has_slot steady.since.gone slot) refl) steady.since.held steady.right steady.numbers) placed unlost free is did room gone clean
+          (adding-from steady.former steady.since.gone (unmissed (has_slot steady.since.gone slot) refl) steady.since.held steady.right steady.numbers) placed unlost free is did room gone
         where
           or_true : (b : Bool) → (b || true) ≡ true
           or_true true = refl

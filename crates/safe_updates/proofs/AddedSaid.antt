@@ -20,7 +20,7 @@ use Rattle.bank.specs.Tape.{IsIn}
 use Rattle.superblocks.specs.declared.change.Give.{Give}
 use Rattle.superblocks.specs.declared.change.Give.TheVariants.{Same}
 use Rattle.superblocks.specs.declared.members.Members.{Members}
-use Rattle.superblocks.specs.Reading.{Scope, is_reshaping, is_recovering, is_clean, is_fresh, shape_of, role_count, role_state, rows_held, entry_of, state_of, holder, holder_from, own_of}
+use Rattle.superblocks.specs.Reading.{Scope, is_reshaping, is_recovering, is_fresh, shape_of, role_count, role_state, rows_held, entry_of, state_of, holder, holder_from, own_of}
 use Rattle.superblocks.specs.Update.{planned, give_of, own_in, is_held_by, planned_role, is_planned_spare, slot_entry, entry_for, with_entries, faulty_role, with_roles}
 use Rattle.superblocks.specs.Updating.{planned_newest, IsLater, AreNamed}
 use Rattle.superblocks.specs.Outcome.{is_in_update, is_same, live_set, planned_spares, with_added}
@@ -32,7 +32,7 @@ use Rattle.superblocks.specs.Stages.{AreLeft, AreKept}
 use Rattle.superblocks.specs.Crash.{IsWithin}
 use Rattle.superblocks.specs.Adding.{IsReadyToAdd}
 use Rattle.superblocks.proofs.ReadLists.{by_bool, holder-same, spares-at}
-use Rattle.superblocks.proofs.ReadAlike.{shape-same, tabulate-same}
+use Rattle.superblocks.proofs.ReadAlike.{tabulate-same}
 use Rattle.superblocks.proofs.HeldReads.{known_at}
 use Rattle.superblocks.proofs.PlannedSb.{planned-of}
 use Rattle.superblock_reads.proofs.SaidSlots.{holder-own, listed, roles-count}
@@ -42,19 +42,21 @@ use Rattle.superblock_laws.proofs.AddedReads.{put, put_ninth, of_put, none_read,
 use Rattle.superblocks.proofs.UpdateReads.{fresh_less}
 use Rattle.superblock_reads.proofs.Tied.{IsPlannedNewest, planned-said, held-other}
 use Rattle.row_io.specs.Rows.{reading_of, role_without, members_without}
-use Rattle.views.specs.Held.{IsHeldBy}
-use Rattle.views.specs.Marking.{adding}
+use Rattle.shape_changes.specs.Held.{IsHeldBy}
+use Rattle.shape_changes.specs.Marking.{adding}
 use Rattle.views.specs.Numbers.{IsSpareSb}
 use Rattle.views.specs.Placed.{IsPlaced}
 use Rattle.views.specs.Rebuilding.{with_spare}
 use Rattle.views.proofs.AddedMembers.{own-here, own-other, lost-with}
-use Rattle.safe_updates.proofs.AddedStarts.{says-still, count-still}
-use Rattle.views.proofs.MarkLaws.{give_of-same, roles-kept}
+use Rattle.safe_updates.proofs.AddedStarts.{says-still, says-later, count-still}
+use Rattle.views.proofs.MarkLaws.{roles-kept}
+use Rattle.shape_changes.proofs.Kept.{give_of-same}
 use Rattle.views.proofs.Planned.{apart, small}
 use Rattle.views.proofs.Ready.{gone-lost}
-use Rattle.views.proofs.Without.{any-without, from-without, without-twice}
+use Rattle.shape_changes.proofs.Without.{any-without, from-without, without-twice}
 use Rattle.views.proofs.PlacedLaws.{same-count}
-use Rattle.views.proofs.ReadOf.{IsSaidOf, said-recovering}
+use Rattle.shape_changes.proofs.UpdateViews.{said-recovering}
+use Rattle.safe_updates.proofs.SaidReads.{IsSaidOf}
 
 abbrev Disk : Type 0
 Disk = ℕ → ℕ → List Sector
@@ -401,9 +403,6 @@ module _ (scope : Scope) (given : Given) (former : Members) (missed slot : ℕ) 
       one = λ s t is is' one two. ready.fits.one s t (left-of s is) (left-of t is') one two;
     }
 
-    says : SaysSame m.newest (planned_newest m.newest m.newest)
-    says = says-still m.newest (min (m.newest.events + 1) (2 ^ 64 - 1))
-
     planned-newest : IsPlannedNewest By (adding m slot sb) (with_spare slot sb m).lost named newest
     planned-newest = record {
       table = plan.0;
@@ -411,21 +410,7 @@ module _ (scope : Scope) (given : Given) (former : Members) (missed slot : ℕ) 
       long = table;
       room = ap (λ (z : Sb). z.max_dev) later.same;
       size = ap (λ (z : Sb). z.size) later.same;
-      says = subst (SaysSame m.newest) (sym later.same) (record {
-        level = refl;
-        layout = refl;
-        size = refl;
-        chunksize = refl;
-        raid_disks = refl;
-        new_level = refl;
-        reshape_position = refl;
-        delta_disks = refl;
-        new_layout = refl;
-        new_chunk = refl;
-        resync_offset = refl;
-        reshaping = says.reshaping;
-        backward = says.backward;
-      });
+      says = says-later m.newest newest later;
       count = ap role_count (sym later.same);
       few = (let count = ap role_count later.same in omega (arith, few-roles, count, count-still m.newest));
     }
@@ -596,21 +581,16 @@ module _ (scope : Scope) (given : Given) (former : Members) (missed slot : ℕ) 
             ∙ sym (ap (λ (o : Option Sb). option_map_or (λ sb. sb.recovery_offset) o 0) o.3))
 
     pub said-added : IsSaidOf View (said_by scope left' own newest)
-    said-added =
-        let says = says-still m.newest (min (m.newest.events + 1) (2 ^ 64 - 1)) in
-        record {
-          still = ap is_reshaping later.same ∙ sym says.reshaping ∙ placed.still;
-          shape = ap shape_of later.same ∙ sym (shape-same m.newest (planned_newest m.newest m.newest) says);
-          size = ap (λ (z : Sb). z.size) later.same;
-          clean = ap is_clean later.same;
-          states = λ role lt. state-is role;
-          rows = λ role lt. rows-are role;
-          own = λ role s lt is.
-              let o = own-is role s is in (
-                o.1,
-                o.2,
-                ap (λ (z : Sb). z.data_offset) o.5 ∙ (planned-of newest o.0 (give_of (replicate 32 Same) s)).start
-                    ∙ sym (ap (λ (o : Option Sb). option_map_or (λ sb. sb.data_offset) o 0) o.3),
-              );
-          recovering = λ role s x is there. said-recovering scope.sizes.sectors (known_of scope left' own) newest role s x is there;
-        }
+    said-added = record {
+      array = says-later m.newest newest later;
+      roles = roles-read;
+      rows = rows-are;
+      own = λ role s is.
+          let o = own-is role s is in (
+            o.1,
+            o.2,
+            ap (λ (z : Sb). z.data_offset) o.5 ∙ (planned-of newest o.0 (give_of (replicate 32 Same) s)).start
+                ∙ sym (ap (λ (o : Option Sb). option_map_or (λ sb. sb.data_offset) o 0) o.3),
+          );
+      recovering = λ role s x is there. said-recovering scope.sizes.sectors (known_of scope left' own) newest role s x is there;
+    }

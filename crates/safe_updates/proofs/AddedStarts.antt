@@ -23,7 +23,7 @@ use Rattle.superblocks.specs.declared.members.Members.{Members}
 use Rattle.superblocks.specs.Reading.{Scope, role_count, is_negative, is_zero, lies_within, entry_of, holder}
 use Rattle.superblocks.specs.Verdict.{judged_fields, is_role}
 use Rattle.superblocks.specs.Update.{give_of, is_held_by, is_recovery, planned_role, is_planned_spare}
-use Rattle.superblocks.specs.Updating.{planned_newest}
+use Rattle.superblocks.specs.Updating.{IsLater, planned_newest}
 use Rattle.superblocks.specs.Outcome.{is_in_update, live_set, with_added}
 use Rattle.superblocks.specs.Reads.{SaysSame, HasNoLateRoles, IsSuited, has_spare}
 use Rattle.superblocks.specs.Held.{IsSecondHalf, Shows, AreHeld}
@@ -40,18 +40,18 @@ use Rattle.superblock_reads.proofs.RoundReads.{left_set, left-are}
 use Rattle.superblock_reads.proofs.RoundsRead.{more-held}
 use Rattle.superblock_laws.proofs.AddingStarts.{adding-ready}
 use Rattle.row_io.specs.Rows.{role_without, members_without}
-use Rattle.views.specs.Held.{IsHeldBy}
-use Rattle.views.specs.Marking.{adding, marking}
-use Rattle.views.specs.Numbers.{AreCarried, IsSpareSb, IsOfScope, spare_sb}
+use Rattle.shape_changes.specs.Held.{IsHeldBy}
+use Rattle.shape_changes.specs.Marking.{adding, marking}
+use Rattle.shape_changes.specs.Carried.{AreCarried}
+use Rattle.views.specs.Numbers.{IsSpareSb, IsOfScope, spare_sb}
 use Rattle.views.specs.Placed.{IsPlaced}
 use Rattle.views.specs.Rebuilding.{AreSparesFree, with_spare}
 use Rattle.views.proofs.AddedMembers.{lost-with, live-here}
-use Rattle.views.proofs.MarkLaws.{give_of-same}
-use Rattle.views.proofs.PlacedLaws.{state-without}
+use Rattle.shape_changes.proofs.Kept.{give_of-same}
+use Rattle.shape_changes.proofs.Without.{state-without, any-holds, live-is, live-without}
 use Rattle.views.proofs.Planned.{without-holder}
 use Rattle.views.proofs.Ready.{none-judged, gone-lost, first-lost, live-known as first-live-known, known-live as first-known-live}
-use Rattle.views.proofs.Spent.{live-holder}
-use Rattle.views.proofs.Without.{any-holds, live-is, live-without}
+use Rattle.shape_changes.proofs.Spent.{live-holder}
 
 -- ---- tests
 
@@ -103,6 +103,24 @@ module _ (newest : Sb) where
         reshaping = a.reshaping;
         backward = a.backward;
       }
+
+  -- so does what is newest then
+  pub says-later : (later : Sb) → IsLater (planned_newest newest newest) later → SaysSame newest later
+  says-later later is = subst (SaysSame newest) (sym is.same) (record {
+    level = refl;
+    layout = refl;
+    size = refl;
+    chunksize = refl;
+    raid_disks = refl;
+    new_level = refl;
+    reshape_position = refl;
+    delta_disks = refl;
+    new_layout = refl;
+    new_chunk = refl;
+    resync_offset = refl;
+    reshaping = (says-still 0).reshaping;
+    backward = (says-still 0).backward;
+  })
 
   pub count-still : role_count newest ≡ role_count (planned_newest newest newest)
   count-still = count-same newest (planned_newest newest newest) (says-still (min (newest.events + 1) (2 ^ 64 - 1)))
@@ -318,7 +336,7 @@ module _ (scope : Scope) (given : Given) (told : ℕ → Bool) (former : Members
 
   pub fits : m.newest.events + 1 < 2 ^ 62 → IsFitChange held.known (with_spare slot sb m).lost Left (with_added m (Some (slot, sb))) (adding m slot sb)
   fits room = record {
-    role = λ s role none is. of-live s (live-still s (live-holder given m false role s placed (holds s role is))) none;
+    role = λ s role none is. of-live s (live-still s (live-holder given m false role s placed.holders (holds s role is))) none;
     below = λ s role none is. let lt = role-below scope held.known former held.said role s (holds-before s role is) in omega (arith, lt, count-still m.newest);
     spare = λ s none is. of-live s (spare-live s is) none;
     one_holder = λ s t role none none' is is'. let same : Some s ≡ Some t = sym (holds s role is) ∙ holds t role is' in cc;

@@ -24,8 +24,9 @@ use Rattle.superblocks.proofs.PlannedSb.{planned-of}
 use Rattle.superblock_reads.proofs.SaidSlots.{has-slots_below}
 use Rattle.row_io.specs.Rows.{reading_of, is_missing, role_without}
 use Rattle.views.specs.Flushing.{AreHolders}
-use Rattle.views.specs.Placed.{IsPlaced, AreUnlost, AreLess}
-use Rattle.views.specs.Marking.{giving}
+use Rattle.views.specs.Placed.{IsPlaced, AreLess}
+use Rattle.shape_changes.specs.Steady.{AreUnlost}
+use Rattle.shape_changes.specs.Marking.{giving}
 use Rattle.views.specs.Moving.{IsMoved}
 use Rattle.views.specs.Lacking.{HaveFailedSince}
 use Rattle.views.specs.Rebuilding.{AreSparesFree}
@@ -34,9 +35,9 @@ use Rattle.views.proofs.LackingLaws.{holder-without}
 use Rattle.views.proofs.MarkLaws.{few-planned}
 use Rattle.views.proofs.MarkEnds.{count-is}
 use Rattle.views.proofs.MovedLaws.{moved-less}
-use Rattle.views.proofs.PlacedLaws.{state-without, placed-less, less-unlost}
+use Rattle.views.proofs.PlacedLaws.{placed-less, less-unlost}
+use Rattle.shape_changes.proofs.Without.{state-without, live-is}
 use Rattle.safe_updates.proofs.SparesLaws.{free-told}
-use Rattle.views.proofs.Without.{live-is}
 use Rattle.views.proofs.Gives.{holder-given, gives_of, give-here, give-other, roles-given, given-lost}
 use Rattle.safe_updates.proofs.GivenAway.{moved-away}
 use Rattle.views.proofs.GivenMembers.{offset_given, recovery-is, IsReceiver, W, givable, state-here, state-other, holder-then, offset-same, recovered-here, recovered-other, spare-then, spare-before, placed-given, unlost-given}

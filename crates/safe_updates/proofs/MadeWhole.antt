@@ -4,7 +4,6 @@ use Rattle.std.specs.Prelude.{⊤}
 use Rattle.std.specs.List.{list_any}
 use Rattle.std.proofs.lemmas.Bool.{cases_eq}
 use Rattle.std.proofs.lemmas.Bool.Decides.{nat_tests}
-use Rattle.md_base.specs.declared.places.Shape.{Shape}
 use Rattle.md_base.specs.Sectors.{Sector}
 use Rattle.md_base.specs.Shapes.{has_slot}
 use Rattle.md_base.specs.declared.status.Role.{Role}
@@ -13,49 +12,48 @@ use Rattle.layout.specs.Layout.{place}
 use Rattle.sb1.specs.declared.sb.Sb.{Sb}
 use Rattle.bank.specs.declared.bank.Operation.{Operation}
 use Rattle.bank.specs.Given.{Given}
-use Rattle.bank.specs.Tape.{IsIn, IsDrawn, disk, value_after}
+use Rattle.bank.specs.Tape.{Contents, IsIn, IsDrawn, disk, value_after}
 use Rattle.bank.proofs.Laws.{choices-present}
 use Rattle.superblocks.specs.declared.change.Change.{Change}
 use Rattle.superblocks.specs.declared.members.Members.{Members}
 use Rattle.superblocks.specs.Reading.{Scope, is_whole, shape_of, role_count, role_state, rows_held, holder, data_offset_of}
 use Rattle.superblocks.specs.Reads.{has_spare}
 use Rattle.superblocks.specs.Update.{own_in, is_held_by}
-use Rattle.superblocks.specs.Updating.{planned_newest}
 use Rattle.superblocks.specs.Crash.{IsWithin}
 use Rattle.superblocks.specs.Held.{known_of}
-use Rattle.superblocks.proofs.ReadAlike.{shape-same}
 use Rattle.superblock_reads.proofs.SaidSlots.{role-said, role-known}
 use Rattle.superblock_laws.specs.MakingWhole.{without_gives, IsMakingWhole}
 use Rattle.row_io.specs.Rows.{reading_of, present, held_slot, role_without, members_without}
 use Rattle.row_io.proofs.Losses.{holder-of, state_kept, state_after}
-use Rattle.list_io.specs.Full.{full_sector}
+use Rattle.list_io.specs.Full.{RowStands, full_sector}
 use Rattle.list_io.proofs.FullLaws.{places-are-full, standing-is-full}
-use Rattle.views.specs.Placed.{IsPlaced, AreUnlost}
-use Rattle.views.specs.Held.{IsHeldBy}
+use Rattle.views.specs.Placed.{IsPlaced}
+use Rattle.shape_changes.specs.Steady.{AreUnlost, IsSteady, AreGoneTold, AreWritesAllowed, given_back}
+use Rattle.shape_changes.specs.Held.{IsHeldBy}
 use Rattle.views.specs.Lacking.{DoesWithout, RowsStand}
-use Rattle.views.specs.Marking.{giving}
+use Rattle.shape_changes.specs.Marking.{giving}
 use Rattle.views.specs.Rebuilding.{IsFlushedFull}
-use Rattle.views.specs.Views.{Ledger, AreRowsSettled, IsViewRight}
+use Rattle.shape_views.specs.Regions.{ArePlaced}
+use Rattle.shape_views.specs.Views.{Ledger, IsSettled, IsViewRight}
+use Rattle.views.proofs.Still.{count-still, length-still, without-still, settled-still, still-settled}
 use Rattle.views.specs.Flushing.{AreHolders}
-use Rattle.views.specs.Steady.{IsSteady, AreGoneTold, AreWritesAllowed, given_back}
 use Rattle.views.proofs.MarkEnds.{count-is}
-use Rattle.views.proofs.MarkLaws.{give_of-same, roles-kept, role_from-found, held-holder, holder-held}
-use Rattle.views.proofs.PlacedLaws.{state-without}
-use Rattle.views.proofs.ReadOf.{said-recovering}
-use Rattle.views.proofs.Spent.{any-holder}
-use Rattle.views.proofs.ViewsKept.{missing-more, missing-without}
+use Rattle.views.proofs.MarkLaws.{roles-kept, role_from-found, held-holder, holder-held}
+use Rattle.shape_changes.proofs.Kept.{give_of-same, still-missing, kept-less}
+use Rattle.shape_changes.proofs.Without.{state-without, any-held}
 use Rattle.views.proofs.Gives.{give-here, give-other}
+use Rattle.views.proofs.GivenPlan.{given-state, given-less}
 use Rattle.views.proofs.GivenMembers.{IsReceiver, W, state-here, state-other, holder-then, offset-same, rows-other, placed-given}
-use Rattle.update_laws.specs.Plans.{planned_view, IsLessView}
-use Rattle.update_laws.specs.Changing.{IsChanged}
-use Rattle.update_laws.specs.Making.{IsMakable}
-use Rattle.update_laws.proofs.ChangeViews.{placed-less, planned-live}
-use Rattle.update_laws.proofs.Fields.{fields-held}
-use Rattle.update_laws.proofs.GivenPlan.{given-state, given-less, given-placed}
-use Rattle.update_laws.proofs.Kept.{kept-less}
-use Rattle.update_laws.proofs.KeptSafe.{told-plan, steady-right}
-use Rattle.update_laws.proofs.LessViews.{less-right}
-use Rattle.update_laws.proofs.PlannedRoles.{says-shared}
+use Rattle.shape_changes.specs.Updates.{planned_view, IsLessView}
+use Rattle.shape_changes.specs.Changing.{IsChanged}
+use Rattle.shape_changes.specs.Making.{IsMakable}
+use Rattle.shape_changes.proofs.ChangeViews.{placed-less}
+use Rattle.shape_changes.proofs.KeptSafe.{planned-fits, planned-backup, told-plan, steady-right}
+use Rattle.shape_changes.proofs.LessViews.{less-right}
+use Rattle.shape_changes.proofs.PlannedRoles.{count-planned}
+use Rattle.shape_changes.proofs.UpdateViews.{said-recovering}
+use Rattle.safe_updates.proofs.MissingLaws.{missing-more}
+use Rattle.safe_updates.proofs.StillHeld.{AreRowsAllowed, held-still, still-held}
 
 -- the slot that recovers a role may become its holder
 pub holder-receives : (given : Given) (m : Members) (role slot : ℕ) → IsPlaced given m → AreUnlost m → role < (shape_of m.newest).disks → role_state (reading_of m) role ≡ Recovering slot → IsReceiver given m role slot
@@ -74,7 +72,7 @@ holder-receives given m role slot placed unlost below is = record {
     held = ap holder is
 
     live : (list_any (is_held_by slot) m.roles || has_spare m.spares slot) ≡ true
-    live = ap (λ (b : Bool). b || has_spare m.spares slot) (any-holder slot m.roles role held)
+    live = ap (λ (b : Bool). b || has_spare m.spares slot) (any-held slot m.roles role held)
 
 -- ---- the view in which the role is whole
 
@@ -128,52 +126,83 @@ module _ (given : Given) (m : Members) (placed : IsPlaced given m) (role slot : 
       only (inl same) = same
       only (inr none) = absurd none
 
-  module _ (sound : Type 0) (size : ℕ) (told : Ledger) (tape : List Operation) (list : ℕ → Sector) (premise : sound) (does : DoesWithout m) (below : role < (shape_of m.newest).disks)
+  -- it stands where the members do
+  whole-placed : (scope : Scope) → ArePlaced scope given m → ArePlaced scope given (W given m placed None role slot to)
+  whole-placed scope right = record {
+    fit = right.fit;
+    roles = new.roles ∙ sym (count-still m.newest placed.still);
+    holders = new.holders;
+    behind = new.behind;
+    members_own = λ r s held. ⊎_elim
+        (λ here. right.members_own role s (ap holder recovers ∙ ap (λ (n : ℕ). Some n) (sym here.1)))
+        (λ other. right.members_own r s other.2) (holder-then given m placed None role slot to r s held);
+    apart = new.apart;
+    backup = right.backup;
+  }
+    where
+      new : IsPlaced given (W given m placed None role slot to)
+      new = placed-given given m placed None role slot to
+
+  module _ (sound : Type 0) (scope : Scope) (told : Ledger) (tape : List Operation) (list : ℕ → Sector) (premise : sound) (does : DoesWithout m) (below : role < (shape_of m.newest).disks)
       (stands : RowsStand m (present given tape) list) (allowed : AreWritesAllowed m told.values list) (full : IsFlushedFull m role slot list (disk given.start tape)) where
+    -- each row stands as the list, whatever is drawn
+    abbrev AreRowsSettled : Members → (ℕ → Sector) → Type 0
+    AreRowsSettled n list' = (c : Contents) → IsDrawn (disk given.start tape) c → (row : ℕ) → row < n.newest.size → RowStands (reading_of n) c (shape_of n.newest) list' row
+
     -- two lists as which the rows stand have the same full rows
-    full-alike : (list' : ℕ → Sector) → AreRowsSettled m list' (disk given.start tape) → (row : ℕ) → row < m.newest.size → full_sector (shape_of m.newest) list row role ≡ full_sector (shape_of m.newest) list' row role
+    full-alike : (list' : ℕ → Sector) → AreRowsSettled m list' → (row : ℕ) → row < m.newest.size → full_sector (shape_of m.newest) list row role ≡ full_sector (shape_of m.newest) list' row role
     full-alike list' settled row lt =
         sym (standing-is-full (reading_of m) (present given tape) (shape_of m.newest) list row placed.valid lt does (stands row lt) role below)
         ∙ standing-is-full (reading_of m) (present given tape) (shape_of m.newest) list' row placed.valid lt does (settled (present given tape) (present-drawn given tape) row lt) role below
 
-    pub made-right : IsViewRight sound given size told m (disk given.start tape) → AreGoneTold told (W given m placed None role slot to) → IsViewRight sound given size told (W given m placed None role slot to) (disk given.start tape)
+    -- what the slot has of the role is allowed
+    rows-allowed : AreRowsAllowed (reading_of m) told.values (disk given.start tape) → AreRowsAllowed (reading_of Whole_) told.values (disk given.start tape)
+    rows-allowed held x s lt holds v may = ⊎_elim
+        (λ here. subst (IsIn (told.values x)) (sym (
+        alone-is (disk given.start tape) list full (place (shape_of m.newest) x).row here.2 v
+        (subst (λ (t : ℕ). IsIn (disk given.start tape t (data_offset_of (reading_of Whole_) t + (place (shape_of m.newest) x).row)) v) here.1 may)
+        ∙ ap (λ (r : ℕ). full_sector (shape_of m.newest) list (place (shape_of m.newest) x).row r) (sym here.0)
+        ∙ places-are-full (shape_of m.newest) list x placed.valid)) (allowed x (subst (λ (n : ℕ). x < n) (sym (length-still m placed.still)) lt)))
+        (λ was. held x s lt was v
+        (subst (λ (n : ℕ). IsIn (disk given.start tape s (n + (place (shape_of m.newest) x).row)) v) (offset-same given m placed None role slot to s) may))
+        (held-then (place (shape_of m.newest) x).role (place (shape_of m.newest) x).row s holds)
+
+    rows-settled : (list' : ℕ → Sector) → AreRowsSettled m list' → AreRowsSettled (W given m placed None role slot to) list'
+    rows-settled list' settled c drawn row lt =
+        let stood = settled c drawn row lt in
+        record {
+          whole = stood.whole;
+          sectors = λ r s below part held. ⊎_elim (λ here. new r s here.0 here.1) (λ was. at s ∙ stood.sectors r s below part was) (held-then r row s held);
+          parity = λ r s below part held. ⊎_elim (λ here. new r s here.0 here.1) (λ was. at s ∙ stood.parity r s below part was) (held-then r row s held);
+        }
+      where
+        at : (s : ℕ) → c s (data_offset_of (reading_of Whole_) s + row) ≡ c s (data_offset_of (reading_of m) s + row)
+        at s = ap (λ (n : ℕ). c s (n + row)) (offset-same given m placed None role slot to s)
+
+        new : (r s : ℕ) → r ≡ role → s ≡ slot → c s (data_offset_of (reading_of Whole_) s + row) ≡ full_sector (shape_of m.newest) list' row r
+        new r s it here =
+            ap (λ (t : ℕ). c t (data_offset_of (reading_of Whole_) t + row)) here
+            ∙ alone-is (disk given.start tape) list full row lt (c slot (data_offset_of (reading_of Whole_) slot + row)) (drawn slot (data_offset_of (reading_of Whole_) slot + row))
+            ∙ full-alike list' settled row lt
+            ∙ ap (full_sector (shape_of m.newest) list' row) (sym it)
+
+    made-settled : IsSettled scope m told.values (disk given.start tape) → IsSettled scope (W given m placed None role slot to) told.values (disk given.start tape)
+    made-settled s = settled-still scope given (W given m placed None role slot to) told.values (disk given.start tape) s.list (placed-given given m placed None role slot to)
+        (λ x lt. s.allowed x (subst (λ (n : ℕ). x < n) (sym (length-still m placed.still)) lt))
+        (rows-settled s.list (still-settled scope given m told.values (disk given.start tape) placed s))
+
+    pub made-right : IsViewRight sound scope given told m (disk given.start tape) → AreGoneTold told (W given m placed None role slot to) → IsViewRight sound scope given told (W given m placed None role slot to) (disk given.start tape)
     made-right right gone = record {
-      placed = placed-given given m placed None role slot to;
+      placed = whole-placed scope right.placed;
       sized = right.sized;
       gone = gone;
       unclean = right.unclean;
-      held = λ x s lt holds v may. ⊎_elim
-          (λ here. subst (IsIn (told.values x)) (sym (
-          alone-is (disk given.start tape) list full (place (shape_of m.newest) x).row here.2 v
-          (subst (λ (t : ℕ). IsIn (disk given.start tape t (data_offset_of (reading_of Whole_) t + (place (shape_of m.newest) x).row)) v) here.1 may)
-          ∙ ap (λ (r : ℕ). full_sector (shape_of m.newest) list (place (shape_of m.newest) x).row r) (sym here.0)
-          ∙ places-are-full (shape_of m.newest) list x placed.valid)) (allowed x lt))
-          (λ was. right.held x s lt was v
-          (subst (λ (n : ℕ). IsIn (disk given.start tape s (n + (place (shape_of m.newest) x).row)) v) (offset-same given m placed None role slot to s) may))
-          (held-then (place (shape_of m.newest) x).role (place (shape_of m.newest) x).row s holds);
-      settled = λ clean few sure.
-          let s = right.settled clean does sure in
-          record { list = s.list; allowed = s.allowed; rows = rows s.list s.rows };
+      reshaping = right.reshaping;
+      held = λ header may. held-still scope Whole_ told.values (disk given.start tape) placed.still
+          (rows-allowed (still-held scope m told.values (disk given.start tape) placed.still header may right.held)) header may;
+      sections = right.sections;
+      settled = λ clean few sure. made-settled (right.settled clean (without-still m placed.still does) sure);
     }
-      where
-        rows : (list' : ℕ → Sector) → AreRowsSettled m list' (disk given.start tape) → AreRowsSettled (W given m placed None role slot to) list' (disk given.start tape)
-        rows list' settled c drawn row lt =
-            let stood = settled c drawn row lt in
-            record {
-              whole = stood.whole;
-              sectors = λ r s below part held. ⊎_elim (λ here. new r s here.0 here.1) (λ was. at s ∙ stood.sectors r s below part was) (held-then r row s held);
-              parity = λ r s below part held. ⊎_elim (λ here. new r s here.0 here.1) (λ was. at s ∙ stood.parity r s below part was) (held-then r row s held);
-            }
-          where
-            at : (s : ℕ) → c s (data_offset_of (reading_of Whole_) s + row) ≡ c s (data_offset_of (reading_of m) s + row)
-            at s = ap (λ (n : ℕ). c s (n + row)) (offset-same given m placed None role slot to s)
-
-            new : (r s : ℕ) → r ≡ role → s ≡ slot → c s (data_offset_of (reading_of Whole_) s + row) ≡ full_sector (shape_of m.newest) list' row r
-            new r s it here =
-                ap (λ (t : ℕ). c t (data_offset_of (reading_of Whole_) t + row)) here
-                ∙ alone-is (disk given.start tape) list full row lt (c slot (data_offset_of (reading_of Whole_) slot + row)) (drawn slot (data_offset_of (reading_of Whole_) slot + row))
-                ∙ full-alike list' settled row lt
-                ∙ ap (full_sector (shape_of m.newest) list' row) (sym it)
 
 -- ---- the change
 
@@ -202,13 +231,13 @@ making-of scope given role slot former gone d placed small held recovers = recor
 -- ---- the ledger behind it
 
 -- It tells what the other does, but for the role perhaps, which isn't missing where it is whole on the slot.
-pub record IsMoreBack (sound : Type 0) (given : Given) (size : ℕ) (told more : Ledger) (role slot : ℕ) (new : Members) : Type 0 where
-  pub right : (m : Members) (d : ℕ → ℕ → List Sector) → role_state (reading_of m) role ≡ Whole slot → IsViewRight sound given size told m d → IsViewRight sound given size more m d
+pub record IsMoreBack (sound : Type 0) (scope : Scope) (given : Given) (told more : Ledger) (role slot : ℕ) (new : Members) : Type 0 where
+  pub right : (m : Members) (d : ℕ → ℕ → List Sector) → role_state (reading_of m) role ≡ Whole slot → IsViewRight sound scope given told m d → IsViewRight sound scope given more m d
   pub gone : AreGoneTold more new
   pub carried : (number : ℕ) → told.carried number ≡ true → more.carried number ≡ true
 
-pub back-same : (sound : Type 0) (given : Given) (size : ℕ) (told : Ledger) (role slot : ℕ) (new : Members) → AreGoneTold told new → IsMoreBack sound given size told told role slot new
-back-same sound given size told role slot new gone = record { right = λ m d whole right. right; gone = gone; carried = λ number is. is }
+pub back-same : (sound : Type 0) (scope : Scope) (given : Given) (told : Ledger) (role slot : ℕ) (new : Members) → AreGoneTold told new → IsMoreBack sound scope given told told role slot new
+back-same sound scope given told role slot new gone = record { right = λ m d whole right. right; gone = gone; carried = λ number is. is }
 
 pub back-told : (told : Ledger) (role slot : ℕ) (new : Members) → AreGoneTold told new → role_state (reading_of new) role ≡ Whole slot → AreGoneTold (given_back role told) new
 back-told told role slot new gone whole r lt missing = (λ i. gone r lt missing i && not (other i))
@@ -221,15 +250,17 @@ back-told told role slot new gone whole r lt missing = (λ i. gone r lt missing 
         let none = ap (λ (s : Role). not (is_whole s)) (ap (role_state (reading_of new)) same ∙ whole) in let clash = sym missing ∙ none in cc
         ))
 
-pub back-given : (sound : Type 0) (given : Given) (size : ℕ) (told : Ledger) (role slot : ℕ) (new : Members) → AreGoneTold told new → role_state (reading_of new) role ≡ Whole slot
-    → IsMoreBack sound given size told (given_back role told) role slot new
-back-given sound given size told role slot new gone whole = record {
+pub back-given : (sound : Type 0) (scope : Scope) (given : Given) (told : Ledger) (role slot : ℕ) (new : Members) → AreGoneTold told new → role_state (reading_of new) role ≡ Whole slot
+    → IsMoreBack sound scope given told (given_back role told) role slot new
+back-given sound scope given told role slot new gone whole = record {
   right = λ m d is right. record {
     placed = right.placed;
     sized = right.sized;
     gone = back-told told role slot m right.gone is;
     unclean = right.unclean;
+    reshaping = right.reshaping;
     held = right.held;
+    sections = right.sections;
     settled = right.settled;
   };
   gone = back-told told role slot new gone whole;
@@ -238,11 +269,11 @@ back-given sound given size told role slot new gone whole = record {
 
 -- ---- what the update owes
 
-module _ (sound : Type 0) (scope : Scope) (given : Given) (size : ℕ) (told : Ledger) (role slot : ℕ) (old new : Members) (before after : List Operation)
+module _ (sound : Type 0) (scope : Scope) (given : Given) (told : Ledger) (role slot : ℕ) (old new : Members) (before after : List Operation)
     (m : IsChanged ⊤ given (giving old slot role None) old new before after) (placed : IsPlaced given old) (to : IsReceiver given old role slot) (below : role < (shape_of old.newest).disks)
     (recovers : role_state (reading_of old) role ≡ Recovering slot) (premise : sound) (does : DoesWithout old) (list : ℕ → Sector) (stands : RowsStand old (present given before) list)
     (allowed : AreWritesAllowed old told.values list) (full : IsFlushedFull old role slot list (disk given.start before)) (gone : AreGoneTold told new) (here : told.gone role ≡ true)
-    (steady : IsSteady sound scope given size told old (disk given.start before)) where
+    (steady : IsSteady sound scope given told old (disk given.start before)) where
   abbrev Gives : Change
   Gives = giving old slot role None
 
@@ -253,31 +284,31 @@ module _ (sound : Type 0) (scope : Scope) (given : Given) (size : ℕ) (told : L
   With = W given old placed None role slot to
 
   -- a role that is missing in the end is told
-  told-last : (r : ℕ) → r < (shape_of old.newest).disks → not (is_whole (role_without new.lost (role_state (reading_of With) r))) ≡ true → told.gone r ≡ true
-  told-last r lt missing = gone r (subst (λ (n : ℕ). r < n) (ap (λ (s : Shape). s.disks) (shape-same old.newest (planned_newest old.newest old.newest) (says-shared old Gives) ∙ ap shape_of (sym m.newest.same))) lt)
-      (ap (λ (s : Role). not (is_whole s)) (ap (λ (l : List Role). get_or l r Missing) m.roles ∙ given-state given old placed None role slot to new.lost r) ∙ missing)
+  told-last : (r : ℕ) → r < role_count old.newest → not (is_whole (role_without new.lost (role_state (reading_of With) r))) ≡ true → told.gone r ≡ true
+  told-last r lt missing = told-plan told given Gives old new before after m gone r (let same = count-planned old Gives in omega (arith, lt, same))
+      (ap (λ (s : Role). not (is_whole s)) (given-state given old placed None role slot to new.lost r) ∙ missing)
 
-  lt-of : (lost : ℕ) (ch : Change) (r : ℕ) → ch.shared ≡ old.newest → r < (shape_of (planned_view old ch lost).newest).disks → r < (shape_of old.newest).disks
-  lt-of lost ch r same lt = subst (λ (n : ℕ). r < n) (ap (λ (s : Shape). s.disks) (sym (shape-same ch.shared (planned_view old ch lost).newest (says-shared old ch)) ∙ ap shape_of same)) lt
+  lt-of : (r : ℕ) → r < role_count (planned_view old (without_gives (giving old slot role None)) old.lost).newest → r < role_count old.newest
+  lt-of r lt = let same = count-planned old Still in omega (arith, lt, same)
 
   told-with : AreGoneTold told With
-  told-with r lt missing = told-last r lt (missing-without new.lost (role_state (reading_of With) r) missing)
+  told-with r lt missing = told-last r lt (still-missing With new.lost (role_state (reading_of With) r) missing)
 
   -- where the slot still recovers, the role besides
-  told-still : (lost : ℕ) → IsWithin lost new.lost → (r : ℕ) → r < (shape_of old.newest).disks → not (is_whole (role_without lost (role_state (reading_of old) r))) ≡ true → told.gone r ≡ true
+  told-still : (lost : ℕ) → IsWithin lost new.lost → (r : ℕ) → r < role_count old.newest → not (is_whole (role_without lost (role_state (reading_of old) r))) ≡ true → told.gone r ≡ true
   told-still lost within r lt missing = elim (cases_eq r role) [
     | inl same ↦ ap told.gone same ∙ here
     | inr apart ↦ told-last r lt (ap (λ (s : Role). not (is_whole (role_without new.lost s))) (state-other given old placed None role slot to r apart) ∙ missing-more lost new.lost within (role_state (reading_of old) r) missing)
   ]
 
   told-old : AreGoneTold told old
-  told-old r lt missing = told-still old.lost m.stay r lt (missing-without old.lost (role_state (reading_of old) r) missing)
+  told-old r lt missing = told-still old.lost m.stay r lt (still-missing old old.lost (role_state (reading_of old) r) missing)
 
-  old-right : IsViewRight sound given size told old (disk given.start before)
-  old-right = steady-right sound scope given size told old (disk given.start before) steady told-old
+  old-right : IsViewRight sound scope given told old (disk given.start before)
+  old-right = steady-right sound scope given told old (disk given.start before) steady told-old
 
-  with-right : IsViewRight sound given size told With (disk given.start before)
-  with-right = made-right given old placed role slot to recovers sound size told before list premise does below stands allowed full old-right told-with
+  with-right : IsViewRight sound scope given told With (disk given.start before)
+  with-right = made-right given old placed role slot to recovers sound scope told before list premise does below stands allowed full old-right told-with
 
   count-old : length old.roles ≡ role_count old.newest
   count-old = placed.roles ∙ sym (count-is old placed.still)
@@ -286,24 +317,25 @@ module _ (sound : Type 0) (scope : Scope) (given : Given) (size : ℕ) (told : L
   still-state lost r = ap (λ (l : List Role). get_or l r Missing) (roles-kept old.roles lost placed.apart (λ t s is. (placed.holders t s is).small) (role_count old.newest) (sym count-old)) ∙ state-without lost old.roles r
 
   gone-still : (lost : ℕ) → IsWithin lost new.lost → AreGoneTold told (planned_view old Still lost)
-  gone-still lost within r lt missing = told-still lost within r (lt-of lost Still r refl lt) (ap (λ (s : Role). not (is_whole s)) (sym (still-state lost r)) ∙ missing)
+  gone-still lost within r lt missing = told-still lost within r (lt-of r lt) (ap (λ (s : Role). not (is_whole s)) (sym (still-state lost r)) ∙ missing)
 
   still-less : IsLessView old (planned_view old Still old.lost)
   still-less = kept-less old Still old.lost (λ s. give_of-same 32 s) count-old
 
-  still-right : IsViewRight sound given size told (planned_view old Still old.lost) (disk given.start before)
-  still-right = less-right sound given size told old (planned_view old Still old.lost) (disk given.start before) still-less
-      (placed-less given old (planned_view old Still old.lost) still-less (planned-live given old Still refl (λ s isnt. give_of-same 32 s) placed.live old.lost) placed) (gone-still old.lost m.stay) old-right
+  still-right : IsViewRight sound scope given told (planned_view old Still old.lost) (disk given.start before)
+  still-right = less-right sound scope given told old (planned_view old Still old.lost) (disk given.start before) still-less
+      (placed-less scope given old (planned_view old Still old.lost) still-less (planned-fits old Still old-right.placed.fit) (planned-backup scope old Still old-right.placed.backup) old-right.placed)
+      (gone-still old.lost m.stay) old-right
 
-  pub makable : (more : Ledger) → IsMoreBack sound given size told more role slot new → IsMakable sound given size size told more (giving old slot role None) slot role old new (disk given.start before)
+  pub makable : (more : Ledger) → IsMoreBack sound scope given told more role slot new → IsMakable sound scope given told more (giving old slot role None) slot role old new (disk given.start before)
   makable more back = record {
     making = subst (λ (o : Members). IsPlaced given o → role_state (reading_of o) role ≡ Recovering slot → IsMakingWhole o (giving o slot role None) slot role) (sym steady.since.since)
         (λ placed is. making-of scope given role slot steady.former steady.since.gone (disk given.start before) placed to.room.small steady.since.held is) placed recovers;
-    fields = fields-held scope steady.former old (disk given.start before) steady.since old.newest.resync_offset Gives refl;
-    kept = refl;
+    size = refl;
     count = refl;
     still = still-right;
-    right = less-right sound given size more With (planned_view old Gives old.lost) (disk given.start before) (given-less given old placed None role slot to old.lost) (given-placed given old placed None role slot to old.lost)
+    right = less-right sound scope given more With (planned_view old Gives old.lost) (disk given.start before) less
+        (placed-less scope given With (planned_view old Gives old.lost) less (planned-fits old Gives with-right.placed.fit) (planned-backup scope old Gives with-right.placed.backup) with-right.placed)
         (λ r lt missing. more-end r (lt-both r lt) (ap (λ (s : Role). not (is_whole s)) (given-state given old placed None role slot to new.lost r)
         ∙ missing-more old.lost new.lost m.stay (role_state (reading_of With) r) (ap (λ (s : Role). not (is_whole s)) (sym (given-state given old placed None role slot to old.lost r)) ∙ missing)))
         (back.right With (disk given.start before) (state-here given old placed None role slot to) with-right);
@@ -312,10 +344,13 @@ module _ (sound : Type 0) (scope : Scope) (given : Given) (size : ℕ) (told : L
     carried = back.carried;
   }
     where
+      less : IsLessView (W given old placed None role slot to) (planned_view old (giving old slot role None) old.lost)
+      less = given-less given old placed None role slot to old.lost
+
       more-end : AreGoneTold more (planned_view old Gives new.lost)
       more-end = told-plan more given Gives old new before after m back.gone
 
-      lt-both : (r : ℕ) → r < (shape_of (planned_view old Gives old.lost).newest).disks → r < (shape_of (planned_view old Gives new.lost).newest).disks
+      lt-both : (r : ℕ) → r < role_count (planned_view old Gives old.lost).newest → r < role_count (planned_view old Gives new.lost).newest
       lt-both r lt = lt
 
 -- the slot is among those that hold a role already

@@ -1,7 +1,6 @@
 -- Behind a mark the newest superblock gives no device a role that no slot holds.
-use Rattle.std.proofs.Common.{◌≡◌, ⊎_elim, ℕ, ◌<◌, ◌≤◌, Bool, true, false, not, cond, nat_lt, max, get_or, replicate, List, length, Option, Some, None, is_some, refl, sym, ◌∙◌, ap, subst, arith}
+use Rattle.std.proofs.Common.{◌≡◌, ⊎_elim, ℕ, ◌<◌, ◌≤◌, Bool, true, false, not, cond, nat_lt, max, get_or, replicate, List, length, Option, Some, None, is_some, sym, ◌∙◌, ap, arith}
 use Rattle.std.specs.Option.{option_map_or}
-use Rattle.std.proofs.lemmas.Bool.Decides.{nat_tests}
 use Rattle.md_base.specs.Shapes.{has_slot}
 use Rattle.md_base.specs.declared.status.Role.{Role}
 use Rattle.md_base.specs.declared.status.Role.TheVariants.{Missing}
@@ -12,16 +11,16 @@ use Rattle.superblocks.specs.declared.change.Give.{Give}
 use Rattle.superblocks.specs.declared.change.Give.TheVariants.{Same}
 use Rattle.superblocks.specs.declared.members.Members.{Members}
 use Rattle.superblocks.specs.Reading.{entry_of, shape_of, holder}
-use Rattle.superblocks.specs.Update.{give_of, planned_role, is_planned_spare, slot_entry, entry_for, with_roles, faulty_role}
+use Rattle.superblocks.specs.Update.{give_of, planned_role, is_planned_spare, entry_for, with_roles}
 use Rattle.superblocks.specs.Updating.{AreNamed}
 use Rattle.superblock_reads.proofs.PlanFits.{length-any, roles-at, entry-is}
 use Rattle.superblock_reads.proofs.SaidLists.{role-holder}
 use Rattle.row_io.specs.Rows.{role_without}
 use Rattle.safe_updates.specs.Named.{AreNamedMissing}
-use Rattle.views.specs.Marking.{marking}
+use Rattle.shape_changes.specs.Marking.{marking}
 use Rattle.views.specs.Placed.{IsPlaced, AreLess}
-use Rattle.views.proofs.MarkLaws.{give_of-same}
-use Rattle.views.proofs.PlacedLaws.{state-without}
+use Rattle.shape_changes.proofs.Kept.{give_of-same}
+use Rattle.shape_changes.proofs.Without.{state-without}
 
 -- an entry that is a role's stands in the table
 in-table : (newest : Sb) (dev role : ℕ) → role < 16 → entry_of newest dev ≡ role → get_or newest.dev_roles dev 0xfffe ≡ role

@@ -24,7 +24,7 @@ use Rattle.views.specs.Whole.{list_size}
 use Rattle.views.specs.Placed.{places_of}
 use Rattle.views.specs.Refusals.{lowest_missing}
 use Rattle.views.specs.Lacking.{lacking, too_many, AreTooMany, DoesWithout, IsAskedBeyond, IsUnread, IsUnwritten}
-use Rattle.views.proofs.Judged.{least-found, both-parts}
+use Rattle.views.proofs.Searching.{least-found, both-parts}
 use Rattle.safe_updates.specs.First.{are_too_many, is_lacking, first_lacking, read_refusal, write_refusal}
 
 -- ---- too many

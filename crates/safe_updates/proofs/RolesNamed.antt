@@ -18,12 +18,13 @@ use Rattle.superblocks.specs.Held.{known_of, IsKnown}
 use Rattle.superblocks.proofs.ReadLists.{held-here}
 use Rattle.superblock_reads.proofs.SaidSlots.{below-length, role-below, role-known, role-said}
 use Rattle.row_io.specs.Rows.{role_without, members_without}
-use Rattle.views.specs.Held.{IsHeldBy}
+use Rattle.shape_changes.specs.Held.{IsHeldBy}
 use Rattle.views.specs.Lacking.{IsNamed, AreUnnamed}
 use Rattle.views.specs.Placed.{IsPlaced}
-use Rattle.views.specs.Views.{Ledger}
-use Rattle.views.specs.Steady.{IsSteady, IsNamedNow}
-use Rattle.views.proofs.PlacedLaws.{state-without, kept-roles}
+use Rattle.shape_views.specs.Views.{Ledger}
+use Rattle.shape_changes.specs.Steady.{IsSteady, IsNamedNow}
+use Rattle.views.proofs.PlacedLaws.{kept-roles}
+use Rattle.shape_changes.proofs.Without.{state-without}
 
 -- a slot's superblock that holds a role has the role's entry
 holds-entry : (newest : Sb) (role slot : ℕ) (sb : Sb) (state : Role) → held_in newest role slot (Some sb) ≡ Some state → entry_of newest sb.dev_number ≡ role
@@ -79,8 +80,8 @@ module _ (scope : Scope) (given : Given) (former : Members) (gone : ℕ) (d : �
   roles-same : former.roles ≡ map (role_without gone) former.roles
   roles-same = sym (kept-roles gone former.roles still-there)
 
-pub unnamed-named : {sound : Type 0} {scope : Scope} {given : Given} {size : ℕ} {told : Ledger} (m : Members) (d : ℕ → ℕ → List Sector) → IsPlaced given m → AreUnnamed m
-    → IsSteady sound scope given size told m d → IsNamedNow sound scope given size told m d
+pub unnamed-named : {sound : Type 0} {scope : Scope} {given : Given} {told : Ledger} (m : Members) (d : ℕ → ℕ → List Sector) → IsPlaced given m → AreUnnamed m
+    → IsSteady sound scope given told m d → IsNamedNow sound scope given told m d
 unnamed-named {scope = scope} {given = given} m d placed unnamed steady = record {
   steady = steady;
   roles = roles-same scope given steady.former steady.since.gone d steady.since.held

@@ -1,27 +1,26 @@
 -- Where the members are flushed, and lost slots are named, the list alone is told.
-use Rattle.std.proofs.Common.{◌≡◌, ◌⊎◌, inl, inr, ℕ, ◌+◌, ◌<◌, Bool, true, false, List, [], ◌∷◌, Some, refl, sym, ◌∙◌, ap, subst, arith}
+use Rattle.std.proofs.Common.{◌≡◌, ◌⊎◌, inl, inr, ℕ, ◌+◌, ◌<◌, Bool, true, false, List, [], ◌∷◌, refl, sym, ◌∙◌, ap, subst, arith}
 use Rattle.md_base.specs.Sectors.{Sector}
 use Rattle.bank.specs.declared.bank.Operation.{Operation}
 use Rattle.bank.specs.Given.{Given}
-use Rattle.bank.specs.Tape.{Contents, IsIn, IsDrawn, disk}
+use Rattle.bank.specs.Tape.{IsIn, disk}
 use Rattle.layout.specs.Layout.{place}
 use Rattle.layout.proofs.Places.{place-role_below, place-row_below}
 use Rattle.superblocks.specs.declared.members.Members.{Members}
 use Rattle.superblocks.specs.Reading.{Scope, Reading, is_clean, shape_of, data_offset_of}
-use Rattle.row_io.specs.Rows.{reading_of, present, held_slot, IsTolerated}
+use Rattle.row_io.specs.Rows.{reading_of, present, IsTolerated}
 use Rattle.row_io.proofs.Losses.{holder-of}
-use Rattle.list_io.specs.Full.{RowStands}
 use Rattle.list_io.proofs.FullLaws.{data_here, full-data}
-use Rattle.views.specs.Whole.{list_size}
-use Rattle.views.specs.Placed.{places_by, IsPlaced}
+use Rattle.views.specs.Placed.{IsPlaced}
 use Rattle.views.specs.Lacking.{DoesWithout, AreHoldersFlushed, ListStands, RowsStand}
-use Rattle.views.specs.Views.{Ledger, AreHeldAllowed, IsSettled}
-use Rattle.views.specs.Steady.{IsSafeNow, IsNamedNow, settled_ledger}
-use Rattle.views.proofs.Steady.{flushed-is-settled}
+use Rattle.shape_views.specs.Views.{Ledger, AreHeldAllowed, AreSectionsAllowed, IsSettled}
+use Rattle.shape_changes.specs.Steady.{IsSafeNow, IsNamedNow, settled_ledger}
+use Rattle.views.proofs.Still.{flushed-is-settled}
+use Rattle.safe_updates.proofs.StillHeld.{AreRowsAllowed, held-still, sections-still}
 
 -- a sector that a slot holds has the list's value alone
 holds-alone : (given : Given) (m : Members) (tape : List Operation) (list : ℕ → Sector) → IsPlaced given m → AreHoldersFlushed (reading_of m) given tape → ListStands m (present given tape) list
-    → AreHeldAllowed m (λ x. list x ∷ []) (disk given.start tape)
+    → AreRowsAllowed (reading_of m) (λ x. list x ∷ []) (disk given.start tape)
 holds-alone given m tape list placed flushed stands x slot lt holds v may =
     let shape = shape_of m.newest in
     let role = (place shape x).role in
@@ -37,20 +36,11 @@ holds-alone given m tape list placed flushed stands x slot lt holds v may =
     only w (inl same) = same
     only w (inr none) = absurd none
 
--- ---- the same by what is read of the members
-
-abbrev IsHeldBy : Reading → (ℕ → List Sector) → (ℕ → ℕ → List Sector) → Type 0
-IsHeldBy r values d = (x slot : ℕ) → x < list_size (places_by r) → held_slot r (place (shape_of r.newest) x).role (place (shape_of r.newest) x).row ≡ Some slot
-    → (v : Sector) → IsIn (d slot (data_offset_of r slot + (place (shape_of r.newest) x).row)) v → IsIn (values x) v
-
-abbrev AreSettledBy : Reading → (ℕ → Sector) → (ℕ → ℕ → List Sector) → Type 0
-AreSettledBy r list d = (c : Contents) → IsDrawn d c → (row : ℕ) → row < r.newest.size → RowStands r c (shape_of r.newest) list row
-
 -- ---- the law
 
-module _ (sound : Type 0) (scope : Scope) (given : Given) (size : ℕ) (told : Ledger) (unsynced : Bool) (m : Members) (tape : List Operation) (list : ℕ → Sector) (placed : IsPlaced given m)
+module _ (sound : Type 0) (scope : Scope) (given : Given) (told : Ledger) (unsynced : Bool) (m : Members) (tape : List Operation) (list : ℕ → Sector) (placed : IsPlaced given m)
     (flushed : AreHoldersFlushed (reading_of m) given tape) (stands : ListStands m (present given tape) list) (dirty : is_clean m.newest ≡ false → unsynced ≡ true)
-    (rows : is_clean m.newest ≡ true → DoesWithout m → sound → RowsStand m (present given tape) list) (named : IsNamedNow sound scope given size told m (disk given.start tape)) where
+    (rows : is_clean m.newest ≡ true → DoesWithout m → sound → RowsStand m (present given tape) list) (named : IsNamedNow sound scope given told m (disk given.start tape)) where
   abbrev Former : Members
   Former = named.steady.former
 
@@ -63,17 +53,38 @@ module _ (sound : Type 0) (scope : Scope) (given : Given) (size : ℕ) (told : L
     spares = sym (ap (λ (n : Members). n.spares) named.steady.since.since) i;
   }
 
-  settled-here : is_clean Former.newest ≡ true → DoesWithout Former → sound → IsSettled Former (λ x. list x ∷ []) (disk given.start tape)
-  settled-here clean does premise =
-      let settled = flushed-is-settled given m tape (λ x. list x ∷ []) list placed flushed
-      (rows (ap (λ (r : Reading). is_clean r.newest) (sym same) ∙ clean) (subst (λ (r : Reading). IsTolerated r (shape_of r.newest)) same does) premise) (λ x lt. inl refl) in
-      record {
-        list = settled.list;
-        allowed = λ x lt. settled.allowed x (subst (λ (r : Reading). x < list_size (places_by r)) same lt);
-        rows = subst (λ (r : Reading). AreSettledBy r settled.list (disk given.start tape)) (sym same) settled.rows;
-      }
+  -- and no more than the lost slots are others
+  abbrev Here : Members
+  Here = record m { lost = named.steady.former.lost }
 
-  pub settled-safe : IsSafeNow sound scope given size (settled_ledger unsynced list told) m (disk given.start tape)
+  former-is : Former ≡ Here
+  former-is i = record {
+    newest = sym (ap (λ (n : Members). n.newest) named.steady.since.since) i;
+    own = sym (ap (λ (n : Members). n.own) named.steady.since.since) i;
+    roles = named.roles i;
+    spares = sym (ap (λ (n : Members). n.spares) named.steady.since.since) i;
+    lost = named.steady.former.lost;
+  }
+
+  placed-here : IsPlaced given Here
+  placed-here = record {
+    still = placed.still;
+    valid = placed.valid;
+    multiple = placed.multiple;
+    short = placed.short;
+    roles = placed.roles;
+    holders = placed.holders;
+    behind = placed.behind;
+    apart = placed.apart;
+    live = placed.live;
+  }
+
+  settled-here : is_clean Former.newest ≡ true → DoesWithout Former → sound → IsSettled scope Here (λ x. list x ∷ []) (disk given.start tape)
+  settled-here clean does premise =
+      flushed-is-settled scope given Here tape (λ x. list x ∷ []) list placed-here flushed
+      (rows (ap (λ (r : Reading). is_clean r.newest) (sym same) ∙ clean) (subst (λ (r : Reading). IsTolerated r (shape_of r.newest)) same does) premise) (λ x lt. inl refl)
+
+  pub settled-safe : IsSafeNow sound scope given (settled_ledger unsynced list told) m (disk given.start tape)
   settled-safe = inl (record {
     former = named.steady.former;
     since = named.steady.since;
@@ -82,8 +93,12 @@ module _ (sound : Type 0) (scope : Scope) (given : Given) (size : ℕ) (told : L
       sized = named.steady.right.sized;
       gone = named.steady.right.gone;
       unclean = λ is. dirty (ap (λ (r : Reading). is_clean r.newest) (sym same) ∙ is);
-      held = subst (λ (r : Reading). IsHeldBy r (λ x. list x ∷ []) (disk given.start tape)) (sym same) (holds-alone given m tape list placed flushed stands);
-      settled = settled-here;
+      reshaping = named.steady.right.reshaping;
+      held = subst (λ (n : Members). AreHeldAllowed scope n (λ x. list x ∷ []) (disk given.start tape)) (sym former-is)
+          (held-still scope Here (λ x. list x ∷ []) (disk given.start tape) placed.still (holds-alone given m tape list placed flushed stands));
+      sections = subst (λ (n : Members). AreSectionsAllowed scope n (λ x. list x ∷ []) (disk given.start tape)) (sym former-is)
+          (sections-still scope Here (λ x. list x ∷ []) (disk given.start tape) placed.still);
+      settled = λ clean does premise. subst (λ (n : Members). IsSettled scope n (λ x. list x ∷ []) (disk given.start tape)) (sym former-is) (settled-here clean does.old premise);
     };
     numbers = named.steady.numbers;
   })

@@ -18,7 +18,8 @@ use Rattle.superblocks.specs.Reading.{shape_of, role_state, holder, is_whole, da
 use Rattle.superblocks.specs.Reads.{has_spare}
 use Rattle.row_io.specs.Rows.{reading_of, present, role_without, members_without}
 use Rattle.row_io.proofs.Losses.{state_after, state_kept}
-use Rattle.views.specs.Placed.{IsPlaced, AreUnlost}
+use Rattle.views.specs.Placed.{IsPlaced}
+use Rattle.shape_changes.specs.Steady.{AreUnlost}
 use Rattle.views.specs.Flushing.{OnlyFlushesAdded}
 use Rattle.views.specs.Moving.{IsMoved}
 use Rattle.views.specs.Lacking.{HaveFailedSince}

@@ -10,18 +10,17 @@ ghost use Rattle.superblocks.specs.Reads.{has_spare};
 ghost use Rattle.superblocks.specs.Held.{IsSecondHalf};
 ghost use Rattle.row_io.specs.Rows.{reading_of, present};
 ghost use Rattle.flat_history.specs.World.{World};
-ghost use Rattle.views.specs.Placed.{IsPlaced, AreUnlost};
-ghost use Rattle.views.specs.Marking.{adding, AreOthersPresent};
+ghost use Rattle.views.specs.Placed.{IsPlaced};
+ghost use Rattle.shape_changes.specs.Steady.{AreUnlost, IsSafeOver, KeepsSafe, AreGoneTold, IsUncleanTold, with_number};
+ghost use Rattle.shape_changes.specs.Marking.{adding, AreOthersPresent};
 ghost use Rattle.views.specs.Flushing.{OnlyFlushesAdded};
 ghost use Rattle.views.specs.Moving.{Grows, IsMoved};
-ghost use Rattle.views.specs.Safety.{HasLiveSlot, HasRoomLeft, IsRisen};
+ghost use Rattle.shape_changes.specs.Safety.{HasLiveSlot, HasRoomLeft, IsRisen};
 ghost use Rattle.views.specs.Lacking.{HaveFailedSince, AreUnnamed};
 ghost use Rattle.sb1.specs.Superblock.{two_by_two};
 ghost use Rattle.views.specs.Numbers.{IsSpareSb, IsOfScope, AreSecondEntries};
-ghost use Rattle.views.specs.Rebuilding.{MayHold};
-ghost use Rattle.views.specs.Rebuilding.{AreSparesFree, IfOwn, with_spare};
-ghost use Rattle.views.specs.Views.{Ledger};
-ghost use Rattle.views.specs.Steady.{IsSafeOver, KeepsSafe, AreGoneTold, IsUncleanTold, with_number};
+ghost use Rattle.views.specs.Rebuilding.{MayHold, AreSparesFree, IfOwn, with_spare};
+ghost use Rattle.shape_views.specs.Views.{Ledger};
 
 use crate::flushes::holders;
 use bank::Bank;
@@ -116,11 +115,11 @@ pub fn add_member<B: Bank>(members: &mut Members, bank: &mut B, slot: u32, sb: &
     ensures clean { is_clean members.new.newest ≡ is_clean members.old.newest }
     ensures rise { IsRisen B.tells (with_spare slot sb.now members.old) members.new (B.tape bank.old) (B.tape bank.new) }
     ensures stored { has_slot result slot ≡ false → IfOwn members.new slot (λ own. (own.dev_number ≡ sb.now.dev_number) × (own.data_offset ≡ sb.now.data_offset)) }
-    ensures safe { B.tells → (world : World) → (size : ℕ) → (told : Ledger) → HasRoomLeft members.old (B.tape bank.old) (B.tape bank.new)
+    ensures safe { B.tells → (world : World) → (told : Ledger) → HasRoomLeft members.old (B.tape bank.old) (B.tape bank.new)
         → AreGoneTold told members.new → IsUncleanTold told members.old → IsOfScope world.scope (B.given bank.old) slot sb.now → told.carried sb.now.dev_number ≡ false
         → ((sector : Sector) → IsIn (disk (B.given bank.old).start (B.tape bank.old) slot 9) sector → IsSecondHalf sb.now sector) → HasLiveSlot members.old
-        → IsSafeOver world (B.given bank.old) size told members.old (B.tape bank.old)
-        → KeepsSafe world (B.given bank.old) size (with_number sb.now.dev_number told) members.new (B.tape bank.old) (B.tape bank.new) }
+        → IsSafeOver world (B.given bank.old) told members.old (B.tape bank.old)
+        → KeepsSafe world (B.given bank.old) (with_number sb.now.dev_number told) members.new (B.tape bank.old) (B.tape bank.new) }
     ensures given { B.given bank.new ≡ B.given bank.old }
     ensures counts { NeverFalls (B.faults_of bank.old) (B.faults_of bank.new) }
 {

@@ -10,14 +10,14 @@ ghost use Rattle.superblocks.specs.Reads.{has_spare};
 ghost use Rattle.row_io.specs.Rows.{reading_of, present};
 ghost use Rattle.flat_history.specs.World.{World};
 ghost use Rattle.flat_history.specs.Sound.{OpensFit};
-ghost use Rattle.views.specs.Placed.{is_vacant, IsPlaced, AreUnlost};
-ghost use Rattle.views.specs.Marking.{giving, AreOthersPresent};
+ghost use Rattle.views.specs.Placed.{is_vacant, IsPlaced};
+ghost use Rattle.shape_changes.specs.Steady.{AreUnlost, IsSafeOver, KeepsSafe, AreGoneTold, IsUncleanTold, AreWritesAllowed, given_back};
+ghost use Rattle.shape_changes.specs.Marking.{giving, AreOthersPresent};
 ghost use Rattle.views.specs.Moving.{Grows, IsMoved};
-ghost use Rattle.views.specs.Safety.{HasRoomLeft, IsRisen};
+ghost use Rattle.shape_changes.specs.Safety.{HasRoomLeft, IsRisen};
 ghost use Rattle.views.specs.Lacking.{HaveFailedSince, DoesWithout, RowsStand};
 ghost use Rattle.views.specs.Rebuilding.{AreSparesFree, with_recovering, with_whole, IsFlushedFull, AreRowsFull};
-ghost use Rattle.views.specs.Views.{Ledger};
-ghost use Rattle.views.specs.Steady.{IsSafeOver, KeepsSafe, AreGoneTold, IsUncleanTold, AreWritesAllowed, given_back};
+ghost use Rattle.shape_views.specs.Views.{Ledger};
 
 use crate::flushes::holders;
 use crate::naming::name_missing;
@@ -57,9 +57,9 @@ pub fn give_role<B: Bank>(members: &mut Members, bank: &mut B, role: u32, slot: 
     ensures others { B.tells → AreOthersPresent (present (B.given bank.old) (B.tape bank.old)) (present (B.given bank.old) (B.tape bank.new)) }
     ensures clean { is_clean members.new.newest ≡ is_clean members.old.newest }
     ensures rise { IsRisen B.tells members.old members.new (B.tape bank.old) (B.tape bank.new) }
-    ensures safe { B.tells → (world : World) → (size : ℕ) → (told : Ledger) → HasRoomLeft members.old (B.tape bank.old) (B.tape bank.new)
-        → AreGoneTold told members.new → told.gone role ≡ true → IsUncleanTold told members.old → IsSafeOver world (B.given bank.old) size told members.old (B.tape bank.old)
-        → KeepsSafe world (B.given bank.old) size told members.new (B.tape bank.old) (B.tape bank.new) }
+    ensures safe { B.tells → (world : World) → (told : Ledger) → HasRoomLeft members.old (B.tape bank.old) (B.tape bank.new)
+        → AreGoneTold told members.new → told.gone role ≡ true → IsUncleanTold told members.old → IsSafeOver world (B.given bank.old) told members.old (B.tape bank.old)
+        → KeepsSafe world (B.given bank.old) told members.new (B.tape bank.old) (B.tape bank.new) }
     ensures given { B.given bank.new ≡ B.given bank.old }
     ensures counts { NeverFalls (B.faults_of bank.old) (B.faults_of bank.new) }
 {
@@ -84,16 +84,16 @@ pub fn make_whole<B: Bank>(members: &mut Members, bank: &mut B, role: u32, slot:
     ensures others { B.tells → AreOthersPresent (present (B.given bank.old) (B.tape bank.old)) (present (B.given bank.old) (B.tape bank.new)) }
     ensures clean { is_clean members.new.newest ≡ is_clean members.old.newest }
     ensures rise { IsRisen B.tells members.old members.new (B.tape bank.old) (B.tape bank.new) }
-    ensures safe { B.tells → (world : World) → (size : ℕ) → (told : Ledger) → HasRoomLeft members.old (B.tape bank.old) (B.tape bank.new)
+    ensures safe { B.tells → (world : World) → (told : Ledger) → HasRoomLeft members.old (B.tape bank.old) (B.tape bank.new)
         → AreGoneTold told members.new → told.gone role ≡ true → IsUncleanTold told members.old → OpensFit world → DoesWithout members.old → (list : ℕ → Sector)
         → RowsStand members.old (present (B.given bank.old) (B.tape bank.old)) list → AreWritesAllowed members.old told.values list
-        → IsFlushedFull members.old role slot list (disk (B.given bank.old).start (B.tape bank.old)) → IsSafeOver world (B.given bank.old) size told members.old (B.tape bank.old)
-        → KeepsSafe world (B.given bank.old) size told members.new (B.tape bank.old) (B.tape bank.new) }
-    ensures given_back { role_state (reading_of members.new) role ≡ IsWhole slot → B.tells → (world : World) → (size : ℕ) → (told : Ledger) → HasRoomLeft members.old (B.tape bank.old) (B.tape bank.new)
+        → IsFlushedFull members.old role slot list (disk (B.given bank.old).start (B.tape bank.old)) → IsSafeOver world (B.given bank.old) told members.old (B.tape bank.old)
+        → KeepsSafe world (B.given bank.old) told members.new (B.tape bank.old) (B.tape bank.new) }
+    ensures given_back { role_state (reading_of members.new) role ≡ IsWhole slot → B.tells → (world : World) → (told : Ledger) → HasRoomLeft members.old (B.tape bank.old) (B.tape bank.new)
         → AreGoneTold told members.new → told.gone role ≡ true → IsUncleanTold told members.old → OpensFit world → DoesWithout members.old → (list : ℕ → Sector)
         → RowsStand members.old (present (B.given bank.old) (B.tape bank.old)) list → AreWritesAllowed members.old told.values list
-        → IsFlushedFull members.old role slot list (disk (B.given bank.old).start (B.tape bank.old)) → IsSafeOver world (B.given bank.old) size told members.old (B.tape bank.old)
-        → IsSafeOver world (B.given bank.old) size (given_back role told) members.new (B.tape bank.new) }
+        → IsFlushedFull members.old role slot list (disk (B.given bank.old).start (B.tape bank.old)) → IsSafeOver world (B.given bank.old) told members.old (B.tape bank.old)
+        → IsSafeOver world (B.given bank.old) (given_back role told) members.new (B.tape bank.new) }
     ensures given { B.given bank.new ≡ B.given bank.old }
     ensures counts { NeverFalls (B.faults_of bank.old) (B.faults_of bank.new) }
 {
@@ -119,16 +119,16 @@ pub fn flush_and_record<B: Bank>(members: &mut Members, bank: &mut B, role: u32,
     ensures others { B.tells → AreOthersPresent (present (B.given bank.old) (B.tape bank.old)) (present (B.given bank.old) (B.tape bank.new)) }
     ensures clean { is_clean members.new.newest ≡ is_clean members.old.newest }
     ensures rise { IsRisen B.tells members.old members.new (B.tape bank.old) (B.tape bank.new) }
-    ensures safe { B.tells → (world : World) → (size : ℕ) → (told : Ledger) → HasRoomLeft members.old (B.tape bank.old) (B.tape bank.new)
+    ensures safe { B.tells → (world : World) → (told : Ledger) → HasRoomLeft members.old (B.tape bank.old) (B.tape bank.new)
         → AreGoneTold told members.new → told.gone role ≡ true → IsUncleanTold told members.old → OpensFit world → DoesWithout members.old → (list : ℕ → Sector)
         → RowsStand members.old (present (B.given bank.old) (B.tape bank.old)) list → AreWritesAllowed members.old told.values list
-        → AreRowsFull members.old role slot list (present (B.given bank.old) (B.tape bank.old)) → IsSafeOver world (B.given bank.old) size told members.old (B.tape bank.old)
-        → KeepsSafe world (B.given bank.old) size told members.new (B.tape bank.old) (B.tape bank.new) }
-    ensures given_back { role_state (reading_of members.new) role ≡ IsWhole slot → B.tells → (world : World) → (size : ℕ) → (told : Ledger) → HasRoomLeft members.old (B.tape bank.old) (B.tape bank.new)
+        → AreRowsFull members.old role slot list (present (B.given bank.old) (B.tape bank.old)) → IsSafeOver world (B.given bank.old) told members.old (B.tape bank.old)
+        → KeepsSafe world (B.given bank.old) told members.new (B.tape bank.old) (B.tape bank.new) }
+    ensures given_back { role_state (reading_of members.new) role ≡ IsWhole slot → B.tells → (world : World) → (told : Ledger) → HasRoomLeft members.old (B.tape bank.old) (B.tape bank.new)
         → AreGoneTold told members.new → told.gone role ≡ true → IsUncleanTold told members.old → OpensFit world → DoesWithout members.old → (list : ℕ → Sector)
         → RowsStand members.old (present (B.given bank.old) (B.tape bank.old)) list → AreWritesAllowed members.old told.values list
-        → AreRowsFull members.old role slot list (present (B.given bank.old) (B.tape bank.old)) → IsSafeOver world (B.given bank.old) size told members.old (B.tape bank.old)
-        → IsSafeOver world (B.given bank.old) size (given_back role told) members.new (B.tape bank.new) }
+        → AreRowsFull members.old role slot list (present (B.given bank.old) (B.tape bank.old)) → IsSafeOver world (B.given bank.old) told members.old (B.tape bank.old)
+        → IsSafeOver world (B.given bank.old) (given_back role told) members.new (B.tape bank.new) }
     ensures given { B.given bank.new ≡ B.given bank.old }
     ensures counts { NeverFalls (B.faults_of bank.old) (B.faults_of bank.new) }
 {

@@ -7,9 +7,10 @@ ghost use Rattle.md_base.specs.Shapes.{has_slot};
 ghost use Rattle.superblocks.specs.Reading.{is_clean};
 ghost use Rattle.superblocks.specs.Outcome.{live_set};
 ghost use Rattle.superblocks.specs.Updating.{ArePlanned, AreLosses};
-ghost use Rattle.views.specs.Placed.{IsPlaced, AreUnlost, AreLess};
-ghost use Rattle.views.specs.Marking.{marking};
-ghost use Rattle.update_laws.specs.Changing.{IsChanged};
+ghost use Rattle.views.specs.Placed.{IsPlaced, AreLess};
+ghost use Rattle.shape_changes.specs.Steady.{AreUnlost};
+ghost use Rattle.shape_changes.specs.Marking.{marking};
+ghost use Rattle.shape_changes.specs.Changing.{IsChanged};
 
 use bank::Bank;
 use sb1::Sb;

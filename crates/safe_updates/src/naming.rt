@@ -6,18 +6,19 @@ ghost use Rattle.md_base.specs.Sectors.{Sector};
 ghost use Rattle.md_base.specs.Shapes.{has_slot, is_valid_shape};
 ghost use Rattle.superblocks.specs.Reading.{Scope, shape_of, is_clean};
 ghost use Rattle.row_io.specs.Rows.{reading_of, present};
-ghost use Rattle.views.specs.Placed.{places_of, is_vacant, AreWhole, IsPlaced, AreUnlost};
+ghost use Rattle.views.specs.Placed.{places_of, is_vacant, AreWhole, IsPlaced};
+ghost use Rattle.shape_changes.specs.Steady.{AreUnlost, IsSafeOver, IsNamedOver, KeepsSafe, AreGoneTold, IsUncleanTold};
 ghost use Rattle.views.specs.Rebuilding.{AreSparesFree};
-ghost use Rattle.views.specs.Marking.{AreOthersPresent};
+ghost use Rattle.shape_changes.specs.Marking.{AreOthersPresent};
 ghost use Rattle.safe_updates.specs.Named.{AreNamedMissing, AreDataKept};
 ghost use Rattle.views.specs.Moving.{Grows, IsMoved};
-ghost use Rattle.views.specs.Safety.{HasMarkRoom, HasLiveSlot, HasRoomLeft, IsRisen};
+ghost use Rattle.shape_changes.specs.Safety.{HasMarkRoom, HasLiveSlot, HasRoomLeft, IsRisen};
 ghost use Rattle.views.specs.Lacking.{HaveFailedSince, AreHoldersFlushed, IsNamed, AreUnnamed};
 ghost use Rattle.bank.specs.Tape.{EachMark, disk};
 ghost use Rattle.flat_history.specs.World.{World};
 ghost use Rattle.flat_history.specs.Sound.{OpensFit};
-ghost use Rattle.views.specs.Views.{Ledger};
-ghost use Rattle.views.specs.Steady.{IsMarkable, IsSafeOver, IsNamedOver, KeepsSafe, AreGoneTold, IsUncleanTold};
+ghost use Rattle.shape_views.specs.Views.{Ledger};
+ghost use Rattle.shape_changes.specs.Kinds.{IsMarkable};
 
 use crate::flushes::holders;
 use crate::marks::mark;
@@ -88,12 +89,14 @@ pub fn mark_members<B: Bank>(members: &mut Members, bank: &mut B, clean: bool) -
     ensures missing { HasLiveSlot members.new → AreNamedMissing members.new }
     ensures data { let start = (B.given bank.old).start in EachMark B.tells start (B.tape bank.old) (B.tape bank.new) (AreDataKept (disk start (B.tape bank.old))) }
     ensures rise { IsRisen B.tells members.old members.new (B.tape bank.old) (B.tape bank.new) }
-    ensures safe { B.tells → (world : World) → (size : ℕ) → (told : Ledger) → HasRoomLeft members.old (B.tape bank.old) (B.tape bank.new)
-        → IsMarkable (OpensFit world) clean told members.old members.new (disk (B.given bank.old).start (B.tape bank.old)) → IsSafeOver world (B.given bank.old) size told members.old (B.tape bank.old)
-        → KeepsSafe world (B.given bank.old) size told members.new (B.tape bank.old) (B.tape bank.new) }
-    ensures named { B.tells → (world : World) → (size : ℕ) → (told : Ledger) → HasRoomLeft members.old (B.tape bank.old) (B.tape bank.new)
-        → IsMarkable (OpensFit world) clean told members.old members.new (disk (B.given bank.old).start (B.tape bank.old)) → IsSafeOver world (B.given bank.old) size told members.old (B.tape bank.old)
-        → HasLiveSlot members.new → IsNamedOver world (B.given bank.old) size told members.new (B.tape bank.new) }
+    ensures safe { B.tells → (world : World) → (told : Ledger) → HasRoomLeft members.old (B.tape bank.old) (B.tape bank.new)
+        → IsMarkable (OpensFit world) world.scope clean told members.old members.new (disk (B.given bank.old).start (B.tape bank.old))
+        → IsSafeOver world (B.given bank.old) told members.old (B.tape bank.old)
+        → KeepsSafe world (B.given bank.old) told members.new (B.tape bank.old) (B.tape bank.new) }
+    ensures named { B.tells → (world : World) → (told : Ledger) → HasRoomLeft members.old (B.tape bank.old) (B.tape bank.new)
+        → IsMarkable (OpensFit world) world.scope clean told members.old members.new (disk (B.given bank.old).start (B.tape bank.old))
+        → IsSafeOver world (B.given bank.old) told members.old (B.tape bank.old)
+        → HasLiveSlot members.new → IsNamedOver world (B.given bank.old) told members.new (B.tape bank.new) }
     ensures given { B.given bank.new ≡ B.given bank.old }
     ensures counts { NeverFalls (B.faults_of bank.old) (B.faults_of bank.new) }
 {
@@ -121,12 +124,12 @@ pub fn name_missing<B: Bank>(members: &mut Members, bank: &mut B) -> u32
     ensures missing { HasLiveSlot members.new → AreNamedMissing members.new }
     ensures data { let start = (B.given bank.old).start in EachMark B.tells start (B.tape bank.old) (B.tape bank.new) (AreDataKept (disk start (B.tape bank.old))) }
     ensures rise { IsRisen B.tells members.old members.new (B.tape bank.old) (B.tape bank.new) }
-    ensures safe { B.tells → (world : World) → (size : ℕ) → (told : Ledger) → HasRoomLeft members.old (B.tape bank.old) (B.tape bank.new)
-        → AreGoneTold told members.new → IsUncleanTold told members.old → IsSafeOver world (B.given bank.old) size told members.old (B.tape bank.old)
-        → KeepsSafe world (B.given bank.old) size told members.new (B.tape bank.old) (B.tape bank.new) }
-    ensures named { B.tells → (world : World) → (size : ℕ) → (told : Ledger) → HasRoomLeft members.old (B.tape bank.old) (B.tape bank.new)
-        → AreGoneTold told members.new → IsUncleanTold told members.old → IsSafeOver world (B.given bank.old) size told members.old (B.tape bank.old)
-        → HasLiveSlot members.new → IsNamedOver world (B.given bank.old) size told members.new (B.tape bank.new) }
+    ensures safe { B.tells → (world : World) → (told : Ledger) → HasRoomLeft members.old (B.tape bank.old) (B.tape bank.new)
+        → AreGoneTold told members.new → IsUncleanTold told members.old → IsSafeOver world (B.given bank.old) told members.old (B.tape bank.old)
+        → KeepsSafe world (B.given bank.old) told members.new (B.tape bank.old) (B.tape bank.new) }
+    ensures named { B.tells → (world : World) → (told : Ledger) → HasRoomLeft members.old (B.tape bank.old) (B.tape bank.new)
+        → AreGoneTold told members.new → IsUncleanTold told members.old → IsSafeOver world (B.given bank.old) told members.old (B.tape bank.old)
+        → HasLiveSlot members.new → IsNamedOver world (B.given bank.old) told members.new (B.tape bank.new) }
     ensures given { B.given bank.new ≡ B.given bank.old }
     ensures counts { NeverFalls (B.faults_of bank.old) (B.faults_of bank.new) }
 {
@@ -150,9 +153,9 @@ pub fn raise<B: Bank>(members: &mut Members, bank: &mut B) -> u32
     ensures dirty { is_clean members.new.newest ≡ false }
     ensures missing { HasLiveSlot members.new → AreNamedMissing members.new }
     ensures rise { IsRisen B.tells members.old members.new (B.tape bank.old) (B.tape bank.new) }
-    ensures safe { B.tells → (world : World) → (size : ℕ) → (told : Ledger) → HasRoomLeft members.old (B.tape bank.old) (B.tape bank.new)
-        → AreGoneTold told members.new → told.unclean ≡ true → IsSafeOver world (B.given bank.old) size told members.old (B.tape bank.old)
-        → KeepsSafe world (B.given bank.old) size told members.new (B.tape bank.old) (B.tape bank.new) }
+    ensures safe { B.tells → (world : World) → (told : Ledger) → HasRoomLeft members.old (B.tape bank.old) (B.tape bank.new)
+        → AreGoneTold told members.new → told.unclean ≡ true → IsSafeOver world (B.given bank.old) told members.old (B.tape bank.old)
+        → KeepsSafe world (B.given bank.old) told members.new (B.tape bank.old) (B.tape bank.new) }
     ensures given { B.given bank.new ≡ B.given bank.old }
     ensures counts { NeverFalls (B.faults_of bank.old) (B.faults_of bank.new) }
 {

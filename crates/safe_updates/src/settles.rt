@@ -6,17 +6,17 @@ ghost use Rattle.bank.specs.Given.{NeverFalls};
 ghost use Rattle.md_base.specs.Sectors.{Sector};
 ghost use Rattle.superblocks.specs.Reading.{Scope, is_clean, shape_of, role_state, holder};
 ghost use Rattle.row_io.specs.Rows.{reading_of, present};
-ghost use Rattle.views.specs.Placed.{places_of, AreWhole, IsPlaced, AreUnlost};
+ghost use Rattle.views.specs.Placed.{places_of, AreWhole, IsPlaced};
+ghost use Rattle.shape_changes.specs.Steady.{AreUnlost, IsSafeOver, IsNamedOver, KeepsSafe, AreGoneTold, IsUncleanTold, AreWritesAllowed, settled_ledger};
 ghost use Rattle.views.specs.Rebuilding.{AreSparesFree};
-ghost use Rattle.views.specs.Marking.{AreOthersPresent};
+ghost use Rattle.shape_changes.specs.Marking.{AreOthersPresent};
 ghost use Rattle.views.specs.Flushing.{OnlyFlushesAdded};
 ghost use Rattle.views.specs.Moving.{Grows, IsMoved};
-ghost use Rattle.views.specs.Safety.{HasMarkRoom, HasLiveSlot, HasRoomLeft, IsRisen};
+ghost use Rattle.shape_changes.specs.Safety.{HasMarkRoom, HasLiveSlot, HasRoomLeft, IsRisen};
 ghost use Rattle.views.specs.Lacking.{DoesWithout, HaveFailedSince, AreHoldersFlushed, AreTooMany, ListStands, RowsStand};
 ghost use Rattle.flat_history.specs.World.{World};
 ghost use Rattle.flat_history.specs.Sound.{OpensFit};
-ghost use Rattle.views.specs.Views.{Ledger};
-ghost use Rattle.views.specs.Steady.{IsSafeOver, IsNamedOver, KeepsSafe, AreGoneTold, IsUncleanTold, AreWritesAllowed, settled_ledger};
+ghost use Rattle.shape_views.specs.Views.{Ledger};
 
 use crate::flushes::{flush_members, holders};
 use crate::naming::{mark_members, name_missing};
@@ -48,12 +48,12 @@ fn flush_naming<B: Bank>(members: &mut Members, bank: &mut B) -> u32
     ensures clean { is_clean members.new.newest ≡ is_clean members.old.newest }
     ensures kept { AreWhole members.new → members.new ≡ members.old }
     ensures rise { IsRisen B.tells members.old members.new (B.tape bank.old) (B.tape bank.new) }
-    ensures safe { B.tells → (world : World) → (size : ℕ) → (told : Ledger) → HasRoomLeft members.old (B.tape bank.old) (B.tape bank.new)
-        → AreGoneTold told members.new → IsUncleanTold told members.old → IsSafeOver world (B.given bank.old) size told members.old (B.tape bank.old)
-        → KeepsSafe world (B.given bank.old) size told members.new (B.tape bank.old) (B.tape bank.new) }
-    ensures named { B.tells → (world : World) → (size : ℕ) → (told : Ledger) → HasRoomLeft members.old (B.tape bank.old) (B.tape bank.new)
-        → AreGoneTold told members.new → IsUncleanTold told members.old → IsSafeOver world (B.given bank.old) size told members.old (B.tape bank.old)
-        → HasLiveSlot members.new → IsNamedOver world (B.given bank.old) size told members.new (B.tape bank.new) }
+    ensures safe { B.tells → (world : World) → (told : Ledger) → HasRoomLeft members.old (B.tape bank.old) (B.tape bank.new)
+        → AreGoneTold told members.new → IsUncleanTold told members.old → IsSafeOver world (B.given bank.old) told members.old (B.tape bank.old)
+        → KeepsSafe world (B.given bank.old) told members.new (B.tape bank.old) (B.tape bank.new) }
+    ensures named { B.tells → (world : World) → (told : Ledger) → HasRoomLeft members.old (B.tape bank.old) (B.tape bank.new)
+        → AreGoneTold told members.new → IsUncleanTold told members.old → IsSafeOver world (B.given bank.old) told members.old (B.tape bank.old)
+        → HasLiveSlot members.new → IsNamedOver world (B.given bank.old) told members.new (B.tape bank.new) }
     ensures given { B.given bank.new ≡ B.given bank.old }
     ensures counts { NeverFalls (B.faults_of bank.old) (B.faults_of bank.new) }
 {
@@ -93,16 +93,16 @@ pub fn settle<B: Bank>(members: &mut Members, bank: &mut B, unsynced: bool) -> S
     ensures clean { result.refusal ≡ None → unsynced ≡ false → is_clean members.new.newest ≡ true }
     ensures stays { unsynced ≡ true → is_clean members.new.newest ≡ is_clean members.old.newest }
     ensures rise { IsRisen B.tells members.old members.new (B.tape bank.old) (B.tape bank.new) }
-    ensures safe { B.tells → (world : World) → (size : ℕ) → (told : Ledger) → HasRoomLeft members.old (B.tape bank.old) (B.tape bank.new)
+    ensures safe { B.tells → (world : World) → (told : Ledger) → HasRoomLeft members.old (B.tape bank.old) (B.tape bank.new)
         → AreGoneTold told members.new → IsUncleanTold told members.old → (list : ℕ → Sector) → (DoesWithout members.old → ListStands members.old (present (B.given bank.old) (B.tape bank.old)) list)
         → (unsynced ≡ false → DoesWithout members.old → OpensFit world → RowsStand members.old (present (B.given bank.old) (B.tape bank.old)) list)
-        → AreWritesAllowed members.old told.values list → IsSafeOver world (B.given bank.old) size told members.old (B.tape bank.old)
-        → KeepsSafe world (B.given bank.old) size told members.new (B.tape bank.old) (B.tape bank.new) }
-    ensures settled { result.refusal ≡ None → B.tells → (world : World) → (size : ℕ) → (told : Ledger) → HasRoomLeft members.old (B.tape bank.old) (B.tape bank.new)
+        → AreWritesAllowed members.old told.values list → IsSafeOver world (B.given bank.old) told members.old (B.tape bank.old)
+        → KeepsSafe world (B.given bank.old) told members.new (B.tape bank.old) (B.tape bank.new) }
+    ensures settled { result.refusal ≡ None → B.tells → (world : World) → (told : Ledger) → HasRoomLeft members.old (B.tape bank.old) (B.tape bank.new)
         → AreGoneTold told members.new → IsUncleanTold told members.old → (DoesWithout members.old → unsynced ≡ true → is_clean members.old.newest ≡ false) → (list : ℕ → Sector) → (DoesWithout members.old → ListStands members.old (present (B.given bank.old) (B.tape bank.old)) list)
         → (unsynced ≡ false → DoesWithout members.old → OpensFit world → RowsStand members.old (present (B.given bank.old) (B.tape bank.old)) list)
-        → AreWritesAllowed members.old told.values list → IsSafeOver world (B.given bank.old) size told members.old (B.tape bank.old)
-        → IsSafeOver world (B.given bank.old) size (settled_ledger unsynced list told) members.new (B.tape bank.new) }
+        → AreWritesAllowed members.old told.values list → IsSafeOver world (B.given bank.old) told members.old (B.tape bank.old)
+        → IsSafeOver world (B.given bank.old) (settled_ledger unsynced list told) members.new (B.tape bank.new) }
     ensures given { B.given bank.new ≡ B.given bank.old }
     ensures counts { NeverFalls (B.faults_of bank.old) (B.faults_of bank.new) }
 {

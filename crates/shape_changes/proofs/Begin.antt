@@ -34,10 +34,11 @@ use Rattle.row_io.specs.Rows.{reading_of, is_missing, held_slot, IsTolerated}
 use Rattle.row_io.proofs.Losses.{holder-of}
 use Rattle.flat_history.specs.ActiveSection.{section_for}
 use Rattle.flat_history.specs.Stands.{shape_at, shape_for}
-use Rattle.shape_views.specs.Views.{Disk, Ledger, IsViewRight}
+use Rattle.shape_views.specs.Views.{Disk, Ledger}
 use Rattle.shape_views.specs.Windows.{HasNoSection, IsFlushedRight}
-use Rattle.shape_changes.specs.Updates.{planned_view, AreGoneTold}
-use Rattle.shape_changes.specs.Changing.{IsSteady, IsChanged, IsFitUpdate, IsPlannedSafe}
+use Rattle.shape_changes.specs.Updates.{planned_view}
+use Rattle.shape_changes.specs.Steady.{AreGoneTold, IsSteady}
+use Rattle.shape_changes.specs.Changing.{IsChanged, IsFitUpdate, IsPlannedSafe}
 use Rattle.shape_changes.specs.Giving.{IsPlacedLess}
 use Rattle.shape_changes.specs.Flushed.{IsBeginning, BeginStaysSafe, FlushedChangeStaysSafe}
 use Rattle.shape_views.proofs.Alike.{shape-alike, length-alike, placing-alike}
@@ -46,7 +47,7 @@ use Rattle.shape_changes.proofs.PlansLose.{found-passes, same-role}
 use Rattle.shape_changes.proofs.PlannedRoles.{kept-and, says-shared, planned-holds}
 use Rattle.shape_changes.proofs.ChangeViews.{plan-told}
 use Rattle.shape_changes.proofs.ChangeSafe.{safe-change}
-use Rattle.shape_changes.proofs.KeptSafe.{told-plan, without-right}
+use Rattle.shape_changes.proofs.KeptSafe.{told-plan, steady-right}
 use Rattle.shape_changes.proofs.FitKinds.{taking-is-fit, taking-live, dropping-is-fit, dropping-live}
 use Rattle.shape_views.proofs.Stands.{flushed-right}
 use Rattle.shape_changes.proofs.PlacedLess.{placed-less-right}
@@ -237,36 +238,37 @@ module _ (scope : Scope) (old : Members) (change : Change) (lost : ℕ) (begins 
 -- ---- it keeps the array safe
 
 pub begin-safe : (sound : Type 0) → BeginStaysSafe sound
-begin-safe sound scope given told more change old new before after m begins room placed plain tells gone-old gone now =
+begin-safe sound scope given told more change old new before after m begins room placed plain tells gone-old gone carried now =
     safe-change sound scope given told more change old new before after m begins.taking.none (taking-live old change begins.taking) room (λ steady. (
     let fit = taking-is-fit scope steady.former old change (disk given.start before) steady.since begins.taking in
-    let old-right = subst (λ (o : Members). AreGoneTold told o → IsViewRight sound scope given told o (disk given.start before)) (sym steady.since.since)
-    (λ tells. without-right sound scope given told steady.former steady.since.gone (disk given.start before) steady.right tells) gone-old in
+    let old-right = steady-right sound scope given told old (disk given.start before) steady gone-old in
     let told-end = told-plan more given change old new before after m gone in
     record {
       fit = fit;
       right = placed-less-right sound scope given told more old (planned_view old change old.lost) (disk given.start before) (begun-less scope old change old.lost begins (disk given.start before) plain) placed
           (plan-told scope given old change placed fit.one_holder more old.lost new.lost (λ s is. is) m.stay told-end) tells old-right;
       gone = told-end;
+      carried = carried;
     })) now
 
 -- ---- behind a flush
 
 module _ (sound : Type 0) (scope : Scope) (given : Given) (told more : Ledger) (change : Change) (old new : Members) (before after : List Operation) (c : Contents) (list : ℕ → Sector)
-    (m : IsChanged ⊤ given change old new before after) (gone : AreGoneTold more new)
+    (m : IsChanged ⊤ given change old new before after) (gone : AreGoneTold more new) (carried : (number : ℕ) → told.carried number ≡ true → more.carried number ≡ true)
     (flushed : IsSteady sound scope given told old (disk given.start before) → IsFlushedRight sound scope given more (planned_view old change old.lost) c list (disk given.start before)) where
   flushed-safe : (IsSteady sound scope given told old (disk given.start before) → IsFitUpdate old change) → IsSteady sound scope given told old (disk given.start before)
-      → IsPlannedSafe sound scope given more change old new (disk given.start before)
+      → IsPlannedSafe sound scope given told more change old new (disk given.start before)
   flushed-safe fits steady = record {
     fit = fits steady;
     right = flushed-right sound scope given more (planned_view old change old.lost) c list (disk given.start before) (flushed steady);
     gone = told-plan more given change old new before after m gone;
+    carried = carried;
   }
 
 pub flushed-change-safe : (sound : Type 0) → FlushedChangeStaysSafe sound
-flushed-change-safe sound scope given told more change old new before after c list m kind room gone flushed now = ⊎_elim
+flushed-change-safe sound scope given told more change old new before after c list m kind room gone carried flushed now = ⊎_elim
     (λ taking. safe-change sound scope given told more change old new before after m taking.none (taking-live old change taking) room
-    (flushed-safe sound scope given told more change old new before after c list m gone flushed (λ steady. taking-is-fit scope steady.former old change (disk given.start before) steady.since taking)) now)
+    (flushed-safe sound scope given told more change old new before after c list m gone carried flushed (λ steady. taking-is-fit scope steady.former old change (disk given.start before) steady.since taking)) now)
     (λ dropping. safe-change sound scope given told more change old new before after m dropping.none (dropping-live old change dropping) room
-    (flushed-safe sound scope given told more change old new before after c list m gone flushed (λ steady. dropping-is-fit scope steady.former old change (disk given.start before) steady.since dropping)) now)
+    (flushed-safe sound scope given told more change old new before after c list m gone carried flushed (λ steady. dropping-is-fit scope steady.former old change (disk given.start before) steady.since dropping)) now)
     kind

@@ -1,13 +1,17 @@
 -- A call's clauses are what the laws of an update start from.
-use Rattle.std.proofs.Common.{◌≡◌, true, false, sym, ap, subst}
+use Rattle.std.proofs.Common.{◌≡◌, ℕ, true, false, List, None, sym, ◌∙◌, ap, subst}
 use Rattle.md_base.specs.Shapes.{has_slot}
+use Rattle.bank.specs.declared.bank.Operation.{Operation}
+use Rattle.bank.specs.Given.{Given}
 use Rattle.bank.specs.Tape.{EachMark, disk}
+use Rattle.superblocks.specs.declared.change.Change.{Change}
 use Rattle.superblocks.specs.declared.members.Members.{Members}
 use Rattle.superblocks.specs.Updating.{IsUpdate, IsWrittenBy, AreNamed, IsSomeLeft}
 use Rattle.superblocks.specs.Outcome.{with_added, live_set, is_left, AreStored}
 use Rattle.superblocks.specs.Rounds.{round_at}
 use Rattle.superblocks.specs.Losing.{IsInTurns, ArePastTurns}
-use Rattle.shape_changes.specs.Called.{UpdateIsChange}
+use Rattle.shape_changes.specs.Changing.{IsChanged}
+use Rattle.shape_changes.specs.Called.{HasUpdated, UpdateIsChange}
 
 pub update-is-change : (tells : Type 0) → UpdateIsChange tells
 update-is-change tells given change old new before after faults faults' none did = record {
@@ -20,9 +24,16 @@ update-is-change tells given change old new before after faults faults' none did
   own = subst (λ (m : Members). AreStored new.newest change.gives (is_left (live_set old change) new.lost) m.own new.own) same did.own;
   roles = did.roles;
   spares = did.spares;
+  alive = did.alive;
   stay = λ s is. did.losses.stay s (subst (λ (m : Members). has_slot m.lost s ≡ true) (sym same) is);
   live = λ s is isnt. did.losses.live s is (subst (λ (m : Members). has_slot m.lost s ≡ false) (sym same) isnt);
 }
   where
     same : with_added old change.added ≡ old
     same = ap (with_added old) none
+
+-- so it is by another name of the change
+pub changed-by : (tells : Type 0) (given : Given) (called change : Change) (old new : Members) (before after : List Operation) (faults faults' : ℕ → ℕ) → called ≡ change → change.added ≡ None
+    → HasUpdated tells given called old new before after faults faults' → IsChanged tells given change old new before after
+changed-by tells given called change old new before after faults faults' is none did =
+    subst (λ (ch : Change). IsChanged tells given ch old new before after) is (update-is-change tells given called old new before after faults faults' (ap (λ (ch : Change). ch.added) is ∙ none) did)

@@ -1,5 +1,5 @@
 -- The view that an update plans, with more slots named, and the members at its end.
-use Rattle.std.proofs.Common.{◌≡◌, ℕ, ◌<◌, ◌&&◌, Bool, true, false, not, cond, List, length, get_or, Option, Some, None, option_map, refl, sym, ◌∙◌, ap, ap₂, subst, arith}
+use Rattle.std.proofs.Common.{◌≡◌, ℕ, ◌<◌, ◌||◌, ◌&&◌, Bool, true, false, not, cond, List, length, get_or, Option, Some, None, option_map, refl, sym, ◌∙◌, ap, ap₂, subst, arith}
 use Rattle.std.specs.Option.{option_map_or}
 use Rattle.md_base.specs.Shapes.{has_slot}
 use Rattle.md_base.specs.declared.status.Role.{Role}
@@ -7,16 +7,19 @@ use Rattle.md_base.specs.declared.status.Role.TheVariants.{Whole, Recovering, Mi
 use Rattle.md_base.proofs.Tabulated.{get_or-tabulate}
 use Rattle.sb1.specs.declared.sb.Sb.{Sb}
 use Rattle.sb1.specs.Superblock.{checksum}
+use Rattle.sb1.specs.Writable.{IsWritable}
 use Rattle.bank.specs.Given.{Given}
 use Rattle.bank.specs.Tape.{Contents}
 use Rattle.superblocks.specs.declared.change.Give.{Give}
+use Rattle.superblocks.specs.declared.change.Give.TheVariants.{Same, Spare}
+use Rattle.superblocks.specs.declared.change.Give.TheVariants as give
 use Rattle.superblocks.specs.declared.change.Change.{Change}
 use Rattle.superblocks.specs.declared.members.Members.{Members}
 use Rattle.superblocks.specs.Reading.{Scope, is_reshaping, role_state, rows_held, holder, own_of}
 use Rattle.superblocks.specs.Reads.{SaysSame, IsReadAs, roles_refusal}
-use Rattle.superblocks.specs.Update.{planned, with_give, give_of, own_in}
+use Rattle.superblocks.specs.Update.{planned, with_give, give_of, own_in, is_live, is_added}
 use Rattle.superblocks.specs.Updating.{planned_newest, IsLater}
-use Rattle.superblocks.specs.Outcome.{live_set, is_left, IsStored, IsPlannedOwn, AreStored, AreGivesOfLive, planned_roles, planned_spares}
+use Rattle.superblocks.specs.Outcome.{live_set, is_left, IsStored, IsPlannedOwn, AreLive, AreStored, AreGivesOfLive, planned_roles, planned_spares}
 use Rattle.superblocks.specs.Held.{IsStamped, known_of, said_by}
 use Rattle.superblocks.specs.Stages.{AreLeft, AreKept}
 use Rattle.superblock_reads.specs.Said.{AreSaid}
@@ -26,10 +29,11 @@ use Rattle.row_io.specs.Rows.{reading_of, is_missing}
 use Rattle.flat_history.specs.Stands.{backup_absent}
 use Rattle.shape_views.specs.Regions.{AreShapesFit, ArePlaced, IsReadOf}
 use Rattle.shape_views.specs.Views.{Ledger}
-use Rattle.shape_changes.specs.Updates.{planned_view, IsLessView, AreGoneTold, HasOneHolder}
+use Rattle.shape_changes.specs.Updates.{planned_view, IsLessView, HasOneHolder}
+use Rattle.shape_changes.specs.Steady.{AreGoneTold}
 use Rattle.shape_changes.proofs.UpdateViews.{offset-given, recovery-given, said-recovering}
 use Rattle.shape_changes.proofs.PlansLose.{plans-lose}
-use Rattle.shape_changes.proofs.PlannedRoles.{gets-live, held-planned}
+use Rattle.shape_changes.proofs.PlannedRoles.{gets-live, held-planned, live-was}
 use Rattle.shape_changes.proofs.Without.{in-live}
 
 -- ---- what says the same
@@ -116,6 +120,29 @@ placed-less scope given m view less fit backup placed = record {
   where
     was : (role slot : ℕ) → holder (role_state (reading_of view) role) ≡ Some slot → holder (role_state (reading_of m) role) ≡ Some slot
     was role slot held = ap holder (sym (less.states role slot held)) ∙ held
+
+-- ---- what an update plans can be written
+
+pub planned-live : (given : Given) (old : Members) (change : Change) → change.added ≡ None → AreGivesOfLive old change → AreLive given old → (named : ℕ) → AreLive given (planned_view old change named)
+planned-live given old change none gives live named s is =
+    let p = live-was old (planned_view old change named) change gives refl refl s is in
+    let member = live s (or_none (is_live old.roles old.spares s) (sym (ap (λ (o : Option (ℕ × Sb)). is_live old.roles old.spares s || is_added o s) none) ∙ p.1)) in
+    record {
+      place = member.place;
+      sb = with_give (give_of change.gives s) member.sb;
+      own = get_or-tabulate 32 (λ slot. option_map (with_give (give_of change.gives slot)) (own_in old.own slot)) s None p.0 ∙ ap (option_map (with_give (give_of change.gives s))) member.own;
+      writable = with-given (give_of change.gives s) member.sb member.writable;
+    }
+  where
+    or_none : (b : Bool) → (b || false) ≡ true → b ≡ true
+    or_none true e = refl
+    or_none false e = absurd (cc)
+
+    with-given : (g : Give) (sb : Sb) → IsWritable sb → IsWritable (with_give g sb)
+    with-given Same sb w = w
+    with-given (give.Role role (Some offset)) sb w = record { magic = w.magic; major = w.major; super_offset = w.super_offset; max_dev = w.max_dev }
+    with-given (give.Role role None) sb w = record { magic = w.magic; major = w.major; super_offset = w.super_offset; max_dev = w.max_dev }
+    with-given Spare sb w = w
 
 -- ---- the plan, with more slots named
 

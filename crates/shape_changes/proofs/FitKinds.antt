@@ -23,7 +23,8 @@ use Rattle.superblock_reads.proofs.SaidLists.{role-holder, state-here}
 use Rattle.superblock_reads.proofs.SaidSlots.{below-length, listed, roles-count, role-said, role-known}
 use Rattle.row_io.specs.Rows.{members_without}
 use Rattle.shape_views.specs.Views.{Disk}
-use Rattle.shape_changes.specs.Changing.{IsHeldBy, IsFitUpdate}
+use Rattle.shape_changes.specs.Held.{IsHeldBy}
+use Rattle.shape_changes.specs.Changing.{IsFitUpdate}
 use Rattle.shape_changes.specs.Kinds.{IsTaking, TakingIsFit, IsDropping, DroppingIsFit}
 use Rattle.shape_changes.proofs.Kept.{without-less}
 use Rattle.shape_changes.proofs.PlannedRoles.{count-planned}

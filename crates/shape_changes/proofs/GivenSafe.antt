@@ -26,26 +26,30 @@ use Rattle.superblocks.specs.Reads.{has_spare}
 use Rattle.superblocks.specs.Update.{with_give, give_of, own_in, is_recovery, planned_role, is_held_by}
 use Rattle.superblocks.specs.Outcome.{is_in_update, is_planned_holder, held_state, planned_state, AreGivesOfLive}
 use Rattle.superblock_reads.proofs.SaidLists.{role-holder}
+use Rattle.superblock_reads.proofs.SaidSlots.{spare-known}
 use Rattle.row_io.specs.Rows.{reading_of, is_missing, held_slot, IsTolerated, IsHolder}
 use Rattle.row_io.proofs.Losses.{holder-of}
 use Rattle.flat_history.specs.ActiveSection.{section_for}
 use Rattle.shape_views.specs.Regions.{ArePlaced}
 use Rattle.shape_views.specs.Views.{Disk, Ledger, IsViewRight}
-use Rattle.shape_changes.specs.Updates.{planned_view, AreGoneTold}
-use Rattle.shape_changes.specs.Changing.{IsSteady, IsChanged, IsFitUpdate, IsPlannedSafe}
+use Rattle.shape_changes.specs.Updates.{planned_view}
+use Rattle.shape_changes.specs.Steady.{AreGoneTold, IsSteady}
+use Rattle.shape_changes.specs.Changing.{IsChanged, IsFitUpdate, IsPlannedSafe}
 use Rattle.shape_changes.specs.Kinds.{IsTaking}
-use Rattle.shape_changes.specs.Giving.{IsPlacedLess, giving, IsReceiver, GivingStaysSafe}
+use Rattle.shape_changes.specs.Giving.{IsPlacedLess, IsReceiver, GivingStaysSafe}
+use Rattle.shape_changes.specs.Marking.{giving}
 use Rattle.shape_views.proofs.Alike.{shape-alike, final-alike, length-alike, window-alike, placing-alike}
 use Rattle.shape_changes.proofs.LessViews.{more-pass}
 use Rattle.shape_changes.proofs.PlannedRoles.{says-shared, count-planned, planned-holds}
 use Rattle.shape_changes.proofs.ChangeViews.{plan-told}
-use Rattle.shape_changes.proofs.ChangeSafe.{safe-change}
-use Rattle.shape_changes.proofs.Kept.{without-less, give_of-same}
-use Rattle.shape_changes.proofs.KeptSafe.{planned-fits, planned-backup, told-plan, without-right}
+use Rattle.shape_changes.proofs.ChangeSafe.{safe-change, one-stretch}
+use Rattle.shape_changes.proofs.Stretch.{seen-own}
+use Rattle.shape_changes.proofs.Kept.{give_of-same}
+use Rattle.shape_changes.proofs.KeptSafe.{planned-fits, planned-backup, told-plan, steady-right, steady-count}
 use Rattle.shape_changes.proofs.FitKinds.{taking-is-fit}
 use Rattle.shape_changes.proofs.PlacedLess.{placed-less-right}
 
-module _ (scope : Scope) (given : Given) (old : Members) (role slot : ℕ) (to : IsReceiver scope given old role slot) where
+module _ (scope : Scope) (given : Given) (old : Members) (role slot : ℕ) (to : IsReceiver given old role slot) where
   abbrev change : Change
   change = giving old slot role (Some 0)
 
@@ -228,8 +232,8 @@ module _ (scope : Scope) (given : Given) (old : Members) (role slot : ℕ) (to :
           };
         }
 
-    pub given-placed : ArePlaced scope given old → ArePlaced scope given (planned_view old (giving old slot role (Some 0)) lost)
-    given-placed placed = record {
+    pub given-placed : (scope.backup ≡ Some slot → ⊥) → ArePlaced scope given old → ArePlaced scope given (planned_view old (giving old slot role (Some 0)) lost)
+    given-placed own placed = record {
       fit = planned-fits old change placed.fit;
       roles = length-tabulate (role_count old.newest) (planned_state old.roles change.gives lost) ∙ count-planned old change;
       holders = λ r t held. (
@@ -254,7 +258,7 @@ module _ (scope : Scope) (given : Given) (old : Members) (role slot : ℕ) (to :
             | inr (apart, other, was) ↦ (let b = placed.behind r t was in omega (arith, b, off))
           ]);
       members_own = λ r t held is. elim (holds r t held).1 [
-        | inl (same, role-is) ↦ to.own (is ∙ ap (λ (n : ℕ). Some n) same)
+        | inl (same, role-is) ↦ own (is ∙ ap (λ (n : ℕ). Some n) same)
         | inr (apart, other, was) ↦ placed.members_own r t was is
       ];
       apart = λ a b t one two. elim (holds a t one).1 [
@@ -267,7 +271,7 @@ module _ (scope : Scope) (given : Given) (old : Members) (role slot : ℕ) (to :
 -- ---- it keeps the array safe
 
 module _ (sound : Type 0) (scope : Scope) (given : Given) (told : Ledger) (role slot : ℕ) (old new : Members) (before after : List Operation)
-    (m : IsChanged ⊤ given (giving old slot role (Some 0)) old new before after) (to : IsReceiver scope given old role slot) (gone : AreGoneTold told new)
+    (m : IsChanged ⊤ given (giving old slot role (Some 0)) old new before after) (to : IsReceiver given old role slot) (gone : AreGoneTold told new)
     (steady : IsSteady sound scope given told old (disk given.start before)) where
   abbrev Change' : Change
   Change' = giving old slot role (Some 0)
@@ -276,7 +280,7 @@ module _ (sound : Type 0) (scope : Scope) (given : Given) (told : Ledger) (role 
   fit = taking-is-fit scope steady.former old Change' (disk given.start before) steady.since (taking scope given old role slot to)
 
   count : length old.roles ≡ role_count old.newest
-  count = subst (λ (o : Members). length o.roles ≡ role_count o.newest) (sym steady.since.since) ((without-less steady.former steady.since.gone).roles ∙ steady.right.placed.roles)
+  count = steady-count sound scope given told old (disk given.start before) steady
 
   told-end : AreGoneTold told (planned_view old (giving old slot role (Some 0)) new.lost)
   told-end = told-plan told given Change' old new before after m gone
@@ -285,13 +289,20 @@ module _ (sound : Type 0) (scope : Scope) (given : Given) (told : Ledger) (role 
   told-old r lt missing = told-end r (let plan = count-planned old Change' in omega (arith, lt, plan)) (still-missing scope given old role slot to new.lost count r missing)
 
   old-right : IsViewRight sound scope given told old (disk given.start before)
-  old-right = subst (λ (o : Members). AreGoneTold told o → IsViewRight sound scope given told o (disk given.start before)) (sym steady.since.since)
-      (λ tells. without-right sound scope given told steady.former steady.since.gone (disk given.start before) steady.right tells) told-old
+  old-right = steady-right sound scope given told old (disk given.start before) steady told-old
+
+  -- a spare is looked at, so it isn't the backup
+  own : scope.backup ≡ Some slot → ⊥
+  own is =
+      let held = steady.since.held in
+      let spare : has_spare steady.former.spares slot ≡ true = ap (λ (o : Members). has_spare o.spares slot) (sym steady.since.since) ∙ to.spare in
+      let seen = (held.updated.held.each slot (spare-known scope held.known steady.former held.said slot spare)).seen in
+      seen-own scope slot seen is
 
   placed : ArePlaced scope given (planned_view old (giving old slot role (Some 0)) old.lost)
-  placed = given-placed scope given old role slot to old.lost count old-right.placed
+  placed = given-placed scope given old role slot to old.lost count own old-right.placed
 
-  safe : IsPlannedSafe sound scope given told (giving old slot role (Some 0)) old new (disk given.start before)
+  safe : IsPlannedSafe sound scope given told told (giving old slot role (Some 0)) old new (disk given.start before)
   safe = record {
     fit = fit;
     right = placed-less-right sound scope given told told old (planned_view old Change' old.lost) (disk given.start before) (places-less scope given old role slot to old.lost count (disk given.start before)) placed
@@ -301,11 +312,13 @@ module _ (sound : Type 0) (scope : Scope) (given : Given) (told : Ledger) (role 
           values = λ x lt v is. is;
           sections = λ header may span active x low high v is. is;
           unclean = λ is. is;
+          reshaping = λ active. old-right.reshaping ((says-shared old Change').reshaping ∙ active);
         }) old-right;
     gone = told-end;
+    carried = λ number is. is;
   }
 
-gives-live : (scope : Scope) (given : Given) (old : Members) (role slot : ℕ) → IsReceiver scope given old role slot → AreGivesOfLive old (giving old slot role (Some 0))
+gives-live : (scope : Scope) (given : Given) (old : Members) (role slot : ℕ) → IsReceiver given old role slot → AreGivesOfLive old (giving old slot role (Some 0))
 gives-live scope given old role slot to s isnt = elim (cases_eq s slot) [
   | inl same ↦ absurd (
       let live : is_in_update old (giving old slot role (Some 0)) s ≡ true = joined (list_any (is_held_by s) old.roles) (has_spare old.spares s) (ap (has_spare old.spares) same ∙ to.spare) in
@@ -319,7 +332,8 @@ gives-live scope given old role slot to s isnt = elim (cases_eq s slot) [
     joined false true e = refl
     joined false false e = absurd (cc)
 
-pub given-safe : (sound : Type 0) → GivingStaysSafe sound
-given-safe sound scope given told role slot old new before after m to room gone now =
-    safe-change sound scope given told told (giving old slot role (Some 0)) old new before after m refl (gives-live scope given old role slot to) room
-    (λ steady. safe sound scope given told role slot old new before after m to gone steady) now
+pub giving-stays-safe : (sound : Type 0) → GivingStaysSafe sound
+giving-stays-safe sound scope given told role slot old new before after m to room gone now =
+    one-stretch sound scope given told new before after
+    (safe-change sound scope given told told (giving old slot role (Some 0)) old new before after m refl (gives-live scope given old role slot to) room
+    (λ steady. safe sound scope given told role slot old new before after m to gone steady) now)

@@ -29,7 +29,7 @@ module _ (m : Members) (gone : ℕ) where
   length-without [] = refl
   length-without (state ∷ roles) = ap suc (length-without roles)
 
-  still-missing : (state : Role) → not (is_whole state) ≡ true → not (is_whole (role_without gone state)) ≡ true
+  pub still-missing : (state : Role) → not (is_whole state) ≡ true → not (is_whole (role_without gone state)) ≡ true
   still-missing (Whole s) e = absurd (cc)
   still-missing (Recovering s) e = by (has_slot gone s)
     where

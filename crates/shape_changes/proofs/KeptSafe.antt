@@ -25,15 +25,18 @@ use Rattle.flat_history.specs.Stands.{backup_absent}
 use Rattle.shape_views.specs.Regions.{AreShapesFit, ArePlaced}
 use Rattle.shape_views.specs.Views.{Disk, Ledger, IsViewRight}
 use Rattle.shape_views.specs.Windows.{moved_past}
-use Rattle.shape_changes.specs.Updates.{planned_view, IsLessView, AreGoneTold}
-use Rattle.shape_changes.specs.Changing.{IsSteady, IsChanged, IsPlannedSafe, IsFitUpdate}
-use Rattle.shape_changes.specs.Kinds.{IsKeepingAll, KeptStaysSafe, resync_of, marking, IsMarkable, MarkStaysSafe, recording, RecordStaysSafe}
+use Rattle.shape_changes.specs.Updates.{planned_view, IsLessView}
+use Rattle.shape_changes.specs.Safety.{HasLiveSlot, HasRoomLeft}
+use Rattle.shape_changes.specs.Steady.{AreGoneTold, IsSteady, IsSafeNow, IsNamedNow}
+use Rattle.shape_changes.specs.Changing.{IsChanged, IsPlannedSafe, IsFitUpdate, IsSafeChange}
+use Rattle.shape_changes.specs.Kinds.{IsKeepingAll, KeptStaysSafe, IsMarkable, MarkStaysSafe, recording, RecordStaysSafe}
+use Rattle.shape_changes.specs.Marking.{resync_of, marking}
 use Rattle.shape_changes.proofs.LessViews.{less-right}
 use Rattle.shape_views.proofs.Alike.{shape-alike, final-alike, length-alike, backup-alike}
 use Rattle.shape_changes.proofs.PlansLose.{plans-lose}
 use Rattle.shape_changes.proofs.PlannedRoles.{says-shared, count-planned}
 use Rattle.shape_changes.proofs.ChangeViews.{placed-less, plan-told}
-use Rattle.shape_changes.proofs.ChangeSafe.{safe-change}
+use Rattle.shape_changes.proofs.ChangeSafe.{safe-change, one-stretch, change-named}
 use Rattle.shape_changes.proofs.Kept.{without-less, give_of-same, kept-less}
 use Rattle.shape_changes.proofs.FitKinds.{taking-is-fit}
 
@@ -81,11 +84,28 @@ pub told-plan : (told : Ledger) (given : Given) (change : Change) (old new : Mem
 told-plan told given change old new before after m gone role lt missing = gone role (subst (λ (z : Sb). role < role_count z) (sym m.newest.same) lt)
     (ap (λ (l : List Role). is_missing (record (reading_of new) { roles = l }) role) m.roles ∙ missing)
 
+-- ---- the members as they are, where slots were lost since the superblocks were written
+
+pub without-right : (sound : Type 0) (scope : Scope) (given : Given) (told : Ledger) (former : Members) (gone : ℕ) (d : Disk) → IsViewRight sound scope given told former d
+    → AreGoneTold told (members_without gone former) → IsViewRight sound scope given told (members_without gone former) d
+without-right sound scope given told former gone d right tells = less-right sound scope given told former (members_without gone former) d (without-less former gone)
+    (placed-less scope given former (members_without gone former) (without-less former gone) right.placed.fit right.placed.backup right.placed) tells right
+
+pub steady-right : (sound : Type 0) (scope : Scope) (given : Given) (told : Ledger) (old : Members) (d : Disk) → IsSteady sound scope given told old d → AreGoneTold told old
+    → IsViewRight sound scope given told old d
+steady-right sound scope given told old d steady = subst (λ (o : Members). AreGoneTold told o → IsViewRight sound scope given told o d) (sym steady.since.since)
+    (λ tells. without-right sound scope given told steady.former steady.since.gone d steady.right tells)
+
+-- as many roles as the array has
+pub steady-count : (sound : Type 0) (scope : Scope) (given : Given) (told : Ledger) (old : Members) (d : Disk) → IsSteady sound scope given told old d → length old.roles ≡ role_count old.newest
+steady-count sound scope given told old d steady = subst (λ (o : Members). length o.roles ≡ role_count o.newest) (sym steady.since.since)
+    ((without-less steady.former steady.since.gone).roles ∙ steady.right.placed.roles)
+
 -- ---- any such update
 
 module _ (sound : Type 0) (scope : Scope) (given : Given) (told more : Ledger) (change : Change) (old new : Members) (before after : List Operation)
     (m : IsChanged ⊤ given change old new before after) (keeps : IsKeepingAll old change) (gone : AreGoneTold more new)
-    (steady : IsSteady sound scope given told old (disk given.start before)) where
+    (carried : (number : ℕ) → told.carried number ≡ true → more.carried number ≡ true) (steady : IsSteady sound scope given told old (disk given.start before)) where
   fit : IsFitUpdate old change
   fit = taking-is-fit scope steady.former old change (disk given.start before) steady.since (record {
     none = keeps.none;
@@ -97,7 +117,7 @@ module _ (sound : Type 0) (scope : Scope) (given : Given) (told more : Ledger) (
   })
 
   count-old : length old.roles ≡ role_count change.shared
-  count-old = subst (λ (o : Members). length o.roles ≡ role_count o.newest) (sym steady.since.since) ((without-less steady.former steady.since.gone).roles ∙ steady.right.placed.roles) ∙ sym keeps.count
+  count-old = steady-count sound scope given told old (disk given.start before) steady ∙ sym keeps.count
 
   less : IsLessView (record old { newest = change.shared }) (planned_view old change old.lost)
   less = kept-less old change old.lost keeps.same count-old
@@ -114,26 +134,19 @@ module _ (sound : Type 0) (scope : Scope) (given : Given) (told more : Ledger) (
     placed : ArePlaced scope given (planned_view old change old.lost)
     placed = placed-less scope given (record old { newest = change.shared }) (planned_view old change old.lost) less (planned-fits old change right.placed.fit) (planned-backup scope old change right.placed.backup) right.placed
 
-    safe : IsPlannedSafe sound scope given more change old new (disk given.start before)
+    safe : IsPlannedSafe sound scope given told more change old new (disk given.start before)
     safe = record {
       fit = fit;
       right = less-right sound scope given more (record old { newest = change.shared }) (planned_view old change old.lost) (disk given.start before) less placed
           (plan-told scope given old change placed fit.one_holder more old.lost new.lost (λ s is. is) m.stay told-end) right;
       gone = told-end;
+      carried = carried;
     }
 
 pub kept-safe : (sound : Type 0) → KeptStaysSafe sound
-kept-safe sound scope given told more change old new before after m keeps room gone right now =
+kept-safe sound scope given told more change old new before after m keeps room gone carried right now =
     safe-change sound scope given told more change old new before after m keeps.none (λ s isnt. keeps.same s) room
-    (λ steady. safe sound scope given told more change old new before after m keeps gone steady (right steady)) now
-
--- ---- the members as they are, where slots were lost since the superblocks were written
-
-module _ (sound : Type 0) (scope : Scope) (given : Given) (told : Ledger) (former : Members) (gone : ℕ) (d : Disk) (right : IsViewRight sound scope given told former d)
-    (tells : AreGoneTold told (members_without gone former)) where
-  pub without-right : IsViewRight sound scope given told (members_without gone former) d
-  without-right = less-right sound scope given told former (members_without gone former) d (without-less former gone)
-      (placed-less scope given former (members_without gone former) (without-less former gone) right.placed.fit right.placed.backup right.placed) tells right
+    (λ steady. safe sound scope given told more change old new before after m keeps gone carried steady (right steady)) now
 
 -- ---- the mark
 
@@ -170,6 +183,7 @@ module _ (sound : Type 0) (scope : Scope) (given : Given) (told : Ledger) (clean
     sized = right.sized;
     gone = right.gone;
     unclean = λ dirty. markable.unclean (sym (clean-is clean) ∙ dirty);
+    reshaping = right.reshaping;
     held = λ header may x slot outside. right.held header may x slot (record { within = outside.within; outside = outside.outside });
     sections = right.sections;
     settled = λ is does premise. (
@@ -181,13 +195,24 @@ module _ (sound : Type 0) (scope : Scope) (given : Given) (told : Ledger) (clean
         });
   }
 
+module _ (sound : Type 0) (scope : Scope) (given : Given) (told : Ledger) (clean : Bool) (old new : Members) (before after : List Operation)
+    (m : IsChanged ⊤ given (marking old clean) old new before after) (room : HasRoomLeft old before after) (markable : IsMarkable sound scope clean told old new (disk given.start before))
+    (now : IsSafeNow sound scope given told old (disk given.start before)) where
+  pub marked-change : IsSafeChange sound scope given told told new before after
+  marked-change = kept-safe sound scope given told told (marking old clean) old new before after m (keeps-mark old clean) room markable.gone (λ number is. is) (λ steady.
+      marked-right sound scope given told clean old new (disk given.start before) markable (steady-right sound scope given told old (disk given.start before) steady
+      (λ role lt missing. told-as sound scope given told told (marking old clean) old new before after m (keeps-mark old clean) markable.gone (λ number is. is) steady role lt missing))) now
+
 pub mark-safe : (sound : Type 0) → MarkStaysSafe sound
 mark-safe sound scope given told clean old new before after m room markable now =
-    kept-safe sound scope given told told (marking old clean) old new before after m (keeps-mark old clean) room markable.gone (λ steady.
-    marked-right sound scope given told clean old new (disk given.start before) markable
-    (subst (λ (o : Members). AreGoneTold told o → IsViewRight sound scope given told o (disk given.start before)) (sym steady.since.since)
-    (λ tells. without-right sound scope given told steady.former steady.since.gone (disk given.start before) steady.right tells)
-    (λ role lt missing. told-as sound scope given told told (marking old clean) old new before after m (keeps-mark old clean) markable.gone steady role lt missing))) now
+    one-stretch sound scope given told new before after (marked-change sound scope given told clean old new before after m room markable now)
+
+-- where a live slot is left at its end, each lost slot that held a role is named
+pub mark-named : (sound : Type 0) (scope : Scope) (given : Given) (told : Ledger) (clean : Bool) (old new : Members) (before after : List Operation)
+    → IsChanged ⊤ given (marking old clean) old new before after → HasRoomLeft old before after → IsMarkable sound scope clean told old new (disk given.start before)
+    → IsSafeNow sound scope given told old (disk given.start before) → HasLiveSlot new → IsNamedNow sound scope given told new (disk given.start after)
+mark-named sound scope given told clean old new before after m room markable now left =
+    change-named sound scope given told told new before after (marked-change sound scope given told clean old new before after m room markable now) left
 
 -- ---- the position
 
@@ -196,7 +221,8 @@ keeps-record span old = record { none = refl; size = refl; count = refl; same = 
 
 pub record-safe : (sound : Type 0) → RecordStaysSafe sound
 record-safe sound scope given told span old new before after m room gone right now =
-    kept-safe sound scope given told told (recording span old) old new before after m (keeps-record span old) room gone (λ steady.
+    one-stretch sound scope given told new before after
+    (kept-safe sound scope given told told (recording span old) old new before after m (keeps-record span old) room gone (λ number is. is) (λ steady.
     subst (λ (o : Members). AreGoneTold told (moved_past span o) → IsViewRight sound scope given told (moved_past span o) (disk given.start before)) (sym steady.since.since)
     (λ tells. without-right sound scope given told (moved_past span steady.former) steady.since.gone (disk given.start before) (right steady) tells)
-    (told-as sound scope given told told (recording span old) old new before after m (keeps-record span old) gone steady)) now
+    (told-as sound scope given told told (recording span old) old new before after m (keeps-record span old) gone (λ number is. is) steady)) now)

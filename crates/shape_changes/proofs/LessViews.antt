@@ -104,6 +104,7 @@ less-right sound scope given told m view d less placed gone right = record {
   sized = length-same m view less ∙ right.sized;
   gone = gone;
   unclean = λ dirty. right.unclean (ap (λ (n : ℕ). is_clean (record m.newest { resync_offset = n })) less.array.resync_offset ∙ dirty);
+  reshaping = λ active. right.reshaping (less.array.reshaping ∙ active);
   held = λ header may x slot outside holds v is. (
       let row-same : (place_by view.newest x).row ≡ (place_by m.newest x).row = ap (λ (s : Shape). (place s x).row) (shape-same m view less x) in
       let holds' : held_slot (reading_of m) (place_by m.newest x).role (place_by m.newest x).row ≡ Some slot =

@@ -35,6 +35,7 @@ placed-less-right sound scope given told more m view d less placed gone tells ri
   sized = tells.sized;
   gone = gone;
   unclean = λ dirty. tells.unclean (right.unclean (sym less.clean ∙ dirty));
+  reshaping = tells.reshaping;
   held = λ header may x slot outside holds v is. (
       let below = outside.within in
       let same = less.shapes x below in

@@ -26,7 +26,7 @@ use Rattle.superblock_reads.proofs.SaidLists.{role-holder}
 use Rattle.superblock_reads.proofs.SaidSlots.{below-length, has-slots_below}
 use Rattle.superblocks.proofs.SlotSets.{some_role}
 use Rattle.row_io.specs.Rows.{role_without}
-use Rattle.shape_changes.specs.Changing.{still}
+use Rattle.shape_changes.specs.Marking.{marking}
 use Rattle.shape_changes.specs.Updates.{HasOneHolder}
 use Rattle.shape_changes.proofs.PlansLose.{found-passes, same-role}
 use Rattle.shape_changes.proofs.Without.{from-without, any-holds, any-held, state-without, without-holder, live-of, in-live}
@@ -170,22 +170,24 @@ module _ (old new : Members) (change : Change) (gives : AreGivesOfLive old chang
       ap (λ (l : List ℕ). has_spare l s) spares
       ∙ has-slots_below (λ slot. not (has_slot new.lost slot) && is_planned_spare old.spares change.added (give_of change.gives slot) slot) s 32
 
-  -- a slot that is live at the end was live in the update, and isn't lost
-  pub live-before : (s : ℕ) → has_slot (live_set new (still new)) s ≡ true → (has_slot (live_set old change) s ≡ true) × (has_slot new.lost s ≡ false)
-  live-before s is =
-      let parts = both-of (nat_lt s 32) (is_live new.roles new.spares s) (sym (live-of new (still new) refl s) ∙ is) in
-      let lt = less-of s 32 parts.0 in
-      ⊎_elim
+  -- a slot that holds a role or is a spare at the end was live in the update, and isn't lost
+  pub live-was : (s : ℕ) → is_live new.roles new.spares s ≡ true → (s < 32) × (is_in_update old change s ≡ true) × (has_slot new.lost s ≡ false)
+  live-was s is = ⊎_elim
       (λ holds.
       let found = any-holds s new.roles holds in
       let planned = held-planned found.0 s found.1 in
-      (in-live old change s lt (gets-live old change gives s found.0 planned.2), planned.1))
+      (planned.0, gets-live old change gives s found.0 planned.2, planned.1))
       (λ none.
-      let so = or-rest (list_any (is_held_by s) new.roles) (has_spare new.spares s) parts.1 none in
+      let so = or-rest (list_any (is_held_by s) new.roles) (has_spare new.spares s) is none in
       let rest = both-of (nat_lt s 32) (not (has_slot new.lost s) && is_planned_spare old.spares change.added (give_of change.gives s) s) (sym (spares-new s) ∙ so) in
       let planned = kept-and (has_slot new.lost s) (is_planned_spare old.spares change.added (give_of change.gives s) s) rest.1 in
-      (in-live old change s lt (spare-live old change gives s planned.1), planned.0))
+      (less-of s 32 rest.0, spare-live old change gives s planned.1, planned.0))
       (by_bool (list_any (is_held_by s) new.roles))
+
+  pub live-before : (s : ℕ) → has_slot (live_set new (marking new false)) s ≡ true → (has_slot (live_set old change) s ≡ true) × (has_slot new.lost s ≡ false)
+  live-before s is =
+      let was = live-was s (both-of (nat_lt s 32) (is_live new.roles new.spares s) (sym (live-of new (marking new false) refl s) ∙ is)).1 in
+      (in-live old change s was.0 was.1, was.2)
 
   module _ (none : change.added ≡ None) (one : HasOneHolder old change new.lost)
       (below : (s role : ℕ) → has_slot new.lost s ≡ false → planned_role old.roles (give_of change.gives s) s ≡ Some role → role < role_count (planned_newest change.shared old.newest)) where
@@ -224,12 +226,12 @@ module _ (old new : Members) (change : Change) (gives : AreGivesOfLive old chang
         by Spare is = by-spare (ap (λ (g : Give). is_planned_spare old.spares change.added g s) is)
 
     -- so the slots that are left are live at the end
-    pub live-same : (s : ℕ) → has_slot new.lost s ≡ false → has_slot (live_set new (still new)) s ≡ has_slot (live_set old change) s
+    pub live-same : (s : ℕ) → has_slot new.lost s ≡ false → has_slot (live_set new (marking new false)) s ≡ has_slot (live_set old change) s
     live-same s kept = ⊎_elim
         (λ is.
         let parts = both-of (nat_lt s 32) (is_live old.roles old.spares s) (sym (live-of old change none s) ∙ is) in
-        live-of new (still new) refl s ∙ (λ i. parts.0 i && live-then s (less-of s 32 parts.0) kept parts.1 i) ∙ sym is)
-        (λ isnt. ⊎_elim (λ is. absurd (let was = (live-before s is).0 in let both = sym was ∙ isnt in cc)) (λ no. no ∙ sym isnt) (by_bool (has_slot (live_set new (still new)) s)))
+        live-of new (marking new false) refl s ∙ (λ i. parts.0 i && live-then s (less-of s 32 parts.0) kept parts.1 i) ∙ sym is)
+        (λ isnt. ⊎_elim (λ is. absurd (let was = (live-before s is).0 in let both = sym was ∙ isnt in cc)) (λ no. no ∙ sym isnt) (by_bool (has_slot (live_set new (marking new false)) s)))
         (by_bool (has_slot (live_set old change) s))
 
 -- ---- where slots were lost before it

@@ -29,7 +29,9 @@ use Rattle.superblock_reads.proofs.Tied.{IsPlannedNewest, planned-said}
 use Rattle.row_io.specs.Rows.{role_without, members_without}
 use Rattle.shape_views.specs.Regions.{AreShapesFit}
 use Rattle.shape_views.specs.Views.{Disk}
-use Rattle.shape_changes.specs.Changing.{still, IsHeldBy, IsFitUpdate}
+use Rattle.shape_changes.specs.Marking.{marking}
+use Rattle.shape_changes.specs.Held.{IsHeldBy}
+use Rattle.shape_changes.specs.Changing.{IsFitUpdate}
 use Rattle.shape_changes.proofs.Without.{in-both, any-without, any-holds, state-without, without-holder, live-of, in-live}
 use Rattle.shape_changes.proofs.FitFields.{fields-fit}
 use Rattle.shape_changes.proofs.PlannedRoles.{says-shared, gets-live, spare-live, role-same, state-same}
@@ -91,8 +93,8 @@ module _ (scope : Scope) (former : Members) (gone : ℕ) (change : Change) (d : 
   -- a known slot holds a role or is a spare, by the former members
   known-live : (s : ℕ) → has_slot held.known s ≡ true → (s < 32) × (is_live former.roles former.spares s ≡ true) × (has_slot former.lost s ≡ false)
   known-live s is =
-      let parts = left-and (has_slot (live_set former (still former)) s) (has_slot former.lost s) (sym (held.live s) ∙ is) in
-      let live = both-of (nat_lt s 32) (is_live former.roles former.spares s) (sym (live-of former (still former) refl s) ∙ parts.0) in
+      let parts = left-and (has_slot (live_set former (marking former false)) s) (has_slot former.lost s) (sym (held.live s) ∙ is) in
+      let live = both-of (nat_lt s 32) (is_live former.roles former.spares s) (sym (live-of former (marking former false) refl s) ∙ parts.0) in
       (less-of s 32 live.0, live.1, parts.1)
 
   was-held : (role s : ℕ) → holder (role_without gone (get_or former.roles role Missing)) ≡ Some s → holder (get_or former.roles role Missing) ≡ Some s

@@ -14,9 +14,11 @@ use Rattle.superblocks.specs.declared.members.Members.{Members}
 use Rattle.superblocks.specs.Reading.{holder}
 use Rattle.superblocks.specs.Update.{is_held_by, is_live, is_added, role_from}
 use Rattle.superblocks.specs.Outcome.{is_in_update, live_set}
+use Rattle.superblocks.specs.Reads.{has_spare}
 use Rattle.superblocks.proofs.SlotSets.{has-set_of, some_role, none_there, same_set}
 use Rattle.superblock_reads.proofs.SaidLists.{role-holder}
 use Rattle.row_io.specs.Rows.{role_without, members_without}
+use Rattle.shape_changes.specs.Marking.{marking}
 
 -- ---- sets
 
@@ -157,6 +159,33 @@ in-live m change s lt is = has-set_of 32 (is_in_update m change) s ∙ (λ i. is
   where
     is-below : (a b : ℕ) → a < b → nat_lt a b ≡ true
     is-below a b lt = grind (arith, nat_tests)
+
+-- ---- who is live in a mark
+
+pub live-is : (m : Members) (clean : Bool) (s : ℕ) → has_slot (live_set m (marking m clean)) s ≡ (nat_lt s 32 && ((list_any (is_held_by s) m.roles || has_spare m.spares s) || false))
+live-is m clean s = has-set_of 32 (is_in_update m (marking m clean)) s
+
+-- a slot that isn't lost is as live as before
+pub live-without : (m : Members) (gone : ℕ) (clean : Bool) (s : ℕ) → has_slot gone s ≡ false
+    → has_slot (live_set (members_without gone m) (marking (members_without gone m) clean)) s ≡ has_slot (live_set m (marking m clean)) s
+live-without m gone clean s kept =
+    live-is (members_without gone m) clean s
+    ∙ ap (λ (b : Bool). nat_lt s 32 && ((b || has_spare m.spares s) || false)) (any-without gone s m.roles ∙ ap (λ (x : Bool). not x && list_any (is_held_by s) m.roles) kept)
+    ∙ sym (live-is m clean s)
+
+-- and one that is live was live
+pub live-before : (m : Members) (gone : ℕ) (clean : Bool) (s : ℕ) → has_slot (live_set (members_without gone m) (marking (members_without gone m) clean)) s ≡ true
+    → has_slot (live_set m (marking m clean)) s ≡ true
+live-before m gone clean s is =
+    live-is m clean s
+    ∙ wider (nat_lt s 32) (not (has_slot gone s)) (list_any (is_held_by s) m.roles) (has_spare m.spares s)
+    (ap (λ (b : Bool). nat_lt s 32 && ((b || has_spare m.spares s) || false)) (sym (any-without gone s m.roles)) ∙ sym (live-is (members_without gone m) clean s) ∙ is)
+  where
+    wider : (below kept role spare : Bool) → (below && (((kept && role) || spare) || false)) ≡ true → (below && ((role || spare) || false)) ≡ true
+    wider false kept role spare e = absurd (cc)
+    wider true true role spare e = e
+    wider true false true spare e = refl
+    wider true false false spare e = e
 
 -- ---- none lost
 

@@ -6,12 +6,12 @@ use Rattle.bank.specs.Tape.{EachMark, disk}
 use Rattle.superblocks.specs.declared.change.Change.{Change}
 use Rattle.superblocks.specs.declared.members.Members.{Members}
 use Rattle.superblocks.specs.Updating.{IsUpdate, AreLosses, IsWrittenBy, AreNamed, IsLater, IsSomeLeft, RisesByOperations, planned_newest}
-use Rattle.superblocks.specs.Outcome.{with_added, live_set, is_left, AreStored, planned_roles, planned_spares}
+use Rattle.superblocks.specs.Outcome.{with_added, live_set, is_left, AreLive, AreStored, planned_roles, planned_spares}
 use Rattle.superblocks.specs.Rounds.{round_at}
 use Rattle.superblocks.specs.Losing.{IsInTurns, ArePastTurns}
 use Rattle.shape_changes.specs.Changing.{IsChanged}
 
--- the clauses update, named, newest, turns, turned, rise, own, roles, spares and losses, word for word
+-- the clauses update, named, newest, turns, turned, rise, own, roles, spares, live and losses, word for word
 pub record HasUpdated (tells : Type 0) (given : Given) (change : Change) (old new : Members) (before after : List Operation) (faults faults' : ℕ → ℕ) : Type 0 where
   pub update : IsUpdate tells (live_set old change) (with_added old change.added).lost new.lost (IsWrittenBy (with_added old change.added).newest change (with_added old change.added).own) given.start before after
   pub named : IsSomeLeft (live_set old change) new.lost → AreNamed (with_added old change.added) change (with_added old change.added).lost new.lost new.newest
@@ -22,6 +22,7 @@ pub record HasUpdated (tells : Type 0) (given : Given) (change : Change) (old ne
   pub own : AreStored new.newest change.gives (is_left (live_set old change) new.lost) (with_added old change.added).own new.own
   pub roles : new.roles ≡ planned_roles old change new.lost
   pub spares : new.spares ≡ planned_spares old change new.lost
+  pub alive : AreLive given new
   pub losses : AreLosses (live_set old change) (with_added old change.added).lost new.lost faults faults'
 
 -- Where no slot is added they are what the laws of an update start from.

@@ -1,71 +1,25 @@
 -- What any update of the superblocks keeps of an array of one shape or two, whichever slots are lost in it.
-use Rattle.std.specs.Prelude.{◌≡◌, ◌⊎◌, ℕ, ◌+◌, ◌^◌, ◌<◌, true, false, List, length, None, Some, replicate, ⊤}
+use Rattle.std.specs.Prelude.{◌≡◌, ◌⊎◌, ℕ, ◌<◌, true, false, List, None, Some, ⊤}
 use Rattle.md_base.specs.Shapes.{has_slot}
 use Rattle.sb1.specs.declared.sb.Sb.{Sb}
 use Rattle.bank.specs.declared.bank.Operation.{Operation}
 use Rattle.bank.specs.Given.{Given}
-use Rattle.bank.specs.Tape.{Contents, EachMark, IsIn, disk}
-use Rattle.superblocks.specs.declared.change.Give.TheVariants.{Same}
+use Rattle.bank.specs.Tape.{Contents, EachMark, disk}
 use Rattle.superblocks.specs.declared.change.Change.{Change}
 use Rattle.superblocks.specs.declared.members.Members.{Members}
-use Rattle.superblocks.specs.Reading.{Scope, is_seen, is_recovering, role_count}
+use Rattle.superblocks.specs.Reading.{Scope, is_recovering, role_count}
 use Rattle.superblocks.specs.Reads.{has_spare}
 use Rattle.superblocks.specs.Update.{give_of, own_in, is_recovery, planned_role, is_planned_spare}
 use Rattle.superblocks.specs.Updating.{IsUpdate, IsWrittenBy, AreNamed, IsLater, IsSomeLeft, RisesByOperations, planned_newest}
-use Rattle.superblocks.specs.Outcome.{live_set, is_left, AreStored, AreGivesOfLive, planned_roles, planned_spares}
+use Rattle.superblocks.specs.Outcome.{live_set, is_left, AreLive, AreStored, AreGivesOfLive, planned_roles, planned_spares}
 use Rattle.superblocks.specs.Plans.{KeepsRecovery}
-use Rattle.superblocks.specs.Stages.{AreLeft}
 use Rattle.superblocks.specs.Rounds.{round_at}
 use Rattle.superblocks.specs.Losing.{IsInTurns, ArePastTurns}
-use Rattle.superblocks.specs.Crash.{IsWithin, IsUpdatedTo}
-use Rattle.superblock_reads.specs.Said.{AreSaid}
-use Rattle.row_io.specs.Rows.{members_without}
+use Rattle.superblocks.specs.Crash.{IsWithin}
 use Rattle.shape_views.specs.Views.{Disk, Ledger, IsViewRight, IsSeenRight}
-use Rattle.shape_changes.specs.Updates.{planned_view, HasOneHolder, AreGoneTold}
-
--- ---- between two updates
-
--- the change that changes nothing
-abbrev pub still : Members → Change
-still members = record { shared = members.newest; gives = replicate 32 Same; added = None }
-
--- The superblocks of the live slots that weren't lost are known, whatever a stop leaves: each image reads as they say, the next
--- update may start, and the members have the roles and the spares that they say.
-pub record IsHeldBy (scope : Scope) (members : Members) (d : Disk) : Type 0 where
-  pub known : ℕ
-  pub live : AreLeft (live_set members (still members)) members.lost known
-  pub updated : IsUpdatedTo scope members.lost known members.newest members.own d
-  pub said : AreSaid scope known members
-
--- They are held as these members had it before they lost slots which are still to be named, if there are any.
-pub record IsHeldSince (scope : Scope) (former members : Members) (d : Disk) : Type 0 where
-  pub gone : ℕ
-  pub since : members ≡ members_without gone former
-  pub held : IsHeldBy scope former d
-
--- a live slot is left
-abbrev pub HasLiveSlot : Members → Type 0
-HasLiveSlot members = IsSomeLeft (live_set members (still members)) members.lost
-
--- a choice of what each slot that is looked at may hold in its superblock
-pub record AreDrawnSuperblocks (scope : Scope) (d : Disk) (c : Contents) : Type 0 where
-  pub eighth : (slot : ℕ) → is_seen scope slot ≡ true → IsIn (d slot 8) (c slot 8)
-  pub ninth : (slot : ℕ) → is_seen scope slot ≡ true → IsIn (d slot 9) (c slot 9)
-
--- whatever superblocks are drawn, the image is read as a view that is right by the one ledger or by the other
-abbrev pub AreViewsRight : Type 0 → Scope → Given → Ledger → Ledger → Disk → Type 0
-AreViewsRight sound scope given told more d = (c : Contents) → AreDrawnSuperblocks scope d c → IsSeenRight sound scope given told d c ⊎ IsSeenRight sound scope given more d c
-
--- The superblocks are held as former members had it, of which slots may have been lost since, and that view is right.
-pub record IsSteady (sound : Type 0) (scope : Scope) (given : Given) (told : Ledger) (members : Members) (d : Disk) : Type 0 where
-  pub former : Members
-  pub since : IsHeldSince scope former members d
-  pub right : IsViewRight sound scope given told former d
-
--- no live slot is left, and each view is right by one of two ledgers: nothing is written any more
-pub record IsSpent (sound : Type 0) (scope : Scope) (given : Given) (told more : Ledger) (members : Members) (d : Disk) : Type 0 where
-  pub right : AreViewsRight sound scope given told more d
-  pub none : HasLiveSlot members → ⊥
+use Rattle.shape_changes.specs.Safety.{HasLiveSlot, HasMarkRoom, HasRoomLeft}
+use Rattle.shape_changes.specs.Steady.{AreDrawnSuperblocks, IsSteady, IsSafeNow, IsNamedNow, AreGoneTold}
+use Rattle.shape_changes.specs.Updates.{planned_view, HasOneHolder}
 
 -- ---- an update
 
@@ -80,6 +34,7 @@ pub record IsChanged (tells : Type 0) (given : Given) (change : Change) (old new
   pub own : AreStored new.newest change.gives (is_left (live_set old change) new.lost) old.own new.own
   pub roles : new.roles ≡ planned_roles old change new.lost
   pub spares : new.spares ≡ planned_spares old change new.lost
+  pub alive : AreLive given new
   pub stay : IsWithin old.lost new.lost
   pub live : (s : ℕ) → has_slot new.lost s ≡ true → has_slot old.lost s ≡ false → has_slot (live_set old change) s ≡ true
 
@@ -97,31 +52,47 @@ pub record IsFitUpdate (old : Members) (change : Change) : Type 0 where
   pub spares : (s : ℕ) (sb : Sb) → has_slot old.lost s ≡ false → own_in old.own s ≡ Some sb → has_spare old.spares s ≡ false → is_planned_spare old.spares change.added (give_of change.gives s) s ≡ true
       → (is_recovering sb ≡ false) × (planned_role old.roles (give_of change.gives s) s ≡ None)
 
--- the event count may rise with each of the operations between
-abbrev pub HasRoom : Members → List Operation → List Operation → Type 0
-HasRoom members before after = members.newest.events + length after < 2 ^ 62 + length before
-
 -- What is asked of an update: its change is fit, the view that it plans is right, by a ledger that may be another one, and what is missing at its
--- end is told there.
-pub record IsPlannedSafe (sound : Type 0) (scope : Scope) (given : Given) (more : Ledger) (change : Change) (old new : Members) (d : Disk) : Type 0 where
+-- end is told there, as is each device number.
+pub record IsPlannedSafe (sound : Type 0) (scope : Scope) (given : Given) (told more : Ledger) (change : Change) (old new : Members) (d : Disk) : Type 0 where
   pub fit : IsFitUpdate old change
   pub right : IsViewRight sound scope given more (planned_view old change old.lost) d
   pub gone : AreGoneTold more (planned_view old change new.lost)
+  pub carried : (number : ℕ) → told.carried number ≡ true → more.carried number ≡ true
 
--- What it leaves: at each mark each image is seen right, by what was told before it or by what is told with it; and at its end the superblocks are
--- held, and the view is right by the latter, or no live slot is left.
-pub record IsSafeStretch (sound : Type 0) (scope : Scope) (given : Given) (told more : Ledger) (members : Members) (before after : List Operation) : Type 0 where
-  pub marks : EachMark ⊤ given.start before after (AreViewsRight sound scope given told more)
-  pub next : IsSteady sound scope given more members (disk given.start after) ⊎ IsSpent sound scope given told more members (disk given.start after)
+-- ---- what it leaves
+
+-- whatever superblocks are drawn, the image is read as a view that is right by the one ledger or by the other
+abbrev pub AreEitherRight : Type 0 → Scope → Given → Ledger → Ledger → Disk → Type 0
+AreEitherRight sound scope given told more d = (c : Contents) → AreDrawnSuperblocks scope d c → IsSeenRight sound scope given told d c ⊎ IsSeenRight sound scope given more d c
+
+-- no live slot is left, and each view is right by one of the two: nothing is written any more
+pub record IsSpentByEither (sound : Type 0) (scope : Scope) (given : Given) (told more : Ledger) (members : Members) (d : Disk) : Type 0 where
+  pub right : AreEitherRight sound scope given told more d
+  pub none : HasLiveSlot members → ⊥
+
+-- At each mark each image is seen right, by what was told before it or by what is told with it; and at its end the superblocks are held, each lost slot
+-- that held a role is named in them, and the view is right by the latter, or no live slot is left.
+pub record IsSafeChange (sound : Type 0) (scope : Scope) (given : Given) (told more : Ledger) (members : Members) (before after : List Operation) : Type 0 where
+  pub marks : EachMark ⊤ given.start before after (AreEitherRight sound scope given told more)
+  pub next : IsNamedNow sound scope given more members (disk given.start after) ⊎ IsSpentByEither sound scope given told more members (disk given.start after)
 
 -- Any update keeps an array safe, whichever slots are lost in it.
 abbrev pub ChangeStaysSafe : (sound : Type 0) → Type 0
 ChangeStaysSafe sound = (scope : Scope) (given : Given) (told more : Ledger) (change : Change) (old new : Members) (before after : List Operation)
-    → IsChanged ⊤ given change old new before after → HasRoom old before after → IsPlannedSafe sound scope given more change old new (disk given.start before)
-    → IsSteady sound scope given told old (disk given.start before) → IsSafeStretch sound scope given told more new before after
+    → IsChanged ⊤ given change old new before after → HasMarkRoom old before after → IsPlannedSafe sound scope given told more change old new (disk given.start before)
+    → IsSteady sound scope given told old (disk given.start before) → IsSafeChange sound scope given told more new before after
 
 -- Where no live slot was left before it, nothing is written, and each image is seen as before.
 abbrev pub SpentStaysSpent : (sound : Type 0) → Type 0
 SpentStaysSpent sound = (scope : Scope) (given : Given) (told more : Ledger) (change : Change) (old new : Members) (before after : List Operation)
-    → IsChanged ⊤ given change old new before after → change.added ≡ None → AreGivesOfLive old change → IsSpent sound scope given told more old (disk given.start before)
-    → EachMark ⊤ given.start before after (AreViewsRight sound scope given told more) × IsSpent sound scope given told more new (disk given.start after)
+    → IsChanged ⊤ given change old new before after → change.added ≡ None → AreGivesOfLive old change → IsSpentByEither sound scope given told more old (disk given.start before)
+    → IsSafeChange sound scope given told more new before after
+
+-- So it is from either state. What an update owes is asked only where the superblocks are held and a live slot is left, and so is the room of the event
+-- count.
+abbrev pub SafeChangeStaysSafe : (sound : Type 0) → Type 0
+SafeChangeStaysSafe sound = (scope : Scope) (given : Given) (told more : Ledger) (change : Change) (old new : Members) (before after : List Operation)
+    → IsChanged ⊤ given change old new before after → change.added ≡ None → AreGivesOfLive old change → HasRoomLeft old before after
+    → (IsSteady sound scope given told old (disk given.start before) → IsPlannedSafe sound scope given told more change old new (disk given.start before))
+    → IsSafeNow sound scope given told old (disk given.start before) → IsSafeChange sound scope given told more new before after

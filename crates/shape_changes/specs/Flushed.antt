@@ -12,10 +12,12 @@ use Rattle.superblocks.specs.Update.{give_of}
 use Rattle.shape_views.specs.Regions.{ArePlaced}
 use Rattle.shape_views.specs.Views.{Ledger}
 use Rattle.shape_views.specs.Windows.{HasNoSection, IsFlushedRight}
-use Rattle.shape_changes.specs.Updates.{planned_view, AreGoneTold, IsAtStart}
-use Rattle.shape_changes.specs.Changing.{HasLiveSlot, HasRoom, IsSteady, IsChanged, IsSafeStretch}
-use Rattle.shape_changes.specs.Kinds.{IsSafeNow, IsTaking, IsDropping}
-use Rattle.shape_changes.specs.Giving.{IsMoreTold}
+use Rattle.shape_changes.specs.Safety.{HasRoomLeft}
+use Rattle.shape_changes.specs.Steady.{IsSteady, IsSafeNow, AreGoneTold}
+use Rattle.shape_changes.specs.Updates.{planned_view, IsAtStart}
+use Rattle.shape_changes.specs.Changing.{IsChanged, IsSafeChange}
+use Rattle.shape_changes.specs.Kinds.{IsTaking, IsDropping}
+use Rattle.shape_changes.specs.Giving.{IsToldOf}
 
 -- A reshape begins at its first position, with the same old shape and clean mark, and gives roles alone that are new.
 pub record IsBeginning (old : Members) (change : Change) : Type 0 where
@@ -31,10 +33,11 @@ pub record IsBeginning (old : Members) (change : Change) : Type 0 where
 -- placed, and the other ledger tells what the first does.
 abbrev pub BeginStaysSafe : (sound : Type 0) → Type 0
 BeginStaysSafe sound = (scope : Scope) (given : Given) (told more : Ledger) (change : Change) (old new : Members) (before after : List Operation)
-    → IsChanged ⊤ given change old new before after → IsBeginning old change → (HasLiveSlot old → HasRoom old before after)
+    → IsChanged ⊤ given change old new before after → IsBeginning old change → HasRoomLeft old before after
     → ArePlaced scope given (planned_view old change old.lost) → HasNoSection scope (planned_view old change old.lost) (disk given.start before)
-    → IsMoreTold scope (planned_view old change old.lost) (disk given.start before) told more → AreGoneTold told old → AreGoneTold more new
-    → IsSafeNow sound scope given told old (disk given.start before) → IsSafeStretch sound scope given told more new before after
+    → IsToldOf scope (planned_view old change old.lost) (disk given.start before) told more → AreGoneTold told old → AreGoneTold more new
+    → ((number : ℕ) → told.carried number ≡ true → more.carried number ≡ true)
+    → IsSafeNow sound scope given told old (disk given.start before) → IsSafeChange sound scope given told more new before after
 
 -- ---- an update behind a flush
 
@@ -42,6 +45,7 @@ BeginStaysSafe sound = (scope : Scope) (given : Given) (told more : Ledger) (cha
 -- keeps the array safe: the end of a reshape, a takeover, and a recovery offset that moves on.
 abbrev pub FlushedChangeStaysSafe : (sound : Type 0) → Type 0
 FlushedChangeStaysSafe sound = (scope : Scope) (given : Given) (told more : Ledger) (change : Change) (old new : Members) (before after : List Operation) (c : Contents) (list : ℕ → Sector)
-    → IsChanged ⊤ given change old new before after → IsTaking old change ⊎ IsDropping old change → (HasLiveSlot old → HasRoom old before after) → AreGoneTold more new
+    → IsChanged ⊤ given change old new before after → IsTaking old change ⊎ IsDropping old change → HasRoomLeft old before after → AreGoneTold more new
+    → ((number : ℕ) → told.carried number ≡ true → more.carried number ≡ true)
     → (IsSteady sound scope given told old (disk given.start before) → IsFlushedRight sound scope given more (planned_view old change old.lost) c list (disk given.start before))
-    → IsSafeNow sound scope given told old (disk given.start before) → IsSafeStretch sound scope given told more new before after
+    → IsSafeNow sound scope given told old (disk given.start before) → IsSafeChange sound scope given told more new before after

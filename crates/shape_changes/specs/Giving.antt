@@ -1,24 +1,22 @@
 -- Views that place the list where others do, and the update that gives a vacant role to a spare, which recovers it from the first row on.
-use Rattle.std.specs.Prelude.{◌≡◌, ℕ, ◌<◌, ◌≤◌, true, List, replicate, slice_index_or, slice_set, Option, Some, None, ⊤}
+use Rattle.std.specs.Prelude.{◌≡◌, ℕ, ◌<◌, ◌≤◌, true, List, slice_index_or, Some, ⊤}
 use Rattle.md_base.specs.Sectors.{Sector}
 use Rattle.md_base.specs.declared.places.Span.{Span}
 use Rattle.md_base.specs.declared.status.Role.TheVariants.{Missing}
 use Rattle.bank.specs.declared.bank.Operation.{Operation}
 use Rattle.bank.specs.Given.{Given}
 use Rattle.bank.specs.Tape.{IsIn, disk}
-use Rattle.superblocks.specs.declared.change.Give.TheVariants.{Same}
-use Rattle.superblocks.specs.declared.change.Give.TheVariants as give
-use Rattle.superblocks.specs.declared.change.Change.{Change}
 use Rattle.superblocks.specs.declared.members.Members.{Members}
-use Rattle.superblocks.specs.Reading.{Scope, is_clean, list_length, role_count, holder, data_offset_of}
+use Rattle.superblocks.specs.Reading.{Scope, is_clean, is_reshaping, list_length, role_count, holder, data_offset_of}
 use Rattle.superblocks.specs.Reads.{has_spare}
 use Rattle.row_io.specs.Rows.{reading_of, held_slot, IsHolder}
 use Rattle.flat_history.specs.Stands.{shape_for}
 use Rattle.shape_views.specs.Regions.{backup_of, open_by, ArePlaced, DoWithout}
 use Rattle.shape_views.specs.Views.{Disk, Ledger, IsViewRight}
-use Rattle.shape_changes.specs.Updates.{AreGoneTold}
-use Rattle.shape_changes.specs.Changing.{HasLiveSlot, HasRoom, IsChanged, IsSafeStretch}
-use Rattle.shape_changes.specs.Kinds.{IsSafeNow}
+use Rattle.shape_changes.specs.Marking.{giving}
+use Rattle.shape_changes.specs.Safety.{HasRoomLeft}
+use Rattle.shape_changes.specs.Steady.{IsSafeNow, IsSafeStretch, AreGoneTold}
+use Rattle.shape_changes.specs.Changing.{IsChanged}
 
 -- ---- a view that places the list where another does
 
@@ -34,36 +32,33 @@ pub record IsPlacedLess (scope : Scope) (m view : Members) (d : Disk) : Type 0 w
   pub clean : is_clean view.newest ≡ is_clean m.newest
   pub does : DoWithout view → DoWithout m
 
--- The one ledger tells each value of the other, below the length of the view's list and in a section that is open, and a write that may be unsettled.
-pub record IsMoreTold (scope : Scope) (view : Members) (d : Disk) (told more : Ledger) : Type 0 where
+-- The one ledger tells each value of the other, below the length of the view's list and in a section that is open, a write that may be unsettled, and
+-- the view's reshape.
+pub record IsToldOf (scope : Scope) (view : Members) (d : Disk) (told more : Ledger) : Type 0 where
   pub sized : list_length view.newest ≡ more.size
   pub values : (x : ℕ) → x < list_length view.newest → (v : Sector) → IsIn (told.values x) v → IsIn (more.values x) v
   pub sections : (header : Sector) → IsIn (d (backup_of scope) 0) header → (span : Span) → open_by scope view.newest header ≡ Some span
       → (x : ℕ) → span.lo ≤ x → x < span.hi → (v : Sector) → IsIn (told.values x) v → IsIn (more.values x) v
   pub unclean : told.unclean ≡ true → more.unclean ≡ true
+  pub reshaping : is_reshaping view.newest ≡ true → more.reshaping ≡ true
 
 -- Where the one is right, so is the other: as a reshape begins or ends, and where a role is given that has no rows.
 abbrev pub PlacedLessIsRight : (sound : Type 0) → Type 0
 PlacedLessIsRight sound = (scope : Scope) (given : Given) (told more : Ledger) (m view : Members) (d : Disk) → IsPlacedLess scope m view d → ArePlaced scope given view → AreGoneTold more view
-    → IsMoreTold scope view d told more → IsViewRight sound scope given told m d → IsViewRight sound scope given more view d
+    → IsToldOf scope view d told more → IsViewRight sound scope given told m d → IsViewRight sound scope given more view d
 
 -- ---- a role is given
 
--- the update that makes a slot the holder of a role, which it recovers from this row on, or that is whole
-abbrev pub giving : Members → ℕ → ℕ → Option ℕ → Change
-giving members slot role recovery = record { shared = members.newest; gives = slice_set (replicate 32 Same) slot (give.Role role recovery); added = None }
-
--- A spare with room for the rows, which isn't the backup, and a role that no slot holds.
-pub record IsReceiver (scope : Scope) (given : Given) (old : Members) (role slot : ℕ) : Type 0 where
+-- A spare with room for the rows, and a role that no slot holds.
+pub record IsReceiver (given : Given) (old : Members) (role slot : ℕ) : Type 0 where
   pub spare : has_spare old.spares slot ≡ true
   pub room : IsHolder given (reading_of old) slot
   pub behind : 10 ≤ data_offset_of (reading_of old) slot
-  pub own : scope.backup ≡ Some slot → ⊥
   pub below : role < role_count old.newest
   pub vacant : (t : ℕ) → holder (slice_index_or old.roles role Missing) ≡ Some t → ⊥
 
 -- That update, from the first row on, keeps the array safe, whichever slots are lost in it, the receiver among them.
 abbrev pub GivingStaysSafe : (sound : Type 0) → Type 0
 GivingStaysSafe sound = (scope : Scope) (given : Given) (told : Ledger) (role slot : ℕ) (old new : Members) (before after : List Operation)
-    → IsChanged ⊤ given (giving old slot role (Some 0)) old new before after → IsReceiver scope given old role slot → (HasLiveSlot old → HasRoom old before after) → AreGoneTold told new
-    → IsSafeNow sound scope given told old (disk given.start before) → IsSafeStretch sound scope given told told new before after
+    → IsChanged ⊤ given (giving old slot role (Some 0)) old new before after → IsReceiver given old role slot → HasRoomLeft old before after → AreGoneTold told new
+    → IsSafeNow sound scope given told old (disk given.start before) → IsSafeStretch sound scope given told new before after

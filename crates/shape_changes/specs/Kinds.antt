@@ -1,5 +1,5 @@
 -- Kinds of updates, by what each owes of its change and of the view that it plans.
-use Rattle.std.specs.Prelude.{◌≡◌, ◌⊎◌, ℕ, ◌+◌, ◌-◌, ◌^◌, ◌<◌, ◌≤◌, Bool, true, false, List, replicate, if◌then◌else◌, slice_index_or, Option, Some, None, ⊤}
+use Rattle.std.specs.Prelude.{◌≡◌, ◌⊎◌, ℕ, ◌+◌, ◌^◌, ◌<◌, ◌≤◌, Bool, true, false, List, replicate, slice_index_or, Option, Some, None, ⊤}
 use Rattle.md_base.specs.declared.places.Span.{Span}
 use Rattle.bank.specs.declared.bank.Operation.{Operation}
 use Rattle.bank.specs.Given.{Given}
@@ -14,7 +14,7 @@ use Rattle.superblocks.specs.Reading.{Scope, role_count, holder}
 use Rattle.superblocks.specs.Reads.{has_spare}
 use Rattle.superblocks.specs.Update.{give_of, is_recovery}
 use Rattle.superblocks.specs.Updating.{planned_newest}
-use Rattle.superblocks.specs.Outcome.{live_set, AreGivesOfLive}
+use Rattle.superblocks.specs.Outcome.{live_set}
 use Rattle.superblocks.specs.Stages.{AreLeft}
 use Rattle.superblocks.specs.Plans.{IsFitChange}
 use Rattle.superblock_reads.specs.Said.{AreSparesFit}
@@ -22,21 +22,12 @@ use Rattle.row_io.specs.Rows.{members_without}
 use Rattle.shape_views.specs.Regions.{AreShapesFit, DoWithout}
 use Rattle.shape_views.specs.Views.{Disk, Ledger, IsSettled, IsViewRight}
 use Rattle.shape_views.specs.Windows.{moved_past}
-use Rattle.shape_changes.specs.Updates.{AreGoneTold}
-use Rattle.shape_changes.specs.Changing.{IsHeldBy, IsHeldSince, IsFitUpdate, HasLiveSlot, HasRoom, IsSteady, IsSpent, IsChanged, IsPlannedSafe, IsSafeStretch}
-
--- ---- any update, from any state
-
--- The superblocks are held and the view is right, or no live slot is left and each view is.
-abbrev pub IsSafeNow : Type 0 → Scope → Given → Ledger → Members → Disk → Type 0
-IsSafeNow sound scope given told members d = IsSteady sound scope given told members d ⊎ IsSpent sound scope given told told members d
-
--- What an update owes is asked only where the superblocks are held and a live slot is left, and so is the room of the event count.
-abbrev pub SafeChangeStaysSafe : (sound : Type 0) → Type 0
-SafeChangeStaysSafe sound = (scope : Scope) (given : Given) (told more : Ledger) (change : Change) (old new : Members) (before after : List Operation)
-    → IsChanged ⊤ given change old new before after → change.added ≡ None → AreGivesOfLive old change → (HasLiveSlot old → HasRoom old before after)
-    → (IsSteady sound scope given told old (disk given.start before) → IsPlannedSafe sound scope given more change old new (disk given.start before))
-    → IsSafeNow sound scope given told old (disk given.start before) → IsSafeStretch sound scope given told more new before after
+use Rattle.shape_changes.specs.Marking.{marking}
+use Rattle.shape_changes.specs.Held.{IsHeldBy}
+use Rattle.shape_changes.specs.Rounds.{IsHeldSince}
+use Rattle.shape_changes.specs.Safety.{HasRoomLeft}
+use Rattle.shape_changes.specs.Steady.{IsSteady, IsSafeNow, IsSafeStretch, AreGoneTold}
+use Rattle.shape_changes.specs.Changing.{IsChanged, IsFitUpdate, IsSafeChange}
 
 -- ---- updates in which each slot stays what it is
 
@@ -50,19 +41,12 @@ pub record IsKeepingAll (old : Members) (change : Change) : Type 0 where
 -- Such an update keeps the array safe where the members are a right view with what the change says of the array, and what is missing in the end is told.
 abbrev pub KeptStaysSafe : (sound : Type 0) → Type 0
 KeptStaysSafe sound = (scope : Scope) (given : Given) (told more : Ledger) (change : Change) (old new : Members) (before after : List Operation)
-    → IsChanged ⊤ given change old new before after → IsKeepingAll old change → (HasLiveSlot old → HasRoom old before after) → AreGoneTold more new
+    → IsChanged ⊤ given change old new before after → IsKeepingAll old change → HasRoomLeft old before after → AreGoneTold more new
+    → ((number : ℕ) → told.carried number ≡ true → more.carried number ≡ true)
     → (IsSteady sound scope given told old (disk given.start before) → IsViewRight sound scope given more (record old { newest = change.shared }) (disk given.start before))
-    → IsSafeNow sound scope given told old (disk given.start before) → IsSafeStretch sound scope given told more new before after
+    → IsSafeNow sound scope given told old (disk given.start before) → IsSafeChange sound scope given told more new before after
 
 -- ---- the mark
-
--- resync_offset is all ones where the array is clean, and 0 where it is dirty
-abbrev pub resync_of : Bool → ℕ
-resync_of clean = if clean then 2 ^ 64 - 1 else 0
-
--- the update that marks an array clean or dirty
-abbrev pub marking : Members → Bool → Change
-marking members clean = record { shared = record members.newest { resync_offset = resync_of clean }; gives = replicate 32 Same; added = None }
 
 -- What a mark needs besides: the roles that are missing at its end are told, a dirty mark is told unsettled, and at a clean one the rows are
 -- settled, where the array can do without the roles that it misses.
@@ -74,8 +58,8 @@ pub record IsMarkable (sound : Type 0) (scope : Scope) (clean : Bool) (told : Le
 -- A mark, in which slots may be lost, keeps the array safe: of one shape or of two.
 abbrev pub MarkStaysSafe : (sound : Type 0) → Type 0
 MarkStaysSafe sound = (scope : Scope) (given : Given) (told : Ledger) (clean : Bool) (old new : Members) (before after : List Operation)
-    → IsChanged ⊤ given (marking old clean) old new before after → (HasLiveSlot old → HasRoom old before after) → IsMarkable sound scope clean told old new (disk given.start before)
-    → IsSafeNow sound scope given told old (disk given.start before) → IsSafeStretch sound scope given told told new before after
+    → IsChanged ⊤ given (marking old clean) old new before after → HasRoomLeft old before after → IsMarkable sound scope clean told old new (disk given.start before)
+    → IsSafeNow sound scope given told old (disk given.start before) → IsSafeStretch sound scope given told new before after
 
 -- ---- the position
 
@@ -86,9 +70,9 @@ recording span members = record { shared = (moved_past span members).newest; giv
 -- It keeps the array safe where the view that is held is right with the position moved, as the copied window leaves it.
 abbrev pub RecordStaysSafe : (sound : Type 0) → Type 0
 RecordStaysSafe sound = (scope : Scope) (given : Given) (told : Ledger) (span : Span) (old new : Members) (before after : List Operation)
-    → IsChanged ⊤ given (recording span old) old new before after → (HasLiveSlot old → HasRoom old before after) → AreGoneTold told new
+    → IsChanged ⊤ given (recording span old) old new before after → HasRoomLeft old before after → AreGoneTold told new
     → ((steady : IsSteady sound scope given told old (disk given.start before)) → IsViewRight sound scope given told (moved_past span steady.former) (disk given.start before))
-    → IsSafeNow sound scope given told old (disk given.start before) → IsSafeStretch sound scope given told told new before after
+    → IsSafeNow sound scope given told old (disk given.start before) → IsSafeStretch sound scope given told new before after
 
 -- ---- changes that are fit
 

@@ -1,5 +1,5 @@
 -- The update that makes a recovering slot whole.
-use Rattle.std.specs.Prelude.{◌≡◌, ℕ, List, ⊤}
+use Rattle.std.specs.Prelude.{◌≡◌, ℕ, true, List, None, ⊤}
 use Rattle.bank.specs.declared.bank.Operation.{Operation}
 use Rattle.bank.specs.Given.{Given}
 use Rattle.bank.specs.Tape.{EachMark, disk}
@@ -11,8 +11,10 @@ use Rattle.superblocks.specs.Rounds.{round_at, IsInRounds, ArePast}
 use Rattle.superblocks.specs.Stages.{AreFirstKept}
 use Rattle.superblock_laws.specs.MakingWhole.{without_gives, IsMakingWhole}
 use Rattle.shape_views.specs.Views.{Disk, Ledger, IsViewRight}
-use Rattle.shape_changes.specs.Updates.{planned_view, AreGoneTold}
-use Rattle.shape_changes.specs.Changing.{HasRoom, IsSteady, IsChanged, IsSafeStretch}
+use Rattle.shape_changes.specs.Safety.{HasRoomLeft}
+use Rattle.shape_changes.specs.Steady.{IsSteady, IsSafeNow, AreGoneTold}
+use Rattle.shape_changes.specs.Updates.{planned_view}
+use Rattle.shape_changes.specs.Changing.{IsChanged, IsSafeChange}
 
 -- What such an update says of itself: what each does, and its rounds, since no slot gets a recovery offset.
 pub record IsMade (tells : Type 0) (given : Given) (change : Change) (old new : Members) (before after : List Operation) : Type 0 where
@@ -20,20 +22,22 @@ pub record IsMade (tells : Type 0) (given : Given) (change : Change) (old new : 
   pub rounds : AreFirstKept change.gives old.lost new.lost → EachMark tells given.start before after (IsInRounds old change old.lost (live_set old change) new.lost new.newest.events (disk given.start before))
   pub past : AreFirstKept change.gives old.lost new.lost → tells → ArePast old change old.lost (live_set old change) (disk given.start before) (round_at new.newest new.lost given.start after)
 
--- What it owes: the size and the count of roles stay; the members are right with what the change says of the array, the slot still recovering, by the one ledger,
--- and as planned, the slot whole, by the other; and what either misses at the end is told.
+-- What it owes: the size and the count of roles stay; the members are right with what the change says of the array, the slot still recovering, by the one
+-- ledger, and as planned, the slot whole, by the other; what either misses at the end is told, and each device number.
 pub record IsMakable (sound : Type 0) (scope : Scope) (given : Given) (told more : Ledger) (change : Change) (slot role : ℕ) (old new : Members) (d : Disk) : Type 0 where
   pub making : IsMakingWhole old change slot role
-  pub gives : AreGivesOfLive old change
   pub size : change.shared.size ≡ old.newest.size
   pub count : role_count change.shared ≡ role_count old.newest
   pub still : IsViewRight sound scope given told (planned_view old (without_gives change) old.lost) d
   pub right : IsViewRight sound scope given more (planned_view old change old.lost) d
   pub gone_still : AreGoneTold told (planned_view old (without_gives change) new.lost)
   pub gone : AreGoneTold more (planned_view old change new.lost)
+  pub carried : (number : ℕ) → told.carried number ≡ true → more.carried number ≡ true
 
--- Then it keeps the array safe, whichever slots are lost in it.
+-- Then it keeps the array safe, whichever slots are lost in it: each image is seen as before it or with the slot still recovering by the one ledger, and with
+-- the slot whole by the other.
 abbrev pub MakingStaysSafe : (sound : Type 0) → Type 0
 MakingStaysSafe sound = (scope : Scope) (given : Given) (told more : Ledger) (change : Change) (slot role : ℕ) (old new : Members) (before after : List Operation)
-    → IsMade ⊤ given change old new before after → HasRoom old before after → IsMakable sound scope given told more change slot role old new (disk given.start before)
-    → IsSteady sound scope given told old (disk given.start before) → IsSafeStretch sound scope given told more new before after
+    → IsMade ⊤ given change old new before after → change.added ≡ None → AreGivesOfLive old change → HasRoomLeft old before after
+    → (IsSteady sound scope given told old (disk given.start before) → IsMakable sound scope given told more change slot role old new (disk given.start before))
+    → IsSafeNow sound scope given told old (disk given.start before) → IsSafeChange sound scope given told more new before after

@@ -9,7 +9,7 @@ use Rattle.superblocks.specs.declared.change.Give.{Give}
 use Rattle.superblocks.specs.declared.change.Change.{Change}
 use Rattle.superblocks.specs.declared.members.Members.{Members}
 use Rattle.md_base.specs.Sectors.{Sector}
-use Rattle.superblocks.specs.Reading.{Scope, Reading, reading, is_reshaping, is_backward, shape_of, final_shape, list_length, role_count, role_state, rows_held, holder, data_offset_of}
+use Rattle.superblocks.specs.Reading.{Scope, Reading, reading, is_reshaping, is_backward, shape_of, final_shape, list_length, role_state, rows_held, holder, data_offset_of}
 use Rattle.superblocks.specs.Update.{with_give, give_of, own_in, planned_role}
 use Rattle.superblocks.specs.Updating.{planned_newest}
 use Rattle.superblocks.specs.Outcome.{planned_roles, planned_spares}
@@ -25,6 +25,7 @@ use Rattle.backup.specs.Section.{names_span}
 use Rattle.shape_views.specs.Regions.{open_by, ArePlaced, IsReadOf}
 use Rattle.shape_views.specs.Views.{Disk, Ledger, IsViewRight, IsSeenRight}
 use Rattle.shape_views.specs.Windows.{IsSomewhere, IsWrittenAt, IsUpdating, moved_past, ListStands, RowsStand}
+use Rattle.shape_changes.specs.Steady.{AreGoneTold}
 
 -- the superblocks of the slots, each with what it is given
 abbrev pub given_own : List Give → List (Option Sb) → List (Option Sb)
@@ -59,10 +60,6 @@ pub record IsLessView (m view : Members) : Type 0 where
   pub rows : (role : ℕ) → rows_held (reading_of view) (role_state (reading_of view) role) ≡ rows_held (reading_of m) (role_state (reading_of view) role)
   pub offsets : (role slot : ℕ) → holder (role_state (reading_of view) role) ≡ Some slot → data_offset_of (reading_of view) slot ≡ data_offset_of (reading_of m) slot
   pub missing : (role : ℕ) → is_missing (reading_of m) role ≡ true → is_missing (reading_of view) role ≡ true
-
--- each role that the view misses is told gone
-abbrev pub AreGoneTold : Ledger → Members → Type 0
-AreGoneTold told view = (role : ℕ) → role < role_count view.newest → is_missing (reading_of view) role ≡ true → told.gone role ≡ true
 
 -- Where the one is right, the other is, if what it misses is told.
 abbrev pub LessStaysRight : (sound : Type 0) → Type 0

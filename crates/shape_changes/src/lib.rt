@@ -4,12 +4,14 @@
 
 ghost use Rattle.std.specs.Prelude.{⊤};
 ghost use Rattle.shape_changes.specs.Updates.{PlannedIsRead, LessStaysRight, UpdatesAreSeenRight, AlikeStands, EndsPlaceAll, PastWindowsArePlain, ZeroingStaysRight, PlansLoseRoles};
-ghost use Rattle.shape_changes.specs.Changing.{ChangeStaysSafe, SpentStaysSpent};
+ghost use Rattle.shape_changes.specs.Changing.{ChangeStaysSafe, SpentStaysSpent, SafeChangeStaysSafe};
 ghost use Rattle.shape_changes.specs.Called.{UpdateIsChange};
-ghost use Rattle.shape_changes.specs.Kinds.{SafeChangeStaysSafe, KeptStaysSafe, MarkStaysSafe, RecordStaysSafe, TakingIsFit, DroppingIsFit, FitUpdateIsFitChange};
+ghost use Rattle.shape_changes.specs.Kinds.{KeptStaysSafe, MarkStaysSafe, RecordStaysSafe, TakingIsFit, DroppingIsFit, FitUpdateIsFitChange};
 ghost use Rattle.shape_changes.specs.Giving.{PlacedLessIsRight, GivingStaysSafe};
 ghost use Rattle.shape_changes.specs.Flushed.{BeginStaysSafe, FlushedChangeStaysSafe};
 ghost use Rattle.shape_changes.specs.Making.{MakingStaysSafe};
+ghost use Rattle.shape_changes.specs.Held.{HeldStays};
+ghost use Rattle.shape_changes.specs.Steady.{HeldIsRead, SafeIsSeen, LosingStaysSafe, FlushesStaySafe, WritesStaySafe, FillingStaysSafe};
 
 /// What is read as an update plans is read of the members that it plans.
 pub fn planned_is_read()
@@ -51,19 +53,12 @@ pub fn plans_lose_roles()
     ensures { PlansLoseRoles }
 {}
 
-/// Any update of the superblocks keeps an array safe, whichever slots are lost in it.
+/// Any update of the superblocks keeps an array safe, whichever slots are lost in it, if its change is fit and the view that it plans is
+/// right. The premise of what is said of parity is only carried along; here it is one that always holds.
 pub fn a_change_stays_safe()
-    ensures { ChangeStaysSafe ⊤ }
-{}
-
-/// Where no live slot is left, one writes nothing.
-pub fn a_spent_array_stays_spent()
-    ensures { SpentStaysSpent ⊤ }
-{}
-
-/// The same from any state, whether the superblocks are held or no live slot is left.
-pub fn a_safe_change_stays_safe()
-    ensures { SafeChangeStaysSafe ⊤ }
+    ensures held { ChangeStaysSafe ⊤ }
+    ensures spent { SpentStaysSpent ⊤ }
+    ensures any { SafeChangeStaysSafe ⊤ }
 {}
 
 /// An update in which each slot stays what it is keeps an array safe.
@@ -124,4 +119,24 @@ pub fn making_whole_stays_safe()
 /// What is fit so makes a change that fits the superblocks that are held.
 pub fn a_fit_update_is_a_fit_change()
     ensures { FitUpdateIsFitChange }
+{}
+
+/// Between two updates of the superblocks each image is read as the members say.
+pub fn held_is_read()
+    ensures { HeldIsRead }
+{}
+
+/// What is written elsewhere than in the superblocks leaves them held.
+pub fn held_stays()
+    ensures { HeldStays }
+{}
+
+/// An array that is safe stays so while slots are lost, over flushes, over rows that are written while it is dirty, and over rows
+/// that are rebuilt; each image is read as a view that is right.
+pub fn safety_is_kept()
+    ensures seen { SafeIsSeen ⊤ }
+    ensures losing { LosingStaysSafe ⊤ }
+    ensures flushes { FlushesStaySafe ⊤ }
+    ensures writes { WritesStaySafe ⊤ }
+    ensures filling { FillingStaysSafe ⊤ }
 {}

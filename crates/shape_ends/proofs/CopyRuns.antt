@@ -148,6 +148,7 @@ module _ (sound : Type 0) (scope : Scope) (given : Given) (told : Ledger) (m : M
       plain = plain-behind;
       missing = first.right.gone;
       unclean = first.right.unclean;
+      reshaping = first.right.reshaping;
     }
 
     moved-both : IsRightAndFit sound scope given told (moved_past span m) flushed

@@ -120,6 +120,7 @@ alike-plans sound scope given before after m plan d has right = record {
   sized = has.told.sized;
   gone = has.told.gone;
   unclean = λ dirty. has.told.unclean (right.unclean (clean-too m plan has.clean ∙ dirty));
+  reshaping = has.told.reshaping;
   held = λ header may x slot outside holds v is. told x v outside.within
       (right.held header may x slot (outside-none scope m d has.former header may x (below x outside.within)) (held-before scope given m plan has.placed has.alike x slot outside.within holds) v
       (subst (λ (k : ℕ). IsIn (d slot k) v) (sector-is scope given m plan has.placed has.alike x slot outside.within holds) is));

@@ -29,7 +29,7 @@ use Rattle.shape_views.specs.Sound.{IsTail, IsViewFit}
 use Rattle.shape_ends.specs.Fits.{NextHeadersFit, FewerStayFit, StoringStaysFit, NamingStaysFit, CopyingStaysFit, UpdatingStaysFit, PuttingStaysFit, ZeroingStaysFit, LessStaysFit, FlushedIsFit, MovedTailsStand, ViewsLeaveSound, UpdatesAreSeenFit}
 use Rattle.shape_views.proofs.Alike.{final-alike, length-alike, window-alike}
 use Rattle.shape_views.proofs.WindowLaws.{IsUnread, at-rows, kept-at, unread-settled, naming-settled, storing-unread, copying-unread, updating-unread, updating-right}
-use Rattle.shape_views.proofs.Stands.{data-at, flushed-right}
+use Rattle.shape_views.proofs.Stands.{data-at, flushed-settled, flushed-right}
 use Rattle.shape_changes.proofs.LessViews.{does-without, less-settled, less-clean, held-same, offset-same, less-right}
 use Rattle.shape_views.proofs.SoundViews.{fit-views-sound}
 use Rattle.shape_changes.proofs.PastWindows.{zeroing-unread}
@@ -229,7 +229,7 @@ less-fit sound scope told m view d less fit = record {
 -- ---- flushed members
 
 pub flushed-fit : (sound : Type 0) → FlushedIsFit sound
-unfolding flushed-right
+unfolding flushed-right flushed-settled
 flushed-fit sound scope given told m c list d has = record {
   headers = λ backup header span here may. has.headers backup header here may span;
   held = λ x slot tail held v is. (

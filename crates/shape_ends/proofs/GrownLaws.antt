@@ -285,6 +285,7 @@ module _ (scope : Scope) (given : Given) (before after : Ledger) (m plan : Membe
         sized = told.sized;
         gone = told.gone;
         unclean = λ dirty. told.unclean (right.unclean (clean-too m plan ended.clean ∙ dirty));
+        reshaping = told.reshaping;
         held = λ header may x slot outside holds v is. value x v outside.within (was x slot outside.within holds v is header may) (zero-is x slot outside.within holds v is);
         sections = λ header may span active x low high v is. absurd (let none = still-plain scope plan d ended.still header may in cc);
         settled = λ clean few premise. (

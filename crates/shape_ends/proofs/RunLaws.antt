@@ -75,6 +75,7 @@ module _ (sound : Type 0) (scope : Scope) (given : Given) (told : Ledger) (m : M
       plain = λ v may. ap (open_by scope (moved_past span m).newest) (header-flushed v may) ∙ past-windows-plain scope given m span header right.placed run.next run.names;
       missing = right.gone;
       unclean = right.unclean;
+      reshaping = right.reshaping;
     }
 
     pub moved-right : IsViewRight sound scope given told (moved_past span m) flushed

@@ -17,7 +17,8 @@ use Rattle.flat_history.specs.Stands.{shape_for}
 use Rattle.shape_views.specs.Regions.{ArePlaced, DoWithout}
 use Rattle.shape_views.specs.Views.{Disk, Ledger, IsViewRight}
 use Rattle.shape_views.specs.Windows.{IsSomewhere, HasNoSection, IsUpdating, ListStands, RowsStand}
-use Rattle.shape_changes.specs.Updates.{AreGoneTold, IsReadInUpdate, IsAtStart, IsAtEnd}
+use Rattle.shape_changes.specs.Updates.{IsReadInUpdate, IsAtStart, IsAtEnd}
+use Rattle.shape_changes.specs.Steady.{AreGoneTold}
 use Rattle.shape_views.specs.Sound.{IsViewFit}
 use Rattle.shape_ends.specs.Fits.{IsHeaderFit, IsSeenFit}
 
@@ -52,11 +53,12 @@ abbrev pub PlacesAlikeStand : Type 0
 PlacesAlikeStand = (scope : Scope) (given : Given) (m plan : Members) (c : Contents) (list : ℕ → Sector) → ArePlaced scope given plan → ArePlacesAlike m plan
     → (ListStands None m c list → ListStands None plan c list) × (RowsStand None m c list → RowsStand None plan c list)
 
--- What is told with a plan: of each sector that both lists have the same values, and perhaps more; the roles that the plan misses; and a dirty mark.
+-- What is told with a plan: of each sector that both lists have the same values, and perhaps more; the roles that the plan misses; a dirty mark; and a reshape.
 pub record IsToldWith (before after : Ledger) (plan : Members) : Type 0 where
   pub sized : list_length plan.newest ≡ after.size
   pub gone : AreGoneTold after plan
   pub unclean : before.unclean ≡ true → after.unclean ≡ true
+  pub reshaping : is_reshaping plan.newest ≡ true → after.reshaping ≡ true
   pub values : (x : ℕ) (v : Sector) → x < before.size → x < after.size → IsIn (before.values x) v → IsIn (after.values x) v
 
 -- A change of the length tells so: each sector that the list keeps has the values that it had, and one that it gets is zero.

@@ -22,7 +22,8 @@ use Rattle.flat_history.specs.Stands.{backup_absent}
 use Rattle.shape_views.specs.Regions.{AreShapesFit, ArePlaced, DoWithout}
 use Rattle.shape_views.specs.Views.{Disk, Ledger}
 use Rattle.shape_views.specs.Windows.{AreHoldersFlushed}
-use Rattle.shape_changes.specs.Updates.{planned_view, IsLessView, AreGoneTold, IsReadInUpdate, HasOneHolder, IsAtStart, IsAtEnd}
+use Rattle.shape_changes.specs.Updates.{planned_view, IsLessView, IsReadInUpdate, HasOneHolder, IsAtStart, IsAtEnd}
+use Rattle.shape_changes.specs.Steady.{AreGoneTold}
 use Rattle.shape_ends.specs.Ends.{AreRolesKept, AreMissingKept, AreZeroed, IsBegun, IsEnded}
 use Rattle.shape_ends.specs.Takeovers.{IsTakenUp, IsTakenDown}
 

@@ -26,7 +26,7 @@ use Rattle.backup.specs.Section.{section_sector}
 use Rattle.flat_history.specs.ActiveSection.{section_for, active_section}
 use Rattle.flat_history.specs.Stands.{stands, verdict, refusal_of, held_sector, placed_sector, shape_for, standing_sector, covers}
 use Rattle.flat_history.proofs.SameLaws.{stands-is}
-use Rattle.shape_views.specs.Regions.{backup_of, header_in, open_by, place_by, ArePlaced, IsReadOf, refusal_for}
+use Rattle.shape_views.specs.Regions.{backup_of, header_in, open_by, place_by, ArePlaced, IsReadOf, refusal_for, RefusedForMissing}
 use Rattle.shape_views.proofs.Alike.{length-alike, window-alike, placing-alike, backup-alike}
 
 -- what a role in this state has of a row
@@ -112,7 +112,7 @@ module _ (scope : Scope) (given : Given) (m : Members) (placed : ArePlaced scope
       ∙ placed-same x
 
   -- it is refused as the members are
-  refused : refusal_of scope r ≡ refusal_for m
+  pub refused : refusal_of scope r ≡ refusal_for m
   refused =
       (λ i. option_or ((read.refused ∙ ap (roles_refusal r.newest) read.roles ∙ sym (refused-same m.newest r.newest read.array m.roles)) i) ((sym (backup-alike m.newest r.newest read.array scope) ∙ placed.backup) i))
       ∙ ap (λ (o : Option Refusal). option_or (option_or (members_missing m.newest m.roles) (option_or (dirty_degraded m.newest m.roles) (option_or o None))) None) placed.fit.unit
@@ -121,3 +121,6 @@ module _ (scope : Scope) (given : Given) (m : Members) (placed : ArePlaced scope
   pub read-refused : reading scope c ≡ Some r → verdict scope c ≡ refusal_for m
   unfolding verdict
   read-refused here = ap (λ (found : Option Reading). option_map_or (refusal_of scope) found (Some NoSuperblock)) here ∙ refused
+
+pub refused-for : (c : Contents) → RefusedForMissing
+refused-for c scope given m r placed read = refused scope given m placed c r read

@@ -34,7 +34,7 @@ use Rattle.list_io.specs.Full.{DataStands, RowStands}
 use Rattle.list_io.proofs.FullLaws.{data_here, full-data, sector_there}
 use Rattle.flat_history.specs.Stands.{shape_at, shape_for, covers}
 use Rattle.shape_views.specs.Regions.{place_by, AreShapesFit, ArePlaced}
-use Rattle.shape_views.specs.Views.{Disk}
+use Rattle.shape_views.specs.Views.{Disk, IsSettled}
 use Rattle.shape_views.specs.Windows.{ListStands, RowsStand, StillStands, moved_past, MovedStands, MovedRowsStand, MovedIsPlaced, AreHoldersFlushed, FlushedIsRight}
 use Rattle.shape_views.proofs.Alike.{row-below, whole-chunks}
 use Rattle.shape_views.proofs.UnderWay.{is-reshaping, window-is, under-way, shape-on, side-or}
@@ -185,6 +185,17 @@ span-order newest fit span next = of (is_backward newest) (window-is newest span
     of true is = let at = backward-is (shape_of newest) (final_shape newest) newest.size newest.reshape_position span is in
         let le = div-le newest.reshape_position (unit (shape_of newest) (final_shape newest)) in omega (arith, at.1, at.2, le)
 
+-- and its end is in the list
+pub window-inside : (newest : Sb) → AreShapesFit newest → (span : Span) → next_window newest ≡ Some span → span.hi ≤ list_length newest
+window-inside newest fit span next = of (is_backward newest) (window-is newest span next)
+  where
+    of : (back : Bool) → window (shape_of newest) (final_shape newest) newest.size back newest.reshape_position ≡ Some span → span.hi ≤ list_length newest
+    of false is = let at = forward-is (shape_of newest) (final_shape newest) newest.size newest.reshape_position span is in omega (arith, at.2)
+    of true is =
+        let at = backward-is (shape_of newest) (final_shape newest) newest.size newest.reshape_position span is in
+        let within = fit.position (is-reshaping newest span next) in
+        omega (arith, at.2, within)
+
 module _ (scope : Scope) (given : Given) (m : Members) (span : Span) (placed : ArePlaced scope given m) (next : next_window m.newest ≡ Some span) where
   abbrev after : Members
   after = moved_past span m
@@ -291,34 +302,45 @@ alone d v w is may = of (subst (λ (l : List Sector). IsIn l v) is may)
     of (inl same) = same
     of (inr none) = absurd none
 
+module _ (scope : Scope) (given : Given) (m : Members) (c : Contents) (d : Disk) (placed : ArePlaced scope given m) (flushed : AreHoldersFlushed m c d) where
+  -- what a holder has of a row is what stands there
+  pub flushed-there : (slot role row : ℕ) → held_slot (reading_of m) role row ≡ Some slot → (v : Sector) → IsIn (d slot (data_offset_of (reading_of m) slot + row)) v
+      → v ≡ c slot (data_offset_of (reading_of m) slot + row)
+  flushed-there slot role row holds v is =
+      let own = holder-of (reading_of m) role row slot holds in
+      alone (d slot (data_offset_of (reading_of m) slot + row)) v (c slot (data_offset_of (reading_of m) slot + row))
+      (flushed role slot (data_offset_of (reading_of m) slot + row) own (λ e. absurd (let far = placed.behind role slot own in omega (arith, e, far)))) is
+
+  -- where the list's rows stand, of allowed values, they are settled
+  unfoldable pub flushed-settled : (values : ℕ → List Sector) (list : ℕ → Sector) → ((x : ℕ) → x < list_length m.newest → IsIn (values x) (list x)) → RowsStand None m c list
+      → IsSettled scope m values d
+  flushed-settled values list allowed rows = record {
+    list = list;
+    allowed = allowed;
+    rows = λ c' drawn x outside. (
+        let stands = rows x (record { within = outside.within; outside = refl }) in
+        let row = (place_by m.newest x).row in
+        record {
+          whole = stands.whole;
+          sectors = λ role slot lt part held.
+              flushed-there slot role row held (c' slot (data_offset_of (reading_of m) slot + row)) (drawn slot (data_offset_of (reading_of m) slot + row)) ∙ stands.sectors role slot lt part held;
+          parity = λ role slot lt part held.
+              flushed-there slot role row held (c' slot (data_offset_of (reading_of m) slot + row)) (drawn slot (data_offset_of (reading_of m) slot + row)) ∙ stands.parity role slot lt part held;
+        });
+  }
+
 unfoldable pub flushed-right : (sound : Type 0) → FlushedIsRight sound
 flushed-right sound scope given told m c list d has = record {
   placed = has.placed;
   sized = has.sized;
   gone = has.missing;
   unclean = has.unclean;
+  reshaping = has.reshaping;
   held = λ header may x slot outside holds v is.
       subst (λ (w : Sector). IsIn (told.values x) w)
-      (sym (there d c has.flushed slot (place_by m.newest x).role (place_by m.newest x).row holds v is ∙ has.stands x slot (record { within = outside.within; outside = refl }) holds))
+      (sym (flushed-there scope given m c d has.placed has.flushed slot (place_by m.newest x).role (place_by m.newest x).row holds v is
+      ∙ has.stands x slot (record { within = outside.within; outside = refl }) holds))
       (has.allowed x outside.within);
   sections = λ header may span active x low high v is. absurd (let none = has.plain header may in cc);
-  settled = λ clean few premise. record {
-    list = list;
-    allowed = has.allowed;
-    rows = λ c' drawn x outside. (
-        let stands = has.rows clean few premise x (record { within = outside.within; outside = refl }) in
-        record {
-          whole = stands.whole;
-          sectors = λ role slot lt part held. there d c has.flushed slot role (place_by m.newest x).row held (c' slot (data_offset_of (reading_of m) slot + (place_by m.newest x).row)) (drawn slot (data_offset_of (reading_of m) slot + (place_by m.newest x).row)) ∙ stands.sectors role slot lt part held;
-          parity = λ role slot lt part held. there d c has.flushed slot role (place_by m.newest x).row held (c' slot (data_offset_of (reading_of m) slot + (place_by m.newest x).row)) (drawn slot (data_offset_of (reading_of m) slot + (place_by m.newest x).row)) ∙ stands.parity role slot lt part held;
-        });
-  };
+  settled = λ clean few premise. flushed-settled scope given m c d has.placed has.flushed told.values list has.allowed (has.rows clean few premise);
 }
-  where
-    -- what a holder has of a row is what stands there
-    there : (d : Disk) (c : Contents) → AreHoldersFlushed m c d → (slot role row : ℕ) → held_slot (reading_of m) role row ≡ Some slot → (v : Sector) → IsIn (d slot (data_offset_of (reading_of m) slot + row)) v
-        → v ≡ c slot (data_offset_of (reading_of m) slot + row)
-    there d c flushed slot role row holds v is =
-        let own = holder-of (reading_of m) role row slot holds in
-        alone (d slot (data_offset_of (reading_of m) slot + row)) v (c slot (data_offset_of (reading_of m) slot + row))
-        (flushed role slot (data_offset_of (reading_of m) slot + row) own (λ e. absurd (let far = has.placed.behind role slot own in omega (arith, e, far)))) is

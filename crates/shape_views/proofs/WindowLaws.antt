@@ -1,17 +1,20 @@
 -- A view stays right while the section of its next window is stored and named, and while the window is copied.
-use Rattle.std.proofs.Common.{◌≡◌, ◌≢◌, ◌⊎◌, inl, inr, ℕ, ◌+◌, ◌-◌, ◌==◌, Bool, true, false, cond, List, Option, Some, None, unwrap_or, refl, sym, ◌∙◌, ap, subst, arith}
+use Rattle.std.proofs.Common.{◌≡◌, ◌≢◌, ◌⊎◌, inl, inr, ℕ, ◌+◌, ◌-◌, ◌==◌, ◌&&◌, Bool, true, false, cond, List, Option, Some, None, unwrap_or, refl, sym, ◌∙◌, ap, subst, arith}
 use Rattle.std.specs.Prelude.{Contains}
 use Rattle.std.proofs.lemmas.Bool.Decides.{nat_tests}
 use Rattle.md_base.specs.declared.places.Shape.{Shape}
 use Rattle.md_base.specs.declared.places.Span.{Span}
 use Rattle.md_base.specs.Sectors.{Sector}
+use Rattle.md_base.specs.Shapes.{has_slot}
 use Rattle.bank.specs.Given.{Given}
 use Rattle.bank.specs.Tape.{Contents, IsIn, IsDrawn}
+use Rattle.sb1.specs.declared.sb.Sb.{Sb}
 use Rattle.superblocks.specs.declared.members.Members.{Members}
 use Rattle.superblocks.specs.Reading.{Scope, next_window, final_shape, role_state, holder, data_offset_of}
 use Rattle.row_io.specs.Rows.{reading_of, held_slot}
 use Rattle.row_io.proofs.Losses.{holder-of}
 use Rattle.list_io.specs.Full.{RowStands}
+use Rattle.backup.specs.Section.{has_section}
 use Rattle.flat_history.specs.ActiveSection.{section_for}
 use Rattle.flat_history.specs.Stands.{shape_for, covers}
 use Rattle.shape_views.specs.Regions.{backup_of, header_in, open_by, place_by, ArePlaced}
@@ -34,6 +37,7 @@ fewer-right sound scope given told m d e fewer right = record {
   sized = right.sized;
   gone = right.gone;
   unclean = right.unclean;
+  reshaping = right.reshaping;
   held = λ header may x slot outside holds v is. right.held header (fewer (backup_of scope) 0 header may) x slot outside holds v (fewer slot _ v is);
   sections = λ header may span active x low high v is. right.sections header (fewer (backup_of scope) 0 header may) span active x low high v (fewer (backup_of scope) _ v is);
   settled = λ clean few premise. let s = right.settled clean few premise in record {
@@ -61,6 +65,19 @@ open-some scope m header span active = of scope.backup active
     of : (backup : Option ℕ) → section_for scope (λ s k. header) backup (next_window m.newest) ≡ Some span → backup ≡ Some (unwrap_or backup 0)
     of (Some b) is = refl
     of None is = absurd (cc)
+
+-- its span is the next window's
+pub open-window : (scope : Scope) (newest : Sb) (header : Sector) (span : Span) → open_by scope newest header ≡ Some span → next_window newest ≡ Some span
+open-window scope newest header span active = of scope.backup (next_window newest) active
+  where
+    chosen : (t : Bool) (window : Span) → ◌≡◌ {A = Option Span} (cond t (Some window) None) (Some span) → ◌≡◌ {A = Option Span} (Some window) (Some span)
+    chosen true window is = is
+    chosen false window is = absurd (cc)
+
+    of : (backup : Option ℕ) (window : Option Span) → section_for scope (λ s k. header) backup window ≡ Some span → window ≡ Some span
+    of None window is = absurd (cc)
+    of (Some b) None is = absurd (cc)
+    of (Some b) (Some window) is = chosen (has_slot scope.given b && has_section scope.uuid (scope.sizes.sectors b) (λ k. header) window) window is
 
 -- the rows of a holder lie behind its header
 pub at-rows : (scope : Scope) (given : Given) (m : Members) → ArePlaced scope given m → (role slot row k : ℕ) → holder (role_state (reading_of m) role) ≡ Some slot → k ≡ data_offset_of (reading_of m) slot + row → k ≢ 0
@@ -99,7 +116,7 @@ kept-at d e P written s k none v may = elim (written s k) [ inl less ↦ less v 
 pub record IsUnread (scope : Scope) (m : Members) (d : Disk) (P : ℕ → ℕ → Type 0) : Type 0 where
   pub header : P (backup_of scope) 0 → ⊥
   pub section : (header : Sector) → IsIn (d (backup_of scope) 0) header → (span : Span) → open_by scope m.newest header ≡ Some span → (k : ℕ) → P (backup_of scope) (8 + k) → ⊥
-  pub rows : (header : Sector) → IsIn (d (backup_of scope) 0) header → (x role slot : ℕ) → IsOutside scope m header x → holder (role_state (reading_of m) role) ≡ Some slot
+  pub rows : (header : Sector) → IsIn (d (backup_of scope) 0) header → (x role slot : ℕ) → IsOutside scope m header x → held_slot (reading_of m) role (place_by m.newest x).row ≡ Some slot
       → P slot (data_offset_of (reading_of m) slot + (place_by m.newest x).row) → ⊥
 
 -- what isn't such a place has fewer values, so that the header is one of before
@@ -117,7 +134,7 @@ unread-settled scope m values d e P some written unread s = record {
       let was : IsOutside scope m (header_in scope (back d e some P written c)) x = subst (λ (h : Sector). IsOutside scope m h x) (sym header-same) outside in
       row-same m (back d e some P written c) c (shape_for m.newest x) s.list (place_by m.newest x).row
       (λ role slot held. back-same d e some P written c slot (data_offset_of (reading_of m) slot + (place_by m.newest x).row)
-      (unread.rows (header_in scope (back d e some P written c)) (back-drawn d e some P written c drawn (backup_of scope) 0) x role slot was (holder-of (reading_of m) role (place_by m.newest x).row slot held)))
+      (unread.rows (header_in scope (back d e some P written c)) (back-drawn d e some P written c drawn (backup_of scope) 0) x role slot was held))
       (s.rows (back d e some P written c) (back-drawn d e some P written c drawn) x was));
 }
 
@@ -128,11 +145,12 @@ unread-right sound scope given told m d e P some written unread right = record {
   sized = right.sized;
   gone = right.gone;
   unclean = right.unclean;
+  reshaping = right.reshaping;
   held = λ header may x slot outside holds v is. (
       let here = unread-header scope m d e P written unread header may in
       right.held header here x slot outside holds v
       (kept-at d e P written slot (data_offset_of (reading_of m) slot + (place_by m.newest x).row)
-      (unread.rows header here x (place_by m.newest x).role slot outside (holder-of (reading_of m) (place_by m.newest x).role (place_by m.newest x).row slot holds)) v is));
+      (unread.rows header here x (place_by m.newest x).role slot outside holds) v is));
   sections = λ header may span active x low high v is. (
       let here = unread-header scope m d e P written unread header may in
       right.sections header here span active x low high v
@@ -146,7 +164,7 @@ pub storing-unread : (scope : Scope) (given : Given) (m : Members) (d : Disk) �
 storing-unread scope given m d placed none = record {
   header = λ (same, other). other refl;
   section = λ header may span active k (same, other). absurd (let plain = none header may in cc);
-  rows = λ header may x role slot outside held (is, other). placed.members_own role slot held is;
+  rows = λ header may x role slot outside held (is, other). placed.members_own role slot (holder-of (reading_of m) role (place_by m.newest x).row slot held) is;
 }
 
 pub storing-right : (sound : Type 0) → StoringStaysRight sound
@@ -236,6 +254,7 @@ naming-right sound scope given told m header plain d e some there none allowed n
   sized = right.sized;
   gone = right.gone;
   unclean = right.unclean;
+  reshaping = right.reshaping;
   held = λ named may x slot outside holds v is. right.held plain there x slot (record { within = outside.within; outside = ap (λ (o : Option Span). covers o x) none }) holds v
       (subst (λ (l : List Sector). IsIn l v) (naming.others slot (data_offset_of (reading_of m) slot + (place_by m.newest x).row)
       (inr (at-rows scope given m right.placed (place_by m.newest x).role slot (place_by m.newest x).row (data_offset_of (reading_of m) slot + (place_by m.newest x).row) (holder-of (reading_of m) (place_by m.newest x).role (place_by m.newest x).row slot holds) refl))) is);
@@ -254,7 +273,7 @@ pub updating-unread : (scope : Scope) (given : Given) (m : Members) (d : Disk) �
 updating-unread scope given m d placed = record {
   header = λ (eighth, other). absurd (omega (arith, eighth));
   section = λ header may span active k (eighth, other). other (open-some scope m header span active);
-  rows = λ header may x role slot outside held (eighth, other). (let far = placed.behind role slot held in absurd (omega (arith, far, eighth)));
+  rows = λ header may x role slot outside held (eighth, other). (let far = placed.behind role slot (holder-of (reading_of m) role (place_by m.newest x).row slot held) in absurd (omega (arith, far, eighth)));
 }
 
 pub updating-right : (sound : Type 0) → UpdatingStaysRight sound
@@ -286,6 +305,7 @@ putting-right sound scope given told m shape list written d e dirty region allow
   sized = right.sized;
   gone = right.gone;
   unclean = right.unclean;
+  reshaping = right.reshaping;
   held = λ header may x slot outside holds v is. elim (putting slot (data_offset_of (reading_of m) slot + (place_by m.newest x).row)) [
     | inl same ↦ right.held header (before header may) x slot outside holds v (subst (λ (l : List Sector). IsIn l v) same is)
     | inr put ↦ elim (put.values v is) [

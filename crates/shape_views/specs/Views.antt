@@ -5,7 +5,7 @@ use Rattle.md_base.specs.Sectors.{Sector}
 use Rattle.bank.specs.Given.{Given, sizes}
 use Rattle.bank.specs.Tape.{Contents, IsDrawn, IsIn}
 use Rattle.superblocks.specs.declared.members.Members.{Members}
-use Rattle.superblocks.specs.Reading.{Scope, Reading, reading, is_clean, role_count, list_length, data_offset_of}
+use Rattle.superblocks.specs.Reading.{Scope, Reading, reading, is_clean, is_reshaping, role_count, list_length, data_offset_of}
 use Rattle.row_io.specs.Rows.{reading_of, is_missing, held_slot}
 use Rattle.list_io.specs.Full.{RowStands}
 use Rattle.flat_history.specs.declared.events.Entry.{Entry}
@@ -21,12 +21,14 @@ abbrev pub Disk : Type 0
 Disk = ℕ → ℕ → List Sector
 
 -- What is told of an array, by which a view is judged: how long its list is and the values that each of its sectors may have, the roles that are
--- gone, and whether a write may be unsettled.
+-- gone, whether a write may be unsettled, whether a reshape may be active, and the device numbers that its superblocks may bear.
 pub record Ledger : Type 0 where
   pub size : ℕ
   pub values : ℕ → List Sector
   pub gone : ℕ → Bool
   pub unclean : Bool
+  pub reshaping : Bool
+  pub carried : ℕ → Bool
 
 -- a sector of the list that no active section covers, by this header
 pub record IsOutside (scope : Scope) (m : Members) (header : Sector) (x : ℕ) : Type 0 where
@@ -51,13 +53,15 @@ pub record IsSettled (scope : Scope) (m : Members) (values : ℕ → List Sector
   pub rows : (c : Contents) → IsDrawn d c → (x : ℕ) → IsOutside scope m (header_in scope c) x
       → RowStands (reading_of m) c (shape_for m.newest x) list (place_by m.newest x).row
 
--- A view is right: each role that it misses is told gone; it is dirty only where a write may be unsettled; what slots hold is allowed, and what an
--- active section has; and where it is clean, and can do without what it misses, the rows are settled, so that this can be filled in.
+-- A view is right: each role that it misses is told gone; it is dirty only where a write may be unsettled, and has a reshape only where one may be
+-- active; what slots hold is allowed, and what an active section has; and where it is clean, and can do without what it misses, the rows are settled,
+-- so that this can be filled in.
 pub record IsViewRight (sound : Type 0) (scope : Scope) (given : Given) (told : Ledger) (m : Members) (d : Disk) : Type 0 where
   pub placed : ArePlaced scope given m
   pub sized : list_length m.newest ≡ told.size
   pub gone : (role : ℕ) → role < role_count m.newest → is_missing (reading_of m) role ≡ true → told.gone role ≡ true
   pub unclean : is_clean m.newest ≡ false → told.unclean ≡ true
+  pub reshaping : is_reshaping m.newest ≡ true → told.reshaping ≡ true
   pub held : AreHeldAllowed scope m told.values d
   pub sections : AreSectionsAllowed scope m told.values d
   pub settled : is_clean m.newest ≡ true → DoWithout m → sound → IsSettled scope m told.values d
@@ -78,13 +82,15 @@ pub record IsJudgedBy (world : World) (given : Given) (entries : List Entry) (ma
   pub by : MayBeJudgedBy world entries (made_by mark entries) j judged
   pub fills : ((role : ℕ) → is_gone world entries (made_by mark entries) j role ≡ false) ⊎ OpensFit world
 
--- what they tell
+-- what they tell; of a reshape and of numbers it is nothing
 abbrev pub ledger_of : World → List Entry → ℕ → ℕ → List Entry → Ledger
 ledger_of world entries k j judged = record {
   size = length_of (length (opening_list world)) judged;
   values = values_of (opening_list world) judged;
   gone = is_gone world entries k j;
   unclean = is_unclean world entries k j;
+  reshaping = true;
+  carried = λ number. true;
 }
 
 -- The values bound what a stop may leave at the mark, and each image that is drawn of them is seen right by entries that judge it. These may differ

@@ -168,7 +168,7 @@ abbrev pub AreHoldersFlushed : Members → Contents → Disk → Type 0
 AreHoldersFlushed m c d = (role slot k : ℕ) → holder (role_state (reading_of m) role) ≡ Some slot → k ≢ 8 → d slot k ≡ c slot k ∷ []
 
 -- What is needed of members of which the holders are flushed: their roles are told, and a dirty mark; the list stands there, of allowed values, and
--- where they are clean its rows; no section is active.
+-- where they are clean its rows; no section is active, and a reshape only where that is told.
 pub record IsFlushedRight (sound : Type 0) (scope : Scope) (given : Given) (told : Ledger) (m : Members) (c : Contents) (list : ℕ → Sector) (d : Disk) : Type 0 where
   pub placed : ArePlaced scope given m
   pub sized : list_length m.newest ≡ told.size
@@ -179,6 +179,7 @@ pub record IsFlushedRight (sound : Type 0) (scope : Scope) (given : Given) (told
   pub plain : HasNoSection scope m d
   pub missing : (role : ℕ) → role < role_count m.newest → is_missing (reading_of m) role ≡ true → told.gone role ≡ true
   pub unclean : is_clean m.newest ≡ false → told.unclean ≡ true
+  pub reshaping : is_reshaping m.newest ≡ true → told.reshaping ≡ true
 
 -- Such members are a view that is right.
 abbrev pub FlushedIsRight : (sound : Type 0) → Type 0

@@ -3,10 +3,17 @@
 #![tactic(auto)]
 
 ghost use Rattle.std.specs.Prelude.{⊤};
+ghost use Rattle.shape_views.specs.Regions.{RefusedForMissing};
 ghost use Rattle.shape_views.specs.Views.{ViewsAreSafe};
 ghost use Rattle.shape_views.specs.Sound.{FitViewsAreSound};
 ghost use Rattle.shape_views.specs.Windows.{FewerStayRight, StoringStaysRight, NamingStaysRight, CopyingStaysRight, UpdatingStaysRight, PuttingStaysRight, RegionRowsAreOne, StillStands, MovedStands, MovedRowsStand, MovedIsPlaced, FlushedIsRight};
 ghost use Rattle.shape_views.specs.Backups.{SectionsStayRight, ClearingStaysRight, NamedSectionsAreOpen, ClearedHeadersAreShut, StoredIsClosed, NamingIsUnsure, NamedIsOpen, ClearedIsClosed, FoundIsOpen};
+
+/// An image that is read as members say is refused where a shape in force misses more roles than are tolerated, or where a missing role holds
+/// data while the array is dirty, and for nothing else.
+pub fn refused_for_missing()
+    ensures { RefusedForMissing }
+{}
 
 /// Where each image is read as a view that is right, the mark is safe.
 pub fn views_are_safe()

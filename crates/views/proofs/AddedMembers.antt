@@ -19,11 +19,12 @@ use Rattle.superblocks.proofs.SlotSets.{has-set_of}
 use Rattle.superblocks.proofs.StoredSlots.{set_apart}
 use Rattle.superblock_reads.proofs.SaidSlots.{has-slots_below}
 use Rattle.row_io.specs.Rows.{reading_of}
-use Rattle.views.specs.Placed.{IsPlaced, AreUnlost}
-use Rattle.views.specs.Marking.{adding, marking}
+use Rattle.views.specs.Placed.{IsPlaced}
+use Rattle.shape_changes.specs.Steady.{AreUnlost}
+use Rattle.shape_changes.specs.Marking.{adding, marking}
 use Rattle.views.specs.Numbers.{IsSpareSb}
 use Rattle.views.specs.Rebuilding.{IsFree, AreSparesFree, with_spare}
-use Rattle.views.proofs.Without.{live-is}
+use Rattle.shape_changes.proofs.Without.{live-is}
 
 -- ---- tests
 

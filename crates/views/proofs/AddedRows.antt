@@ -25,7 +25,7 @@ module _ (m : Members) (slot : ℕ) (sb : Sb) (untaken : (role : ℕ) → holder
   offset-with role s held = ap (λ (o : Option Sb). option_map_or (λ (x : Sb). x.data_offset) o 0) (own-other m slot sb s (other role s held))
 
   -- each role has as many rows
-  rows-as : (role : ℕ) (state : Role) → role_state (reading_of m) role ≡ state → rows_held (reading_of (with_spare slot sb m)) state ≡ rows_held (reading_of m) state
+  pub rows-as : (role : ℕ) (state : Role) → role_state (reading_of m) role ≡ state → rows_held (reading_of (with_spare slot sb m)) state ≡ rows_held (reading_of m) state
   rows-as role (Whole s) is = refl
   rows-as role (Recovering s) is =
       ap (λ (o : Option Sb). if is_reshaping m.newest then 0 else option_map_or (λ (x : Sb). x.recovery_offset) o 0) (own-other m slot sb s (other role s (ap holder is)))

@@ -20,15 +20,15 @@ use Rattle.row_io.proofs.Losses.{holder-of}
 use Rattle.list_io.specs.Full.{full_sector, AreWholeIn, RowStands}
 use Rattle.list_io.specs.Buffers.{AreTouched, IsTouched}
 use Rattle.list_io.specs.Writing.{HasFull}
-use Rattle.views.specs.Placed.{IsPlaced, AreUnlost}
-use Rattle.views.specs.Marking.{AreOthersPresent}
+use Rattle.views.specs.Placed.{IsPlaced}
+use Rattle.shape_changes.specs.Steady.{AreUnlost, IsSafeNow, IsSafeStretch}
+use Rattle.shape_changes.specs.Marking.{AreOthersPresent}
 use Rattle.views.specs.Moving.{IsMoved}
 use Rattle.views.specs.Lacking.{IsOfStripe, ListStands}
 use Rattle.views.specs.Rebuilding.{IsUnheld, IsFilling, IsFilledAmong}
-use Rattle.views.specs.Views.{Ledger}
-use Rattle.views.specs.Steady.{IsSafeNow, IsSafeStretch}
-use Rattle.views.proofs.Steady.{safe-is-seen}
-use Rattle.views.proofs.FillingSafe.{filling-stays-safe}
+use Rattle.shape_views.specs.Views.{Ledger}
+use Rattle.shape_changes.proofs.Steady.{safe-is-seen}
+use Rattle.shape_changes.proofs.FillingSafe.{filling-stays-safe}
 use Rattle.views.proofs.LackingWrites.{recovering-before}
 use Rattle.views.proofs.MendedParts.{IsInParts}
 use Rattle.views.proofs.HeldRows.{held-moved}
@@ -111,22 +111,26 @@ at-touched shape first count rows touched P each row at =
 
 -- ---- why the array stays safe
 
-pub safe-filled : {tells : Type 0} (sound : Type 0) (scope : Scope) (given : Given) (size : ℕ) (told : Ledger) (members : Members) (role slot : ℕ) (before after : List Operation) → tells
+pub safe-filled : {tells : Type 0} (sound : Type 0) (scope : Scope) (given : Given) (told : Ledger) (members : Members) (role slot : ℕ) (before after : List Operation) → tells
     → IsPlaced given members → AreUnlost members → role_state (reading_of members) role ≡ Recovering slot
-    → EachMark tells given.start before after (IsFilling members role slot (disk given.start before)) → IsSafeNow sound scope given size told members (disk given.start before)
-    → IsSafeStretch sound scope given size told members before after
-safe-filled sound scope given size told members role slot before after tell placed unlost recovers marks safe = record {
+    → EachMark tells given.start before after (IsFilling members role slot (disk given.start before)) → IsSafeNow sound scope given told members (disk given.start before)
+    → IsSafeStretch sound scope given told members before after
+safe-filled sound scope given told members role slot before after tell placed unlost recovers marks safe = record {
   marks = record {
     longer = λ one. marks.longer tell;
     earlier = λ one. marks.earlier tell;
-    each = λ one n low high. safe-is-seen sound scope given size told members (take n after) (safe-at n low high);
+    each = λ one n low high. safe-is-seen sound scope given told members (take n after) (safe-at n low high);
   };
-  next = subst (λ (tape : List Operation). IsSafeNow sound scope given size told members (disk given.start tape)) (take_all (length after) after (le_refl (length after)))
+  next = subst (λ (tape : List Operation). IsSafeNow sound scope given told members (disk given.start tape)) (take_all (length after) after (le_refl (length after)))
       (safe-at (length after) (marks.longer tell) (le_refl (length after)));
 }
   where
-    safe-at : (n : ℕ) → length before ≤ n → n ≤ length after → IsSafeNow sound scope given size told members (disk given.start (take n after))
-    safe-at n low high = filling-stays-safe sound scope given size told members role slot before (disk given.start (take n after)) placed unlost recovers (marks.each tell n low high) safe
+    safe-at : (n : ℕ) → length before ≤ n → n ≤ length after → IsSafeNow sound scope given told members (disk given.start (take n after))
+    safe-at n low high = filling-stays-safe sound scope given told members role slot before (disk given.start (take n after)) placed.holders unlost recovers
+        (λ s k. elim (marks.each tell n low high s k) [
+          | inl same ↦ inl same
+          | inr there ↦ inr (record { row = there.1.0; here = there.0; beyond = there.1.3; place = there.1.4 })
+        ]) safe
 
 -- ---- an option that isn't empty
 

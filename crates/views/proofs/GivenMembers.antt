@@ -18,10 +18,10 @@ use Rattle.superblocks.specs.Update.{own_in, with_recovery, is_held_by, is_live}
 use Rattle.superblocks.specs.Writing.{IsMember}
 use Rattle.superblock_reads.proofs.SaidSlots.{has-slots_below}
 use Rattle.row_io.specs.Rows.{reading_of, IsHolder}
-use Rattle.views.specs.Placed.{IsPlaced, AreUnlost}
+use Rattle.views.specs.Placed.{IsPlaced}
+use Rattle.shape_changes.specs.Steady.{AreUnlost}
 use Rattle.views.proofs.HeldRows.{recovered_of}
-use Rattle.views.proofs.Without.{any-holds}
-use Rattle.views.proofs.Spent.{any-holder}
+use Rattle.shape_changes.proofs.Without.{any-holds, any-held}
 use Rattle.views.proofs.Gives.{state_given, with_given, holder-given, IsGivable}
 
 -- the offset from which a slot recovers; 0 where it is whole
@@ -157,7 +157,7 @@ module _ (given : Given) (m : Members) (placed : IsPlaced given m) (recovery : O
           let found = any-holds s W.roles holds in
           ⊎_elim
           (λ here. absurd (apart here.1))
-          (λ other. ap (λ (b : Bool). b || has_spare m.spares s) (any-holder s m.roles found.0 other.2))
+          (λ other. ap (λ (b : Bool). b || has_spare m.spares s) (any-held s m.roles found.0 other.2))
           (holder-then found.0 s found.1)
       was apart false holds e = ap (λ (b : Bool). list_any (is_held_by s) m.roles || b) (spare-before s e).0 ∙ or_true (list_any (is_held_by s) m.roles)
 

@@ -20,8 +20,9 @@ use Rattle.superblocks.specs.Outcome.{is_same, is_planned_holder, held_state, pl
 use Rattle.superblock_reads.proofs.SaidLists.{role-holder}
 use Rattle.row_io.specs.Rows.{role_without}
 use Rattle.views.specs.Rebuilding.{with_state}
-use Rattle.views.proofs.MarkLaws.{Apart, give_of-same, state-kept}
-use Rattle.views.proofs.PlacedLaws.{state-without}
+use Rattle.views.proofs.MarkLaws.{Apart, state-kept}
+use Rattle.shape_changes.proofs.Kept.{give_of-same}
+use Rattle.shape_changes.proofs.Without.{state-without}
 
 -- ---- what is given
 

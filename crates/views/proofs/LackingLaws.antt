@@ -4,7 +4,7 @@ use Rattle.std.proofs.lemmas.Bool.{cases_lt}
 use Rattle.std.proofs.lemmas.Bool.Decides.{nat_tests}
 use Rattle.std.specs.Option.{option_map_or}
 use Rattle.md_base.specs.Sectors.{Sector}
-use Rattle.md_base.specs.Shapes.{has_slot}
+use Rattle.md_base.specs.Shapes.{has_slot, tolerance}
 use Rattle.md_base.specs.declared.places.Shape.{Shape}
 use Rattle.md_base.specs.declared.status.Role.{Role}
 use Rattle.md_base.specs.declared.status.Role.TheVariants.{Missing}
@@ -17,24 +17,21 @@ use Rattle.superblocks.specs.Updating.{IsUpdate}
 use Rattle.superblocks.specs.Reading.{Reading, shape_of, role_state, holder}
 use Rattle.superblocks.specs.Reads.{has_spare}
 use Rattle.superblocks.proofs.SlotSets.{none_there}
-use Rattle.row_io.specs.Rows.{reading_of, present, is_missing, role_without}
+use Rattle.row_io.specs.Rows.{reading_of, present, is_missing, role_without, missing_count}
 use Rattle.views.specs.Placed.{is_vacant, AreStillHeld, AreWhole, IsPlaced, AreLost, AreLess}
 use Rattle.views.specs.Flushing.{AreMembersFlushed}
 use Rattle.views.specs.Moving.{IsMoved, AreFailed}
 use Rattle.row_io.proofs.Losses.{state_kept}
 use Rattle.views.proofs.HeldRows.{missing-before, vacant-missing}
 use Rattle.views.proofs.MemberLaws.{less-without}
-use Rattle.views.proofs.Without.{in-both}
+use Rattle.shape_changes.proofs.Without.{in-both, state-without}
 use Rattle.views.specs.Lacking.{HaveFailedSince, AreLostSince, AreHoldersFlushed, AreTooMany, DoesWithout, lacking, refused_by, too_many}
 use Rattle.std.specs.Prelude.{MatchOption, ⊤, Result, Ok, Err}
-use Rattle.md_base.specs.Shapes.{tolerance}
 use Rattle.md_base.specs.declared.answers.Refusal.{Refusal}
-use Rattle.row_io.specs.Rows.{missing_count}
 use Rattle.list_io.specs.declared.outcome.Unavailable.{Unavailable}
 use Rattle.list_io.specs.declared.outcome.Unavailable.TheVariants.{TooManyMissing, NotResynced}
 use Rattle.list_io.specs.Calls.{IsAnswer}
 use Rattle.views.proofs.MovedLaws.{not-whole}
-use Rattle.views.proofs.PlacedLaws.{state-without}
 use Rattle.views.proofs.MarkedLaws.{others-updated, single-kept}
 
 -- ---- the slots that failed

@@ -26,7 +26,7 @@ use Rattle.views.specs.Rows.{row_sector}
 use Rattle.views.proofs.MemberLaws.{holder-is}
 use Rattle.list_io.proofs.FullLaws.{data_here, full-data, full-same, sector_there}
 use Rattle.views.specs.Placed.{places_of, AreWhole, IsPlaced}
-use Rattle.views.specs.Marking.{AreOthersPresent}
+use Rattle.shape_changes.specs.Marking.{AreOthersPresent}
 use Rattle.views.specs.Moving.{IsMoved}
 use Rattle.views.specs.Lacking.{ListStands, RowsStand, RowsStandAmong, AreBytes, AreRowsRead, AreRowsWritten}
 use Rattle.views.proofs.Elements.{contains_or_not, contains-at}

@@ -14,7 +14,7 @@ use Rattle.layout.specs.Layout.{place}
 use Rattle.layout.proofs.Places.{place-role_below}
 use Rattle.layout.proofs.Limits.{limited}
 use Rattle.md_base.specs.Shapes.{is_valid_shape}
-use Rattle.std.specs.Prelude.{IsTrue}
+use Rattle.std.specs.Prelude.{IsTrue, Result, Ok, Err, OnOk, is_some}
 use Rattle.parity.specs.Rows.{sector_of}
 use Rattle.superblocks.specs.declared.members.Members.{Members}
 use Rattle.superblocks.specs.Reading.{shape_of, role_state, holder, data_offset_of}
@@ -25,12 +25,11 @@ use Rattle.list_io.specs.Buffers.{buffered, AreDistinct, AreStanding}
 use Rattle.list_io.specs.Full.{full_sector}
 use Rattle.list_io.specs.Writing.{IsWritten, AreDataFrom, HasFull}
 use Rattle.views.specs.Placed.{IsPlaced, AreLost}
-use Rattle.std.specs.Prelude.{Result, Ok, Err, OnOk, is_some}
 use Rattle.list_io.specs.declared.outcome.Unavailable.{Unavailable}
 use Rattle.views.proofs.HeldRows.{held-moved}
 use Rattle.views.proofs.MemberLaws.{are_lost}
 use Rattle.bank.proofs.Marks.{each_mark-along}
-use Rattle.views.specs.Marking.{AreOthersPresent}
+use Rattle.shape_changes.specs.Marking.{AreOthersPresent}
 use Rattle.views.specs.Moving.{IsMoved}
 use Rattle.views.specs.Lacking.{AreRowsWritten, refused_by}
 

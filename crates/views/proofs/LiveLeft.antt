@@ -11,12 +11,12 @@ use Rattle.layout.proofs.Limits.{limited}
 use Rattle.superblocks.specs.declared.members.Members.{Members}
 use Rattle.superblocks.specs.Reading.{Scope, is_whole, shape_of, role_state, holder}
 use Rattle.row_io.specs.Rows.{reading_of, is_missing}
-use Rattle.views.specs.Placed.{IsPlaced, AreUnlost}
+use Rattle.views.specs.Placed.{IsPlaced}
+use Rattle.shape_changes.specs.Steady.{AreUnlost, IsSteady, IsSafeNow}
 use Rattle.views.specs.Lacking.{DoesWithout}
-use Rattle.views.specs.Safety.{HasLiveSlot}
-use Rattle.views.specs.Views.{Ledger}
-use Rattle.views.specs.Steady.{IsSteady, IsSafeNow}
-use Rattle.views.proofs.Spent.{live-holder}
+use Rattle.shape_changes.specs.Safety.{HasLiveSlot}
+use Rattle.shape_views.specs.Views.{Ledger}
+use Rattle.shape_changes.proofs.Spent.{live-holder}
 
 -- a test that fails somewhere, or passes everywhere
 fails-or-all : (n : ℕ) (test : ℕ → Bool) → ((k : ℕ) × (test k ≡ false)) ⊎ (count_below n test ≡ n)
@@ -56,13 +56,13 @@ some-held m valid does = by (fails-or-all (shape_of m.newest).disks (is_missing 
 
 -- a slot that holds a role is left
 pub holder-left : (given : Given) (m : Members) (role slot : ℕ) → IsPlaced given m → AreUnlost m → holder (role_state (reading_of m) role) ≡ Some slot → HasLiveSlot m
-holder-left given m role slot placed unlost held = (slot, live-holder given m false role slot placed held, unlost role slot held)
+holder-left given m role slot placed unlost held = (slot, live-holder given m false role slot placed.holders held, unlost role slot held)
 
 pub without-left : (given : Given) (m : Members) → IsPlaced given m → AreUnlost m → DoesWithout m → HasLiveSlot m
 without-left given m placed unlost does = let held = some-held m placed.valid does in holder-left given m held.0 held.1 placed unlost held.2
 
 -- and where one is, it is steady
-pub left-steady : {sound : Type 0} {scope : Scope} {given : Given} {size : ℕ} {told : Ledger} {members : Members} {d : ℕ → ℕ → List Sector} → HasLiveSlot members
-    → IsSafeNow sound scope given size told members d → IsSteady sound scope given size told members d
+pub left-steady : {sound : Type 0} {scope : Scope} {given : Given} {told : Ledger} {members : Members} {d : ℕ → ℕ → List Sector} → HasLiveSlot members
+    → IsSafeNow sound scope given told members d → IsSteady sound scope given told members d
 left-steady left (inl steady) = steady
 left-steady left (inr spent) = absurd (spent.none left)

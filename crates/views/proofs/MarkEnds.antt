@@ -17,10 +17,10 @@ use Rattle.superblocks.proofs.ReadLists.{by_bool}
 use Rattle.superblock_reads.proofs.SaidSlots.{has-slots_below}
 use Rattle.superblocks.proofs.UpdateReads.{some-or-all}
 use Rattle.views.specs.Placed.{AreLess}
-use Rattle.views.specs.Marking.{marking}
-use Rattle.views.specs.Safety.{HasLiveSlot}
-use Rattle.views.proofs.MarkLaws.{give_of-same}
-use Rattle.views.proofs.Without.{any-without, live-is}
+use Rattle.shape_changes.specs.Marking.{marking}
+use Rattle.shape_changes.specs.Safety.{HasLiveSlot}
+use Rattle.shape_changes.proofs.Kept.{give_of-same}
+use Rattle.shape_changes.proofs.Without.{any-without, live-is}
 
 -- ---- a live slot is left, or none
 

@@ -12,6 +12,7 @@ use Rattle.md_base.specs.declared.status.Role.TheVariants.{Whole, Recovering, Mi
 use Rattle.superblocks.specs.declared.change.Give.{Give}
 use Rattle.superblocks.specs.declared.change.Give.TheVariants.{Same}
 use Rattle.superblocks.specs.Reading.{holder}
+use Rattle.shape_changes.proofs.Kept.{give_of-same}
 use Rattle.superblocks.specs.Update.{is_held_by, role_from, give_of, planned_role}
 use Rattle.superblocks.specs.declared.change.Change.{Change}
 use Rattle.superblocks.specs.declared.members.Members.{Members}
@@ -65,11 +66,6 @@ role_from-holds slot i (state ∷ roles) r is = by (is_held_by slot state) refl 
 same-is : (role : ℕ) (found : Option ℕ) → is_same role found ≡ true → found ≡ Some role
 same-is role None is = absurd (cc)
 same-is role (Some other) is = ap (λ (n : ℕ). Some n) (grind (arith, nat_tests, is))
-
-pub give_of-same : (n slot : ℕ) → give_of (replicate n Same) slot ≡ Same
-give_of-same zero slot = refl
-give_of-same (suc n) zero = refl
-give_of-same (suc n) (suc slot) = give_of-same n slot
 
 both : (a b : Bool) → (a && b) ≡ true → (a ≡ true) × (b ≡ true)
 both true b e = (refl, e)

@@ -11,8 +11,9 @@ use Rattle.bank.proofs.Laws.{choices-present}
 use Rattle.superblocks.specs.declared.members.Members.{Members}
 use Rattle.superblocks.specs.Updating.{AreLosses, IsUpdate}
 use Rattle.row_io.specs.Rows.{present}
-use Rattle.views.specs.Placed.{AreUnlost, AreLess}
-use Rattle.views.specs.Marking.{AreOthersPresent}
+use Rattle.shape_changes.specs.Steady.{AreUnlost}
+use Rattle.views.specs.Placed.{AreLess}
+use Rattle.shape_changes.specs.Marking.{AreOthersPresent}
 use Rattle.views.specs.Moving.{Grows, AreFailed}
 
 -- ---- the tape

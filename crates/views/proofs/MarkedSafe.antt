@@ -1,5 +1,5 @@
 -- Marks and flushes of a call that keep an array safe.
-use Rattle.std.proofs.Common.{◌≡◌, ℕ, ◌≤◌, Bool, true, List, length, length-append, take, take_all, le_refl, ◌++◌, sym, ◌∙◌, ap, subst, arith}
+use Rattle.std.proofs.Common.{◌≡◌, ℕ, ◌<◌, ◌≤◌, Bool, true, List, length, length-append, take, take_all, le_refl, ◌++◌, sym, ◌∙◌, ap, subst, arith}
 use Rattle.std.specs.Prelude.{⊤}
 use Rattle.md_base.specs.Sectors.{Sector}
 use Rattle.bank.specs.declared.bank.Operation.{Operation}
@@ -8,15 +8,18 @@ use Rattle.bank.specs.Tape.{EachMark, disk}
 use Rattle.superblocks.specs.declared.members.Members.{Members}
 use Rattle.superblocks.specs.Reading.{Scope, is_clean}
 use Rattle.row_io.specs.Rows.{reading_of, present, members_without}
-use Rattle.views.specs.Placed.{IsPlaced, AreUnlost}
+use Rattle.views.specs.Placed.{IsPlaced}
+use Rattle.shape_changes.specs.Steady.{AreUnlost, IsSteady, IsSafeNow, IsSafeStretch, AreGoneTold, IsUncleanTold, AreWritesAllowed}
 use Rattle.views.specs.Lacking.{DoesWithout, AreHoldersFlushed, RowsStand}
 use Rattle.views.specs.Flushing.{OnlyFlushesAdded}
-use Rattle.views.specs.Views.{Ledger, IsSettled}
-use Rattle.views.specs.Steady.{IsSteady, IsSafeNow, IsSafeStretch, IsMarkable, AreGoneTold, IsUncleanTold, AreWritesAllowed}
-use Rattle.views.proofs.MemberLaws.{less-without}
+use Rattle.shape_views.specs.Views.{Ledger, IsSettled}
+use Rattle.shape_changes.specs.Kinds.{IsMarkable}
+use Rattle.views.proofs.Still.{told-same, length-still, flushed-is-settled}
 use Rattle.views.proofs.LiveLeft.{without-left, left-steady}
-use Rattle.views.proofs.Steady.{safe-is-seen, losing-stays-safe, flushes-stay-safe, flushed-is-settled}
-use Rattle.views.proofs.ViewsKept.{settled-less, did-without}
+use Rattle.shape_changes.proofs.Steady.{safe-is-seen, losing-stays-safe, flushes-stay-safe}
+use Rattle.shape_views.specs.Regions.{DoWithout}
+use Rattle.shape_changes.proofs.Kept.{without-less}
+use Rattle.shape_changes.proofs.LessViews.{less-settled, does-without}
 
 -- ---- a mark, over a bank that tells its contents
 
@@ -24,37 +27,37 @@ pub told-marks : {tells : Type 0} {start : ℕ → ℕ → Sector} {old new : Li
 told-marks told marks = record { longer = λ u. marks.longer told; earlier = λ u. marks.earlier told; each = λ u. marks.each told }
 
 -- A clean array that can do without the roles that it misses has settled rows: they were so by the members before they lost slots.
-pub clean-settled : (sound : Type 0) (scope : Scope) (given : Given) (size : ℕ) (told : Ledger) (m : Members) (d : ℕ → ℕ → List Sector) → IsPlaced given m → AreUnlost m
-    → IsSafeNow sound scope given size told m d → is_clean m.newest ≡ true → DoesWithout m → sound → IsSettled m told.values d
-clean-settled sound scope given size told m d placed unlost safe clean does premise =
-    let steady = left-steady (without-left given m placed unlost does) safe in
+pub clean-settled : (sound : Type 0) (scope : Scope) (given : Given) (told : Ledger) (m : Members) (d : ℕ → ℕ → List Sector) → IsPlaced given m → AreUnlost m
+    → IsSafeNow sound scope given told m d → is_clean m.newest ≡ true → DoWithout m → sound → IsSettled scope m told.values d
+clean-settled sound scope given told m d placed unlost safe clean does premise =
+    let steady = left-steady (without-left given m placed unlost does.old) safe in
     of steady steady.since.gone steady.since.since
   where
-    of : (steady : IsSteady sound scope given size told m d) (gone : ℕ) → m ≡ members_without gone steady.former → IsSettled m told.values d
+    of : (steady : IsSteady sound scope given told m d) (gone : ℕ) → m ≡ members_without gone steady.former → IsSettled scope m told.values d
     of steady gone is =
-        let less = less-without steady.former gone in
         let former = steady.former in
-        subst (λ (n : Members). IsSettled n told.values d) (sym is)
-        (settled-less given gone former (members_without gone former) steady.right.placed less told.values d
+        let less = without-less former gone in
+        subst (λ (n : Members). IsSettled scope n told.values d) (sym is)
+        (less-settled former (members_without gone former) less scope told.values d
         (steady.right.settled (ap (λ (n : Members). is_clean n.newest) (sym is) ∙ clean)
-        (did-without given gone former (members_without gone former) steady.right.placed less (subst DoesWithout is does)) premise))
+        (does-without former (members_without gone former) less (subst DoWithout is does)) premise))
 
 -- so it can be marked again as it is
-pub same-markable : (sound : Type 0) (scope : Scope) (given : Given) (size : ℕ) (told : Ledger) (clean : Bool) (old new : Members) (d : ℕ → ℕ → List Sector) → IsPlaced given old → AreUnlost old
-    → clean ≡ is_clean old.newest → AreGoneTold told new → IsUncleanTold told old → IsSafeNow sound scope given size told old d → IsMarkable sound clean told old new d
-same-markable sound scope given size told clean old new d placed unlost same gone unclean safe = record {
+pub same-markable : (sound : Type 0) (scope : Scope) (given : Given) (told : Ledger) (clean : Bool) (old new : Members) (d : ℕ → ℕ → List Sector) → IsPlaced given old → AreUnlost old
+    → clean ≡ is_clean old.newest → AreGoneTold told new → IsUncleanTold told old → IsSafeNow sound scope given told old d → IsMarkable sound scope clean told old new d
+same-markable sound scope given told clean old new d placed unlost same gone unclean safe = record {
   gone = gone;
   unclean = λ dirty. unclean (sym same ∙ dirty);
-  settled = λ is does premise. clean-settled sound scope given size told old d placed unlost safe (sym same ∙ is) does premise;
+  settled = λ is does premise. clean-settled sound scope given told old d placed unlost safe (sym same ∙ is) does premise;
 }
 
 -- A clean mark behind a flush: the rows stand as the list, where the array can do without the roles that it misses.
-pub settled-markable : (sound : Type 0) (given : Given) (told : Ledger) (old new : Members) (tape : List Operation) (list : ℕ → Sector) → IsPlaced given old → AreHoldersFlushed (reading_of old) given tape
-    → AreGoneTold told new → AreWritesAllowed old told.values list → (DoesWithout old → sound → RowsStand old (present given tape) list) → IsMarkable sound true told old new (disk given.start tape)
-settled-markable sound given told old new tape list placed flushed gone allowed rows = record {
+pub settled-markable : (sound : Type 0) (scope : Scope) (given : Given) (told : Ledger) (old new : Members) (tape : List Operation) (list : ℕ → Sector) → IsPlaced given old → AreHoldersFlushed (reading_of old) given tape
+    → AreGoneTold told new → AreWritesAllowed old told.values list → (DoesWithout old → sound → RowsStand old (present given tape) list) → IsMarkable sound scope true told old new (disk given.start tape)
+settled-markable sound scope given told old new tape list placed flushed gone allowed rows = record {
   gone = gone;
   unclean = λ dirty. absurd (cc);
-  settled = λ clean does premise. flushed-is-settled given old tape told.values list placed flushed (rows does premise) allowed;
+  settled = λ clean does premise. flushed-is-settled scope given old tape told.values list placed flushed (rows does.old premise) (λ x lt. allowed x (subst (λ (n : ℕ). x < n) (sym (length-still old placed.still)) lt));
 }
 
 -- ---- flushes
@@ -63,25 +66,25 @@ pub added-longer : (before after : List Operation) → OnlyFlushesAdded before a
 added-longer before after added = subst (λ (l : List Operation). length before ≤ length l) (sym added.2) (let all = length-append before added.0 in omega (arith, all))
 
 -- flushes alone were done
-pub flushed-safe : (sound : Type 0) (scope : Scope) (given : Given) (size : ℕ) (told : Ledger) (members : Members) (before after : List Operation) → OnlyFlushesAdded before after
-    → IsSafeNow sound scope given size told members (disk given.start before) → IsSafeStretch sound scope given size told members before after
-flushed-safe sound scope given size told members before after added safe =
-    subst (λ (l : List Operation). IsSafeStretch sound scope given size told members before l) (sym added.2) (record {
+pub flushed-safe : (sound : Type 0) (scope : Scope) (given : Given) (told : Ledger) (members : Members) (before after : List Operation) → OnlyFlushesAdded before after
+    → IsSafeNow sound scope given told members (disk given.start before) → IsSafeStretch sound scope given told members before after
+flushed-safe sound scope given told members before after added safe =
+    subst (λ (l : List Operation). IsSafeStretch sound scope given told members before l) (sym added.2) (record {
       marks = record {
         longer = marks.longer;
         earlier = marks.earlier;
-        each = λ u n low high. safe-is-seen sound scope given size told members (take n (before ++ added.0)) (marks.each u n low high);
+        each = λ u n low high. safe-is-seen sound scope given told members (take n (before ++ added.0)) (marks.each u n low high);
       };
-      next = subst (λ (l : List Operation). IsSafeNow sound scope given size told members (disk given.start l)) (take_all (length (before ++ added.0)) (before ++ added.0) (le_refl (length (before ++ added.0))))
+      next = subst (λ (l : List Operation). IsSafeNow sound scope given told members (disk given.start l)) (take_all (length (before ++ added.0)) (before ++ added.0) (le_refl (length (before ++ added.0))))
           (marks.each tt (length (before ++ added.0)) (marks.longer tt) (le_refl (length (before ++ added.0))));
     })
   where
-    marks : EachMark ⊤ given.start before (before ++ added.0) (IsSafeNow sound scope given size told members)
-    marks = flushes-stay-safe sound scope given size told members before added.0 added.1 safe
+    marks : EachMark ⊤ given.start before (before ++ added.0) (IsSafeNow sound scope given told members)
+    marks = flushes-stay-safe sound scope given told members before added.0 added.1 safe
 
 -- and slots were lost
-pub lost-safe : (sound : Type 0) (scope : Scope) (given : Given) (size : ℕ) (told : Ledger) (old new : Members) (lost : ℕ) (before after : List Operation) → new ≡ members_without lost old
-    → OnlyFlushesAdded before after → IsSafeNow sound scope given size told old (disk given.start before) → IsSafeStretch sound scope given size told new before after
-lost-safe sound scope given size told old new lost before after is added safe = flushed-safe sound scope given size told new before after added
-    (subst (λ (m : Members). IsSafeNow sound scope given size told m (disk given.start before)) (sym is)
-    (losing-stays-safe sound scope given size lost told told old (disk given.start before) (record { values = λ x lt v may. may; gone = λ role told. told; unclean = λ told. told; carried = λ number told. told }) safe))
+pub lost-safe : (sound : Type 0) (scope : Scope) (given : Given) (told : Ledger) (old new : Members) (lost : ℕ) (before after : List Operation) → new ≡ members_without lost old
+    → OnlyFlushesAdded before after → IsSafeNow sound scope given told old (disk given.start before) → IsSafeStretch sound scope given told new before after
+lost-safe sound scope given told old new lost before after is added safe = flushed-safe sound scope given told new before after added
+    (subst (λ (m : Members). IsSafeNow sound scope given told m (disk given.start before)) (sym is)
+    (losing-stays-safe sound scope given lost told told old (disk given.start before) (told-same told) safe))

@@ -25,7 +25,8 @@ use Rattle.row_io.proofs.Losses.{state_after, state_kept, holder-after}
 use Rattle.row_io.proofs.Written.{members_without-none}
 use Rattle.row_io.proofs.Tables.{count_below-above, length-mapped}
 use Rattle.views.specs.Whole.{AreFit, placed, list_size}
-use Rattle.views.specs.Placed.{places_of, AreWhole, IsPlaced, AreUnlost, AreLess, AreLost}
+use Rattle.views.specs.Placed.{places_of, AreWhole, IsPlaced, AreLess, AreLost}
+use Rattle.shape_changes.specs.Steady.{AreUnlost}
 use Rattle.views.proofs.HeldRows.{rows-same}
 
 -- ---- the roles

@@ -22,16 +22,16 @@ use Rattle.flat_history.specs.World.{World}
 use Rattle.flat_history.specs.Sound.{OpensFit}
 use Rattle.views.specs.Whole.{list_size}
 use Rattle.views.specs.Placed.{places_of, IsPlaced}
-use Rattle.views.specs.Marking.{AreOthersPresent}
+use Rattle.shape_changes.specs.Marking.{AreOthersPresent}
 use Rattle.views.specs.Moving.{Grows, IsMoved}
-use Rattle.views.specs.Safety.{HasRoomLeft, IsRisen}
+use Rattle.shape_changes.specs.Safety.{HasRoomLeft, IsRisen}
 use Rattle.views.specs.Status.{stripes_of}
 use Rattle.views.specs.Lacking.{AreBytes, AreTooMany, DoesWithout, ListStands}
-use Rattle.views.specs.Views.{Ledger}
-use Rattle.views.specs.Steady.{IsSafeOver, KeepsSafe, AreGoneTold}
+use Rattle.shape_views.specs.Views.{Ledger}
+use Rattle.shape_changes.specs.Steady.{IsSafeOver, KeepsSafe, AreGoneTold}
 use Rattle.views.proofs.LackingLists.{list-moved, row-moved}
 use Rattle.views.proofs.LackingWrites.{recovering-before, full-later}
-use Rattle.views.proofs.Risen.{room-first, room-then}
+use Rattle.shape_changes.proofs.Risen.{room-first, room-then}
 use Rattle.views.proofs.SafeStretch.{gone-before, safe-then, grows-longer, over-at, keeps-from}
 use Rattle.views.proofs.Stripes.{stripes-within, of_stripe-touched}
 
@@ -153,12 +153,12 @@ not-begun m true (Some refusal) some does torn = absurd (let above = (torn refl)
 -- ---- why the array stays safe
 
 -- a part keeps it safe behind those that did so
-pub safe-part : {tells : Type 0} (world : World) (given given1 : Given) (size : ℕ) (told : Ledger) (old mid new : Members) (one two three : List Operation) → tells → given1 ≡ given
+pub safe-part : {tells : Type 0} (world : World) (given given1 : Given) (told : Ledger) (old mid new : Members) (one two three : List Operation) → tells → given1 ≡ given
     → IsPlaced given mid → IsMoved given mid new → Grows tells two three → IsRisen tells old mid one two → HasRoomLeft old one three → AreGoneTold told new
-    → (HasRoomLeft old one two → AreGoneTold told mid → KeepsSafe world given size told mid one two)
-    → (HasRoomLeft mid two three → IsSafeOver world given1 size told mid two → KeepsSafe world given1 size told new two three)
-    → KeepsSafe world given size told new one three
-safe-part world given given1 size told old mid new one two three tell same placed moved grows rise room gone first second =
+    → (HasRoomLeft old one two → AreGoneTold told mid → KeepsSafe world given told mid one two)
+    → (HasRoomLeft mid two three → IsSafeOver world given1 told mid two → KeepsSafe world given1 told new two three)
+    → KeepsSafe world given told new one three
+safe-part world given given1 told old mid new one two three tell same placed moved grows rise room gone first second =
     let early = first (room-first old one two three room (grows-longer grows tell)) (gone-before given mid new placed moved told gone) in
-    safe-then (OpensFit world) world.scope given size told mid new one two three early
-    (keeps-from world given given1 size told new two three same (second (room-then three tell room rise) (over-at world given given1 size told mid two same early.next)))
+    safe-then (OpensFit world) world.scope given told mid new one two three early
+    (keeps-from world given given1 told new two three same (second (room-then three tell room rise) (over-at world given given1 told mid two same early.next)))

@@ -14,13 +14,14 @@ use Rattle.superblocks.specs.Reads.{has_spare}
 use Rattle.row_io.specs.Rows.{reading_of, missing_count, role_without, members_without}
 use Rattle.row_io.proofs.Losses.{state_kept}
 use Rattle.views.specs.Whole.{list_size}
-use Rattle.views.specs.Placed.{places_of, AreWhole, IsPlaced, AreLost, AreUnlost, AreStillHeld, AreLess}
+use Rattle.views.specs.Placed.{places_of, AreWhole, IsPlaced, AreLost, AreStillHeld, AreLess}
+use Rattle.shape_changes.specs.Steady.{AreUnlost}
 use Rattle.views.specs.Moving.{Grows, IsMoved}
 use Rattle.views.specs.Rebuilding.{IsFree}
 use Rattle.views.specs.Lacking.{lacking}
-use Rattle.views.proofs.PlacedLaws.{kept-roles, none-lost, places-same, state-without}
+use Rattle.views.proofs.PlacedLaws.{kept-roles, none-lost, places-same}
+use Rattle.shape_changes.proofs.Without.{state-without, in-both}
 use Rattle.views.proofs.HeldRows.{state-less}
-use Rattle.views.proofs.Without.{in-both}
 use Rattle.views.proofs.MemberLaws.{less-without, none_missing, placed-without, unlost-without}
 
 -- ---- the tape

@@ -20,9 +20,12 @@ use Rattle.superblocks.specs.Outcome.{AreLive, AreStored, IsPlannedOwn, planned_
 use Rattle.superblocks.proofs.SlotSets.{none_there}
 use Rattle.superblocks.proofs.PlannedSb.{planned-of}
 use Rattle.row_io.specs.Rows.{reading_of, role_without, IsHolder}
-use Rattle.views.specs.Placed.{places_of, IsPlaced, AreUnlost, AreLess}
-use Rattle.views.specs.Marking.{resync_of, marking}
-use Rattle.views.proofs.MarkLaws.{give_of-same, roles-kept}
+use Rattle.shape_changes.proofs.Without.{state-without}
+use Rattle.views.specs.Placed.{places_of, IsPlaced, AreLess}
+use Rattle.shape_changes.specs.Steady.{AreUnlost}
+use Rattle.shape_changes.specs.Marking.{resync_of, marking}
+use Rattle.views.proofs.MarkLaws.{roles-kept}
+use Rattle.shape_changes.proofs.Kept.{give_of-same}
 use Rattle.views.proofs.HeldRows.{rows-same}
 
 -- ---- a role whose slot may be lost
@@ -39,11 +42,6 @@ without-holder lost (Recovering s) slot is = by (has_slot lost s) is
     by true e = absurd (cc)
     by false e = e
 without-holder lost Missing slot is = is
-
-pub state-without : (lost : ℕ) (roles : List Role) (role : ℕ) → get_or (map (role_without lost) roles) role Missing ≡ role_without lost (get_or roles role Missing)
-state-without lost [] role = refl
-state-without lost (state ∷ roles) zero = refl
-state-without lost (state ∷ roles) (suc role) = state-without lost roles role
 
 length-without : (lost : ℕ) (roles : List Role) → length (map (role_without lost) roles) ≡ length roles
 length-without lost [] = refl

@@ -14,7 +14,7 @@ use Rattle.superblocks.specs.Held.{known_of}
 use Rattle.superblock_reads.proofs.SaidLists.{state-here}
 use Rattle.superblock_reads.proofs.SaidSlots.{role-said, role-below, role-known}
 use Rattle.row_io.specs.Rows.{role_without}
-use Rattle.views.specs.Held.{IsHeldBy}
+use Rattle.shape_changes.specs.Held.{IsHeldBy}
 use Rattle.views.proofs.Ready.{known-small}
 
 both : (a b : Bool) → (a && b) ≡ true → (a ≡ true) × (b ≡ true)

@@ -1,5 +1,5 @@
 -- Stretches of calls that keep an array safe: one after another, with nothing done, and with rows written.
-use Rattle.std.proofs.Common.{◌≡◌, ℕ, ◌<◌, ◌≤◌, false, List, length, take, take_all, le_refl, length-append, arith, sym, subst}
+use Rattle.std.proofs.Common.{◌≡◌, ℕ, ◌<◌, ◌≤◌, false, Contains, ◌∙◌, List, length, take, take_all, le_refl, length-append, arith, sym, subst}
 use Rattle.std.specs.Prelude.{⊤}
 use Rattle.md_base.specs.Sectors.{Sector}
 use Rattle.md_base.specs.declared.places.Shape.{Shape}
@@ -8,72 +8,75 @@ use Rattle.bank.specs.Given.{Given}
 use Rattle.bank.specs.Tape.{EachMark, disk}
 use Rattle.bank.proofs.Marks.{each_mark-then}
 use Rattle.superblocks.specs.declared.members.Members.{Members}
-use Rattle.superblocks.specs.Reading.{Scope, is_clean}
+use Rattle.superblocks.specs.Reading.{Scope, is_clean, shape_of}
 use Rattle.row_io.specs.Rows.{members_without}
 use Rattle.flat_history.specs.World.{World}
-use Rattle.views.specs.Placed.{IsPlaced, AreUnlost}
+use Rattle.views.specs.Placed.{IsPlaced}
+use Rattle.shape_changes.specs.Steady.{AreUnlost, IsSafeNow, IsSafeStretch, IsSafeOver, KeepsSafe, AreGoneTold, AreWritesAllowed}
 use Rattle.views.proofs.HeldRows.{missing-moved}
 use Rattle.views.specs.Moving.{Grows, IsMoved}
 use Rattle.views.specs.Lacking.{IsListPut}
-use Rattle.views.specs.Views.{Ledger}
-use Rattle.views.specs.Steady.{IsSafeNow, IsSafeStretch, IsSafeOver, KeepsSafe, AreGoneTold, AreWritesAllowed}
-use Rattle.views.proofs.Steady.{safe-is-seen, losing-stays-safe}
-use Rattle.views.proofs.WriteSafe.{writes-stay-safe}
+use Rattle.shape_views.specs.Views.{Ledger}
+use Rattle.shape_changes.proofs.Steady.{safe-is-seen, losing-stays-safe}
+use Rattle.shape_changes.proofs.WriteSafe.{writes-stay-safe}
 use Rattle.views.proofs.LackingWrites.{marks-here}
 use Rattle.views.proofs.MovedLaws.{size-moved}
+use Rattle.views.proofs.Still.{told-same, gone-still, still-gone, region-still, length-still}
 
 -- ---- what is told of the end is told of what was before
 
 module _ (given : Given) (old new : Members) (was : IsPlaced given old) (moved : IsMoved given old new) where
   pub gone-before : (told : Ledger) → AreGoneTold told new → AreGoneTold told old
-  gone-before told gone role lt missing = gone role (subst (λ (s : Shape). role < s.disks) (sym moved.shape) lt) (missing-moved moved role missing)
+  gone-before told gone = gone-still told old was.still (λ role lt missing. still-gone told new moved.placed.still gone role (subst (λ (s : Shape). role < s.disks) (sym moved.shape) lt) (missing-moved moved role missing))
 
 -- ---- one after another
 
-module _ (sound : Type 0) (scope : Scope) (given : Given) (size : ℕ) (told : Ledger) where
-  pub safe-then : (mid new : Members) (one two three : List Operation) → IsSafeStretch sound scope given size told mid one two → IsSafeStretch sound scope given size told new two three
-      → IsSafeStretch sound scope given size told new one three
+module _ (sound : Type 0) (scope : Scope) (given : Given) (told : Ledger) where
+  pub safe-then : (mid new : Members) (one two three : List Operation) → IsSafeStretch sound scope given told mid one two → IsSafeStretch sound scope given told new two three
+      → IsSafeStretch sound scope given told new one three
   safe-then mid new one two three first second = record { marks = each_mark-then first.marks second.marks; next = second.next }
 
   -- nothing was done
-  pub safe-none : (members : Members) (tape : List Operation) → IsSafeNow sound scope given size told members (disk given.start tape) → IsSafeStretch sound scope given size told members tape tape
-  safe-none members tape safe = record { marks = marks-here ⊤ given.start tape (safe-is-seen sound scope given size told members tape safe); next = safe }
+  pub safe-none : (members : Members) (tape : List Operation) → IsSafeNow sound scope given told members (disk given.start tape) → IsSafeStretch sound scope given told members tape tape
+  safe-none members tape safe = record { marks = marks-here ⊤ given.start tape (safe-is-seen sound scope given told members tape safe); next = safe }
 
   -- and slots were lost
-  pub safe-lost : (old new : Members) (lost : ℕ) (before after : List Operation) → new ≡ members_without lost old → after ≡ before → IsSafeNow sound scope given size told old (disk given.start before)
-      → IsSafeStretch sound scope given size told new before after
+  pub safe-lost : (old new : Members) (lost : ℕ) (before after : List Operation) → new ≡ members_without lost old → after ≡ before → IsSafeNow sound scope given told old (disk given.start before)
+      → IsSafeStretch sound scope given told new before after
   safe-lost old new lost before after is same safe =
-      subst (λ (tape : List Operation). IsSafeStretch sound scope given size told new before tape) (sym same)
+      subst (λ (tape : List Operation). IsSafeStretch sound scope given told new before tape) (sym same)
       (safe-none new before here)
     where
-      here : IsSafeNow sound scope given size told new (disk given.start before)
-      here = subst (λ (m : Members). IsSafeNow sound scope given size told m (disk given.start before)) (sym is)
-          (losing-stays-safe sound scope given size lost told told old (disk given.start before) (record { values = λ x lt v may. may; gone = λ role is. is; unclean = λ is. is; carried = λ number is. is }) safe)
+      here : IsSafeNow sound scope given told new (disk given.start before)
+      here = subst (λ (m : Members). IsSafeNow sound scope given told m (disk given.start before)) (sym is)
+          (losing-stays-safe sound scope given lost told told old (disk given.start before) (told-same told) safe)
 
   -- rows were written
   pub safe-put : {tells : Type 0} (old new : Members) (lost : ℕ) (list : ℕ → Sector) (rows : List ℕ) (before after : List Operation) → tells → new ≡ members_without lost old
       → IsPlaced given old → is_clean old.newest ≡ false → AreUnlost old → AreWritesAllowed old told.values list
-      → EachMark tells given.start before after (IsListPut old list rows (disk given.start before)) → IsSafeNow sound scope given size told old (disk given.start before)
-      → IsSafeStretch sound scope given size told new before after
+      → EachMark tells given.start before after (IsListPut old list rows (disk given.start before)) → IsSafeNow sound scope given told old (disk given.start before)
+      → IsSafeStretch sound scope given told new before after
   safe-put old new lost list rows before after tell is placed dirty unlost allowed marks safe = record {
     marks = record {
       longer = λ one. marks.longer tell;
       earlier = λ one. marks.earlier tell;
-      each = λ one n low high. safe-is-seen sound scope given size told new (take n after) (safe-at n low high);
+      each = λ one n low high. safe-is-seen sound scope given told new (take n after) (safe-at n low high);
     };
-    next = subst (λ (tape : List Operation). IsSafeNow sound scope given size told new (disk given.start tape)) (take_all (length after) after (le_refl (length after)))
+    next = subst (λ (tape : List Operation). IsSafeNow sound scope given told new (disk given.start tape)) (take_all (length after) after (le_refl (length after)))
         (safe-at (length after) (marks.longer tell) (le_refl (length after)));
   }
     where
-      safe-at : (n : ℕ) → length before ≤ n → n ≤ length after → IsSafeNow sound scope given size told new (disk given.start (take n after))
+      safe-at : (n : ℕ) → length before ≤ n → n ≤ length after → IsSafeNow sound scope given told new (disk given.start (take n after))
       safe-at n low high =
           let put = marks.each tell n low high in
-          subst (λ (m : Members). IsSafeNow sound scope given size told m (disk given.start (take n after))) (sym is)
-          (writes-stay-safe sound scope given size told old list rows lost (disk given.start before) (disk given.start (take n after)) placed dirty unlost allowed put.0 put.1 safe)
+          subst (λ (m : Members). IsSafeNow sound scope given told m (disk given.start (take n after))) (sym is)
+          (writes-stay-safe sound scope given told old (shape_of old.newest) list rows lost (disk given.start before) (disk given.start (take n after)) placed.holders dirty unlost
+          (region-still old (Contains rows) placed.still) allowed put.0 put.1 safe)
 
 -- a list whose sectors are allowed
-pub allowed-later : (given : Given) (old new : Members) → IsMoved given old new → (values : ℕ → List Sector) (list : ℕ → Sector) → AreWritesAllowed old values list → AreWritesAllowed new values list
-allowed-later given old new moved values list allowed x lt = allowed x (subst (λ (n : ℕ). x < n) (size-moved given old new moved) lt)
+pub allowed-later : (given : Given) (old new : Members) → IsMoved given old new → IsPlaced given old → (values : ℕ → List Sector) (list : ℕ → Sector) → AreWritesAllowed old values list → AreWritesAllowed new values list
+allowed-later given old new moved placed values list allowed x lt =
+    allowed x (subst (λ (n : ℕ). x < n) (length-still new moved.placed.still ∙ size-moved given old new moved ∙ sym (length-still old placed.still)) lt)
 
 -- ---- the tape
 
@@ -85,8 +88,8 @@ grows-longer {before = before} grows told =
 -- ---- in the world of an epoch
 
 -- the same bank
-pub over-at : (world : World) (given given' : Given) (size : ℕ) (told : Ledger) (members : Members) (tape : List Operation) → given' ≡ given → IsSafeOver world given size told members tape → IsSafeOver world given' size told members tape
-over-at world given given' size told members tape same safe = subst (λ (b : Given). IsSafeOver world b size told members tape) (sym same) safe
+pub over-at : (world : World) (given given' : Given) (told : Ledger) (members : Members) (tape : List Operation) → given' ≡ given → IsSafeOver world given told members tape → IsSafeOver world given' told members tape
+over-at world given given' told members tape same safe = subst (λ (b : Given). IsSafeOver world b told members tape) (sym same) safe
 
-pub keeps-from : (world : World) (given given' : Given) (size : ℕ) (told : Ledger) (members : Members) (before after : List Operation) → given' ≡ given → KeepsSafe world given' size told members before after → KeepsSafe world given size told members before after
-keeps-from world given given' size told members before after same keeps = subst (λ (b : Given). KeepsSafe world b size told members before after) same keeps
+pub keeps-from : (world : World) (given given' : Given) (told : Ledger) (members : Members) (before after : List Operation) → given' ≡ given → KeepsSafe world given' told members before after → KeepsSafe world given told members before after
+keeps-from world given given' told members before after same keeps = subst (λ (b : Given). KeepsSafe world b told members before after) same keeps

@@ -8,7 +8,8 @@ use Rattle.superblocks.specs.Reading.{shape_of, role_state, rows_held, holder, d
 use Rattle.superblocks.specs.Reads.{has_spare}
 use Rattle.row_io.specs.Rows.{reading_of}
 use Rattle.views.specs.Rebuilding.{AreSparesFree}
-use Rattle.views.specs.Placed.{places_of, AreWhole, IsPlaced, AreUnlost, AreStillHeld, AreLess}
+use Rattle.views.specs.Placed.{places_of, AreWhole, IsPlaced, AreStillHeld, AreLess}
+use Rattle.shape_changes.specs.Steady.{AreUnlost}
 
 -- more was done
 pub record Grows (tells : Type 0) (before after : List Operation) : Type 0 where

@@ -10,18 +10,11 @@ use Rattle.sb1.specs.declared.sb.Sb.{Sb}
 use Rattle.sb1.specs.Superblock.{two_by_two}
 use Rattle.bank.specs.Given.{Given, sizes}
 use Rattle.superblocks.specs.Reading.{Scope, is_seen, entry_of}
-use Rattle.superblocks.specs.Update.{own_in}
-use Rattle.superblocks.specs.Held.{MayRead}
 use Rattle.views.specs.declared.work.Work.{Work}
 
 -- a superblock of the array bears the number; one from 128 on counts as such
 abbrev pub is_carried : Work → ℕ → Bool
 is_carried work number = slice_index_or work.carried number true
-
--- each number that a kept superblock bears, or one that a slot may show, is among these
-pub record AreCarried (scope : Scope) (carried : ℕ → Bool) (own : List (Option Sb)) (d : ℕ → ℕ → List Sector) : Type 0 where
-  pub kept : (slot : ℕ) (sb : Sb) → own_in own slot ≡ Some sb → carried sb.dev_number ≡ true
-  pub shown : (slot : ℕ) (sb : Sb) → MayRead scope d slot (Some sb) → carried sb.dev_number ≡ true
 
 -- the uuid of a device: version 5, of the array's uuid and the decimal digits of the device's number
 abbrev pub device_uuid : List ℕ → ℕ → List ℕ

@@ -12,7 +12,7 @@ ghost use Rattle.flat_history.specs.declared.events.Event.TheVariants.{Added};
 ghost use Rattle.flat_history.specs.declared.events.Request.TheVariants.{Add as AsksAdd};
 ghost use Rattle.views.specs.Whole.{list_size};
 ghost use Rattle.views.specs.Placed.{places_of, IsPlaced, AreStillHeld};
-ghost use Rattle.views.specs.Marking.{AreOthersPresent};
+ghost use Rattle.shape_changes.specs.Marking.{AreOthersPresent};
 ghost use Rattle.views.specs.Moving.{Grows};
 ghost use Rattle.views.specs.Lacking.{DoesWithout, HaveRolesFailed, AreUnnamed};
 ghost use Rattle.views.specs.Numbers.{IsSpareSb, free_number};
@@ -119,13 +119,23 @@ impl<B: Bank> Array<B> {
         None
     }
 
+    // Whether the slot was lost without a failure of its own, and the superblocks still name a role that no slot holds.
+    fn is_held_up(&self, slot: u32) -> bool
+        requires slot { slot < (B.given self.now.bank).slots }
+        ensures fresh { result ≡ false → has_slot self.now.members.lost slot ≡ true → B.faults_of self.now.bank slot ≡ 0 → AreUnnamed self.now.members }
+    {
+        contains(self.members.lost, slot)
+            && self.bank.faults(slot) == 0
+            && has_unnamed(&self.members)
+    }
+
     // Makes a slot a spare that may be one, with this device number, which is free.
     fn make_spare(&mut self, who: Who, slot: u32, number: u32) -> Result<(), Fault>
         requires next { who.number ≡ next_number who.caller self.old.entries }
         requires caller { who.caller ≢ 254 }
         requires addable { (refusal : Refusal) → IsUnaddable (B.given self.old.bank) self.old.backup slot self.old.members refusal → ⊥ }
         requires number { free_number self.old.members.newest self.old.work ≡ Some number }
-        requires fresh { has_slot self.old.members.lost slot ≡ true → AreUnnamed self.old.members }
+        requires fresh { has_slot self.old.members.lost slot ≡ true → B.faults_of self.old.bank slot ≡ 0 → AreUnnamed self.old.members }
         ensures answered { IsAnswered (list_size (places_of self.old.members)) (AsksAdd slot) who self.old.entries self.new.entries (Added slot) result }
         ensures unchanged { OnNoMemory result (self.new ≡ self.old) }
         ensures caused { IsAddedFor (B.given self.old.bank) self.old.backup slot self.old.members self.new.members (B.faults_of self.old.bank) (B.faults_of self.new.bank) result }
@@ -177,8 +187,8 @@ impl<B: Bank> Array<B> {
     /// Makes a slot a spare: flushes it, and writes its superblock, with the smallest device number that has no role and that
     /// no superblock of the array bears, and with the data offset of the slot that holds the lowest role. Refusals, in
     /// this order: `NoSuchSlot`, `SlotTaken`, `TooManyMissing`, `SlotTooSmall` and `SlotFault`. Where no number is left, or the
-    /// slot was lost and the superblocks still name a role that none holds, as until the next call that goes on where a device
-    /// failed, it counts as want of memory.
+    /// slot was lost by command and the superblocks still name a role of another one that failed, as they may until the next call
+    /// that goes on, it counts as want of memory.
     pub fn add(&mut self, who: Who, slot: u32) -> Result<(), Fault>
         requires next { who.number ≡ next_number who.caller self.old.entries }
         requires caller { who.caller ≢ 254 }
@@ -199,11 +209,11 @@ impl<B: Bank> Array<B> {
         ensures given { B.given self.new.bank ≡ B.given self.old.bank }
         ensures same { IsSameArray B.tells self.old self.new (world_for (B.given self.old.bank) (B.tape self.old.bank) self.old) (world_for (B.given self.new.bank) (B.tape self.new.bank) self.new) }
     {
-        let Some(number) = free_number(&self.members.newest, &self.work) else {
-            return Err(Fault::NoMemory);
-        };
         let Some(refusal) = self.unaddable(slot) else {
-            if contains(self.members.lost, slot) && has_unnamed(&self.members) {
+            let Some(number) = free_number(&self.members.newest, &self.work) else {
+                return Err(Fault::NoMemory);
+            };
+            if self.is_held_up(slot) {
                 return Err(Fault::NoMemory);
             }
             return self.make_spare(who, slot, number);

@@ -10,7 +10,7 @@ ghost use Rattle.flat_history.specs.declared.events.Event.TheVariants.{Failed};
 ghost use Rattle.flat_history.specs.declared.events.Request.TheVariants.{Fail as AsksFail};
 ghost use Rattle.views.specs.Whole.{list_size};
 ghost use Rattle.views.specs.Placed.{places_of, AreStillHeld};
-ghost use Rattle.views.specs.Marking.{AreOthersPresent};
+ghost use Rattle.shape_changes.specs.Marking.{AreOthersPresent};
 ghost use Rattle.views.specs.Moving.{Grows};
 ghost use Rattle.array_kept.specs.Calls.{world_for, AreSparesFewer, HasRole, IsAnswered, IsFailedFor, IsSameArray, AreLossesOf, IsEndOf, OnNoMemory};
 

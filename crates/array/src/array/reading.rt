@@ -12,13 +12,14 @@ ghost use Rattle.flat_history.specs.declared.events.Event.TheVariants.{Read};
 ghost use Rattle.flat_history.specs.declared.events.Request.TheVariants.{Read as AsksRead};
 ghost use Rattle.views.specs.Whole.{list_size};
 ghost use Rattle.views.specs.Placed.{places_of, AreWhole, AreStillHeld};
-ghost use Rattle.views.specs.Marking.{AreOthersPresent};
+ghost use Rattle.shape_changes.specs.Marking.{AreOthersPresent};
 ghost use Rattle.views.specs.Moving.{Grows};
 ghost use Rattle.views.specs.Lacking.{HaveRolesFailed, IsUnread, mended_rows};
+ghost use Rattle.safe_updates.specs.First.{read_refusal, call_refusal, IsFirstRefused};
 ghost use Rattle.array_kept.specs.Kept.{AreFillsRight};
 ghost use Rattle.array_kept.specs.Calls.{world_for, AreSparesFewer, IsAnswered, IsCausedBy, IsRefusalOf, IsSameArray, AreLossesOf, IsEndOf, OnNoMemory};
 
-use crate::array::{Array, refusal_of};
+use crate::array::Array;
 use bank::Bank;
 use call_entries::calls::{check_number, enter, enter_behind};
 use flat_history::Event;
@@ -26,8 +27,8 @@ use md_base::{Fault, Refusal, Sectors, Who};
 use safe_rows::fetching::fetch;
 use safe_rows::mending::mended_rows;
 use safe_updates::naming::newly_vacant;
-use safe_updates::refusing::missing_place;
-use safe_updates::roles::{list_length, shape_in, vacant_roles};
+use safe_updates::refusing::unread;
+use safe_updates::roles::{shape_in, vacant_roles};
 use std::alloc::Global;
 
 // So many zero bytes.
@@ -45,19 +46,15 @@ impl<B: Bank> Array<B> {
     // Why so many sectors from one on aren't read, before any is.
     fn unread(&self, at: u64, count: u64) -> Option<Refusal>
         requires short { at + count < 2 ^ 63 }
-        ensures { IsRefusalOf (list_size (places_of self.now.members)) (at + count) (IsUnread (mended_rows self.now.work.resync self.now.members) at count) self.now.members result }
+        ensures first { result ≡ call_refusal (list_size (places_of self.now.members)) (at + count) (read_refusal (mended_rows self.now.work.resync self.now.members) at count self.now.members) }
+        ensures why { IsRefusalOf (list_size (places_of self.now.members)) (at + count) (IsUnread (mended_rows self.now.work.resync self.now.members) at count) self.now.members result }
     {
-        let shape = shape_in(&self.members);
-        let visible = list_length(&shape, self.members.newest.size);
-        let refusal = refusal_of(&self.members, visible, at + count);
-        if refusal.is_some() | self.work.resync.is_none() {
-            return refusal;
+        let visible = self.visible();
+        if visible < at + count {
+            return Some(Refusal::PastEnd(visible));
         }
         let mended = mended_rows(&self.members, self.work.resync);
-        match missing_place(&self.members, &shape, at, count, mended) {
-            Some(role) => Some(Refusal::NotResynced(role)),
-            None => None,
-        }
+        unread(&self.members, at, count, mended)
     }
 
     /// Fills `into`, of whole sectors, with those of the list from `at` on; what a missing member held is filled in from the
@@ -76,6 +73,8 @@ impl<B: Bank> Array<B> {
         ensures tape { AreWhole self.new.members → B.tells → B.tape self.new.bank ≡ B.tape self.old.bank }
         ensures others { B.tells → AreOthersPresent (present (B.given self.old.bank) (B.tape self.old.bank)) (present (B.given self.old.bank) (B.tape self.new.bank)) }
         ensures caused { IsCausedBy (list_size (places_of self.old.members)) (at + length into.old / 512) (IsUnread (mended_rows self.old.work.resync self.old.members) at (length into.old / 512)) self.old.members self.new.members result }
+        ensures first { IsFirstRefused (λ members. call_refusal (list_size (places_of self.old.members)) (at + length into.old / 512)
+            (read_refusal (mended_rows self.old.work.resync self.old.members) at (length into.old / 512) members)) self.old.members self.new.members result }
         ensures failed { HaveRolesFailed self.old.members self.new.members (B.faults_of self.old.bank) (B.faults_of self.new.bank) }
         ensures held { AreStillHeld self.old.members self.new.members }
         ensures spares { AreSparesFewer self.old.members self.new.members }

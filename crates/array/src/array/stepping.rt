@@ -17,6 +17,7 @@ ghost use Rattle.views.specs.Placed.{places_of, AreStillHeld};
 ghost use Rattle.views.specs.Moving.{Grows};
 ghost use Rattle.views.specs.Status.{left_of};
 ghost use Rattle.views.specs.Lacking.{HaveRolesFailed, AreHoldersFlushed, AreTooMany, IsUnwritten, DoesWithout, RowsStand};
+ghost use Rattle.safe_updates.specs.First.{write_refusal, IsFirstRefused};
 ghost use Rattle.array_kept.specs.Calls.{world_for, AreSparesFewer, HasStripeLeft, IsAllMended, one_more, AreStepsFewer, AreStepsKept, IsStepsReply, by_answer, IsSettled, IsEntered, IsCausedBy, IsSameArray, AreLossesOf, IsEndOf};
 
 use crate::array::asking::steps_left;
@@ -24,10 +25,10 @@ use crate::array::{Array, refusal_of};
 use bank::Bank;
 use call_entries::calls::{check_open, enter, enter_behind};
 use flat_history::{Event, StepKind};
-use list_io::missing_data;
 use md_base::{Fault, NoMemory, Refusal, Who};
 use safe_rows::mending::mend;
 use safe_updates::naming::newly_vacant;
+use safe_updates::refusing::unwritten;
 use safe_updates::roles::{shape_in, vacant_roles};
 use safe_updates::settles::settle;
 
@@ -53,17 +54,10 @@ impl<B: Bank> Array<B> {
 
     // Why the next stripe isn't mended, before it is read.
     fn unmended(&self) -> Option<Refusal>
-        ensures { MatchOption result ((refusal : Refusal) → IsUnwritten false self.now.members refusal → ⊥) (IsUnwritten false self.now.members) }
+        ensures first { result ≡ write_refusal false self.now.members }
+        ensures why { MatchOption result ((refusal : Refusal) → IsUnwritten false self.now.members refusal → ⊥) (IsUnwritten false self.now.members) }
     {
-        let shape = shape_in(&self.members);
-        let refusal = refusal_of(&self.members, 0, 0);
-        if refusal.is_some() {
-            return refusal;
-        }
-        match missing_data(&self.members, &shape) {
-            Some(role) => Some(Refusal::NotResynced(role)),
-            None => None,
-        }
+        unwritten(&self.members, false)
     }
 
     /// A step of the pending resync: makes the parity of its next stripe fit the data. Every role that has data must be there.
@@ -81,6 +75,7 @@ impl<B: Bank> Array<B> {
         ensures left { OnOk result (AreStepsFewer self.old.entries self.new.entries (left_of self.old.work self.old.members) (left_of self.new.work self.new.members)) }
         ensures stays { OnErr result (AreStepsKept self.old.entries self.new.entries (left_of self.old.work self.old.members) (left_of self.new.work self.new.members)) }
         ensures caused { IsCausedBy (list_size (places_of self.old.members)) 0 (IsUnwritten false) self.old.members self.new.members result }
+        ensures first { IsFirstRefused (write_refusal false) self.old.members self.new.members result }
         ensures dirty { OnOk result (is_clean self.new.members.newest ≡ false) }
         ensures grows { Grows B.tells (B.tape self.old.bank) (B.tape self.new.bank) }
         ensures failed { HaveRolesFailed self.old.members self.new.members (B.faults_of self.old.bank) (B.faults_of self.new.bank) }

@@ -10,20 +10,21 @@ ghost use Rattle.flat_history.specs.declared.events.Event.TheVariants.{Wrote};
 ghost use Rattle.flat_history.specs.declared.events.Request.TheVariants.{Write as AsksWrite};
 ghost use Rattle.views.specs.Whole.{list_size};
 ghost use Rattle.views.specs.Placed.{places_of, AreStillHeld};
-ghost use Rattle.views.specs.Marking.{AreOthersPresent};
+ghost use Rattle.shape_changes.specs.Marking.{AreOthersPresent};
 ghost use Rattle.views.specs.Moving.{Grows};
 ghost use Rattle.views.specs.Lacking.{HaveRolesFailed, IsUnwritten, are_mended, mended_rows};
+ghost use Rattle.safe_updates.specs.First.{write_refusal, call_refusal, IsFirstRefused};
 ghost use Rattle.array_kept.specs.Calls.{world_for, AreSparesFewer, IsAnswered, IsCausedBy, IsRefusalOf, IsSameArray, AreLossesOf, IsEndOf, OnNoMemory, has_torn};
 
-use crate::array::{Array, refusal_of};
+use crate::array::Array;
 use bank::Bank;
 use call_entries::calls::{check_number, enter, enter_behind, enter_failure};
 use flat_history::Event;
-use list_io::missing_data;
 use md_base::{Fault, Refusal, Sectors, Shape, Who};
 use safe_rows::mending::mended_rows;
 use safe_rows::putting::put;
 use safe_updates::naming::newly_vacant;
+use safe_updates::refusing::unwritten;
 use safe_updates::roles::{list_length, shape_in, vacant_roles};
 
 impl<B: Bank> Array<B> {
@@ -38,18 +39,15 @@ impl<B: Bank> Array<B> {
     // Why so many sectors from one on aren't written, before any row is read.
     fn unwritten(&self, at: u64, count: u64) -> Option<Refusal>
         requires short { at + count < 2 ^ 63 }
-        ensures { IsRefusalOf (list_size (places_of self.now.members)) (at + count) (IsUnwritten (are_mended (shape_of self.now.members.newest) (mended_rows self.now.work.resync self.now.members) (at + count))) self.now.members result }
+        ensures first { result ≡ call_refusal (list_size (places_of self.now.members)) (at + count) (write_refusal (are_mended (shape_of self.now.members.newest) (mended_rows self.now.work.resync self.now.members) (at + count)) self.now.members) }
+        ensures why { IsRefusalOf (list_size (places_of self.now.members)) (at + count) (IsUnwritten (are_mended (shape_of self.now.members.newest) (mended_rows self.now.work.resync self.now.members) (at + count))) self.now.members result }
     {
+        let visible = self.visible();
+        if visible < at + count {
+            return Some(Refusal::PastEnd(visible));
+        }
         let shape = shape_in(&self.members);
-        let visible = list_length(&shape, self.members.newest.size);
-        let refusal = refusal_of(&self.members, visible, at + count);
-        if refusal.is_some() | self.are_mended(&shape, at + count) {
-            return refusal;
-        }
-        match missing_data(&self.members, &shape) {
-            Some(role) => Some(Refusal::NotResynced(role)),
-            None => None,
-        }
+        unwritten(&self.members, self.are_mended(&shape, at + count))
     }
 
     /// Makes the list hold `from`, of 1 to 128 whole sectors, from `at` on. Refusals: `PastEnd`, `TooManyMissing`, and
@@ -67,6 +65,8 @@ impl<B: Bank> Array<B> {
         ensures untouched { OnErr result (IsFalse (has_torn self.old.entries self.new.entries) → B.tells
             → AreOthersPresent (present (B.given self.old.bank) (B.tape self.old.bank)) (present (B.given self.old.bank) (B.tape self.new.bank))) }
         ensures caused { IsCausedBy (list_size (places_of self.old.members)) (at + length from.now / 512) (IsUnwritten (are_mended (shape_of self.old.members.newest) (mended_rows self.old.work.resync self.old.members) (at + length from.now / 512))) self.old.members self.new.members result }
+        ensures first { IsFirstRefused (λ members. call_refusal (list_size (places_of self.old.members)) (at + length from.now / 512)
+            (write_refusal (are_mended (shape_of self.old.members.newest) (mended_rows self.old.work.resync self.old.members) (at + length from.now / 512)) members)) self.old.members self.new.members result }
         ensures failed { HaveRolesFailed self.old.members self.new.members (B.faults_of self.old.bank) (B.faults_of self.new.bank) }
         ensures held { AreStillHeld self.old.members self.new.members }
         ensures spares { AreSparesFewer self.old.members self.new.members }

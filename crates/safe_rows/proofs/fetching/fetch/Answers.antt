@@ -11,9 +11,9 @@ use Rattle.views.proofs.LackingLaws.{since-lost, since-then, in-second}
 use Rattle.views.proofs.LackingWrites.{lost-of}
 use Rattle.safe_updates.proofs.RefusingLaws.{read-cause, read-told, told-first, told-why, not-err}
 use Rattle.flat_history.specs.Sound.{OpensFit}
-use Rattle.views.specs.Steady.{IsUncleanTold}
+use Rattle.shape_changes.specs.Steady.{IsUncleanTold}
 use Rattle.views.proofs.SafeStretch.{safe-then, safe-lost, over-at, keeps-from}
-use Rattle.views.proofs.Risen.{risen-then, risen-lost, room-then}
+use Rattle.shape_changes.proofs.Risen.{risen-then, risen-lost, room-then}
 use Rattle.safe_rows.proofs.fetching.fetch.Goals as goal
 
 pub returns-then-is_err-clause-moved : goal.returns-then-is_err-clause-moved
@@ -153,13 +153,13 @@ returns-clause-rise g c =
     c.name_missing-spares.ensures.rise
 
 pub returns-then-is_err-clause-safe : goal.returns-then-is_err-clause-safe
-returns-then-is_err-clause-safe g c = λ tell world size told room gone unclean now.
+returns-then-is_err-clause-safe g c = λ tell world told room gone unclean now.
     let did = c.read_parts-read.ensures in
-    safe-lost (OpensFit world) world.scope (g.B.Bank.given c.args.bank.now) size told c.args.members.now c.read_parts-read.new.members c.read_parts-read.result.lost
+    safe-lost (OpensFit world) world.scope (g.B.Bank.given c.args.bank.now) told c.args.members.now c.read_parts-read.new.members c.read_parts-read.result.lost
     (g.B.Bank.tape c.args.bank.now) (g.B.Bank.tape c.read_parts-read.new.bank) did.lost.members (did.tape tell) now
 
 pub returns-clause-safe : goal.returns-clause-safe
-returns-clause-safe g c = λ tell world size told room gone unclean now.
+returns-clause-safe g c = λ tell world told room gone unclean now.
     let m = c.args.members.now in
     let n = c.read_parts-read.new.members in
     let given = g.B.Bank.given c.args.bank.now in
@@ -168,9 +168,9 @@ returns-clause-safe g c = λ tell world size told room gone unclean now.
     let tape1 = g.B.Bank.tape c.read_parts-read.new.bank in
     let tape2 = g.B.Bank.tape c.name_missing-spares.new.bank in
     let did = c.read_parts-read.ensures in
-    let read = safe-lost (OpensFit world) world.scope given size told m n c.read_parts-read.result.lost tape0 tape1 did.lost.members (did.tape tell) now in
-    safe-then (OpensFit world) world.scope given size told n c.name_missing-spares.new.members tape0 tape1 tape2 read
-    (keeps-from world given given1 size told c.name_missing-spares.new.members tape1 tape2 did.given
-    (c.name_missing-spares.ensures.safe tell world size told
+    let read = safe-lost (OpensFit world) world.scope given told m n c.read_parts-read.result.lost tape0 tape1 did.lost.members (did.tape tell) now in
+    safe-then (OpensFit world) world.scope given told n c.name_missing-spares.new.members tape0 tape1 tape2 read
+    (keeps-from world given given1 told c.name_missing-spares.new.members tape1 tape2 did.given
+    (c.name_missing-spares.ensures.safe tell world told
     (room-then tape2 tell room (risen-lost m n c.read_parts-read.result.lost tape0 tape1 did.lost.members (λ t. still-long tape0 tape1 (did.tape t)))) gone
-    (subst (λ (x : Members). IsUncleanTold told x) (sym did.lost.members) unclean) (over-at world given given1 size told n tape1 did.given read.next)))
+    (subst (λ (x : Members). IsUncleanTold told x) (sym did.lost.members) unclean) (over-at world given given1 told n tape1 did.given read.next)))

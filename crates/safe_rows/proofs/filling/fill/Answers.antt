@@ -12,7 +12,7 @@ use Rattle.views.specs.Rebuilding.{AreSparesFree, IsFilledAmong}
 use Rattle.views.proofs.MovedLaws.{moved-then, moved-same, grows-none, grows-then, moved-from, size-moved}
 use Rattle.views.proofs.LackingLaws.{since-same, since-then, in-either}
 use Rattle.views.proofs.LackingLists.{none-of}
-use Rattle.views.proofs.Risen.{risen-none, risen-then}
+use Rattle.shape_changes.proofs.Risen.{risen-none, risen-then}
 use Rattle.views.proofs.SafeStretch.{safe-none}
 use Rattle.views.proofs.MendedParts.{IsInParts, valid-in, part-within, part-touches, safe-part}
 use Rattle.safe_rows.proofs.FillingLaws.{filled-none, filled-then}
@@ -44,7 +44,7 @@ loop-done-init g c =
       full = λ told list stands among recovers row at high. absurd (let low = at.0 in let end = at.1 in omega (arith, low, end));
       others = λ told. filled-none m c.args.role c.args.slot _ (present given tape0);
       rise = risen-none m tape0 tape0 (λ told. omega arith);
-      safe = λ told world size ledger room gone unclean safe. safe-none (OpensFit world) world.scope given size ledger m tape0 safe;
+      safe = λ told world ledger room gone unclean safe. safe-none (OpensFit world) world.scope given ledger m tape0 safe;
       given = refl;
       counts = λ s. omega arith;
       rows = omega arith;
@@ -230,10 +230,10 @@ returns-then-is_some-2-clause-safe g c =
     let tape0 = g.B.Bank.tape c.args.bank.now in
     let tape1 = g.B.Bank.tape c.loop-done.bank in
     let tape2 = g.B.Bank.tape c.fill_part-part.new.bank in
-    λ told world size ledger room gone unclean safe.
-    safe-part world given given1 size ledger m n new tape0 tape1 tape2 told was.given was.moved.placed moved did.grows was.rise room gone
-    (λ first gone1. was.safe told world size ledger first gone1 unclean safe)
-    (λ then now. did.safe told world size ledger then gone (λ dirty. unclean (sym was.clean ∙ dirty)) now)
+    λ told world ledger room gone unclean safe.
+    safe-part world given given1 ledger m n new tape0 tape1 tape2 told was.given was.moved.placed moved did.grows was.rise room gone
+    (λ first gone1. was.safe told world ledger first gone1 unclean safe)
+    (λ then now. did.safe told world ledger then gone (λ dirty. unclean (sym was.clean ∙ dirty)) now)
 
 pub returns-then-is_some-2-clause-counts : goal.returns-then-is_some-2-clause-counts
 returns-then-is_some-2-clause-counts g c =
@@ -307,10 +307,10 @@ loop-done-preserved g c =
           (λ row at. parts-longer shape stripe done count row at) (λ row at. at) (was.others told)
           (filled-before was.moved role slot touched (IsInParts shape stripe (done + count)) (present given tape1) (present given tape2) recovers here (filled told));
       rise = risen-then was.rise did.rise;
-      safe = λ told world size ledger room gone unclean safe.
-          safe-part world given given1 size ledger m n new tape0 tape1 tape2 told was.given was.moved.placed moved did.grows was.rise room gone
-          (λ first gone1. was.safe told world size ledger first gone1 unclean safe)
-          (λ then now. did.safe told world size ledger then gone (λ dirty. unclean (sym was.clean ∙ dirty)) now);
+      safe = λ told world ledger room gone unclean safe.
+          safe-part world given given1 ledger m n new tape0 tape1 tape2 told was.given was.moved.placed moved did.grows was.rise room gone
+          (λ first gone1. was.safe told world ledger first gone1 unclean safe)
+          (λ then now. did.safe told world ledger then gone (λ dirty. unclean (sym was.clean ∙ dirty)) now);
       given = did.given ∙ was.given;
       counts = λ s. let one = was.counts s in let two = did.counts s in omega (arith, one, two);
       rows = let one = was.rows in let two = did.rows in omega (arith, one, two);

@@ -6,12 +6,12 @@ use Rattle.superblocks.specs.Reading.{is_clean, role_state, rows_held}
 use Rattle.row_io.specs.Rows.{reading_of, present}
 use Rattle.list_io.specs.Writing.{HasFull}
 use Rattle.views.specs.Moving.{Grows, IsMoved}
-use Rattle.views.specs.Safety.{HasRoomLeft, IsRisen}
+use Rattle.shape_changes.specs.Safety.{HasRoomLeft, IsRisen}
 use Rattle.views.specs.Lacking.{HaveFailedSince, ListStands, RowsStandAmong, IsOfStripe}
 use Rattle.flat_history.specs.World.{World}
 use Rattle.views.specs.Rebuilding.{IsFilledAmong}
-use Rattle.views.specs.Views.{Ledger}
-use Rattle.views.specs.Steady.{IsSafeOver, KeepsSafe, AreGoneTold, IsUncleanTold}
+use Rattle.shape_views.specs.Views.{Ledger}
+use Rattle.shape_changes.specs.Steady.{IsSafeOver, KeepsSafe, AreGoneTold, IsUncleanTold}
 use Rattle.views.proofs.MendedParts.{IsInParts}
 use Rattle.safe_rows.proofs.filling.fill.Given as goal
 
@@ -32,9 +32,9 @@ invariant-loop-done g l = record {
   others : g.B.Bank.tells → IsFilledAmong l.fn.members l.role l.slot (IsInParts l.shape l.stripe l.done)
       (present (g.B.Bank.given l.fn.bank) (g.B.Bank.tape l.fn.bank)) (present (g.B.Bank.given l.fn.bank) (g.B.Bank.tape l.bank));
   rise : IsRisen g.B.Bank.tells l.fn.members l.members (g.B.Bank.tape l.fn.bank) (g.B.Bank.tape l.bank);
-  safe : g.B.Bank.tells → (world : World) → (size : ℕ) → (told : Ledger) → HasRoomLeft l.fn.members (g.B.Bank.tape l.fn.bank) (g.B.Bank.tape l.bank)
-      → AreGoneTold told l.members → IsUncleanTold told l.fn.members → IsSafeOver world (g.B.Bank.given l.fn.bank) size told l.fn.members (g.B.Bank.tape l.fn.bank)
-      → KeepsSafe world (g.B.Bank.given l.fn.bank) size told l.members (g.B.Bank.tape l.fn.bank) (g.B.Bank.tape l.bank);
+  safe : g.B.Bank.tells → (world : World) → (told : Ledger) → HasRoomLeft l.fn.members (g.B.Bank.tape l.fn.bank) (g.B.Bank.tape l.bank)
+      → AreGoneTold told l.members → IsUncleanTold told l.fn.members → IsSafeOver world (g.B.Bank.given l.fn.bank) told l.fn.members (g.B.Bank.tape l.fn.bank)
+      → KeepsSafe world (g.B.Bank.given l.fn.bank) told l.members (g.B.Bank.tape l.fn.bank) (g.B.Bank.tape l.bank);
   given : g.B.Bank.given l.bank ≡ g.B.Bank.given l.fn.bank;
   counts : NeverFalls (g.B.Bank.faults_of l.fn.bank) (g.B.Bank.faults_of l.bank);
   rows : vec_capacity l.fn.rows ≤ vec_capacity l.rows;

@@ -14,17 +14,17 @@ use Rattle.list_io.specs.Writing.{AreDataFrom, HasFull}
 use Rattle.list_io.proofs.BufferLaws.{data_read}
 use Rattle.flat_history.specs.Sound.{OpensFit}
 use Rattle.views.specs.Placed.{AreLost, IsPlaced}
-use Rattle.views.specs.Marking.{AreOthersPresent}
+use Rattle.shape_changes.specs.Marking.{AreOthersPresent}
 use Rattle.views.specs.Moving.{Grows, IsMoved}
-use Rattle.views.specs.Safety.{IsRisen}
+use Rattle.shape_changes.specs.Safety.{IsRisen}
 use Rattle.views.specs.Lacking.{HaveFailedSince}
 use Rattle.views.specs.Rebuilding.{AreSparesFree, IsFilledAmong}
-use Rattle.views.specs.Steady.{KeepsSafe, AreGoneTold, IsUncleanTold}
+use Rattle.shape_changes.specs.Steady.{KeepsSafe, AreGoneTold, IsUncleanTold}
 use Rattle.views.proofs.MovedLaws.{moved-lost, moved-then, moved-from, grows-none, grows-then}
 use Rattle.views.proofs.LackingLaws.{since-lost, since-then, in-second, in-either}
 use Rattle.views.proofs.LackingLists.{none-of}
 use Rattle.views.proofs.LackingWrites.{lost-of, ok-of, recovering-before}
-use Rattle.views.proofs.Risen.{risen-lost, risen-then, room-first, room-then}
+use Rattle.shape_changes.proofs.Risen.{risen-lost, risen-then, room-first, room-then}
 use Rattle.views.proofs.SafeStretch.{safe-then, safe-lost, over-at, keeps-from, grows-longer, gone-before}
 use Rattle.views.proofs.LiveLeft.{holder-left}
 use Rattle.safe_rows.proofs.FillingLaws.{filled-none, filled-then, named-first, named-only, named-none}
@@ -77,7 +77,7 @@ returns-then-is_some-clause-rise g c =
 
 pub returns-then-is_some-clause-safe : goal.returns-then-is_some-clause-safe
 returns-then-is_some-clause-safe g c =
-    λ told world size ledger room gone unclean safe.
+    λ told world ledger room gone unclean safe.
     let m = c.args.members.now in
     let n = c.read_touched-read.new.members in
     let given = g.B.Bank.given c.args.bank.now in
@@ -90,7 +90,7 @@ returns-then-is_some-clause-safe g c =
     let lost : AreLost given shape m n r f0 f1 = lost-of given shape m n r f0 f1 c.requires.placed did.lost in
     let tape0 = g.B.Bank.tape c.args.bank.now in
     let tape1 = g.B.Bank.tape c.read_touched-read.new.bank in
-    safe-lost (OpensFit world) world.scope given size ledger m n r tape0 tape1 did.lost.members (did.tape told) safe
+    safe-lost (OpensFit world) world.scope given ledger m n r tape0 tape1 did.lost.members (did.tape told) safe
 
 pub returns-then-is_some-clause-named : goal.returns-then-is_some-clause-named
 returns-then-is_some-clause-named g c =
@@ -295,7 +295,7 @@ returns-then-is_some-2-clause-rise g c =
 
 pub returns-then-is_some-2-clause-safe : goal.returns-then-is_some-2-clause-safe
 returns-then-is_some-2-clause-safe g c =
-    λ told world size ledger room gone unclean safe.
+    λ told world ledger room gone unclean safe.
     let m = c.args.members.now in
     let n = c.read_touched-read.new.members in
     let given = g.B.Bank.given c.args.bank.now in
@@ -322,11 +322,11 @@ returns-then-is_some-2-clause-safe g c =
     let tape2 = g.B.Bank.tape c.name_missing-named.new.bank in
     let risen1 : IsRisen g.B.Bank.tells m n tape0 tape1 = risen-lost m n r tape0 tape1 did.lost.members (λ told. let same = ap (λ (l : List Operation). length l) (did.tape told) in omega (arith, same)) in
     let risen2 : IsRisen g.B.Bank.tells m p tape0 tape2 = risen-then risen1 named.rise in
-    let first : KeepsSafe world given size ledger n tape0 tape1 = safe-lost (OpensFit world) world.scope given size ledger m n r tape0 tape1 did.lost.members (did.tape told) safe in
+    let first : KeepsSafe world given ledger n tape0 tape1 = safe-lost (OpensFit world) world.scope given ledger m n r tape0 tape1 did.lost.members (did.tape told) safe in
     let unclean1 : IsUncleanTold ledger n = λ dirty. unclean (sym (ap (λ (x : Members). is_clean x.newest) did.lost.members) ∙ dirty) in
-    let second : KeepsSafe world given size ledger p tape1 tape2 = keeps-from world given given1 size ledger p tape1 tape2 did.given
-    (named.safe told world size ledger (room-then tape2 told room risen1) gone unclean1 (over-at world given given1 size ledger n tape1 did.given first.next)) in
-    safe-then (OpensFit world) world.scope given size ledger n p tape0 tape1 tape2 first second
+    let second : KeepsSafe world given ledger p tape1 tape2 = keeps-from world given given1 ledger p tape1 tape2 did.given
+    (named.safe told world ledger (room-then tape2 told room risen1) gone unclean1 (over-at world given given1 ledger n tape1 did.given first.next)) in
+    safe-then (OpensFit world) world.scope given ledger n p tape0 tape1 tape2 first second
 
 pub returns-then-is_some-2-clause-counts : goal.returns-then-is_some-2-clause-counts
 returns-then-is_some-2-clause-counts g c =
@@ -851,7 +851,7 @@ returns-clause-rise g c =
 
 pub returns-clause-safe : goal.returns-clause-safe
 returns-clause-safe g c =
-    λ told world size ledger room gone unclean safe.
+    λ told world ledger room gone unclean safe.
     let m = c.args.members.now in
     let n = c.read_touched-read.new.members in
     let given = g.B.Bank.given c.args.bank.now in
@@ -883,16 +883,16 @@ returns-clause-safe g c =
     let tape3 = g.B.Bank.tape c.fill_rows-lost.new.bank in
     let risen1 : IsRisen g.B.Bank.tells m n tape0 tape1 = risen-lost m n r tape0 tape1 did.lost.members (λ told. let same = ap (λ (l : List Operation). length l) (did.tape told) in omega (arith, same)) in
     let risen2 : IsRisen g.B.Bank.tells m p tape0 tape2 = risen-then risen1 named.rise in
-    let first : KeepsSafe world given size ledger n tape0 tape1 = safe-lost (OpensFit world) world.scope given size ledger m n r tape0 tape1 did.lost.members (did.tape told) safe in
+    let first : KeepsSafe world given ledger n tape0 tape1 = safe-lost (OpensFit world) world.scope given ledger m n r tape0 tape1 did.lost.members (did.tape told) safe in
     let unclean1 : IsUncleanTold ledger n = λ dirty. unclean (sym (ap (λ (x : Members). is_clean x.newest) did.lost.members) ∙ dirty) in
     let gone2 : AreGoneTold ledger p = gone-before given p q two.placed three ledger gone in
     let room2 = room-then tape3 told room risen1 in
-    let second : KeepsSafe world given size ledger p tape1 tape2 = keeps-from world given given1 size ledger p tape1 tape2 did.given
-    (named.safe told world size ledger (room-first n tape1 tape2 tape3 room2 (grows-longer filled.grows told)) gone2 unclean1 (over-at world given given1 size ledger n tape1 did.given first.next)) in
+    let second : KeepsSafe world given ledger p tape1 tape2 = keeps-from world given given1 ledger p tape1 tape2 did.given
+    (named.safe told world ledger (room-first n tape1 tape2 tape3 room2 (grows-longer filled.grows told)) gone2 unclean1 (over-at world given given1 ledger n tape1 did.given first.next)) in
     let unclean2 : IsUncleanTold ledger p = λ dirty. unclean1 (sym named.clean ∙ dirty) in
-    let third : KeepsSafe world given size ledger q tape2 tape3 = keeps-from world given given2 size ledger q tape2 tape3 same2
-    (filled.safe told world size ledger (room-then tape3 told room risen2) gone unclean2 (over-at world given given2 size ledger p tape2 same2 second.next)) in
-    safe-then (OpensFit world) world.scope given size ledger n q tape0 tape1 tape3 first (safe-then (OpensFit world) world.scope given size ledger p q tape1 tape2 tape3 second third)
+    let third : KeepsSafe world given ledger q tape2 tape3 = keeps-from world given given2 ledger q tape2 tape3 same2
+    (filled.safe told world ledger (room-then tape3 told room risen2) gone unclean2 (over-at world given given2 ledger p tape2 same2 second.next)) in
+    safe-then (OpensFit world) world.scope given ledger n q tape0 tape1 tape3 first (safe-then (OpensFit world) world.scope given ledger p q tape1 tape2 tape3 second third)
 
 pub returns-clause-counts : goal.returns-clause-counts
 returns-clause-counts g c =

@@ -12,23 +12,23 @@ use Rattle.list_io.specs.Writing.{AreSuperblocksKept}
 use Rattle.list_io.proofs.LossLaws.{slot_lost, recovering-after}
 use Rattle.flat_history.specs.Sound.{OpensFit}
 use Rattle.views.specs.Placed.{AreLost, IsPlaced}
-use Rattle.views.specs.Marking.{AreOthersPresent}
+use Rattle.shape_changes.specs.Marking.{AreOthersPresent}
 use Rattle.views.specs.Moving.{IsMoved}
-use Rattle.views.specs.Safety.{IsRisen}
+use Rattle.shape_changes.specs.Safety.{IsRisen}
 use Rattle.views.specs.Rebuilding.{AreSparesFree}
-use Rattle.views.specs.Steady.{KeepsSafe, IsUncleanTold}
+use Rattle.shape_changes.specs.Steady.{KeepsSafe, IsUncleanTold}
 use Rattle.views.proofs.MovedLaws.{moved-lost, moved-then, moved-from, grows-then}
 use Rattle.views.proofs.LackingLaws.{since-lost, since-then, in-second}
 use Rattle.views.proofs.LackingWrites.{marks-here, lost-of, recovering-before}
-use Rattle.views.proofs.Risen.{risen-lost, risen-then, room-then}
+use Rattle.shape_changes.proofs.Risen.{risen-lost, risen-then, room-then}
 use Rattle.views.proofs.SafeStretch.{safe-none, safe-then, safe-lost, over-at, keeps-from, grows-longer}
 use Rattle.views.proofs.FilledParts.{found-in, safe-filled, others-filled}
 use Rattle.safe_rows.proofs.FillingLaws.{filling-kept}
 use Rattle.safe_rows.proofs.filling.fill_rows.Goals as goal
 
 pub returns-then-is_none-clause-safe : goal.returns-then-is_none-clause-safe
-returns-then-is_none-clause-safe g c = λ told world size ledger room gone unclean safe.
-    safe-none (OpensFit world) world.scope (g.B.Bank.given c.args.bank.now) size ledger c.args.members.now (g.B.Bank.tape c.args.bank.now) safe
+returns-then-is_none-clause-safe g c = λ told world ledger room gone unclean safe.
+    safe-none (OpensFit world) world.scope (g.B.Bank.given c.args.bank.now) ledger c.args.members.now (g.B.Bank.tape c.args.bank.now) safe
 
 pub returns-then-is_none-clause-kept : goal.returns-then-is_none-clause-kept
 returns-then-is_none-clause-kept g c = λ recovers.
@@ -46,13 +46,13 @@ returns-then-write_filled-clause-written g c = λ recovered told list own. c.wri
 
 pub returns-then-write_filled-clause-safe : goal.returns-then-write_filled-clause-safe
 returns-then-write_filled-clause-safe g c =
-    λ told world size ledger room gone unclean safe.
+    λ told world ledger room gone unclean safe.
     let m = c.args.members.now in
     let role = c.args.target.now.role in
     let slot = c.args.target.now.slot in
     let found = found-in c.recovering_slot.result _ (c.is_none.ensures ∙ ap not c.if-is_none.false) c.recovering_slot.ensures.some in
     let recovers : role_state (reading_of m) role ≡ Recovering slot = subst (λ (s : ℕ). role_state (reading_of m) role ≡ Recovering s) (c.requires.recovering found.0 found.1) found.1 in
-    safe-filled (OpensFit world) world.scope (g.B.Bank.given c.args.bank.now) size ledger m role slot (g.B.Bank.tape c.args.bank.now) (g.B.Bank.tape c.write_filled.new.bank) told c.requires.placed c.requires.unlost recovers
+    safe-filled (OpensFit world) world.scope (g.B.Bank.given c.args.bank.now) ledger m role slot (g.B.Bank.tape c.args.bank.now) (g.B.Bank.tape c.write_filled.new.bank) told c.requires.placed c.requires.unlost recovers
     c.write_filled.ensures.each_mark safe
 
 pub lose_slot-requires-clause-slot : goal.lose_slot-requires-clause-slot
@@ -267,7 +267,7 @@ returns-clause-rise g c =
 
 pub returns-clause-safe : goal.returns-clause-safe
 returns-clause-safe g c =
-    λ told world size ledger room missing unclean safe.
+    λ told world ledger room missing unclean safe.
     let given = g.B.Bank.given c.args.bank.now in
     let m = c.args.members.now in
     let n = c.lose_slot.new.members in
@@ -290,12 +290,12 @@ returns-clause-safe g c =
     let tape1 = g.B.Bank.tape c.write_filled.new.bank in
     let tape2 = g.B.Bank.tape c.name_missing.new.bank in
     let risen1 : IsRisen g.B.Bank.tells m n tape0 tape1 = risen-lost m n c.lose_slot.result tape0 tape1 c.lose_slot.ensures.members (grows-longer c.write_filled.ensures.grows) in
-    let first : KeepsSafe world given size ledger m tape0 tape1 = safe-filled (OpensFit world) world.scope given size ledger m role slot tape0 tape1 told c.requires.placed c.requires.unlost recovers c.write_filled.ensures.each_mark safe in
-    let second : KeepsSafe world given size ledger n tape0 tape1 = safe-then (OpensFit world) world.scope given size ledger m n tape0 tape1 tape1 first (safe-lost (OpensFit world) world.scope given size ledger m n c.lose_slot.result tape1 tape1 c.lose_slot.ensures.members refl first.next) in
+    let first : KeepsSafe world given ledger m tape0 tape1 = safe-filled (OpensFit world) world.scope given ledger m role slot tape0 tape1 told c.requires.placed c.requires.unlost recovers c.write_filled.ensures.each_mark safe in
+    let second : KeepsSafe world given ledger n tape0 tape1 = safe-then (OpensFit world) world.scope given ledger m n tape0 tape1 tape1 first (safe-lost (OpensFit world) world.scope given ledger m n c.lose_slot.result tape1 tape1 c.lose_slot.ensures.members refl first.next) in
     let unclean2 : IsUncleanTold ledger n = λ dirty. unclean (sym (ap (λ (x : Members). is_clean x.newest) c.lose_slot.ensures.members) ∙ dirty) in
-    let third : KeepsSafe world given size ledger q tape1 tape2 = keeps-from world given given1 size ledger q tape1 tape2 same
-    (named.safe told world size ledger (room-then tape2 told room risen1) missing unclean2 (over-at world given given1 size ledger n tape1 same second.next)) in
-    safe-then (OpensFit world) world.scope given size ledger n q tape0 tape1 tape2 second third
+    let third : KeepsSafe world given ledger q tape1 tape2 = keeps-from world given given1 ledger q tape1 tape2 same
+    (named.safe told world ledger (room-then tape2 told room risen1) missing unclean2 (over-at world given given1 ledger n tape1 same second.next)) in
+    safe-then (OpensFit world) world.scope given ledger n q tape0 tape1 tape2 second third
 
 pub returns-clause-counts : goal.returns-clause-counts
 returns-clause-counts g c =

@@ -9,7 +9,7 @@ use Rattle.views.specs.Lacking.{ListStands}
 use Rattle.views.proofs.MovedLaws.{moved-then, moved-same, grows-none, grows-then, moved-from, size-moved}
 use Rattle.views.proofs.LackingLaws.{since-same, since-then, in-either}
 use Rattle.views.proofs.LackingLists.{none-of}
-use Rattle.views.proofs.Risen.{risen-none, risen-then}
+use Rattle.shape_changes.proofs.Risen.{risen-none, risen-then}
 use Rattle.views.proofs.SafeStretch.{safe-none, allowed-later}
 use Rattle.views.proofs.MendedParts.{valid-in, stripe-within, part-within, part-touches, ArePut, put-none, put-then, put-untouched, nothing-written, no-bytes, not-begun, safe-part}
 use Rattle.safe_rows.proofs.mending.mend.Goals as goal
@@ -32,7 +32,7 @@ loop-done-init g c =
       within = omega arith;
       put = λ told. put-none given c.args.shape.now _ m tape0 (λ row at. absurd (let low = at.0 in let high = at.1 in omega (arith, low, high)));
       rise = risen-none m tape0 tape0 (λ told. omega arith);
-      safe = λ told world size ledger room gone unclean list stands allowed safe. safe-none (OpensFit world) world.scope given size ledger m tape0 safe;
+      safe = λ told world ledger room gone unclean list stands allowed safe. safe-none (OpensFit world) world.scope given ledger m tape0 safe;
       given = refl;
       counts = λ s. omega arith;
       rows = omega arith;
@@ -122,7 +122,7 @@ pub returns-then-is_some-clause-rise : goal.returns-then-is_some-clause-rise
 returns-then-is_some-clause-rise g c = risen-then c.loop-done.invariant.rise c.put-part.ensures.rise
 
 pub returns-then-is_some-clause-safe : goal.returns-then-is_some-clause-safe
-returns-then-is_some-clause-safe g c = λ told world size ledger room gone unclean list stands allowed safe.
+returns-then-is_some-clause-safe g c = λ told world ledger room gone unclean list stands allowed safe.
     let was = c.loop-done.invariant in
     let did = c.put-part.ensures in
     let m = c.args.members.now in
@@ -133,11 +133,11 @@ returns-then-is_some-clause-safe g c = λ told world size ledger room gone uncle
     let tape0 = g.B.Bank.tape c.args.bank.now in
     let tape1 = g.B.Bank.tape c.loop-done.bank in
     let tape2 = g.B.Bank.tape c.put-part.new.bank in
-    safe-part world given given1 size ledger m n new tape0 tape1 tape2 told was.given was.moved.placed (moved-from given given1 n n new was.given refl did.moved) did.grows was.rise room gone
-    (λ first gone1. was.safe told world size ledger first gone1 unclean list stands allowed safe)
-    (λ then now. did.safe told world size ledger then gone unclean list list (nothing-written list _)
+    safe-part world given given1 ledger m n new tape0 tape1 tape2 told was.given was.moved.placed (moved-from given given1 n n new was.given refl did.moved) did.grows was.rise room gone
+    (λ first gone1. was.safe told world ledger first gone1 unclean list stands allowed safe)
+    (λ then now. did.safe told world ledger then gone unclean list list (nothing-written list _)
     (subst (λ (b : Given). ListStands n (present b tape1) list) (sym was.given) ((was.put told).stands list stands)) (λ is. absurd (cc))
-    (λ begun. allowed-later given m n was.moved ledger.values list allowed) now)
+    (λ begun. allowed-later given m n was.moved c.requires.placed ledger.values list allowed) now)
 
 pub loop-done-preserved : goal.loop-done-preserved
 loop-done-preserved g c =
@@ -173,12 +173,12 @@ loop-done-preserved g c =
             rebuilt = λ list stands. did.rebuilt none told list list (nothing-written list first) stands (λ is. absurd (cc));
           }));
       rise = risen-then was.rise did.rise;
-      safe = λ told world size ledger room gone unclean list stands allowed safe.
-          safe-part world given given1 size ledger m n new tape0 tape1 tape2 told was.given was.moved.placed moved did.grows was.rise room gone
-          (λ first gone1. was.safe told world size ledger first gone1 unclean list stands allowed safe)
-          (λ then now. did.safe told world size ledger then gone unclean list list (nothing-written list _)
+      safe = λ told world ledger room gone unclean list stands allowed safe.
+          safe-part world given given1 ledger m n new tape0 tape1 tape2 told was.given was.moved.placed moved did.grows was.rise room gone
+          (λ first gone1. was.safe told world ledger first gone1 unclean list stands allowed safe)
+          (λ then now. did.safe told world ledger then gone unclean list list (nothing-written list _)
           (subst (λ (b : Given). ListStands n (present b tape1) list) (sym was.given) ((was.put told).stands list stands)) (λ is. absurd (cc))
-          (λ begun. allowed-later given m n was.moved ledger.values list allowed) now);
+          (λ begun. allowed-later given m n was.moved c.requires.placed ledger.values list allowed) now);
       given = did.given ∙ was.given;
       counts = λ s. let one = was.counts s in let two = did.counts s in omega (arith, one, two);
       rows = let one = was.rows in let two = did.rows in omega (arith, one, two);

@@ -16,9 +16,9 @@ use Rattle.views.proofs.LackingLaws.{since-lost, since-then, in-second}
 use Rattle.views.proofs.LackingWrites.{lost-of, standing-later}
 use Rattle.safe_updates.proofs.RefusingLaws.{write-cause, write-told, told-first, told-why, many-told, not-err}
 use Rattle.flat_history.specs.Sound.{OpensFit}
-use Rattle.views.specs.Safety.{IsRisen}
-use Rattle.views.specs.Steady.{KeepsSafe}
-use Rattle.views.proofs.Risen.{risen-then, risen-lost, room-then}
+use Rattle.shape_changes.specs.Safety.{IsRisen}
+use Rattle.shape_changes.specs.Steady.{KeepsSafe}
+use Rattle.shape_changes.proofs.Risen.{risen-then, risen-lost, room-then}
 use Rattle.views.proofs.SafeStretch.{safe-then, safe-lost, over-at, keeps-from}
 use Rattle.safe_rows.proofs.putting.prepare.Goals as goal
 
@@ -132,9 +132,9 @@ returns-then-is_err-clause-rise g c =
     (λ told. let same = ap (λ (l : List Operation). length l) (c.read_touched-read.ensures.tape told) in omega (arith, same))
 
 pub returns-then-is_err-clause-safe : goal.returns-then-is_err-clause-safe
-returns-then-is_err-clause-safe g c = λ told world size ledger room gone unclean safe.
+returns-then-is_err-clause-safe g c = λ told world ledger room gone unclean safe.
     let did = c.read_touched-read.ensures in
-    safe-lost (OpensFit world) world.scope (g.B.Bank.given c.args.bank.now) size ledger c.args.members.now c.read_touched-read.new.members c.read_touched-read.result.lost
+    safe-lost (OpensFit world) world.scope (g.B.Bank.given c.args.bank.now) ledger c.args.members.now c.read_touched-read.new.members c.read_touched-read.result.lost
     (g.B.Bank.tape c.args.bank.now) (g.B.Bank.tape c.read_touched-read.new.bank) did.lost.members (did.tape told) safe
 
 pub returns-clause-rise : goal.returns-clause-rise
@@ -146,7 +146,7 @@ returns-clause-rise g c =
     (λ told. let same = ap (λ (l : List Operation). length l) (c.read_touched-read.ensures.tape told) in omega (arith, same))) c.raise-spares.ensures.rise
 
 pub returns-clause-safe : goal.returns-clause-safe
-returns-clause-safe g c = λ told world size ledger room gone unclean safe.
+returns-clause-safe g c = λ told world ledger room gone unclean safe.
     let m = c.args.members.now in
     let n = c.read_touched-read.new.members in
     let given = g.B.Bank.given c.args.bank.now in
@@ -155,13 +155,13 @@ returns-clause-safe g c = λ told world size ledger room gone unclean safe.
     let tape1 = g.B.Bank.tape c.read_touched-read.new.bank in
     let tape2 = g.B.Bank.tape c.raise-spares.new.bank in
     let did = c.read_touched-read.ensures in
-    let one : KeepsSafe world given size ledger n tape0 tape1 =
-    safe-lost (OpensFit world) world.scope given size ledger m n c.read_touched-read.result.lost tape0 tape1 did.lost.members (did.tape told) safe in
+    let one : KeepsSafe world given ledger n tape0 tape1 =
+    safe-lost (OpensFit world) world.scope given ledger m n c.read_touched-read.result.lost tape0 tape1 did.lost.members (did.tape told) safe in
     let risen : IsRisen g.B.Bank.tells m n tape0 tape1 = risen-lost m n c.read_touched-read.result.lost tape0 tape1 did.lost.members
     (λ told. let same = ap (λ (l : List Operation). length l) (did.tape told) in omega (arith, same)) in
-    safe-then (OpensFit world) world.scope given size ledger n c.raise-spares.new.members tape0 tape1 tape2 one
-    (keeps-from world given given1 size ledger c.raise-spares.new.members tape1 tape2 did.given
-    (c.raise-spares.ensures.safe told world size ledger (room-then tape2 told room risen) gone unclean (over-at world given given1 size ledger n tape1 did.given one.next)))
+    safe-then (OpensFit world) world.scope given ledger n c.raise-spares.new.members tape0 tape1 tape2 one
+    (keeps-from world given given1 ledger c.raise-spares.new.members tape1 tape2 did.given
+    (c.raise-spares.ensures.safe told world ledger (room-then tape2 told room risen) gone unclean (over-at world given given1 ledger n tape1 did.given one.next)))
 
 pub returns-then-is_err-clause-first : goal.returns-then-is_err-clause-first
 returns-then-is_err-clause-first g c = told-first c.unwritten.result c.unwritten.ensures

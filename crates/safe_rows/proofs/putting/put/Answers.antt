@@ -15,7 +15,7 @@ use Rattle.views.proofs.LackingLaws.{since-then, in-either}
 use Rattle.views.proofs.LackingWrites.{standing-later}
 use Rattle.views.proofs.LackingLists.{list-written, row-written, rebuilt-written, data-read, sectors-whole, none-of}
 use Rattle.flat_history.specs.Sound.{OpensFit}
-use Rattle.views.proofs.Risen.{risen-then, room-first, room-then}
+use Rattle.shape_changes.proofs.Risen.{risen-then, room-first, room-then}
 use Rattle.views.proofs.SafeStretch.{gone-before, safe-then, allowed-later, grows-longer, over-at, keeps-from}
 use Rattle.safe_updates.proofs.RefusingLaws.{many-told}
 use Rattle.safe_rows.proofs.putting.put.Goals as goal
@@ -150,13 +150,13 @@ returns-clause-rebuilt g c = λ ok told list list' w stands full role slot row l
     list list' w has role slot row (subst (λ (s : Shape). role < s.disks) c.requires.shape lt) is)
 
 pub returns-then-is_some-clause-safe : goal.returns-then-is_some-clause-safe
-returns-then-is_some-clause-safe g c = λ told world size ledger room gone unclean list list' w stands full allowed safe. c.prepare-begun.ensures.safe told world size ledger room gone unclean safe
+returns-then-is_some-clause-safe g c = λ told world ledger room gone unclean list list' w stands full allowed safe. c.prepare-begun.ensures.safe told world ledger room gone unclean safe
 
 pub returns-clause-rise : goal.returns-clause-rise
 returns-clause-rise g c = risen-then c.prepare-begun.ensures.rise c.put_rows-done.ensures.rise
 
 pub returns-clause-safe : goal.returns-clause-safe
-returns-clause-safe g c = λ told world size ledger room gone unclean list list' w stands full allowed safe.
+returns-clause-safe g c = λ told world ledger room gone unclean list list' w stands full allowed safe.
     let given = g.B.Bank.given c.args.bank.now in
     let given2 = g.B.Bank.given c.prepare-begun.new.bank in
     let m = c.args.members.now in
@@ -181,11 +181,11 @@ returns-clause-safe g c = λ told world size ledger room gone unclean list list'
     (data-read given m m2 m3 did1.moved two c.requires.placed (present given tape0) first c.args.count rows buffer list c.args.synced
     (subst (λ (s : Shape). AreTouched s first c.args.count rows) c.requires.shape did1.touched) did1.below read stands
     (subst (λ (s : Shape). c.args.synced ≡ true → AreWhole m3 ⊎ RowsStandAmong (IsTouched s first c.args.count) m (present given tape0) list) c.requires.shape full))) in
-    let one = did1.safe told world size ledger (room-first m tape0 tape2 tape3 room (grows-longer did2.grows told)) (gone-before given m2 m3 did1.moved.placed two ledger gone) unclean safe in
-    safe-then (OpensFit world) world.scope given size ledger m2 m3 tape0 tape2 tape3 one
-    (keeps-from world given given2 size ledger m3 tape2 tape3 did1.given
-    (did2.safe told world size ledger (room-then tape3 told room did1.rise) gone unclean (did1.dirty none) list list' w (λ t. has)
-    (allowed-later given m m2 did1.moved ledger.values list' (allowed refl)) (over-at world given given2 size ledger m2 tape2 did1.given one.next)))
+    let one = did1.safe told world ledger (room-first m tape0 tape2 tape3 room (grows-longer did2.grows told)) (gone-before given m2 m3 did1.moved.placed two ledger gone) unclean safe in
+    safe-then (OpensFit world) world.scope given ledger m2 m3 tape0 tape2 tape3 one
+    (keeps-from world given given2 ledger m3 tape2 tape3 did1.given
+    (did2.safe told world ledger (room-then tape3 told room did1.rise) gone unclean (did1.dirty none) list list' w (λ t. has)
+    (allowed-later given m m2 did1.moved c.requires.placed ledger.values list' (allowed refl)) (over-at world given given2 ledger m2 tape2 did1.given one.next)))
 
 pub returns-clause-first : goal.returns-clause-first
 returns-clause-first g c = many-told _ c.args.synced c.put_rows-done.new.members c.put_rows-done.result.refusal c.put_rows-done.ensures.refused

@@ -8,9 +8,9 @@ use Rattle.views.specs.Placed.{AreWhole}
 use Rattle.views.specs.Moving.{Grows, IsMoved}
 use Rattle.views.specs.Lacking.{HaveFailedSince, AreRowsWritten}
 use Rattle.flat_history.specs.World.{World}
-use Rattle.views.specs.Safety.{HasRoomLeft, IsRisen}
-use Rattle.views.specs.Views.{Ledger}
-use Rattle.views.specs.Steady.{IsSafeOver, KeepsSafe, AreGoneTold, AreWritesAllowed}
+use Rattle.shape_changes.specs.Safety.{HasRoomLeft, IsRisen}
+use Rattle.shape_views.specs.Views.{Ledger}
+use Rattle.shape_changes.specs.Steady.{IsSafeOver, KeepsSafe, AreGoneTold, AreWritesAllowed}
 use Rattle.safe_rows.proofs.putting.put_rows.Given as goal
 
 abbrev pub decreases-loop-next : goal.decreases-loop-next
@@ -27,11 +27,11 @@ invariant-loop-next g l = record {
   clean : is_clean l.members.newest ≡ is_clean l.fn.members.newest;
   kept : AreWhole l.members → l.members ≡ l.fn.members;
   rise : IsRisen g.B.Bank.tells l.fn.members l.members (g.B.Bank.tape l.fn.bank) (g.B.Bank.tape l.bank);
-  safe : g.B.Bank.tells → (world : World) → (size : ℕ) → (told : Ledger) → HasRoomLeft l.fn.members (g.B.Bank.tape l.fn.bank) (g.B.Bank.tape l.bank)
+  safe : g.B.Bank.tells → (world : World) → (told : Ledger) → HasRoomLeft l.fn.members (g.B.Bank.tape l.fn.bank) (g.B.Bank.tape l.bank)
       → AreGoneTold told l.members → told.unclean ≡ true → is_clean l.fn.members.newest ≡ false → (list list' : ℕ → Sector) → IsWritten list list' l.first l.from
       → (g.B.Bank.tells → AreDataFrom 0 l.shape list l.rows l.fn.buffer.items) → AreWritesAllowed l.fn.members told.values list'
-      → IsSafeOver world (g.B.Bank.given l.fn.bank) size told l.fn.members (g.B.Bank.tape l.fn.bank)
-      → KeepsSafe world (g.B.Bank.given l.fn.bank) size told l.members (g.B.Bank.tape l.fn.bank) (g.B.Bank.tape l.bank);
+      → IsSafeOver world (g.B.Bank.given l.fn.bank) told l.fn.members (g.B.Bank.tape l.fn.bank)
+      → KeepsSafe world (g.B.Bank.given l.fn.bank) told l.members (g.B.Bank.tape l.fn.bank) (g.B.Bank.tape l.bank);
   given : g.B.Bank.given l.bank ≡ g.B.Bank.given l.fn.bank;
   counts : NeverFalls (g.B.Bank.faults_of l.fn.bank) (g.B.Bank.faults_of l.bank);
   size : length l.buffer.items ≡ length l.fn.buffer.items;

@@ -16,7 +16,7 @@ use Rattle.views.proofs.MarkedLaws.{grows-marks}
 use Rattle.views.proofs.LackingLaws.{since-lost, too-many-answer}
 use Rattle.views.proofs.LackingWrites.{has-rows, list-in, list-in-is, list-with, list-with-is}
 use Rattle.flat_history.specs.Sound.{OpensFit}
-use Rattle.views.proofs.Risen.{risen-lost}
+use Rattle.shape_changes.proofs.Risen.{risen-lost}
 use Rattle.views.proofs.SafeStretch.{safe-put}
 use Rattle.safe_rows.proofs.putting.write_stretch.Goals as goal
 
@@ -100,12 +100,12 @@ returns-clause-rise g c =
     (λ told. list-in-is shape c.args.rows.now c.args.buffer.now.items c.args.start c.requires.once)).longer
 
 pub returns-clause-safe : goal.returns-clause-safe
-returns-clause-safe g c = λ told world size ledger dirty list list' w has allowed safe.
+returns-clause-safe g c = λ told world ledger dirty list list' w has allowed safe.
     let did = c.write_touched-written.ensures in
     let given = g.B.Bank.given c.args.bank.now in
     let tape0 = g.B.Bank.tape c.args.bank.now in
     let tape1 = g.B.Bank.tape c.write_touched-written.new.bank in
-    safe-put (OpensFit world) world.scope given size ledger c.args.members.now c.write_touched-written.new.members c.write_touched-written.result.lost list' c.args.rows.now tape0 tape1 told
+    safe-put (OpensFit world) world.scope given ledger c.args.members.now c.write_touched-written.new.members c.write_touched-written.result.lost list' c.args.rows.now tape0 tape1 told
     did.lost.members c.requires.placed dirty c.requires.unlost allowed
     (subst (λ (s : Shape). EachMark g.B.Bank.tells given.start tape0 tape1
     (λ e. IsPutting (reading_of c.args.members.now) s list' (Contains c.args.rows.now) (disk given.start tape0) e × AreSuperblocksKept (disk given.start tape0) e)) c.requires.shape (did.each_mark list list' w has)) safe

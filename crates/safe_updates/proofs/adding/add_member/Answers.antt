@@ -8,7 +8,7 @@ use Rattle.layout.proofs.Limits.{limited}
 use Rattle.superblocks.specs.declared.change.Give.TheVariants.{Same}
 use Rattle.superblocks.specs.declared.change.Change.{Change}
 use Rattle.flat_history.specs.Sound.{OpensFit}
-use Rattle.superblocks.specs.Reading.{role_count, shape_of, is_clean}
+use Rattle.superblocks.specs.Reading.{role_count, shape_of}
 use Rattle.superblocks.specs.Update.{IsRoleGive, give_of, is_recovery}
 use Rattle.superblocks.specs.Updating.{IsUpdate, IsWrittenBy, AreLosses, AreNamed, IsLater, IsSomeLeft, RisesByOperations, planned_newest}
 use Rattle.superblocks.specs.Outcome.{IsAddable, AreGivesOfLive, AreLive, AreStored, with_added, live_set, is_left, planned_roles, planned_spares}
@@ -16,14 +16,15 @@ use Rattle.superblocks.specs.Reads.{has_spare}
 use Rattle.superblocks.specs.Stages.{AreFirstKept}
 use Rattle.superblocks.specs.Rounds.{round_at, IsInRounds, ArePast}
 use Rattle.superblocks.proofs.SlotSets.{none_above}
-use Rattle.views.specs.Marking.{adding}
-use Rattle.views.specs.Placed.{IsPlaced, AreUnlost}
+use Rattle.shape_changes.specs.Marking.{adding}
+use Rattle.views.specs.Placed.{IsPlaced}
+use Rattle.shape_changes.specs.Steady.{AreUnlost}
 use Rattle.views.specs.Rebuilding.{with_spare, AreSparesFree}
 use Rattle.views.proofs.AddedMembers.{addable, placed-with, unlost-roles, free-with, spare-with, live-here}
 use Rattle.safe_updates.proofs.AddedSafe.{adding-safe}
 use Rattle.safe_updates.proofs.AddedUpdates.{IsAddedBy, told-added, added-moved, added-risen, added-failed, told-spare, told-none, added-stored, lost-spare}
 use Rattle.views.proofs.LiveLeft.{left-steady}
-use Rattle.views.proofs.MarkLaws.{give_of-same}
+use Rattle.shape_changes.proofs.Kept.{give_of-same}
 use Rattle.views.proofs.MarkedLaws.{grows-marks, others-updated}
 use Rattle.views.proofs.PlacedLaws.{same-count}
 use Rattle.safe_updates.proofs.adding.add_member.Given.{Over}
@@ -157,8 +158,8 @@ pub returns-clause-grows : goal.returns-clause-grows
 returns-clause-grows g c = grows-marks c.update-lost.ensures.update.marks
 
 pub returns-clause-safe : goal.returns-clause-safe
-returns-clause-safe g c = λ tell world size told room gone unclean of_scope unknown second live safe.
-    adding-safe (OpensFit world) world.scope (g.B.Bank.given c.args.bank.now) size told c.update-lost.new.members c.args.slot c.args.sb.now (g.B.Bank.tape c.args.bank.now) (g.B.Bank.tape c.update-lost.new.bank)
+returns-clause-safe g c = λ tell world told room gone unclean of_scope unknown second live safe.
+    adding-safe (OpensFit world) world.scope (g.B.Bank.given c.args.bank.now) told c.update-lost.new.members c.args.slot c.args.sb.now (g.B.Bank.tape c.args.bank.now) (g.B.Bank.tape c.update-lost.new.bank)
     c.args.members.now c.requires.fresh (left-steady live safe) c.requires.placed c.requires.unlost c.requires.free
     (record {
       few = c.requires.slots;
@@ -172,11 +173,8 @@ returns-clause-safe g c = λ tell world size told room gone unclean of_scope unk
       unknown = unknown;
       second = second;
     })
-    (told-added tell (did g c)) (room live) gone same-clean
+    (told-added tell (did g c)) (room live) gone
   where
     unspare : (b : Bool) → has_spare c.args.members.now.spares c.args.slot ≡ b → b ≡ false
     unspare true is = absurd (c.requires.untaken 0 (inr is))
     unspare false is = refl
-
-    same-clean : is_clean c.update-lost.new.members.newest ≡ is_clean c.args.members.now.newest
-    same-clean = ap is_clean (did g c).newest.same

@@ -8,16 +8,16 @@ use Rattle.row_io.specs.Rows.{present}
 use Rattle.flat_history.specs.World.{World}
 use Rattle.flat_history.specs.Sound.{OpensFit}
 use Rattle.views.specs.Flushing.{OnlyFlushesAdded}
-use Rattle.views.specs.Marking.{AreOthersPresent}
+use Rattle.shape_changes.specs.Marking.{AreOthersPresent}
 use Rattle.views.specs.Lacking.{RowsStand}
 use Rattle.views.specs.Rebuilding.{with_whole, AreRowsFull, IsFlushedFull}
-use Rattle.views.specs.Safety.{HasRoomLeft}
-use Rattle.views.specs.Views.{Ledger}
-use Rattle.views.specs.Steady.{IsSafeOver, KeepsSafe, IsUncleanTold, given_back}
+use Rattle.shape_changes.specs.Safety.{HasRoomLeft}
+use Rattle.shape_views.specs.Views.{Ledger}
+use Rattle.shape_changes.specs.Steady.{IsSafeOver, KeepsSafe, IsUncleanTold, given_back}
 use Rattle.views.proofs.Flushed.{contents-added}
 use Rattle.views.proofs.MarkedSafe.{flushed-safe, lost-safe, added-longer}
 use Rattle.views.proofs.MovedLaws.{grows-then}
-use Rattle.views.proofs.Risen.{risen-none, risen-lost, risen-then, room-then}
+use Rattle.shape_changes.proofs.Risen.{risen-none, risen-lost, risen-then, room-then}
 use Rattle.views.proofs.SafeStretch.{safe-then, over-at, keeps-from}
 use Rattle.safe_updates.proofs.WholeFlushed.{flush-added, ok-of, flushed-full, since-earlier, lost-moved, mid-placed, mid-free, out, failed-moved, failed-since}
 use Rattle.safe_updates.proofs.giving.flush_and_record.Given.{Over}
@@ -66,7 +66,7 @@ returns-then-is_err-clause-rise g c =
     (λ tell. added-longer tape0 tape1 (flush-added c.args.slot c.flush.ensures.did tell))) c.name_missing.ensures.rise
 
 pub returns-then-is_err-clause-safe : goal.returns-then-is_err-clause-safe
-returns-then-is_err-clause-safe g c = λ tell world size told room gone here unclean premise does list stands allowed full now.
+returns-then-is_err-clause-safe g c = λ tell world told room gone here unclean premise does list stands allowed full now.
     let m = c.args.members.now in
     let n = c.lose_slot.new.members in
     let given = g.B.Bank.given c.args.bank.now in
@@ -76,15 +76,15 @@ returns-then-is_err-clause-safe g c = λ tell world size told room gone here unc
     let tape2 = g.B.Bank.tape c.name_missing.new.bank in
     let is = c.lose_slot.ensures.members in
     let added : g.B.Bank.tells → OnlyFlushesAdded tape0 tape1 = flush-added c.args.slot c.flush.ensures.did in
-    let lost = lost-safe (OpensFit world) world.scope given size told m n c.lose_slot.result tape0 tape1 is (added tell) now in
-    safe-then (OpensFit world) world.scope given size told n c.name_missing.new.members tape0 tape1 tape2 lost
-    (keeps-from world given given1 size told c.name_missing.new.members tape1 tape2 c.flush.ensures.given
-    (c.name_missing.ensures.safe tell world size told
+    let lost = lost-safe (OpensFit world) world.scope given told m n c.lose_slot.result tape0 tape1 is (added tell) now in
+    safe-then (OpensFit world) world.scope given told n c.name_missing.new.members tape0 tape1 tape2 lost
+    (keeps-from world given given1 told c.name_missing.new.members tape1 tape2 c.flush.ensures.given
+    (c.name_missing.ensures.safe tell world told
     (room-then tape2 tell room (risen-lost m n c.lose_slot.result tape0 tape1 is (λ t. added-longer tape0 tape1 (added t)))) gone
-    (subst (λ (x : Members). IsUncleanTold told x) (sym is) unclean) (over-at world given given1 size told n tape1 c.flush.ensures.given lost.next)))
+    (subst (λ (x : Members). IsUncleanTold told x) (sym is) unclean) (over-at world given given1 told n tape1 c.flush.ensures.given lost.next)))
 
 pub returns-then-is_err-clause-given_back : goal.returns-then-is_err-clause-given_back
-returns-then-is_err-clause-given_back g c = λ whole tell world size told room gone here unclean premise does list stands allowed full now.
+returns-then-is_err-clause-given_back g c = λ whole tell world told room gone here unclean premise does list stands allowed full now.
     absurd (out (g.B.Bank.given c.args.bank.now) (g.B.Bank.given c.flush.new.self) c.args.members.now c.lose_slot.new.members c.lose_slot.result c.args.role c.args.slot
     c.requires.placed c.requires.unlost c.requires.free c.requires.role c.requires.recovering c.flush.ensures.given c.lose_slot.ensures.members c.lose_slot.ensures.alone
     c.name_missing.new.members c.name_missing.ensures.moved c.args.role c.args.slot (ap holder whole) refl)
@@ -134,13 +134,13 @@ module _ (g : Over) (c : After-make_whole g) (tell : g.B.Bank.tells) (list : ℕ
       (risen-none c.args.members.now (g.B.Bank.tape c.args.bank.now) (g.B.Bank.tape c.flush.new.self)
       (λ t. added-longer (g.B.Bank.tape c.args.bank.now) (g.B.Bank.tape c.flush.new.self) (flush-added c.args.slot c.flush.ensures.did t)))
 
-  flushed : (world : World) (size : ℕ) (told : Ledger) → IsSafeOver world (g.B.Bank.given c.args.bank.now) size told c.args.members.now (g.B.Bank.tape c.args.bank.now)
-      → KeepsSafe world (g.B.Bank.given c.args.bank.now) size told c.args.members.now (g.B.Bank.tape c.args.bank.now) (g.B.Bank.tape c.flush.new.self)
-  flushed world size told now = flushed-safe (OpensFit world) world.scope (g.B.Bank.given c.args.bank.now) size told c.args.members.now (g.B.Bank.tape c.args.bank.now) (g.B.Bank.tape c.flush.new.self)
+  flushed : (world : World) (told : Ledger) → IsSafeOver world (g.B.Bank.given c.args.bank.now) told c.args.members.now (g.B.Bank.tape c.args.bank.now)
+      → KeepsSafe world (g.B.Bank.given c.args.bank.now) told c.args.members.now (g.B.Bank.tape c.args.bank.now) (g.B.Bank.tape c.flush.new.self)
+  flushed world told now = flushed-safe (OpensFit world) world.scope (g.B.Bank.given c.args.bank.now) told c.args.members.now (g.B.Bank.tape c.args.bank.now) (g.B.Bank.tape c.flush.new.self)
       (flush-added c.args.slot c.flush.ensures.did tell) now
 
 pub returns-clause-safe : goal.returns-clause-safe
-returns-clause-safe g c = λ tell world size told room gone here unclean premise does list stands allowed full now.
+returns-clause-safe g c = λ tell world told room gone here unclean premise does list stands allowed full now.
     let m = c.args.members.now in
     let n = c.make_whole.new.members in
     let given = g.B.Bank.given c.args.bank.now in
@@ -148,19 +148,19 @@ returns-clause-safe g c = λ tell world size told room gone here unclean premise
     let tape0 = g.B.Bank.tape c.args.bank.now in
     let tape1 = g.B.Bank.tape c.flush.new.self in
     let tape2 = g.B.Bank.tape c.make_whole.new.bank in
-    let kept = flushed g c tell list world size told now in
-    safe-then (OpensFit world) world.scope given size told m n tape0 tape1 tape2 kept
-    (keeps-from world given given1 size told n tape1 tape2 c.flush.ensures.given
-    (c.make_whole.ensures.safe tell world size told (room-after g c tell list room) gone here unclean premise does list (stands-then g c tell list stands) allowed (full-then g c tell list full)
-    (over-at world given given1 size told m tape1 c.flush.ensures.given kept.next)))
+    let kept = flushed g c tell list world told now in
+    safe-then (OpensFit world) world.scope given told m n tape0 tape1 tape2 kept
+    (keeps-from world given given1 told n tape1 tape2 c.flush.ensures.given
+    (c.make_whole.ensures.safe tell world told (room-after g c tell list room) gone here unclean premise does list (stands-then g c tell list stands) allowed (full-then g c tell list full)
+    (over-at world given given1 told m tape1 c.flush.ensures.given kept.next)))
 
 pub returns-clause-given_back : goal.returns-clause-given_back
-returns-clause-given_back g c = λ whole tell world size told room gone here unclean premise does list stands allowed full now.
+returns-clause-given_back g c = λ whole tell world told room gone here unclean premise does list stands allowed full now.
     let given = g.B.Bank.given c.args.bank.now in
     let given1 = g.B.Bank.given c.flush.new.self in
     let tape1 = g.B.Bank.tape c.flush.new.self in
     let tape2 = g.B.Bank.tape c.make_whole.new.bank in
-    let kept = flushed g c tell list world size told now in
-    subst (λ (b : Given). IsSafeOver world b size (given_back c.args.role told) c.make_whole.new.members tape2) c.flush.ensures.given
-    (c.make_whole.ensures.given_back whole tell world size told (room-after g c tell list room) gone here unclean premise does list (stands-then g c tell list stands) allowed (full-then g c tell list full)
-    (over-at world given given1 size told c.args.members.now tape1 c.flush.ensures.given kept.next))
+    let kept = flushed g c tell list world told now in
+    subst (λ (b : Given). IsSafeOver world b (given_back c.args.role told) c.make_whole.new.members tape2) c.flush.ensures.given
+    (c.make_whole.ensures.given_back whole tell world told (room-after g c tell list room) gone here unclean premise does list (stands-then g c tell list stands) allowed (full-then g c tell list full)
+    (over-at world given given1 told c.args.members.now tape1 c.flush.ensures.given kept.next))

@@ -9,17 +9,17 @@ use Rattle.superblocks.specs.Update.{IsRoleGive, give_of}
 use Rattle.superblocks.specs.Outcome.{AreLive, AreGivesOfLive, is_in_update, with_added}
 use Rattle.superblocks.proofs.SlotSets.{none_above}
 use Rattle.flat_history.specs.Sound.{OpensFit}
-use Rattle.views.specs.Marking.{giving}
+use Rattle.shape_changes.specs.Marking.{giving}
 use Rattle.views.proofs.MarkedLaws.{grows-marks, others-of}
 use Rattle.views.proofs.Gives.{gives_of, give-here, give-other}
 use Rattle.views.proofs.GivenMembers.{IsReceiver}
 use Rattle.safe_updates.proofs.GivenMoved.{moved-given, failed-given, holders-more}
 use Rattle.safe_updates.proofs.GivingDone.{given-left, losses-done}
-use Rattle.update_laws.specs.Changing.{IsChanged}
-use Rattle.update_laws.proofs.CalledLaws.{changed-by}
-use Rattle.update_laws.proofs.ChangeSafe.{told-changed, risen-changed}
-use Rattle.update_laws.proofs.GivenPlan.{gives-live}
-use Rattle.update_laws.proofs.GivenSafe.{receiver-of, giving-stays-safe}
+use Rattle.shape_changes.specs.Changing.{IsChanged}
+use Rattle.shape_changes.proofs.CalledLaws.{changed-by}
+use Rattle.shape_changes.proofs.ChangeSafe.{told-changed, risen-changed}
+use Rattle.shape_changes.proofs.GivenSafe.{giving-stays-safe}
+use Rattle.views.proofs.GivenPlan.{gives-live, receiver-of, spare-receives}
 use Rattle.safe_updates.proofs.giving.give_role.Given.{Over}
 use Rattle.safe_updates.proofs.giving.give_role.Goals.{After-without}
 use Rattle.safe_updates.proofs.giving.give_role.Goals as goal
@@ -99,6 +99,7 @@ pub returns-clause-rise : goal.returns-clause-rise
 returns-clause-rise g c = risen-changed (done g c) refl (gives-live (g.B.Bank.given c.args.bank.now) c.args.members.now c.requires.placed (Some 0) c.args.role c.args.slot (to g c))
 
 pub returns-clause-safe : goal.returns-clause-safe
-returns-clause-safe g c = λ tell world size told room gone here unclean safe.
-    giving-stays-safe (OpensFit world) world.scope (g.B.Bank.given c.args.bank.now) size told c.args.role c.args.slot c.args.members.now c.update-lost.new.members (g.B.Bank.tape c.args.bank.now)
-    (g.B.Bank.tape c.update-lost.new.bank) (told-changed tell (done g c)) c.requires.placed c.requires.free c.requires.role c.requires.vacant c.requires.spare room gone safe
+returns-clause-safe g c = λ tell world told room gone here unclean safe.
+    giving-stays-safe (OpensFit world) world.scope (g.B.Bank.given c.args.bank.now) told c.args.role c.args.slot c.args.members.now c.update-lost.new.members (g.B.Bank.tape c.args.bank.now)
+    (g.B.Bank.tape c.update-lost.new.bank) (told-changed tell (done g c))
+    (spare-receives (g.B.Bank.given c.args.bank.now) c.args.members.now c.args.role c.args.slot c.requires.placed c.requires.free c.requires.role c.requires.vacant c.requires.spare) room gone safe

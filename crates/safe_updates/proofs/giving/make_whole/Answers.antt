@@ -18,23 +18,23 @@ use Rattle.flat_history.specs.Sound.{OpensFit}
 use Rattle.row_io.specs.Rows.{present}
 use Rattle.views.specs.Lacking.{DoesWithout, RowsStand}
 use Rattle.views.specs.Rebuilding.{IsFlushedFull}
-use Rattle.views.specs.Views.{Ledger}
-use Rattle.views.specs.Safety.{HasRoomLeft}
-use Rattle.views.specs.Steady.{IsSafeOver, AreGoneTold, AreWritesAllowed, given_back}
+use Rattle.shape_views.specs.Views.{Ledger}
+use Rattle.shape_changes.specs.Safety.{HasRoomLeft}
+use Rattle.shape_changes.specs.Steady.{IsSafeOver, AreGoneTold, AreWritesAllowed, given_back}
 use Rattle.views.proofs.LiveLeft.{holder-left}
-use Rattle.views.specs.Marking.{giving}
+use Rattle.shape_changes.specs.Marking.{giving}
 use Rattle.views.proofs.MarkedLaws.{grows-marks, others-of}
 use Rattle.views.proofs.Gives.{gives_of, give-here, give-other}
 use Rattle.views.proofs.GivenMembers.{IsReceiver}
 use Rattle.safe_updates.proofs.GivenMoved.{moved-given, failed-given, holders-more}
 use Rattle.safe_updates.proofs.GivingDone.{given-left, losses-done}
 use Rattle.safe_updates.proofs.MadeWhole.{holder-receives, held-already, IsMoreBack, back-same, back-given, makable}
-use Rattle.update_laws.specs.Changing.{IsChanged, IsSafeChange}
-use Rattle.update_laws.specs.Making.{IsMade}
-use Rattle.update_laws.proofs.CalledLaws.{changed-by}
-use Rattle.update_laws.proofs.ChangeSafe.{told-changed, told-marks, risen-changed, one-stretch, change-named}
-use Rattle.update_laws.proofs.GivenPlan.{gives-live}
-use Rattle.update_laws.proofs.MadeSafe.{making-safe}
+use Rattle.shape_changes.specs.Changing.{IsChanged, IsSafeChange}
+use Rattle.shape_changes.specs.Making.{IsMade}
+use Rattle.shape_changes.proofs.CalledLaws.{changed-by}
+use Rattle.shape_changes.proofs.ChangeSafe.{told-changed, told-marks, risen-changed, one-stretch, change-named}
+use Rattle.shape_changes.proofs.MadeSafe.{making-safe}
+use Rattle.views.proofs.GivenPlan.{gives-live}
 use Rattle.safe_updates.proofs.giving.make_whole.Given.{Over}
 use Rattle.safe_updates.proofs.giving.make_whole.Goals.{After-without}
 use Rattle.safe_updates.proofs.giving.make_whole.Goals as goal
@@ -133,34 +133,34 @@ pub returns-clause-rise : goal.returns-clause-rise
 returns-clause-rise g c = risen-changed (done g c) refl (gives-live (g.B.Bank.given c.args.bank.now) c.args.members.now c.requires.placed None c.args.role c.args.slot (to g c))
 
 -- by the ledger, or by one in which the role isn't gone
-module _ (g : Over) (c : After-without g) (tell : g.B.Bank.tells) (world : World) (size : ℕ) (told : Ledger) (gone : AreGoneTold told c.update-lost.new.members) (here : told.gone c.args.role ≡ true)
+module _ (g : Over) (c : After-without g) (tell : g.B.Bank.tells) (world : World) (told : Ledger) (gone : AreGoneTold told c.update-lost.new.members) (here : told.gone c.args.role ≡ true)
     (premise : OpensFit world) (does : DoesWithout c.args.members.now) (list : ℕ → Sector)
     (stands : RowsStand c.args.members.now (present (g.B.Bank.given c.args.bank.now) (g.B.Bank.tape c.args.bank.now)) list) (allowed : AreWritesAllowed c.args.members.now told.values list)
     (full : IsFlushedFull c.args.members.now c.args.role c.args.slot list (disk (g.B.Bank.given c.args.bank.now).start (g.B.Bank.tape c.args.bank.now)))
-    (room : HasRoomLeft c.args.members.now (g.B.Bank.tape c.args.bank.now) (g.B.Bank.tape c.update-lost.new.bank)) (safe : IsSafeOver world (g.B.Bank.given c.args.bank.now) size told c.args.members.now (g.B.Bank.tape c.args.bank.now)) where
-  whole-safe : (more : Ledger) → IsMoreBack (OpensFit world) (g.B.Bank.given c.args.bank.now) size told more c.args.role c.args.slot c.update-lost.new.members
-      → IsSafeChange (OpensFit world) world.scope (g.B.Bank.given c.args.bank.now) size size told more c.update-lost.new.members (g.B.Bank.tape c.args.bank.now) (g.B.Bank.tape c.update-lost.new.bank)
+    (room : HasRoomLeft c.args.members.now (g.B.Bank.tape c.args.bank.now) (g.B.Bank.tape c.update-lost.new.bank)) (safe : IsSafeOver world (g.B.Bank.given c.args.bank.now) told c.args.members.now (g.B.Bank.tape c.args.bank.now)) where
+  whole-safe : (more : Ledger) → IsMoreBack (OpensFit world) world.scope (g.B.Bank.given c.args.bank.now) told more c.args.role c.args.slot c.update-lost.new.members
+      → IsSafeChange (OpensFit world) world.scope (g.B.Bank.given c.args.bank.now) told more c.update-lost.new.members (g.B.Bank.tape c.args.bank.now) (g.B.Bank.tape c.update-lost.new.bank)
   whole-safe more back =
       let given = g.B.Bank.given c.args.bank.now in
       let m = c.args.members.now in
       let n = c.update-lost.new.members in
       let before = g.B.Bank.tape c.args.bank.now in
       let after = g.B.Bank.tape c.update-lost.new.bank in
-      making-safe (OpensFit world) world.scope given size size told more (giving m c.args.slot c.args.role None) c.args.slot c.args.role m n before after (made g c tell) refl
+      making-safe (OpensFit world) world.scope given told more (giving m c.args.slot c.args.role None) c.args.slot c.args.role m n before after (made g c tell) refl
       (gives-live given m c.requires.placed None c.args.role c.args.slot (to g c)) room
-      (λ steady. makable (OpensFit world) world.scope given size told c.args.role c.args.slot m n before after (told-changed tell (done g c)) c.requires.placed (to g c) c.requires.role c.requires.recovering premise does list
+      (λ steady. makable (OpensFit world) world.scope given told c.args.role c.args.slot m n before after (told-changed tell (done g c)) c.requires.placed (to g c) c.requires.role c.requires.recovering premise does list
       stands allowed full gone here steady more back) safe
 
 pub returns-clause-safe : goal.returns-clause-safe
-returns-clause-safe g c = λ tell world size told room gone here unclean premise does list stands allowed full safe.
-    one-stretch (OpensFit world) world.scope (g.B.Bank.given c.args.bank.now) size told c.update-lost.new.members (g.B.Bank.tape c.args.bank.now) (g.B.Bank.tape c.update-lost.new.bank)
-    (whole-safe g c tell world size told gone here premise does list stands allowed full room safe told (back-same (OpensFit world) (g.B.Bank.given c.args.bank.now) size told c.args.role c.args.slot c.update-lost.new.members gone))
+returns-clause-safe g c = λ tell world told room gone here unclean premise does list stands allowed full safe.
+    one-stretch (OpensFit world) world.scope (g.B.Bank.given c.args.bank.now) told c.update-lost.new.members (g.B.Bank.tape c.args.bank.now) (g.B.Bank.tape c.update-lost.new.bank)
+    (whole-safe g c tell world told gone here premise does list stands allowed full room safe told (back-same (OpensFit world) world.scope (g.B.Bank.given c.args.bank.now) told c.args.role c.args.slot c.update-lost.new.members gone))
 
 pub returns-clause-given_back : goal.returns-clause-given_back
-returns-clause-given_back g c = λ whole tell world size told room gone here unclean premise does list stands allowed full safe.
+returns-clause-given_back g c = λ whole tell world told room gone here unclean premise does list stands allowed full safe.
     let given = g.B.Bank.given c.args.bank.now in
     let n = c.update-lost.new.members in
     let moved = returns-clause-moved g c in
-    inl (change-named (OpensFit world) world.scope given size size told (given_back c.args.role told) n (g.B.Bank.tape c.args.bank.now) (g.B.Bank.tape c.update-lost.new.bank)
-    (whole-safe g c tell world size told gone here premise does list stands allowed full room safe (given_back c.args.role told) (back-given (OpensFit world) given size told c.args.role c.args.slot n gone whole))
+    inl (change-named (OpensFit world) world.scope given told (given_back c.args.role told) n (g.B.Bank.tape c.args.bank.now) (g.B.Bank.tape c.update-lost.new.bank)
+    (whole-safe g c tell world told gone here premise does list stands allowed full room safe (given_back c.args.role told) (back-given (OpensFit world) world.scope given told c.args.role c.args.slot n gone whole))
     (holder-left given n c.args.role c.args.slot moved.placed moved.unlost (ap holder whole))).steady

@@ -9,10 +9,10 @@ use Rattle.superblocks.specs.Update.{IsRoleGive, give_of}
 use Rattle.superblocks.specs.Updating.{ArePlanned}
 use Rattle.superblocks.specs.Outcome.{with_added, live_set, is_left, AreLive, AreGivesOfLive}
 use Rattle.views.specs.Placed.{IsPlaced}
-use Rattle.views.specs.Marking.{marking}
-use Rattle.views.proofs.MarkLaws.{give_of-same}
+use Rattle.shape_changes.specs.Marking.{marking}
+use Rattle.shape_changes.proofs.Kept.{give_of-same}
 use Rattle.views.proofs.PlacedLaws.{marked-less, marked-count, placed-less, less-unlost}
-use Rattle.update_laws.proofs.CalledLaws.{changed-by}
+use Rattle.shape_changes.proofs.CalledLaws.{changed-by}
 use Rattle.safe_updates.proofs.marks.mark.Goals as goal
 
 pub update-requires-clause-count : goal.update-requires-clause-count

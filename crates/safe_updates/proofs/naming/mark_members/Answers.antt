@@ -8,16 +8,17 @@ use Rattle.superblocks.specs.Outcome.{live_set}
 use Rattle.superblocks.proofs.SlotSets.{none_above}
 use Rattle.row_io.specs.Rows.{reading_of}
 use Rattle.views.specs.Placed.{IsPlaced}
-use Rattle.views.specs.Marking.{marking}
+use Rattle.shape_changes.specs.Marking.{marking}
 use Rattle.safe_updates.specs.Named.{AreDataKept}
-use Rattle.views.proofs.MarkLaws.{few-planned, give_of-same}
+use Rattle.views.proofs.MarkLaws.{few-planned}
+use Rattle.shape_changes.proofs.Kept.{give_of-same}
 use Rattle.views.proofs.MovedLaws.{moved-less}
 use Rattle.safe_updates.proofs.SparesLaws.{spare-left, spare-stays, free-told}
 use Rattle.views.proofs.MarkedLaws.{grows-marks, others-updated, failed-marked}
 use Rattle.views.proofs.LackingLaws.{since-failed, holders-updated}
 use Rattle.flat_history.specs.Sound.{OpensFit}
-use Rattle.update_laws.proofs.ChangeSafe.{told-changed, risen-changed}
-use Rattle.update_laws.proofs.KeptSafe.{mark-safe, mark-named}
+use Rattle.shape_changes.proofs.ChangeSafe.{told-changed, risen-changed}
+use Rattle.shape_changes.proofs.KeptSafe.{mark-safe, mark-named}
 use Rattle.views.proofs.MarkEnds.{left-in-mark}
 use Rattle.safe_updates.proofs.NamedAll.{marked-missing}
 use Rattle.safe_updates.proofs.naming.mark_members.Goals as goal
@@ -76,13 +77,13 @@ pub returns-clause-flushed : goal.returns-clause-flushed
 returns-clause-flushed g c = λ told flushed. holders-updated (g.B.Bank.given c.args.bank.now) (reading_of c.args.members.now) c.mark-lost.ensures.marked.update told flushed
 
 pub returns-clause-safe : goal.returns-clause-safe
-returns-clause-safe g c = λ tell world size told room markable now.
-    mark-safe (OpensFit world) world.scope (g.B.Bank.given c.args.bank.now) size told c.args.clean c.args.members.now c.mark-lost.new.members (g.B.Bank.tape c.args.bank.now) (g.B.Bank.tape c.mark-lost.new.bank)
+returns-clause-safe g c = λ tell world told room markable now.
+    mark-safe (OpensFit world) world.scope (g.B.Bank.given c.args.bank.now) told c.args.clean c.args.members.now c.mark-lost.new.members (g.B.Bank.tape c.args.bank.now) (g.B.Bank.tape c.mark-lost.new.bank)
     (told-changed tell c.mark-lost.ensures.marked) room markable now
 
 pub returns-clause-named : goal.returns-clause-named
-returns-clause-named g c = λ tell world size told room markable now left.
-    mark-named (OpensFit world) world.scope (g.B.Bank.given c.args.bank.now) size told c.args.clean c.args.members.now c.mark-lost.new.members (g.B.Bank.tape c.args.bank.now) (g.B.Bank.tape c.mark-lost.new.bank)
+returns-clause-named g c = λ tell world told room markable now left.
+    mark-named (OpensFit world) world.scope (g.B.Bank.given c.args.bank.now) told c.args.clean c.args.members.now c.mark-lost.new.members (g.B.Bank.tape c.args.bank.now) (g.B.Bank.tape c.mark-lost.new.bank)
     (told-changed tell c.mark-lost.ensures.marked) room markable now left
 
 pub returns-clause-rise : goal.returns-clause-rise

@@ -10,24 +10,24 @@ use Rattle.views.proofs.LackingWrites.{marks-here}
 use Rattle.safe_updates.proofs.naming.name_missing.Goals as goal
 
 pub returns-then-not-has_unnamed-clause-safe : goal.returns-then-not-has_unnamed-clause-safe
-returns-then-not-has_unnamed-clause-safe g c = λ tell world size told room gone unclean now.
-    safe-none (OpensFit world) world.scope (g.B.Bank.given c.args.bank.now) size told c.args.members.now (g.B.Bank.tape c.args.bank.now) now
+returns-then-not-has_unnamed-clause-safe g c = λ tell world told room gone unclean now.
+    safe-none (OpensFit world) world.scope (g.B.Bank.given c.args.bank.now) told c.args.members.now (g.B.Bank.tape c.args.bank.now) now
 
 pub returns-then-not-has_unnamed-clause-named : goal.returns-then-not-has_unnamed-clause-named
-returns-then-not-has_unnamed-clause-named g c = λ tell world size told room gone unclean now left.
+returns-then-not-has_unnamed-clause-named g c = λ tell world told room gone unclean now left.
     unnamed-named c.args.members.now (disk (g.B.Bank.given c.args.bank.now).start (g.B.Bank.tape c.args.bank.now)) c.requires.placed
     (c.has_unnamed.ensures.none c.if-not-has_unnamed.true) (left-steady left now)
 
 pub returns-clause-safe : goal.returns-clause-safe
-returns-clause-safe g c = λ tell world size told room gone unclean now.
-    c.mark_members.ensures.safe tell world size told room
-    (same-markable (OpensFit world) world.scope (g.B.Bank.given c.args.bank.now) size told c.is_clean-clean.result c.args.members.now c.mark_members.new.members
+returns-clause-safe g c = λ tell world told room gone unclean now.
+    c.mark_members.ensures.safe tell world told room
+    (same-markable (OpensFit world) world.scope (g.B.Bank.given c.args.bank.now) told c.is_clean-clean.result c.args.members.now c.mark_members.new.members
     (disk (g.B.Bank.given c.args.bank.now).start (g.B.Bank.tape c.args.bank.now)) c.requires.placed c.requires.unlost c.is_clean-clean.ensures gone unclean now) now
 
 pub returns-clause-named : goal.returns-clause-named
-returns-clause-named g c = λ tell world size told room gone unclean now left.
-    c.mark_members.ensures.named tell world size told room
-    (same-markable (OpensFit world) world.scope (g.B.Bank.given c.args.bank.now) size told c.is_clean-clean.result c.args.members.now c.mark_members.new.members
+returns-clause-named g c = λ tell world told room gone unclean now left.
+    c.mark_members.ensures.named tell world told room
+    (same-markable (OpensFit world) world.scope (g.B.Bank.given c.args.bank.now) told c.is_clean-clean.result c.args.members.now c.mark_members.new.members
     (disk (g.B.Bank.given c.args.bank.now).start (g.B.Bank.tape c.args.bank.now)) c.requires.placed c.requires.unlost c.is_clean-clean.ensures gone unclean now) now left
 
 pub returns-then-not-has_unnamed-clause-missing : goal.returns-then-not-has_unnamed-clause-missing

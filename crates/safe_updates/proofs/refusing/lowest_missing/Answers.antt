@@ -1,4 +1,4 @@
-use Rattle.std.proofs.Common.{◌≡◌, ◌<◌, ◌&&◌, ℕ, Bool, true, false, not, sym, ◌∙◌, ap, ap₂, arith, below_more}
+use Rattle.std.proofs.Common.{◌≡◌, ◌&&◌, Bool, false, not, sym, ◌∙◌, ap, ap₂, arith, below_more}
 use Rattle.md_base.proofs.Least.{least_below-none}
 use Rattle.md_base.specs.declared.places.Shape.{Shape}
 use Rattle.layout.specs.Layout.{is_parity_only}

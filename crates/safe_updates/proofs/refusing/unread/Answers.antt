@@ -1,4 +1,4 @@
-use Rattle.std.proofs.Common.{◌≡◌, ◌+◌, ℕ, Option, option_map, sym, ◌∙◌, ap}
+use Rattle.std.proofs.Common.{◌+◌, ℕ, Option, option_map, sym, ◌∙◌, ap}
 use Rattle.md_base.specs.declared.answers.Refusal.TheVariants.{NotResynced}
 use Rattle.layout.specs.Layout.{place}
 use Rattle.superblocks.specs.Reading.{shape_of}

@@ -4,7 +4,7 @@ use Rattle.bank.specs.Tape.{Contents}
 use Rattle.superblocks.specs.Reading.{shape_of, is_clean}
 use Rattle.row_io.specs.Rows.{present, reading_of}
 use Rattle.views.specs.Placed.{AreWhole, AreLost, IsPlaced}
-use Rattle.views.specs.Marking.{AreOthersPresent}
+use Rattle.shape_changes.specs.Marking.{AreOthersPresent}
 use Rattle.views.specs.Rebuilding.{AreSparesFree}
 use Rattle.views.proofs.Flushed.{contents-added}
 use Rattle.views.proofs.MemberLaws.{are_lost}
@@ -12,10 +12,10 @@ use Rattle.views.proofs.MovedLaws.{moved-lost, moved-then, lost-none, moved-from
 use Rattle.views.proofs.LackingLaws.{since-lost, since-then, in-second, holders-flushed, holders-fewer, holders-at}
 use Rattle.flat_history.specs.Sound.{OpensFit}
 use Rattle.superblocks.specs.declared.members.Members.{Members}
-use Rattle.views.specs.Steady.{IsNamedOver, IsUncleanTold}
+use Rattle.shape_changes.specs.Steady.{IsNamedOver, IsUncleanTold}
 use Rattle.views.proofs.MarkedSafe.{lost-safe, added-longer}
 use Rattle.views.proofs.SafeStretch.{safe-then, over-at, keeps-from}
-use Rattle.views.proofs.Risen.{risen-lost, risen-then, room-then}
+use Rattle.shape_changes.proofs.Risen.{risen-lost, risen-then, room-then}
 use Rattle.safe_updates.proofs.settles.flush_naming.Goals as goal
 
 pub lose_slots-requires-clause-small : goal.lose_slots-requires-clause-small
@@ -139,7 +139,7 @@ returns-clause-rise g c =
     c.name_missing.ensures.rise
 
 pub returns-clause-safe : goal.returns-clause-safe
-returns-clause-safe g c = λ tell world size told room gone unclean now.
+returns-clause-safe g c = λ tell world told room gone unclean now.
     let m = c.args.members.now in
     let n = c.lose_slots.new.members in
     let given = g.B.Bank.given c.args.bank.now in
@@ -150,15 +150,15 @@ returns-clause-safe g c = λ tell world size told room gone unclean now.
     let failed = c.flush_members-failed.result in
     let did1 = c.flush_members-failed.ensures in
     let is = c.lose_slots.ensures in
-    let flushed = lost-safe (OpensFit world) world.scope given size told m n failed tape0 tape1 is (did1.tape tell) now in
-    safe-then (OpensFit world) world.scope given size told n c.name_missing.new.members tape0 tape1 tape2 flushed
-    (keeps-from world given given1 size told c.name_missing.new.members tape1 tape2 did1.given
-    (c.name_missing.ensures.safe tell world size told
+    let flushed = lost-safe (OpensFit world) world.scope given told m n failed tape0 tape1 is (did1.tape tell) now in
+    safe-then (OpensFit world) world.scope given told n c.name_missing.new.members tape0 tape1 tape2 flushed
+    (keeps-from world given given1 told c.name_missing.new.members tape1 tape2 did1.given
+    (c.name_missing.ensures.safe tell world told
     (room-then tape2 tell room (risen-lost m n failed tape0 tape1 is (λ t. added-longer tape0 tape1 (did1.tape t)))) gone
-    (subst (λ (x : Members). IsUncleanTold told x) (sym is) unclean) (over-at world given given1 size told n tape1 did1.given flushed.next)))
+    (subst (λ (x : Members). IsUncleanTold told x) (sym is) unclean) (over-at world given given1 told n tape1 did1.given flushed.next)))
 
 pub returns-clause-named : goal.returns-clause-named
-returns-clause-named g c = λ tell world size told room gone unclean now left.
+returns-clause-named g c = λ tell world told room gone unclean now left.
     let m = c.args.members.now in
     let n = c.lose_slots.new.members in
     let given = g.B.Bank.given c.args.bank.now in
@@ -169,8 +169,8 @@ returns-clause-named g c = λ tell world size told room gone unclean now left.
     let failed = c.flush_members-failed.result in
     let did1 = c.flush_members-failed.ensures in
     let is = c.lose_slots.ensures in
-    let flushed = lost-safe (OpensFit world) world.scope given size told m n failed tape0 tape1 is (did1.tape tell) now in
-    subst (λ (b : Given). IsNamedOver world b size told c.name_missing.new.members tape2) did1.given
-    (c.name_missing.ensures.named tell world size told
+    let flushed = lost-safe (OpensFit world) world.scope given told m n failed tape0 tape1 is (did1.tape tell) now in
+    subst (λ (b : Given). IsNamedOver world b told c.name_missing.new.members tape2) did1.given
+    (c.name_missing.ensures.named tell world told
     (room-then tape2 tell room (risen-lost m n failed tape0 tape1 is (λ t. added-longer tape0 tape1 (did1.tape t)))) gone
-    (subst (λ (x : Members). IsUncleanTold told x) (sym is) unclean) (over-at world given given1 size told n tape1 did1.given flushed.next) left)
+    (subst (λ (x : Members). IsUncleanTold told x) (sym is) unclean) (over-at world given given1 told n tape1 did1.given flushed.next) left)

@@ -5,14 +5,15 @@ use Rattle.bank.specs.Given.{Given}
 use Rattle.bank.specs.Tape.{disk}
 use Rattle.flat_history.specs.Sound.{OpensFit}
 use Rattle.views.specs.Lacking.{DoesWithout, AreTooMany, RowsStand}
-use Rattle.views.specs.Marking.{AreOthersPresent}
+use Rattle.shape_changes.specs.Marking.{AreOthersPresent}
 use Rattle.views.specs.Rebuilding.{AreSparesFree}
-use Rattle.views.specs.Steady.{IsMarkable, IsNamedOver}
+use Rattle.shape_changes.specs.Kinds.{IsMarkable}
+use Rattle.shape_changes.specs.Steady.{IsNamedOver}
 use Rattle.views.proofs.HeldRows.{without-before}
 use Rattle.views.proofs.LackingLists.{list-moved, rows-moved}
 use Rattle.views.proofs.LiveLeft.{without-left, holder-left}
 use Rattle.views.proofs.MarkedSafe.{settled-markable}
-use Rattle.views.proofs.Risen.{risen-then, room-first, room-then}
+use Rattle.shape_changes.proofs.Risen.{risen-then, room-first, room-then}
 use Rattle.views.proofs.SafeStretch.{gone-before, safe-then, allowed-later, grows-longer, over-at, keeps-from}
 use Rattle.safe_updates.proofs.SettledSafe.{settled-safe}
 use Rattle.superblocks.specs.declared.members.Members.{Members}
@@ -65,11 +66,11 @@ second false true c e = absurd (cc)
 second false false c e = refl
 
 pub returns-then-is_some-unsynced-clause-safe : goal.returns-then-is_some-unsynced-clause-safe
-returns-then-is_some-unsynced-clause-safe g c = λ tell world size told room gone unclean list stands rows allowed now.
-    c.flush_naming-named.ensures.safe tell world size told room gone unclean now
+returns-then-is_some-unsynced-clause-safe g c = λ tell world told room gone unclean list stands rows allowed now.
+    c.flush_naming-named.ensures.safe tell world told room gone unclean now
 
 pub returns-then-is_some-unsynced-clause-settled : goal.returns-then-is_some-unsynced-clause-settled
-returns-then-is_some-unsynced-clause-settled g c = λ none tell world size told room gone unclean dirty list stands rows allowed now.
+returns-then-is_some-unsynced-clause-settled g c = λ none tell world told room gone unclean dirty list stands rows allowed now.
     let m = c.args.members.now in
     let m1 = c.flush_naming-named.new.members in
     let given = g.B.Bank.given c.args.bank.now in
@@ -78,12 +79,12 @@ returns-then-is_some-unsynced-clause-settled g c = λ none tell world size told 
     let did1 = c.flush_naming-named.ensures in
     let does1 = without-none m1 c.too_many-refusal.result c.too_many-refusal.ensures none in
     let does = without-before given m m1 c.requires.placed did1.moved does1 in
-    settled-safe (OpensFit world) world.scope given size told c.args.unsynced m1 tape1 list did1.moved.placed (did1.flushed tell)
+    settled-safe (OpensFit world) world.scope given told c.args.unsynced m1 tape1 list did1.moved.placed (did1.flushed tell)
     (list-moved given m m1 (present given tape0) (present given tape1) list did1.moved c.requires.placed (did1.others tell) (stands does))
     (λ is. still c.is_some.result c.args.unsynced c.is_clean.result c.if-is_some-unsynced.true (c.is_some.ensures ∙ ap (λ (o : Option Refusal). is_some o) none) (c.is_clean.ensures ∙ is))
     (λ clean does_without premise. rows-moved given m m1 (present given tape0) (present given tape1) list did1.moved c.requires.placed (did1.others tell)
     (rows (synced c.args.unsynced (λ is. sym (did1.clean ∙ dirty does is) ∙ clean)) does premise))
-    (did1.named tell world size told room gone unclean now (without-left given m1 did1.moved.placed did1.moved.unlost does1))
+    (did1.named tell world told room gone unclean now (without-left given m1 did1.moved.placed did1.moved.unlost does1))
   where
     still : (a b c : Bool) → ((a || b) || c) ≡ true → a ≡ false → c ≡ false → b ≡ true
     still true b c e f h = absurd (cc)
@@ -102,7 +103,7 @@ pub returns-clause-rise : goal.returns-clause-rise
 returns-clause-rise g c = risen-then c.flush_naming-named.ensures.rise c.mark_members-marked.ensures.rise
 
 pub returns-clause-safe : goal.returns-clause-safe
-returns-clause-safe g c = λ tell world size told room gone unclean list stands rows allowed now.
+returns-clause-safe g c = λ tell world told room gone unclean list stands rows allowed now.
     let m = c.args.members.now in
     let m1 = c.flush_naming-named.new.members in
     let m2 = c.mark_members-marked.new.members in
@@ -114,19 +115,19 @@ returns-clause-safe g c = λ tell world size told room gone unclean list stands 
     let did1 = c.flush_naming-named.ensures in
     let did2 = c.mark_members-marked.ensures in
     let moved2 = moved-from given given1 m1 m1 m2 did1.given refl did2.moved in
-    let kept = did1.safe tell world size told (room-first m tape0 tape1 tape2 room (grows-longer did2.grows tell)) (gone-before given m1 m2 did1.moved.placed moved2 told gone) unclean now in
-    let markable : IsMarkable (OpensFit world) true told m1 m2 (disk given.start tape1) =
-    settled-markable (OpensFit world) given told m1 m2 tape1 list did1.moved.placed (did1.flushed tell) gone (allowed-later given m m1 did1.moved told.values list allowed)
+    let kept = did1.safe tell world told (room-first m tape0 tape1 tape2 room (grows-longer did2.grows tell)) (gone-before given m1 m2 did1.moved.placed moved2 told gone) unclean now in
+    let markable : IsMarkable (OpensFit world) world.scope true told m1 m2 (disk given.start tape1) =
+    settled-markable (OpensFit world) world.scope given told m1 m2 tape1 list did1.moved.placed (did1.flushed tell) gone (allowed-later given m m1 did1.moved c.requires.placed told.values list allowed)
     (λ does premise. rows-moved given m m1 (present given tape0) (present given tape1) list did1.moved c.requires.placed (did1.others tell)
     (rows (second c.is_some.result c.args.unsynced c.is_clean.result c.if-is_some-unsynced.false) (without-before given m m1 c.requires.placed did1.moved does) premise)) in
-    safe-then (OpensFit world) world.scope given size told m1 m2 tape0 tape1 tape2 kept
-    (keeps-from world given given1 size told m2 tape1 tape2 did1.given
-    (did2.safe tell world size told (room-then tape2 tell room did1.rise)
-    (subst (λ (b : Given). IsMarkable (OpensFit world) true told m1 m2 (disk b.start tape1)) (sym did1.given) markable)
-    (over-at world given given1 size told m1 tape1 did1.given kept.next)))
+    safe-then (OpensFit world) world.scope given told m1 m2 tape0 tape1 tape2 kept
+    (keeps-from world given given1 told m2 tape1 tape2 did1.given
+    (did2.safe tell world told (room-then tape2 tell room did1.rise)
+    (subst (λ (b : Given). IsMarkable (OpensFit world) world.scope true told m1 m2 (disk b.start tape1)) (sym did1.given) markable)
+    (over-at world given given1 told m1 tape1 did1.given kept.next)))
 
 pub returns-clause-settled : goal.returns-clause-settled
-returns-clause-settled g c = λ none tell world size told room gone unclean dirty list stands rows allowed now.
+returns-clause-settled g c = λ none tell world told room gone unclean dirty list stands rows allowed now.
     let m = c.args.members.now in
     let m1 = c.flush_naming-named.new.members in
     let m2 = c.mark_members-marked.new.members in
@@ -139,25 +140,25 @@ returns-clause-settled g c = λ none tell world size told room gone unclean dirt
     let did2 = c.mark_members-marked.ensures in
     let moved2 = moved-from given given1 m1 m1 m2 did1.given refl did2.moved in
     let others2 = subst (λ (b : Given). AreOthersPresent (present b tape1) (present b tape2)) did1.given (did2.others tell) in
-    let kept = did1.safe tell world size told (room-first m tape0 tape1 tape2 room (grows-longer did2.grows tell)) (gone-before given m1 m2 did1.moved.placed moved2 told gone) unclean now in
+    let kept = did1.safe tell world told (room-first m tape0 tape1 tape2 room (grows-longer did2.grows tell)) (gone-before given m1 m2 did1.moved.placed moved2 told gone) unclean now in
     let does1 = without-none m1 c.too_many-refusal.result c.too_many-refusal.ensures (none-there c.too_many-refusal.result c.is_some.result c.args.unsynced c.is_clean.result c.is_some.ensures c.if-is_some-unsynced.false) in
     let does = without-before given m m1 c.requires.placed did1.moved does1 in
     let stands1 = list-moved given m m1 (present given tape0) (present given tape1) list did1.moved c.requires.placed (did1.others tell) (stands does) in
     let rows1 : OpensFit world → RowsStand m1 (present given tape1) list =
     λ premise. rows-moved given m m1 (present given tape0) (present given tape1) list did1.moved c.requires.placed (did1.others tell)
     (rows (second c.is_some.result c.args.unsynced c.is_clean.result c.if-is_some-unsynced.false) does premise) in
-    let markable : IsMarkable (OpensFit world) true told m1 m2 (disk given.start tape1) =
-    settled-markable (OpensFit world) given told m1 m2 tape1 list did1.moved.placed (did1.flushed tell) gone (allowed-later given m m1 did1.moved told.values list allowed) (λ does_without premise. rows1 premise) in
+    let markable : IsMarkable (OpensFit world) world.scope true told m1 m2 (disk given.start tape1) =
+    settled-markable (OpensFit world) world.scope given told m1 m2 tape1 list did1.moved.placed (did1.flushed tell) gone (allowed-later given m m1 did1.moved c.requires.placed told.values list allowed) (λ does_without premise. rows1 premise) in
     let held = c.unmarked.ensures.left none in
-    settled-safe (OpensFit world) world.scope given size told c.args.unsynced m2 tape2 list moved2.placed
+    settled-safe (OpensFit world) world.scope given told c.args.unsynced m2 tape2 list moved2.placed
     (holders-fewer given m1 m2 tape2 moved2.held (holders-at (reading_of m1) given1 given tape2 (sym did1.given) (did2.flushed tell (holders-at (reading_of m1) given given1 tape1 did1.given (did1.flushed tell)))))
     (list-moved given m1 m2 (present given tape1) (present given tape2) list moved2 did1.moved.placed others2 stands1)
     (λ is. absurd (never (sym did2.clean ∙ is)))
     (λ clean does_without premise. rows-moved given m1 m2 (present given tape1) (present given tape2) list moved2 did1.moved.placed others2 (rows1 premise))
-    (subst (λ (b : Given). IsNamedOver world b size told m2 tape2) did1.given
-    (did2.named tell world size told (room-then tape2 tell room did1.rise)
-    (subst (λ (b : Given). IsMarkable (OpensFit world) true told m1 m2 (disk b.start tape1)) (sym did1.given) markable)
-    (over-at world given given1 size told m1 tape1 did1.given kept.next) (holder-left given m2 held.0 held.1 moved2.placed moved2.unlost held.2)))
+    (subst (λ (b : Given). IsNamedOver world b told m2 tape2) did1.given
+    (did2.named tell world told (room-then tape2 tell room did1.rise)
+    (subst (λ (b : Given). IsMarkable (OpensFit world) world.scope true told m1 m2 (disk b.start tape1)) (sym did1.given) markable)
+    (over-at world given given1 told m1 tape1 did1.given kept.next) (holder-left given m2 held.0 held.1 moved2.placed moved2.unlost held.2)))
   where
     never : true ≡ false → ⊥
     never e = absurd (cc)

@@ -10,11 +10,10 @@ use Rattle.views.specs.Whole.{list_size}
 use Rattle.views.specs.Placed.{places_of}
 use Rattle.array_kept.specs.Kept.{scope_in, IsReady}
 use Rattle.array_kept.specs.Calls.{IsUnaddable}
-use Rattle.array_kept.proofs.AddLaws.{slot-there, unadded_reply}
-use Rattle.array_kept.proofs.AddedKept.{kept-unadded}
+use Rattle.calls_kept.proofs.AddLaws.{slot-there, unadded_reply}
+use Rattle.calls_kept.proofs.AddedKept.{kept-unadded}
 use Rattle.array_kept.proofs.LossLaws.{ended-behind}
 use Rattle.array_kept.proofs.ReadyLaws.{ready, scope-same}
-use Rattle.array.proofs.array.Array.add.Goals.{else-contains-via-then-contains+else-has_unnamed, else-contains-via-else-contains}
 use Rattle.array.proofs.array.Array.add.Goals as goal
 
 pub invariant_of-self : goal.invariant_of-self
@@ -37,8 +36,8 @@ invariant_of-self-2 g c =
     let was = c.self.invariant in
     let a = c.self.inside in
     let given = g.B.Bank.given a.bank in
-    let refusal = c.in-Some-unaddable.refusal in
-    let why = subst (λ v. IsUnaddable (g.B.Bank.given v.bank) v.backup c.args.slot v.members refusal) (sym c.self.view_is) c.in-Some-unaddable.ensures in
+    let refusal = c.in-Some.refusal in
+    let why = subst (λ v. IsUnaddable (g.B.Bank.given v.bank) v.backup c.args.slot v.members refusal) (sym c.self.view_is) c.in-Some.ensures in
     let opens = begins-open a.epoch.entries.items c.args.who (c.requires.next ∙ ap (λ p. next_number c.args.who.caller p.entries) (sym c.self.view_is)) in
     ready (entries_of c.args.who c.ops-end.result (Refused refusal ∷ []))
     (kept-unadded c.args.who c.ops-end.result c.args.slot a.backup was.kept opens c.requires.caller c.ops-end.ensures.count refl refusal why)
@@ -47,27 +46,18 @@ invariant_of-self-2 g c =
 
 pub returns-clause-answered : goal.returns-clause-answered
 returns-clause-answered g c =
-    let refusal = c.in-Some-unaddable.refusal in
+    let refusal = c.in-Some.refusal in
     unadded_reply (g.B.Bank.given c.args.self.now.bank) c.args.self.now.backup c.args.self.now.members (list_size (places_of c.args.self.now.members)) c.args.who c.args.self.now.entries c.enter.new.epoch.entries.items
-    c.ops-end.result c.args.slot refusal c.in-Some-unaddable.ensures
+    c.ops-end.result c.args.slot refusal c.in-Some.ensures
     (c.enter.ensures.items ∙ ap (λ (l : List Entry). l ++ entries_of c.args.who c.ops-end.result (Refused refusal ∷ [])) (c.make_room.ensures.items ∙ ap (λ p. p.entries) c.self.view_is))
     c.requires.next
 
 pub returns-clause-ended : goal.returns-clause-ended
 returns-clause-ended g c =
-    ended-behind (g.B.Bank.tape c.self.inside.bank) c.enter.new.epoch.first c.make_room.new.self.items c.args.who c.ops-end.result [] (Refused c.in-Some-unaddable.refusal) c.enter.ensures.items c.ops-end.ensures.count
+    ended-behind (g.B.Bank.tape c.self.inside.bank) c.enter.new.epoch.first c.make_room.new.self.items c.args.who c.ops-end.result [] (Refused c.in-Some.refusal) c.enter.ensures.items c.ops-end.ensures.count
 
-pub contains-requires : goal.contains-requires
-contains-requires g c =
+pub is_held_up-requires : goal.is_held_up-requires
+is_held_up-requires g c =
     let a = c.self.inside in
-    let addable = subst (λ v. (refusal : Refusal) → IsUnaddable (g.B.Bank.given v.bank) v.backup c.args.slot v.members refusal → ⊥) (sym c.self.view_is) c.in_default-unaddable.ensures in
-    let few = c.self.invariant.kept.slots in
-    let lt = slot-there (g.B.Bank.given a.bank) a.backup c.args.slot a.members c.self.invariant.kept.placed addable in
-    omega (arith, few, lt)
-
--- the slot isn't lost, or nothing that is missing is named
-pub make_spare-requires-clause-fresh : goal.make_spare-requires-clause-fresh
-make_spare-requires-clause-fresh g c = rw (← c.self.view_is) (λ lost. elim c.else-contains.branch [
-  | else-contains-via-then-contains+else-has_unnamed w ↦ w.has_unnamed.ensures.none w.if-has_unnamed.false
-  | else-contains-via-else-contains w ↦ absurd (let e = sym lost ∙ sym c.contains.ensures ∙ w.if-contains.false in cc)
-])
+    let addable = subst (λ v. (refusal : Refusal) → IsUnaddable (g.B.Bank.given v.bank) v.backup c.args.slot v.members refusal → ⊥) (sym c.self.view_is) c.in_default.ensures in
+    rw (← c.self.view_is) (record { slot = slot-there (g.B.Bank.given a.bank) a.backup c.args.slot a.members c.self.invariant.kept.placed addable })

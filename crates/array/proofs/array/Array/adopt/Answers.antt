@@ -8,7 +8,7 @@ use Rattle.flat_history.specs.Plain.{entries_of}
 use Rattle.array_kept.specs.Kept.{scope_in}
 use Rattle.array_kept.specs.Adopting.{opener, absent_losses, found_losses, IsAdoptable}
 use Rattle.array_kept.proofs.ReadyLaws.{scope-same}
-use Rattle.array_kept.proofs.AdoptingLaws.{ready_adopted}
+use Rattle.calls_kept.proofs.AdoptingLaws.{ready_adopted}
 use Rattle.array.proofs.array.Array.adopt.Goals as goal
 
 pub invariant_of-result : goal.invariant_of-result

@@ -4,7 +4,7 @@ use Rattle.flat_history.specs.Plain.{entries_of}
 use Rattle.array_kept.specs.Calls.{IsStepsReply}
 use Rattle.array_kept.proofs.ReadyLaws.{ready, scope-same}
 use Rattle.array_kept.proofs.LossLaws.{ended-behind}
-use Rattle.array_kept.proofs.AnswerLaws.{kept-answered}
+use Rattle.calls_kept.proofs.AnswerLaws.{kept-answered}
 use Rattle.array.proofs.array.Array.answer.Goals as goal
 
 pub invariant_of-self : goal.invariant_of-self

@@ -36,10 +36,10 @@ use Rattle.call_entries.proofs.LosingLaws.{entries-both}
 use Rattle.array_kept.proofs.LossLaws.{losses-tail, ended-behind, behind-alone}
 use Rattle.array_kept.proofs.ReadyLaws.{ready, scope-same, list-same}
 use Rattle.array_kept.proofs.ReplyLaws.{refused-zero}
-use Rattle.array_kept.proofs.RebuildEnded.{whole-vacant, whole-after, whole-spare, failed-still, holder-before}
-use Rattle.array_kept.proofs.RebuildGiven.{receiver-recovering}
-use Rattle.array_kept.proofs.RebuildLaws.{losses-open, losses-end}
-use Rattle.array_kept.proofs.RebuildWhole.{kept-ended_lost, ended-among, kept-whole}
+use Rattle.calls_kept.proofs.RebuildEnded.{whole-vacant, whole-after, whole-spare, failed-still, holder-before}
+use Rattle.calls_kept.proofs.RebuildGiven.{receiver-recovering}
+use Rattle.calls_kept.proofs.RebuildLaws.{losses-open, losses-end}
+use Rattle.calls_kept.proofs.RebuildWhole.{kept-ended_lost, ended-among, kept-whole}
 use Rattle.call_entries.proofs.StepLaws.{still-open}
 use Rattle.array_kept.proofs.StepsLeft.{left-whole, steps-fewer}
 use Rattle.array.proofs.array.Array.end_rebuild.Goals as goal

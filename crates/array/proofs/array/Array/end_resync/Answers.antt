@@ -25,9 +25,9 @@ use Rattle.array_kept.proofs.ReplyLaws.{refused-zero}
 use Rattle.array_kept.proofs.LossLaws.{losses-behind, ended-behind, behind-alone}
 use Rattle.call_entries.proofs.StepLaws.{losses-go_on, still-open, synced-behind}
 use Rattle.array_kept.proofs.DegradedLaws.{kept-refused, degraded-refused, too-many-here, refused-here}
-use Rattle.array_kept.proofs.SettledLaws.{leaves-refused, leaves-settled}
+use Rattle.calls_kept.proofs.SettledLaws.{leaves-refused, leaves-settled}
 use Rattle.array_kept.proofs.StepsLeft.{left-ended, steps-fewer, steps-kept}
-use Rattle.array_kept.proofs.EndLaws.{enough-mended, end-silent, degraded-ended}
+use Rattle.calls_kept.proofs.EndLaws.{enough-mended, end-silent, degraded-ended}
 use Rattle.array.proofs.array.Array.end_resync.Goals as goal
 
 too-many-of : (m : Members) (o : Option Refusal) (refusal : Refusal) → o ≡ Some refusal → MatchOption o ⊤ (AreTooMany m) → AreTooMany m refusal

@@ -21,7 +21,7 @@ use Rattle.array_kept.proofs.ReplyLaws.{fail_reply, no_role_reply}
 use Rattle.array_kept.proofs.LossLaws.{losses-failed, ended-behind}
 use Rattle.views.proofs.HeldRows.{vacant-moved}
 use Rattle.array_kept.proofs.DegradedLaws.{kept-refused, leaves-failed, degraded-failed}
-use Rattle.array_kept.proofs.FailedLaws.{placed-out, unlost-out, moved-out, out-vacant, out-spares, out-only, clean-out, rise-out, named-out}
+use Rattle.calls_kept.proofs.FailedLaws.{placed-out, unlost-out, moved-out, out-vacant, out-spares, out-only, clean-out, rise-out, named-out}
 use Rattle.array.proofs.array.Array.fail.Goals as goal
 
 -- an event, and others of its call behind it

@@ -25,11 +25,11 @@ use Rattle.call_entries.proofs.CallLaws.{losses-are}
 use Rattle.array_kept.proofs.DegradedLaws.{kept-refused, too-many-here, refused-here}
 use Rattle.views.proofs.LackingLaws.{lost-since, does-without}
 use Rattle.array_kept.proofs.LossLaws.{losses-tail, losses-before, ended-behind, behind-alone}
-use Rattle.array_kept.proofs.ReadLaws.{some-of}
+use Rattle.calls_kept.proofs.ReadLaws.{some-of}
 use Rattle.array_kept.proofs.ReadyLaws.{ready, scope-same, list-same}
 use Rattle.array_kept.proofs.ReplyLaws.{refused-zero}
-use Rattle.array_kept.proofs.RebuildFilled.{kept-unfilled, kept-filled, kept-lost, among}
-use Rattle.array_kept.proofs.RebuildLaws.{losses-open, losses-end}
+use Rattle.calls_kept.proofs.RebuildFilled.{kept-unfilled, kept-filled, kept-lost, among}
+use Rattle.calls_kept.proofs.RebuildLaws.{losses-open, losses-end}
 use Rattle.call_entries.proofs.StepLaws.{losses-go_on, still-open}
 use Rattle.array_kept.proofs.StepsLeft.{left-filled, steps-fewer, steps-kept}
 use Rattle.array.proofs.array.Array.fill_stripe.Goals as goal

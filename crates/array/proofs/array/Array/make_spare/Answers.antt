@@ -1,7 +1,8 @@
-use Rattle.std.proofs.Common.{◌≡◌, inr, ◌+◌, ◌≤◌, ℕ, List, [], ◌∷◌, ◌++◌, Some, refl, sym, ◌∙◌, ap, subst, arith}
+use Rattle.std.proofs.Common.{◌≡◌, inr, ◌+◌, ◌≤◌, ℕ, true, List, [], ◌∷◌, ◌++◌, Some, refl, sym, ◌∙◌, ap, subst, arith}
 use Rattle.md_base.specs.declared.answers.Refusal.{Refusal}
 use Rattle.md_base.specs.declared.answers.Refusal.TheVariants.{SlotFault}
 use Rattle.md_base.specs.declared.places.Shape.{Shape}
+use Rattle.md_base.specs.Shapes.{has_slot}
 use Rattle.bank.specs.Given.{Given}
 use Rattle.flat_history.specs.declared.events.Entry.{Entry}
 use Rattle.flat_history.specs.declared.events.Event.TheVariants.{Refused, Added}
@@ -14,10 +15,11 @@ use Rattle.call_entries.specs.Losing.{losses_of}
 use Rattle.views.specs.Numbers.{is_carried, free_number}
 use Rattle.array_kept.specs.Kept.{scope_in, IsKept}
 use Rattle.array_kept.specs.Calls.{IsFirstOffset, IsUnaddable}
+use Rattle.views.specs.Lacking.{AreUnnamed}
 use Rattle.views.specs.Rebuilding.{AreSparesFree}
-use Rattle.array_kept.proofs.AddLaws.{slot-there, slot-free, slot-does, slot-unspare, slot-fits, slot-room, slot-of-scope, is-free, second-half, stored-as, added_reply, faulted_reply}
-use Rattle.array_kept.proofs.AddedKept.{AddsSafe, with_carried, carries-number, carries-only, kept-looked, looked-others, looked-grows, kept-spare, kept-lost}
-use Rattle.array_kept.proofs.AddedLosses.{add-done, others-lost, since-added, spares-added}
+use Rattle.calls_kept.proofs.AddLaws.{slot-there, slot-free, slot-does, slot-unspare, slot-fits, slot-room, slot-of-scope, is-free, second-half, stored-as, added_reply, faulted_reply}
+use Rattle.calls_kept.proofs.AddedKept.{AddsSafe, with_carried, carries-number, carries-only, kept-looked, looked-others, looked-grows, kept-spare, kept-lost}
+use Rattle.calls_kept.proofs.AddedLosses.{add-done, others-lost, since-added, spares-added}
 use Rattle.call_entries.proofs.CallLaws.{losses-are}
 use Rattle.views.proofs.Flushed.{contents-added}
 use Rattle.views.proofs.MovedLaws.{grows-then}
@@ -481,3 +483,8 @@ returns-clause-same g c =
           (scope-same (g.B.Bank.given a.bank) a.backup given_is c.enter_behind-2.ensures.uuid c.enter_behind-2.ensures.given) c.enter_behind-2.ensures.first
           (grows-then (record { more = λ t. ((looked t).0, (looked t).2) }) c.add_member-lost.ensures.grows) (λ t. (was.kept.recorded t).begun);
     })
+
+-- a slot that was lost didn't fail: then nothing that is missing is named
+pub add_member-lost-requires-clause-fresh : goal.add_member-lost-requires-clause-fresh
+add_member-lost-requires-clause-fresh g c = λ lost.
+    subst (λ v. has_slot v.members.lost c.args.slot ≡ true → g.B.Bank.faults_of v.bank c.args.slot ≡ 0 → AreUnnamed v.members) (sym c.self.view_is) c.requires.fresh lost c.in-Some.ensures.sound

@@ -1,4 +1,4 @@
-use Rattle.std.proofs.Common.{◌≤◌, ◌+◌, ◌∷◌, ◌++◌, [], false, Some, inl, refl, sym, ap, subst, arith}
+use Rattle.std.proofs.Common.{◌≡◌, ◌≤◌, ◌+◌, ◌∷◌, ◌++◌, [], false, Some, inl, refl, sym, ap, subst, arith}
 use Rattle.md_base.specs.declared.places.Shape.{Shape}
 use Rattle.flat_history.specs.declared.events.Event.TheVariants.{Refused, Step}
 use Rattle.flat_history.specs.declared.events.StepKind.TheVariants.{ResyncStripe}
@@ -15,12 +15,13 @@ use Rattle.call_entries.proofs.CallLaws.{losses-are}
 use Rattle.views.proofs.LackingLaws.{lost-since, does-without}
 use Rattle.array_kept.proofs.ReadyLaws.{ready, scope-same, list-same}
 use Rattle.array_kept.proofs.ReplyLaws.{unwritten-of, refused-for}
-use Rattle.array_kept.proofs.ReadLaws.{some-of}
+use Rattle.calls_kept.proofs.ReadLaws.{some-of}
 use Rattle.array_kept.proofs.LossLaws.{losses-behind, ended-behind, behind-alone}
 use Rattle.call_entries.proofs.StepLaws.{losses-go_on, still-open}
 use Rattle.array_kept.proofs.StepsLeft.{left-mended, steps-fewer, steps-kept}
-use Rattle.array_kept.proofs.MendLaws.{is-pending, next-stripe, degraded-unmended, degraded-mended}
+use Rattle.calls_kept.proofs.MendLaws.{is-pending, next-stripe, degraded-unmended, degraded-mended}
 use Rattle.array_kept.proofs.DegradedLaws.{kept-refused, unwritten-here}
+use Rattle.safe_updates.specs.First.{write_refusal}
 use Rattle.array.proofs.array.Array.mend_stripe.Goals as goal
 
 -- ---- refused before anything is done
@@ -33,7 +34,7 @@ invariant_of-self-in-Some g c =
     let left : HasStripeLeft a.work.resync a.members = subst (λ p. HasStripeLeft p.work.resync p.members) (sym c.self.view_is) c.requires.pending in
     let some : 1 ≤ a.steps = subst (λ p. 1 ≤ p.steps) (sym c.self.view_is) c.requires.room in
     let refusal = c.in-Some.refusal in
-    let why = unwritten-here (list_size (places_of a.members)) a.work.resync false a.members refusal (λ no. is-pending a.work.resync a.members left) c.in-Some.ensures in
+    let why = unwritten-here (list_size (places_of a.members)) a.work.resync false a.members refusal (λ no. is-pending a.work.resync a.members left) c.in-Some.ensures.why in
     ready (entries_of c.args.who c.ops-end.result (Refused refusal ∷ []))
     (kept-refused c.args.who c.ops-end.result was.kept opens c.requires.caller c.ops-end.ensures.count refusal why)
     was.failed (λ slot. omega arith) refl (scope-same (g.B.Bank.given a.bank) a.backup refl c.enter.ensures.uuid c.enter.ensures.given) c.enter.ensures.first refl c.enter.ensures.items
@@ -57,7 +58,7 @@ pub mend-mended-requires-clause-dirty : goal.mend-mended-requires-clause-dirty
 mend-mended-requires-clause-dirty g c =
     let a = c.self.inside in
     let left : HasStripeLeft a.work.resync a.members = subst (λ p. HasStripeLeft p.work.resync p.members) (sym c.self.view_is) c.requires.pending in
-    c.self.invariant.kept.dirty (does-without a.members (λ refusal many. c.in_default.ensures refusal (inl many))) (is-pending a.work.resync a.members left)
+    c.self.invariant.kept.dirty (does-without a.members (λ refusal many. c.in_default.ensures.why refusal (inl many))) (is-pending a.work.resync a.members left)
 
 -- ---- it isn't mended
 
@@ -78,7 +79,7 @@ invariant_of-self-in-Some-refusal g c =
     let end = c.ops-end-2.result in
     let stripe = c.unwrap_or-stripe.result in
     let next = next-stripe a.work.resync a.members stripe left c.unwrap_or-stripe.ensures in
-    let does = does-without a.members (λ refusal many. c.in_default.ensures refusal (inl many)) in
+    let does = does-without a.members (λ refusal many. c.in_default.ensures.why refusal (inl many)) in
     let since : AreLostSince a.members m roles spares before after = lost-since given a.members m c.shape_in-shape.result.disks c.vacant_roles-before.result roles spares before after was.kept.placed did.moved did.failed
     (ap (λ (s : Shape). s.disks) c.shape_in-shape.ensures) c.vacant_roles-before.ensures c.newly_vacant-roles.ensures in
     let refusal = c.in-Some-refusal.refusal in
@@ -181,7 +182,7 @@ invariant_of-self-2 g c =
     let end = c.ops-end-2.result in
     let stripe = c.unwrap_or-stripe.result in
     let next = next-stripe a.work.resync a.members stripe left c.unwrap_or-stripe.ensures in
-    let does = does-without a.members (λ refusal many. c.in_default.ensures refusal (inl many)) in
+    let does = does-without a.members (λ refusal many. c.in_default.ensures.why refusal (inl many)) in
     let since : AreLostSince a.members m roles spares before after = lost-since given a.members m c.shape_in-shape.result.disks c.vacant_roles-before.result roles spares before after was.kept.placed did.moved did.failed
     (ap (λ (s : Shape). s.disks) c.shape_in-shape.ensures) c.vacant_roles-before.ensures c.newly_vacant-roles.ensures in
     ready (entries_of c.args.who end (losses_of roles spares ++ Step ResyncStripe c.steps_left-left.result ∷ []))
@@ -200,7 +201,7 @@ returns-clause-open g c =
     (ap (λ p. p.entries) c.self.view_is) c.enter_behind-2.ensures.items
 
 pub returns-clause-caused : goal.returns-clause-caused
-returns-clause-caused g c = rw (← c.self.view_is) (omega arith, c.in_default.ensures)
+returns-clause-caused g c = rw (← c.self.view_is) (omega arith, c.in_default.ensures.why)
 
 pub returns-clause-left : goal.returns-clause-left
 returns-clause-left g c =
@@ -266,3 +267,15 @@ returns-clause-same g c =
       list = list-same given (scope_in given a.epoch.uuid a.epoch.given a.backup) a.epoch.first did.given
           (scope-same given a.backup did.given c.enter_behind-2.ensures.uuid c.enter_behind-2.ensures.given) c.enter_behind-2.ensures.first did.grows (λ t. (was.kept.recorded t).begun);
     })
+
+-- ---- the first refusal
+
+pub returns-in-Some-clause-first : goal.returns-in-Some-clause-first
+returns-in-Some-clause-first g c = sym c.in-Some.ensures.first
+
+pub returns-in-Some-refusal-clause-first : goal.returns-in-Some-refusal-clause-first
+returns-in-Some-refusal-clause-first g c =
+    some-of (λ r. write_refusal false c.mend-mended.new.members ≡ Some r) c.mend-mended.result.refusal c.in-Some-refusal.refusal c.in-Some-refusal.is c.mend-mended.ensures.first
+
+pub returns-clause-first : goal.returns-clause-first
+returns-clause-first g c = rw (← c.self.view_is) (sym c.in_default.ensures.first)

@@ -1,4 +1,4 @@
-use Rattle.std.proofs.Common.{◌≡◌, ◌+◌, ◌/◌, ◌<◌, ◌≤◌, ◌++◌, ◌∷◌, [], ℕ, Option, List, length, take, take_all, drop, inl, refl, sym, ◌∙◌, ap, subst, arith}
+use Rattle.std.proofs.Common.{◌≡◌, ◌+◌, ◌/◌, ◌<◌, ◌≤◌, ◌++◌, ◌∷◌, [], ℕ, Option, Some, List, length, take, take_all, drop, inl, refl, sym, ◌∙◌, ap, subst, arith}
 use Rattle.std.proofs.lemmas.List.{take-append-le}
 use Rattle.std.specs.Vec.{with_items}
 use Rattle.md_base.specs.Sectors.{Sector, sectors_of}
@@ -19,12 +19,15 @@ use Rattle.array_kept.specs.Kept.{scope_in, world_in, AreFillsRight}
 use Rattle.array_kept.specs.Calls.{world_for}
 use Rattle.flat_history.proofs.OneShapeGoing.{begins-open}
 use Rattle.views.proofs.LackingLaws.{lost-since, does-without}
+use Rattle.views.proofs.MemberLaws.{list-few}
 use Rattle.array_kept.proofs.ReadyLaws.{ready, scope-same, list-same}
 use Rattle.array_kept.proofs.DegradedLaws.{refused-here, kept-refused, unread-here}
 use Rattle.array_kept.proofs.LossLaws.{losses-behind, ended-behind}
 use Rattle.array_kept.proofs.ReplyLaws.{refused_reply, lost_reply, inside-losses, replied, read_kind, unread-of, refused-for}
-use Rattle.array_kept.proofs.ReadLaws.{kept-unread, kept-read, fetched, some-of}
+use Rattle.calls_kept.proofs.ReadLaws.{kept-unread, kept-read, fetched, some-of}
 use Rattle.call_entries.proofs.CallLaws.{losses-are, torn-losses}
+use Rattle.safe_updates.specs.First.{read_refusal}
+use Rattle.array.proofs.FirstLaws.{call-within}
 use Rattle.array.proofs.array.Array.read.Goals as goal
 
 -- bytes that were written whole
@@ -46,7 +49,7 @@ invariant_of-self-in-Some g c =
     let size = list_size (places_of a.members) in
     let mended = mended_rows a.work.resync a.members in
     let why = refused-here size (c.args.at + count) a.work.resync (IsUnread mended c.args.at count) a.members c.in-Some.refusal
-    (λ within. unread-here (g.B.Bank.given a.bank) size c.args.at count mended a.work.resync a.members c.in-Some.refusal was.kept.placed within (λ none. ap (λ (o : Option ℕ). mended_rows o a.members) none)) c.in-Some.ensures in
+    (λ within. unread-here (g.B.Bank.given a.bank) size c.args.at count mended a.work.resync a.members c.in-Some.refusal was.kept.placed within (λ none. ap (λ (o : Option ℕ). mended_rows o a.members) none)) c.in-Some.ensures.why in
     ready (entries_of c.args.who c.ops-end.result (Refused c.in-Some.refusal ∷ []))
     (kept-refused c.args.who c.ops-end.result was.kept (begins-open a.epoch.entries.items c.args.who number) c.requires.caller c.ops-end.ensures.count c.in-Some.refusal why)
     was.failed (λ slot. omega arith) refl (scope-same (g.B.Bank.given a.bank) a.backup refl c.enter.ensures.uuid c.enter.ensures.given) c.enter.ensures.first c.make_room.ensures.items c.enter.ensures.items
@@ -60,7 +63,7 @@ returns-in-Some-clause-answered g c =
     let count = length c.args.into.now / 512 in
     rw (← c.self.view_is) (refused_reply (list_size (places_of a.members)) a.epoch.entries.items was.kept.sized was.kept.unlimited (AsksRead c.args.at count) c.args.who (c.args.at + count)
     (IsUnread (mended_rows a.work.resync a.members) c.args.at count) c.enter.new.epoch.entries.items c.ops-end.result a.members c.in-Some.refusal (read_kind c.args.at count)
-    (unread-of (mended_rows a.work.resync a.members) c.args.at count a.members c.in-Some.refusal) c.in-Some.ensures
+    (unread-of (mended_rows a.work.resync a.members) c.args.at count a.members c.in-Some.refusal) c.in-Some.ensures.why
     (c.enter.ensures.items ∙ ap (λ (l : List Entry). l ++ entries_of c.args.who c.ops-end.result (Refused c.in-Some.refusal ∷ [])) c.make_room.ensures.items) number)
 
 pub returns-in-Some-clause-ended : goal.returns-in-Some-clause-ended
@@ -68,7 +71,16 @@ returns-in-Some-clause-ended g c =
     ended-behind (g.B.Bank.tape c.self.inside.bank) c.enter.new.epoch.first c.make_room.new.self.items c.args.who c.ops-end.result [] (Refused c.in-Some.refusal) c.enter.ensures.items c.ops-end.ensures.count
 
 pub returns-in-Some-clause-caused : goal.returns-in-Some-clause-caused
-returns-in-Some-clause-caused g c = rw (← c.self.view_is) c.in-Some.ensures
+returns-in-Some-clause-caused g c = rw (← c.self.view_is) c.in-Some.ensures.why
+
+-- ---- the list is short
+
+pub fetch-fetched-requires-clause-short : goal.fetch-fetched-requires-clause-short
+fetch-fetched-requires-clause-short g c =
+    let few = list-few (g.B.Bank.given c.self.inside.bank) c.self.inside.members c.self.invariant.kept.placed in
+    let same = asked-is c.in-Ok.bytes.items c.as_mut_slice.result.now c.args.into.now c.in-Ok.ensures.len c.as_mut_slice.ensures.value in
+    let within = c.in_default.ensures.why.0 in
+    omega (arith, few, same, within)
 
 -- ---- refused since members are missing
 
@@ -91,7 +103,7 @@ invariant_of-self-in-Some-refusal g c =
     (ap (λ (s : Shape). s.disks) c.shape_in-shape.ensures) c.vacant_roles-before.ensures c.newly_vacant-roles.ensures in
     ready (entries_of c.args.who end (losses_of roles spares ++ Refused refusal ∷ []))
     (kept-unread c.args.who end was.kept (begins-open a.epoch.entries.items c.args.who number) c.requires.caller c.ops-end-2.ensures.count did.moved did.grows roles spares before after since did.others did.rise did.clean did.safe c.args.at count c.mended_rows-mended.result refusal
-    (subst (λ (n : ℕ). c.args.at + n ≤ list_size (places_of a.members)) (sym (asked-is c.in-Ok.bytes.items c.as_mut_slice.result.now c.args.into.now c.in-Ok.ensures.len c.as_mut_slice.ensures.value)) c.in_default.ensures.0) c.mended_rows-mended.ensures.rows
+    (subst (λ (n : ℕ). c.args.at + n ≤ list_size (places_of a.members)) (sym (asked-is c.in-Ok.bytes.items c.as_mut_slice.result.now c.args.into.now c.in-Ok.ensures.len c.as_mut_slice.ensures.value)) c.in_default.ensures.why.0) c.mended_rows-mended.ensures.rows
     (some-of (IsUnread c.mended_rows-mended.result c.args.at count m) c.fetch-fetched.result.refusal refusal c.in-Some-refusal.is did.refused))
     was.failed did.counts did.given (scope-same given a.backup did.given c.enter_behind.ensures.uuid c.enter_behind.ensures.given) c.enter_behind.ensures.first c.make_room.ensures.items c.enter_behind.ensures.items
     (omega (arith, c.enter_behind.ensures.room, c.in-Ok-make_room.ensures.ok)) was.rows_fit
@@ -111,7 +123,7 @@ returns-in-Some-refusal-clause-answered g c =
     let asked = length c.as_mut_slice.result.now / 512 in
     let why = some-of (IsUnread c.mended_rows-mended.result c.args.at asked m) c.fetch-fetched.result.refusal refusal c.in-Some-refusal.is c.fetch-fetched.ensures.refused in
     rw (← c.self.view_is) (lost_reply (list_size (places_of a.members)) a.epoch.entries.items was.kept.sized was.kept.unlimited (AsksRead c.args.at count) c.args.who (c.args.at + count)
-    c.enter_behind.new.epoch.entries.items end roles spares refusal (read_kind c.args.at count) c.in_default.ensures.0 (unread-of c.mended_rows-mended.result c.args.at asked m refusal why)
+    c.enter_behind.new.epoch.entries.items end roles spares refusal (read_kind c.args.at count) c.in_default.ensures.why.0 (unread-of c.mended_rows-mended.result c.args.at asked m refusal why)
     (c.enter_behind.ensures.items ∙ ap (λ (l : List Entry). l ++ entries_of c.args.who end (losses_of roles spares ++ Refused refusal ∷ [])) c.make_room.ensures.items) number)
 
 pub returns-in-Some-refusal-clause-caused : goal.returns-in-Some-refusal-clause-caused
@@ -124,7 +136,7 @@ returns-in-Some-refusal-clause-caused g c =
     let same : asked ≡ count = asked-is c.in-Ok.bytes.items c.as_mut_slice.result.now c.args.into.now c.in-Ok.ensures.len c.as_mut_slice.ensures.value in
     let why = some-of (IsUnread c.mended_rows-mended.result c.args.at asked m) c.fetch-fetched.result.refusal refusal c.in-Some-refusal.is c.fetch-fetched.ensures.refused in
     rw (← c.self.view_is) (refused-for (list_size (places_of a.members)) (c.args.at + count) (IsUnread (mended_rows a.work.resync a.members) c.args.at count) a.members m refusal
-    (unread-of c.mended_rows-mended.result c.args.at asked m refusal why) c.in_default.ensures.0
+    (unread-of c.mended_rows-mended.result c.args.at asked m refusal why) c.in_default.ensures.why.0
     (subst (λ (n : ℕ). IsUnread n c.args.at count m refusal) c.mended_rows-mended.ensures.rows (subst (λ (n : ℕ). IsUnread c.mended_rows-mended.result c.args.at n m refusal) same why)))
 
 pub returns-in-Some-refusal-clause-tape : goal.returns-in-Some-refusal-clause-tape
@@ -199,8 +211,8 @@ invariant_of-self-3 g c =
     let len : length bytes ≡ length c.args.into.now = c.fetch-fetched.auto.into ∙ ap (λ (l : List ℕ). length l) c.as_mut_slice.ensures.value ∙ c.in-Ok.ensures.len in
     let same : length bytes / 512 ≡ length c.as_mut_slice.result.now / 512 = ap (λ (n : ℕ). n / 512) c.fetch-fetched.auto.into in
     let whole = written-whole c.in-Ok.bytes.len c.in-Ok.bytes.items bytes (c.fetch-fetched.auto.into ∙ ap (λ (l : List ℕ). length l) c.as_mut_slice.ensures.value) c.in-Ok.bytes.ok.0 in
-    let within : c.args.at + length bytes / 512 ≤ size = rw len c.in_default.ensures.0 in
-    let does = does-without a.members (λ refusal many. c.in_default.ensures.1 refusal (inl many)) in
+    let within : c.args.at + length bytes / 512 ≤ size = rw len c.in_default.ensures.why.0 in
+    let does = does-without a.members (λ refusal many. c.in_default.ensures.why.1 refusal (inl many)) in
     let since : AreLostSince a.members m roles spares before after = lost-since given a.members m c.shape_in-shape.result.disks c.vacant_roles-before.result roles spares before after was.kept.placed did.moved did.failed
     (ap (λ (s : Shape). s.disks) c.shape_in-shape.ensures) c.vacant_roles-before.ensures c.newly_vacant-roles.ensures in
     ready (entries_of c.args.who end (losses_of roles spares ++ Read c.args.at (sectors_of bytes) ∷ []))
@@ -238,7 +250,7 @@ returns-clause-holds g c = λ t fills i lt.
     let whole = written-whole c.in-Ok.bytes.len c.in-Ok.bytes.items bytes (c.fetch-fetched.auto.into ∙ ap (λ (l : List ℕ). length l) c.as_mut_slice.ensures.value) c.in-Ok.bytes.ok.0 in
     let copied : c.copy_from_slice.new.self ≡ bytes = c.copy_from_slice.ensures.after ∙ c.as_slice.ensures.value ∙ whole in
     let same : length bytes / 512 ≡ length c.as_mut_slice.result.now / 512 = ap (λ (n : ℕ). n / 512) c.fetch-fetched.auto.into in
-    let does = does-without a.members (λ refusal many. c.in_default.ensures.1 refusal (inl many)) in
+    let does = does-without a.members (λ refusal many. c.in_default.ensures.why.1 refusal (inl many)) in
     let added = entries_of c.args.who c.ops-end-2.result (losses_of c.newly_vacant-roles.result c.fetch-fetched.result.spares ++ Read c.args.at c.from_bytes-body.result ∷ []) in
     let items : c.enter_behind-2.new.epoch.entries.items ≡ a.epoch.entries.items ++ added = c.enter_behind-2.ensures.items ∙ ap (λ (l : List Entry). l ++ added) c.make_room.ensures.items in
     ap (λ (l : List ℕ). row_sector l i) copied
@@ -254,7 +266,7 @@ pub returns-clause-others : goal.returns-clause-others
 returns-clause-others g c = rw (← c.self.view_is) c.fetch-fetched.ensures.others
 
 pub returns-clause-caused : goal.returns-clause-caused
-returns-clause-caused g c = rw (← c.self.view_is) c.in_default.ensures
+returns-clause-caused g c = rw (← c.self.view_is) c.in_default.ensures.why
 
 pub returns-clause-failed : goal.returns-clause-failed
 returns-clause-failed g c = rw (← c.self.view_is) c.fetch-fetched.ensures.failed.roles
@@ -307,3 +319,24 @@ returns-in-Some-refusal-clause-spares g c = rw (← c.self.view_is) c.fetch-fetc
 
 pub returns-clause-spares : goal.returns-clause-spares
 returns-clause-spares g c = rw (← c.self.view_is) c.fetch-fetched.ensures.moved.fewer
+
+-- ---- the first refusal
+
+pub returns-in-Some-clause-first : goal.returns-in-Some-clause-first
+returns-in-Some-clause-first g c = rw (← c.self.view_is) (sym c.in-Some.ensures.first)
+
+pub returns-in-Some-refusal-clause-first : goal.returns-in-Some-refusal-clause-first
+returns-in-Some-refusal-clause-first g c =
+    let a = c.self.inside in
+    let m = c.fetch-fetched.new.members in
+    let refusal = c.in-Some-refusal.refusal in
+    let count = length c.args.into.now / 512 in
+    let asked = length c.as_mut_slice.result.now / 512 in
+    let mended = mended_rows a.work.resync a.members in
+    let same : asked ≡ count = asked-is c.in-Ok.bytes.items c.as_mut_slice.result.now c.args.into.now c.in-Ok.ensures.len c.as_mut_slice.ensures.value in
+    let why = some-of (λ r. read_refusal c.mended_rows-mended.result c.args.at asked m ≡ Some r) c.fetch-fetched.result.refusal refusal c.in-Some-refusal.is c.fetch-fetched.ensures.first in
+    rw (← c.self.view_is) (call-within (list_size (places_of a.members)) (c.args.at + count) (read_refusal mended c.args.at count m) c.in_default.ensures.why.0
+    ∙ subst (λ (n : ℕ). read_refusal n c.args.at count m ≡ Some refusal) c.mended_rows-mended.ensures.rows (subst (λ (n : ℕ). read_refusal c.mended_rows-mended.result c.args.at n m ≡ Some refusal) same why))
+
+pub returns-clause-first : goal.returns-clause-first
+returns-clause-first g c = rw (← c.self.view_is) (sym c.in_default.ensures.first)

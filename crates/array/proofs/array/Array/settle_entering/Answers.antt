@@ -20,7 +20,7 @@ use Rattle.array_kept.proofs.ReadyLaws.{ready, settles-of, scope-same, list-same
 use Rattle.array_kept.proofs.ReplyLaws.{refused-zero}
 use Rattle.array_kept.proofs.LossLaws.{losses-behind, ended-behind, behind-alone, settling-no-loss}
 use Rattle.array_kept.proofs.DegradedLaws.{told-since, kept-refused, degraded-refused, degraded-settled, too-many-here, refused-here}
-use Rattle.array_kept.proofs.SettledLaws.{left-flushed, all-mended, leaves-refused, leaves-flushed}
+use Rattle.calls_kept.proofs.SettledLaws.{left-flushed, all-mended, leaves-refused, leaves-flushed}
 use Rattle.array.proofs.array.Array.settle_entering.Goals as goal
 
 too-many-of : (m : Members) (o : Option Refusal) (refusal : Refusal) → o ≡ Some refusal → MatchOption o ⊤ (AreTooMany m) → AreTooMany m refusal

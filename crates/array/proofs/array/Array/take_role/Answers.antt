@@ -24,8 +24,8 @@ use Rattle.array_kept.proofs.LossLaws.{losses-before, ended-behind, behind-alone
 use Rattle.array_kept.proofs.ReadyLaws.{ready, scope-same, list-same}
 use Rattle.array_kept.proofs.ReplyLaws.{refused-zero}
 use Rattle.views.proofs.GivenMembers.{placed-given, spare-before}
-use Rattle.array_kept.proofs.RebuildGiven.{receiver-spare, taken-vacant, taken-held, taken-by, taken-before, taken-after}
-use Rattle.array_kept.proofs.RebuildTaken.{kept-taken}
+use Rattle.calls_kept.proofs.RebuildGiven.{receiver-spare, taken-vacant, taken-held, taken-by, taken-before, taken-after}
+use Rattle.calls_kept.proofs.RebuildTaken.{kept-taken}
 use Rattle.call_entries.proofs.StepLaws.{losses-go_on, still-open}
 use Rattle.array_kept.proofs.StepsLeft.{left-taken, steps-fewer}
 use Rattle.array.proofs.array.Array.take_role.Goals as goal

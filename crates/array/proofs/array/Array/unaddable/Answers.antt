@@ -1,5 +1,5 @@
 use Rattle.std.proofs.Common.{refl, arith}
-use Rattle.array_kept.proofs.AddLaws.{many-of, does-of, unaddable-many, unaddable-none, offset-of}
+use Rattle.calls_kept.proofs.AddLaws.{many-of, does-of, unaddable-many, unaddable-none, offset-of}
 use Rattle.array.proofs.array.Array.unaddable.Goals as goal
 
 pub returns-in-Some : goal.returns-in-Some

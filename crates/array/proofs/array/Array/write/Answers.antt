@@ -1,4 +1,4 @@
-use Rattle.std.proofs.Common.{inl, ◌≡◌, ◌+◌, ◌/◌, ◌≤◌, ◌++◌, ◌∷◌, [], ℕ, Bool, List, length, refl, sym, ◌∙◌, ap, subst, arith}
+use Rattle.std.proofs.Common.{inl, ◌≡◌, ◌+◌, ◌/◌, ◌≤◌, ◌++◌, ◌∷◌, [], ℕ, Bool, Some, List, length, refl, sym, ◌∙◌, ap, subst, arith}
 use Rattle.md_base.specs.Sectors.{Sector, sectors_of}
 use Rattle.md_base.proofs.SectorLaws.{length-sectors_of}
 use Rattle.md_base.specs.declared.places.Shape.{Shape}
@@ -20,10 +20,12 @@ use Rattle.array_kept.proofs.ReadyLaws.{ready, scope-same, list-same}
 use Rattle.array_kept.proofs.DegradedLaws.{refused-here, kept-refused, pending-of, unwritten-here}
 use Rattle.array_kept.proofs.LossLaws.{losses-behind, losses-failure, ended-behind, ended-failure, torn-told}
 use Rattle.array_kept.proofs.ReplyLaws.{refused_reply, failed_reply, inside-losses, replied, write_kind, unwritten-of, refused-for}
-use Rattle.array_kept.proofs.ReadLaws.{some-of}
-use Rattle.array_kept.proofs.WriteLaws.{kept-unwritten, kept-wrote}
+use Rattle.calls_kept.proofs.ReadLaws.{some-of}
+use Rattle.calls_kept.proofs.WriteLaws.{kept-unwritten, kept-wrote}
 use Rattle.views.proofs.MemberLaws.{list-few}
 use Rattle.call_entries.proofs.CallLaws.{losses-are, torn-losses}
+use Rattle.safe_updates.specs.First.{write_refusal}
+use Rattle.array.proofs.FirstLaws.{call-within}
 use Rattle.array.proofs.array.Array.write.Goals as goal
 
 -- ---- refused before any row is read
@@ -37,7 +39,7 @@ invariant_of-self-in-Some g c =
     let to = c.args.at + length c.args.from.now / 512 in
     let synced = are_mended (shape_of a.members.newest) (mended_rows a.work.resync a.members) to in
     let why = refused-here size to a.work.resync (IsUnwritten synced) a.members c.in-Some.refusal
-    (λ within. unwritten-here size a.work.resync synced a.members c.in-Some.refusal (pending-of a.members a.work.resync to within)) c.in-Some.ensures in
+    (λ within. unwritten-here size a.work.resync synced a.members c.in-Some.refusal (pending-of a.members a.work.resync to within)) c.in-Some.ensures.why in
     ready (entries_of c.args.who c.ops-end.result (Refused c.in-Some.refusal ∷ []))
     (kept-refused c.args.who c.ops-end.result was.kept (begins-open a.epoch.entries.items c.args.who number) c.requires.caller c.ops-end.ensures.count c.in-Some.refusal why)
     was.failed (λ slot. omega arith) refl (scope-same (g.B.Bank.given a.bank) a.backup refl c.enter.ensures.uuid c.enter.ensures.given) c.enter.ensures.first c.make_room.ensures.items c.enter.ensures.items
@@ -51,7 +53,7 @@ returns-in-Some-clause-answered g c =
     let size = list_size (places_of a.members) in
     let body = sectors_of c.args.from.now in
     let synced = are_mended (shape_of a.members.newest) (mended_rows a.work.resync a.members) (c.args.at + length c.args.from.now / 512) in
-    let why = subst (λ (n : ℕ). IsRefusedFor size (c.args.at + n) (IsUnwritten synced) a.members a.members c.in-Some.refusal) (sym (length-sectors_of c.args.from.now)) c.in-Some.ensures in
+    let why = subst (λ (n : ℕ). IsRefusedFor size (c.args.at + n) (IsUnwritten synced) a.members a.members c.in-Some.refusal) (sym (length-sectors_of c.args.from.now)) c.in-Some.ensures.why in
     rw (← c.self.view_is) (refused_reply size a.epoch.entries.items was.kept.sized was.kept.unlimited (AsksWrite c.args.at body) c.args.who (c.args.at + length body)
     (IsUnwritten synced) c.enter.new.epoch.entries.items c.ops-end.result a.members c.in-Some.refusal (write_kind c.args.at body)
     (unwritten-of synced a.members c.in-Some.refusal) why
@@ -62,14 +64,14 @@ returns-in-Some-clause-ended g c =
     ended-behind (g.B.Bank.tape c.self.inside.bank) c.enter.new.epoch.first c.make_room.new.self.items c.args.who c.ops-end.result [] (Refused c.in-Some.refusal) c.enter.ensures.items c.ops-end.ensures.count
 
 pub returns-in-Some-clause-caused : goal.returns-in-Some-clause-caused
-returns-in-Some-clause-caused g c = rw (← c.self.view_is) c.in-Some.ensures
+returns-in-Some-clause-caused g c = rw (← c.self.view_is) c.in-Some.ensures.why
 
 -- ---- refused since members are missing
 
 pub put-done-requires-clause-short : goal.put-done-requires-clause-short
 put-done-requires-clause-short g c =
     let few = list-few (g.B.Bank.given c.self.inside.bank) c.self.inside.members c.self.invariant.kept.placed in
-    let within = c.in_default.ensures.0 in
+    let within = c.in_default.ensures.why.0 in
     omega (arith, few, within)
 
 pub invariant_of-self-in-Some-refusal : goal.invariant_of-self-in-Some-refusal
@@ -88,13 +90,13 @@ invariant_of-self-in-Some-refusal g c =
     let refusal = c.in-Some-refusal.refusal in
     let end = c.ops-end-2.result in
     let body = sectors_of c.args.from.now in
-    let does = does-without a.members (λ refusal many. c.in_default.ensures.1 refusal (inl many)) in
+    let does = does-without a.members (λ refusal many. c.in_default.ensures.why.1 refusal (inl many)) in
     let synced = c.are_mended-synced.result in
     let asked : synced ≡ are_mended (shape_of a.members.newest) (mended_rows a.work.resync a.members) (c.args.at + length c.args.from.now / 512) = c.are_mended-synced.ensures ∙ ap (λ (s : Shape). are_mended s (mended_rows a.work.resync a.members) (c.args.at + length c.args.from.now / 512)) c.shape_in-shape.ensures in
     let since : AreLostSince a.members m roles spares before after = lost-since given a.members m c.shape_in-shape.result.disks c.vacant_roles-before.result roles spares before after was.kept.placed did.moved did.failed
     (ap (λ (s : Shape). s.disks) c.shape_in-shape.ensures) c.vacant_roles-before.ensures c.newly_vacant-roles.ensures in
     ready (entries_of c.args.who end (failure_events roles spares torn c.args.at body refusal))
-    (kept-unwritten c.args.who end was.kept (begins-open a.epoch.entries.items c.args.who number) c.requires.caller c.ops-end-2.ensures.count did.moved did.grows roles spares before after since c.shape_in-shape.result c.shape_in-shape.ensures c.args.at c.args.from.now c.in_default.ensures.0 does torn synced asked did.rise did.stays did.safe refusal
+    (kept-unwritten c.args.who end was.kept (begins-open a.epoch.entries.items c.args.who number) c.requires.caller c.ops-end-2.ensures.count did.moved did.grows roles spares before after since c.shape_in-shape.result c.shape_in-shape.ensures c.args.at c.args.from.now c.in_default.ensures.why.0 does torn synced asked did.rise did.stays did.safe refusal
     (some-of (IsUnwritten synced m) c.put-done.result.refusal refusal c.in-Some-refusal.is did.refused)
     (λ begun. some-of (AreTooMany m) c.put-done.result.refusal refusal c.in-Some-refusal.is (did.torn begun)) did.untouched)
     was.failed did.counts did.given (scope-same given a.backup did.given c.enter_failure.ensures.uuid c.enter_failure.ensures.given) c.enter_failure.ensures.first c.make_room.ensures.items
@@ -114,7 +116,7 @@ returns-in-Some-refusal-clause-answered g c =
     let end = c.ops-end-2.result in
     let size = list_size (places_of a.members) in
     let body = sectors_of c.args.from.now in
-    let within : c.args.at + length body ≤ size = omega (arith, c.in_default.ensures.0, length-sectors_of c.args.from.now) in
+    let within : c.args.at + length body ≤ size = omega (arith, c.in_default.ensures.why.0, length-sectors_of c.args.from.now) in
     let synced = c.are_mended-synced.result in
     let why = some-of (IsUnwritten synced m) c.put-done.result.refusal refusal c.in-Some-refusal.is c.put-done.ensures.refused in
     rw (← c.self.view_is) (failed_reply size a.epoch.entries.items was.kept.sized was.kept.unlimited torn c.args.who c.args.at body c.enter_failure.new.epoch.entries.items end roles spares refusal within
@@ -140,7 +142,7 @@ returns-in-Some-refusal-clause-caused g c =
     let why = some-of (IsUnwritten synced m) c.put-done.result.refusal refusal c.in-Some-refusal.is c.put-done.ensures.refused in
     rw (← c.self.view_is) (refused-for (list_size (places_of a.members)) (c.args.at + length c.args.from.now / 512)
     (IsUnwritten (are_mended (shape_of a.members.newest) (mended_rows a.work.resync a.members) (c.args.at + length c.args.from.now / 512))) a.members m refusal
-    (unwritten-of synced m refusal why) c.in_default.ensures.0 (subst (λ (b : Bool). IsUnwritten b m refusal) asked why))
+    (unwritten-of synced m refusal why) c.in_default.ensures.why.0 (subst (λ (b : Bool). IsUnwritten b m refusal) asked why))
 
 pub returns-in-Some-refusal-clause-failed : goal.returns-in-Some-refusal-clause-failed
 returns-in-Some-refusal-clause-failed g c = rw (← c.self.view_is) c.put-done.ensures.failed.roles
@@ -206,13 +208,13 @@ invariant_of-self-4 g c =
     let body = sectors_of c.args.from.now in
     let done = c.in_default-refusal.is in
     let bytes : AreBytes c.args.from.now = λ i. (c.type_inv.from i).fits in
-    let does = does-without a.members (λ refusal many. c.in_default.ensures.1 refusal (inl many)) in
+    let does = does-without a.members (λ refusal many. c.in_default.ensures.why.1 refusal (inl many)) in
     let synced = c.are_mended-synced.result in
     let asked : synced ≡ are_mended (shape_of a.members.newest) (mended_rows a.work.resync a.members) (c.args.at + length c.args.from.now / 512) = c.are_mended-synced.ensures ∙ ap (λ (s : Shape). are_mended s (mended_rows a.work.resync a.members) (c.args.at + length c.args.from.now / 512)) c.shape_in-shape.ensures in
     let since : AreLostSince a.members m roles spares before after = lost-since given a.members m c.shape_in-shape.result.disks c.vacant_roles-before.result roles spares before after was.kept.placed did.moved did.failed
     (ap (λ (s : Shape). s.disks) c.shape_in-shape.ensures) c.vacant_roles-before.ensures c.newly_vacant-roles.ensures in
     ready (entries_of c.args.who end (losses_of roles spares ++ Wrote c.args.at body ∷ []))
-    (kept-wrote c.args.who end was.kept (begins-open a.epoch.entries.items c.args.who number) c.requires.caller c.ops-end-2.ensures.count did.moved did.grows roles spares before after since c.shape_in-shape.result c.shape_in-shape.ensures c.args.at c.args.from.now c.in_default.ensures.0 does c.put-done.result.begun synced asked did.rise did.stays did.safe
+    (kept-wrote c.args.who end was.kept (begins-open a.epoch.entries.items c.args.who number) c.requires.caller c.ops-end-2.ensures.count did.moved did.grows roles spares before after since c.shape_in-shape.result c.shape_in-shape.ensures c.args.at c.args.from.now c.in_default.ensures.why.0 does c.put-done.result.begun synced asked did.rise did.stays did.safe
     c.requires.whole bytes (did.put done) (λ t list more written. did.good done t list more written bytes) (did.rebuilt done))
     was.failed did.counts did.given (scope-same given a.backup did.given c.enter_behind.ensures.uuid c.enter_behind.ensures.given) c.enter_behind.ensures.first c.make_room.ensures.items
     (c.enter_behind.ensures.items ∙ ap (λ (b : List Sector). c.make_room.new.self.items ++ entries_of c.args.who end (losses_of roles spares ++ Wrote c.args.at b ∷ [])) c.in-Ok.ensures)
@@ -234,7 +236,7 @@ returns-clause-answered g c =
     number (λ call. (refl, refl)) (inside-losses c.args.who end (losses_of roles spares) (losses-are roles spares)) (torn-losses (AsksWrite c.args.at body) c.args.who end (losses_of roles spares) (losses-are roles spares)))
 
 pub returns-clause-caused : goal.returns-clause-caused
-returns-clause-caused g c = rw (← c.self.view_is) c.in_default.ensures
+returns-clause-caused g c = rw (← c.self.view_is) c.in_default.ensures.why
 
 pub returns-clause-failed : goal.returns-clause-failed
 returns-clause-failed g c = rw (← c.self.view_is) c.put-done.ensures.failed.roles
@@ -287,3 +289,22 @@ returns-in-Some-refusal-clause-spares g c = rw (← c.self.view_is) c.put-done.e
 
 pub returns-clause-spares : goal.returns-clause-spares
 returns-clause-spares g c = rw (← c.self.view_is) c.put-done.ensures.moved.fewer
+
+-- ---- the first refusal
+
+pub returns-in-Some-clause-first : goal.returns-in-Some-clause-first
+returns-in-Some-clause-first g c = rw (← c.self.view_is) (sym c.in-Some.ensures.first)
+
+pub returns-in-Some-refusal-clause-first : goal.returns-in-Some-refusal-clause-first
+returns-in-Some-refusal-clause-first g c =
+    let a = c.self.inside in
+    let m = c.put-done.new.members in
+    let refusal = c.in-Some-refusal.refusal in
+    let to = c.args.at + length c.args.from.now / 512 in
+    let asked = are_mended (shape_of a.members.newest) (mended_rows a.work.resync a.members) to in
+    let same = c.are_mended-synced.ensures ∙ ap (λ (s : Shape). are_mended s (mended_rows a.work.resync a.members) to) c.shape_in-shape.ensures in
+    let why = some-of (λ r. write_refusal c.are_mended-synced.result m ≡ Some r) c.put-done.result.refusal refusal c.in-Some-refusal.is c.put-done.ensures.first in
+    rw (← c.self.view_is) (call-within (list_size (places_of a.members)) to (write_refusal asked m) c.in_default.ensures.why.0 ∙ subst (λ (b : Bool). write_refusal b m ≡ Some refusal) same why)
+
+pub returns-clause-first : goal.returns-clause-first
+returns-clause-first g c = rw (← c.self.view_is) (sym c.in_default.ensures.first)

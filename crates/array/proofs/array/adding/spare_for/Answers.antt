@@ -1,6 +1,6 @@
 use Rattle.std.proofs.Common.{◌∙◌, ap, arith}
 use Rattle.sb1.specs.declared.sb.Sb.{Sb}
-use Rattle.array_kept.proofs.AddLaws.{spare-made}
+use Rattle.calls_kept.proofs.AddLaws.{spare-made}
 use Rattle.array.proofs.array.adding.spare_for.Goals as goal
 
 pub first_offset-offset-requires-clause-small : goal.first_offset-offset-requires-clause-small

@@ -4,7 +4,7 @@ use Rattle.flat_history.specs.declared.events.Event.{Event}
 use Rattle.flat_history.specs.Plain.{entries_of}
 use Rattle.array_kept.specs.Adopting.{opener, absent_losses, absent_loss}
 use Rattle.call_entries.proofs.LosingLaws.{entered-more, entered-none}
-use Rattle.array_kept.proofs.AbsentLaws.{absents-first, absents-next}
+use Rattle.calls_kept.proofs.AbsentLaws.{absents-first, absents-next}
 use Rattle.array.proofs.array.adopting.enter_all_absent.Goals as goal
 
 pub loop-role-init : goal.loop-role-init

@@ -1,0 +1,55 @@
+-- The first refusal of a call, and what it tells.
+use Rattle.std.proofs.Common.{◌≡◌, inl, inr, ℕ, ◌<◌, ◌≤◌, Bool, true, false, nat_lt, if◌then◌else◌, Option, Some, None, sym, ◌∙◌, ap, arith}
+use Rattle.std.specs.Prelude.{MatchOption}
+use Rattle.std.proofs.lemmas.Bool.Decides.{nat_tests}
+use Rattle.md_base.specs.declared.answers.Refusal.{Refusal}
+use Rattle.md_base.specs.declared.answers.Refusal.TheVariants.{PastEnd}
+use Rattle.superblocks.specs.declared.members.Members.{Members}
+use Rattle.views.specs.Lacking.{IsUnread, IsUnwritten}
+use Rattle.safe_updates.specs.First.{read_refusal, write_refusal, call_refusal}
+use Rattle.safe_updates.proofs.RefusingLaws.{read-none, write-none, read-cause, write-cause}
+use Rattle.array_kept.specs.Calls.{IsRefusalOf}
+use Rattle.array_kept.proofs.ReplyLaws.{unread-of, unwritten-of, refused-for}
+
+pub call-past : (visible to : ℕ) (why : Option Refusal) → visible < to → call_refusal visible to why ≡ Some (PastEnd visible)
+call-past visible to why past = ap (λ (b : Bool). if b then Some (PastEnd visible) else why) (above visible to past)
+  where
+    above : (a b : ℕ) → a < b → nat_lt a b ≡ true
+    above a b h = grind (arith, nat_tests)
+
+pub call-within : (visible to : ℕ) (why : Option Refusal) → to ≤ visible → call_refusal visible to why ≡ why
+call-within visible to why within = ap (λ (b : Bool). if b then Some (PastEnd visible) else why) (below visible to within)
+  where
+    below : (a b : ℕ) → b ≤ a → nat_lt a b ≡ false
+    below a b h = grind (arith, nat_tests)
+
+pub within-is : (visible to : ℕ) (found why : Option Refusal) → to ≤ visible → found ≡ why → found ≡ call_refusal visible to why
+within-is visible to found why within is = is ∙ sym (call-within visible to why within)
+
+pub past-is : (visible size to : ℕ) (why : Option Refusal) → visible ≡ size → visible < to → Some (PastEnd visible) ≡ call_refusal size to why
+past-is visible size to why same past = ap (λ (n : ℕ). Some (PastEnd n)) same ∙ sym (call-past size to why (let e = same in omega (arith, e, past)))
+
+-- nothing is told against a call that nothing refuses
+read-never : (mended first count : ℕ) (m : Members) → read_refusal mended first count m ≡ None → (refusal : Refusal) → IsUnread mended first count m refusal → ⊥
+read-never mended first count m none refusal (inl many) = absurd (let few = (read-none mended first count m none).0 in let above = many.above in omega (arith, few, above))
+read-never mended first count m none refusal (inr found) = absurd (let e = sym ((read-none mended first count m none).1 found.0 found.3) ∙ found.2 in cc)
+
+write-never : (synced : Bool) (m : Members) → write_refusal synced m ≡ None → (refusal : Refusal) → IsUnwritten synced m refusal → ⊥
+write-never synced m none refusal (inl many) = absurd (let few = (write-none synced m none).0 in let above = many.above in omega (arith, few, above))
+write-never synced m none refusal (inr found) = absurd (let e = sym ((write-none synced m none).1 found.2 found.0 found.4.0 found.3) ∙ found.4.1 in cc)
+
+pub read-judged : (visible to mended first count : ℕ) (m : Members) (found : Option Refusal) → to ≤ visible → found ≡ read_refusal mended first count m → IsRefusalOf visible to (IsUnread mended first count) m found
+read-judged visible to mended first count m None within is = (within, read-never mended first count m (sym is))
+read-judged visible to mended first count m (Some refusal) within is =
+    let why = read-cause mended first count m refusal (sym is) in
+    refused-for visible to (IsUnread mended first count) m m refusal (unread-of mended first count m refusal why) within why
+
+pub write-judged : (visible to : ℕ) (synced : Bool) (m : Members) (found : Option Refusal) → to ≤ visible → found ≡ write_refusal synced m → IsRefusalOf visible to (IsUnwritten synced) m found
+write-judged visible to synced m None within is = (within, write-never synced m (sym is))
+write-judged visible to synced m (Some refusal) within is =
+    let why = write-cause synced m refusal (sym is) in
+    refused-for visible to (IsUnwritten synced) m m refusal (unwritten-of synced m refusal why) within why
+
+pub write-told : (synced : Bool) (m : Members) (found : Option Refusal) → found ≡ write_refusal synced m → MatchOption found ((refusal : Refusal) → IsUnwritten synced m refusal → ⊥) (IsUnwritten synced m)
+write-told synced m None is = write-never synced m (sym is)
+write-told synced m (Some refusal) is = write-cause synced m refusal (sym is)

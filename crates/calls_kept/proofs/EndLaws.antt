@@ -1,0 +1,105 @@
+-- What is kept of an array whose resync ends.
+use Rattle.std.proofs.Common.{◌≡◌, ◌≢◌, ℕ, ◌*◌, ◌/◌, ◌<◌, ◌≤◌, ◌||◌, ◌&&◌, Bool, true, false, not, Option, Some, None, List, length, [], ◌∷◌, ◌++◌, refl, sym, ◌∙◌, ap, subst, arith, inl}
+use Rattle.std.specs.Prelude.{IfSome}
+use Rattle.std.specs.List.{list_any}
+use Rattle.std.proofs.lemmas.Bool.Decides.{nat_tests}
+use Rattle.std.proofs.lemmas.List.Folds.{list_any-append}
+use Rattle.md_base.specs.Shapes.{is_multiple}
+use Rattle.md_base.specs.declared.answers.Who.{Who}
+use Rattle.bank.specs.Given.{Given}
+use Rattle.bank.specs.declared.bank.Operation.{Operation}
+use Rattle.superblocks.specs.declared.members.Members.{Members}
+use Rattle.superblocks.specs.Reading.{Scope, shape_of}
+use Rattle.row_io.specs.Rows.{present}
+use Rattle.flat_history.specs.declared.events.Entry.{Entry}
+use Rattle.flat_history.specs.declared.events.Event.{Event}
+use Rattle.flat_history.specs.declared.events.Event.TheVariants.{Step}
+use Rattle.flat_history.specs.declared.events.StepKind.TheVariants.{ResyncEnded}
+use Rattle.flat_history.specs.Losses.{is_resync_end}
+use Rattle.flat_history.specs.Plain.{entries_of}
+use Rattle.flat_history.specs.OneShape.{opening_in, IsCallOpen}
+use Rattle.views.specs.Placed.{IsPlaced}
+use Rattle.call_entries.specs.Losing.{losses_of}
+use Rattle.shape_changes.specs.Marking.{AreOthersPresent}
+use Rattle.views.specs.Moving.{Grows, IsMoved}
+use Rattle.views.specs.declared.work.Work.{Work}
+use Rattle.views.specs.Rebuilding.{HasNoRebuilt}
+use Rattle.views.specs.Status.{stripes_of, left_of}
+use Rattle.views.specs.Lacking.{AreLostSince, mended_rows}
+use Rattle.array_kept.specs.Kept.{world_in, IsKept}
+use Rattle.call_entries.proofs.CallLaws.{losses-are, ends-losses, builds-losses}
+use Rattle.array_kept.proofs.RecordLaws.{AreSilent}
+use Rattle.array_kept.proofs.ReadyLaws.{AreStill, silent-behind, still-behind}
+use Rattle.call_entries.proofs.StepLaws.{left-stepped}
+use Rattle.calls_kept.proofs.SteppedLaws.{call-stepping}
+use Rattle.array_kept.proofs.StepsLeft.{left-ended}
+use Rattle.array_kept.proofs.KeptLaws.{LeavesSafe, LeavesWork, built-still, whole-still}
+use Rattle.array_kept.proofs.DegradedLaws.{stays-moved, degraded-after, holds-still, good-still, rebuilt-still, told-behind, only-behind}
+
+-- ---- every stripe is mended
+
+whole_size : (n c : ℕ) → is_multiple n c ≡ true → n / c * c ≡ n
+whole_size n c h = grind (arith, nat_tests)
+
+-- the rows of all stripes are all rows
+pub all-mended : {given : Given} {resync : Option ℕ} {members : Members} → IsPlaced given members → resync ≡ Some (stripes_of members) → mended_rows resync members ≡ members.newest.size
+all-mended {members = members} placed all =
+    ap (λ (o : Option ℕ). mended_rows o members) all ∙ whole_size members.newest.size (shape_of members.newest).chunk placed.multiple
+
+pub enough-mended : {given : Given} {resync : Option ℕ} {members : Members} → IsPlaced given members → resync ≡ Some (stripes_of members) → members.newest.size ≤ mended_rows resync members
+enough-mended placed all = let same = all-mended placed all in omega (arith, same)
+
+-- ---- the end
+
+pub end-silent : (who : Who) (end left : ℕ) → AreSilent who end (Step ResyncEnded left ∷ [])
+end-silent who end left = record { length = λ n. refl; limit = refl }
+
+module _ {tells : Type 0} {given : Given} {tape tape' : List Operation} {scope : Scope} {first : ℕ} {entries : List Entry} {members members' : Members} {work : Work}
+    (who : Who) (end : ℕ) (was : IsKept tells given tape scope first entries members work)
+    (opens : IsCallOpen entries who) (caller : who.caller ≢ 254) (at_end : tells → end ≡ length tape')
+    (moved : IsMoved given members members') (grows : Grows tells tape tape')
+    (roles spares : ℕ) (before after : ℕ → ℕ) (since : AreLostSince members members' roles spares before after)
+    (all : work.resync ≡ Some (stripes_of members)) (steps : ℕ) (steps_are : steps ≡ left_of (record work { resync = None }) members') where
+  abbrev ending : List Event
+  ending = losses_of roles spares ++ Step ResyncEnded steps ∷ []
+
+  none-built : HasNoRebuilt (entries_of who end ending)
+  none-built = builds-losses who end (losses_of roles spares) (Step ResyncEnded steps ∷ []) (losses-are roles spares) refl
+
+  -- no resync is pending behind it
+  resync-ends : LeavesWork work (record work { resync = None }) members' entries (entries_of who end ending)
+  resync-ends = record {
+    begins = λ is. absurd (cc);
+    progress = tt;
+    pending = λ dirty is. ap (λ (b : Bool). dirty && not b)
+        (list_any-append (λ e. is_resync_end e.event) entries (entries_of who end ending)
+        ∙ ap (λ (b : Bool). list_any (λ e. is_resync_end e.event) entries || b) (ends-losses who end (losses_of roles spares) (Step ResyncEnded steps ∷ []) (losses-are roles spares)))
+        ∙ neither dirty (list_any (λ e. is_resync_end e.event) entries);
+    unbuilt = λ is. absurd (cc);
+    built = built-still who end was opens caller at_end (stays-moved was moved) grows (entries_of who end ending) none-built;
+    left = subst (λ (o : Option ℕ). IfSome o (λ n. n ≡ left_of (record work { resync = None }) members')) (sym (left-stepped entries who end (losses_of roles spares) ResyncEnded steps)) steps_are;
+  }
+    where
+      neither : (a b : Bool) → (a && not (b || true)) ≡ false
+      neither true true = refl
+      neither true false = refl
+      neither false b = refl
+
+  -- What is kept behind it and the losses of its call. The rows of the whole array stand.
+  pub degraded-ended : (tells → AreOthersPresent (present given tape) (present given tape'))
+      → LeavesSafe tells given tape' scope first (entries ++ entries_of who end (losses_of roles spares ++ Step ResyncEnded steps ∷ [])) members' (record work { resync = None })
+      → IsKept tells given tape' scope first (entries ++ entries_of who end (losses_of roles spares ++ Step ResyncEnded steps ∷ [])) members' (record work { resync = None })
+  degraded-ended others safe =
+      degraded-after who end was opens caller at_end moved grows (losses_of roles spares) (Step ResyncEnded steps)
+      (silent-behind who end (losses_of roles spares) (Step ResyncEnded steps) (losses-are roles spares) (end-silent who end steps)) resync-ends
+      (told-behind who end was opens caller at_end moved grows roles spares before after since (Step ResyncEnded steps ∷ []) (λ role. refl))
+      (only-behind who end was opens caller at_end moved grows roles spares before after since (Step ResyncEnded steps ∷ []) (λ role. refl) (λ slot spare is. inl is))
+      (λ t fills. call-stepping (opening_in (world_in given tape scope first)) (record work { resync = None }) (left_of work members) entries who end ResyncEnded steps moved since (left-ended work members all) was.left tt steps_are)
+      (holds-still who end was opens caller at_end moved grows ending still others)
+      (whole-still who end was opens caller at_end (stays-moved was moved) grows ending still)
+      (λ t does fit row below lt. good-still who end was opens caller at_end moved grows ending still others t does fit row (subst (λ (n : ℕ). row < n) (moved.size ∙ sym (all-mended was.placed all)) below) lt)
+      (rebuilt-still who end was opens caller at_end moved grows ending still others)
+      safe
+    where
+      still : AreStill who end ending
+      still = still-behind who end (losses_of roles spares) (Step ResyncEnded steps) (losses-are roles spares) (λ x values. refl)

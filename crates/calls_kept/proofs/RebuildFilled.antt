@@ -1,0 +1,217 @@
+-- What an array keeps after a step that rebuilds the next stripe of a role on the slot that recovers it.
+use Rattle.std.proofs.Common.{◌≡◌, ◌≢◌, inl, inr, ℕ, ◌+◌, ◌*◌, ◌<◌, ◌≤◌, Bool, true, false, not, Option, is_some, List, [], ◌∷◌, ◌++◌, length, refl, sym, ◌∙◌, ap, subst, arith, append-nil}
+use Rattle.std.specs.Prelude.{IfSome, slice_index_or}
+use Rattle.std.specs.List.{Contains}
+use Rattle.std.proofs.lemmas.Bool.{cases_lt, cases_eq}
+use Rattle.std.proofs.lemmas.List.{get_or-set_same, get_or-set_other}
+use Rattle.md_base.specs.Sectors.{Sector}
+use Rattle.md_base.specs.Shapes.{has_slot}
+use Rattle.md_base.specs.declared.answers.Who.{Who}
+use Rattle.md_base.specs.declared.answers.Refusal.{Refusal}
+use Rattle.md_base.specs.declared.places.Shape.{Shape}
+use Rattle.md_base.specs.declared.status.Role.{Role}
+use Rattle.md_base.specs.declared.status.Role.TheVariants.{Recovering}
+use Rattle.bank.specs.Given.{Given}
+use Rattle.bank.specs.declared.bank.Operation.{Operation}
+use Rattle.bank.specs.Tape.{Contents}
+use Rattle.layout.proofs.Limits.{limited}
+use Rattle.superblocks.specs.declared.members.Members.{Members}
+use Rattle.superblocks.specs.Reading.{Scope, shape_of, role_state, rows_held, holder, is_clean}
+use Rattle.row_io.specs.Rows.{reading_of, present}
+use Rattle.list_io.specs.Writing.{HasFull}
+use Rattle.flat_history.specs.declared.events.Entry.{Entry}
+use Rattle.flat_history.specs.declared.events.Event.{Event}
+use Rattle.flat_history.specs.declared.events.Event.TheVariants.{Lost, Step, Refused}
+use Rattle.flat_history.specs.declared.events.LostCause.TheVariants.{Fault}
+use Rattle.flat_history.specs.declared.events.StepKind.TheVariants.{RebuildStripe}
+use Rattle.flat_history.specs.World.{World, opening_list}
+use Rattle.flat_history.specs.Flat.{now}
+use Rattle.flat_history.specs.Legal.{told_left}
+use Rattle.flat_history.specs.Plain.{entries_of}
+use Rattle.flat_history.specs.OneShape.{opening_in, IsCallOpen}
+use Rattle.flat_history.specs.Sound.{OpensFit, LosesNoRole}
+use Rattle.flat_history.proofs.OneShapeGrowing.{one, IsOneShapeCall, call-faults}
+use Rattle.views.specs.declared.work.Work.{Work}
+use Rattle.call_entries.specs.Losing.{losses_of}
+use Rattle.flat_history.specs.Transfers.{last_end_from}
+use Rattle.views.specs.Whole.{list_size}
+use Rattle.views.specs.Placed.{places_of, is_vacant, IsPlaced}
+use Rattle.views.specs.Moving.{Grows, IsMoved}
+use Rattle.shape_changes.specs.Safety.{IsRisen}
+use Rattle.views.specs.Status.{stripes_of, rebuilt_of, left_of}
+use Rattle.views.specs.Rebuilding.{AreRebuilt, IsFilledAmong}
+use Rattle.views.specs.Lacking.{AreLostSince, AreTooMany, DoesWithout, RowsStandBelow, IsOfStripe, mended_rows}
+use Rattle.array_kept.specs.Kept.{world_in, IsKept}
+use Rattle.array_kept.specs.Calls.{with_rebuilt}
+use Rattle.call_entries.proofs.CallLaws.{GivesNone, losses-are, last_end-behind}
+use Rattle.array_kept.proofs.DegradedLaws.{stays-moved, told-behind, work-behind, call-refused, too-many-here, rows-same, only-behind}
+use Rattle.views.proofs.FilledParts.{list-filled, row-filled, full-kept}
+use Rattle.array_kept.proofs.KeptLaws.{StayPlaced, LeavesSafe, NamesSafe, rebuilds-before, left-lost, mended-are, leaves-named, work-kept}
+use Rattle.views.proofs.LackingWrites.{recovering-before}
+use Rattle.array_kept.proofs.LedgerLaws.{add-none, add-one}
+use Rattle.calls_kept.proofs.RebuildLaws.{AreQuiet, quiet-behind, losses-end, some-lost, kept-listed}
+use Rattle.call_entries.proofs.StepLaws.{faults-are, left-stepped}
+use Rattle.calls_kept.proofs.SteppedLaws.{call-stepping}
+use Rattle.array_kept.proofs.StepsLeft.{left-filled}
+use Rattle.array_kept.proofs.ToldLosses.{role-told}
+use Rattle.array_kept.proofs.OnlyLaws.{MakeSpares}
+
+-- ---- how many stripes are rebuilt
+
+pub rebuilt-here : (work : Work) (role n : ℕ) → role < length work.rebuilt → rebuilt_of (with_rebuilt role n work) role ≡ n
+rebuilt-here work role n lt = get_or-set_same work.rebuilt role n 0 lt
+
+pub rebuilt-other : (work : Work) (role n other : ℕ) → other ≢ role → rebuilt_of (with_rebuilt role n work) other ≡ rebuilt_of work other
+rebuilt-other work role n other apart = get_or-set_other work.rebuilt role other n 0 apart
+
+-- ---- what is filled in
+
+module _ {given : Given} {old new : Members} (work : Work) (moved : IsMoved given old new) (placed : IsPlaced given old) (role slot : ℕ)
+    (recovers : role_state (reading_of old) role ≡ Recovering slot) (shape : Shape) (shape_is : shape ≡ shape_of old.newest) (before after : Contents) (list : ℕ → Sector)
+    (filled : IsFilledAmong old role slot (IsOfStripe shape (rebuilt_of work role)) before after) where
+  -- the rows stand that stood
+  pub good-filled : (mended : ℕ) → RowsStandBelow mended old before list → RowsStandBelow mended new after list
+  good-filled mended stands row below within =
+      row-filled moved placed role slot recovers (IsOfStripe shape (rebuilt_of work role)) before after filled list row (stands row below (subst (λ (n : ℕ). row < n) moved.size within))
+
+  -- and what was rebuilt is, with a stripe more of the role
+  pub rebuilt-filled : role < length work.rebuilt → (role_state (reading_of new) role ≡ Recovering slot → (row : ℕ) → IsOfStripe shape (rebuilt_of work role) row → rows_held (reading_of old) (Recovering slot) ≤ row
+      → HasFull (reading_of new) after shape list row role slot) → AreRebuilt work old before list → AreRebuilt (with_rebuilt role (rebuilt_of work role + 1) work) new after list
+  rebuilt-filled lt full was r s row below is held under within = elim (cases_eq r role) [
+    | inl same ↦
+        let here : role_state (reading_of new) role ≡ Recovering s = ap (role_state (reading_of new)) (sym same) ∙ is in
+        let own : s ≡ slot = (let e : ◌≡◌ {A = Role} (Recovering s) (Recovering slot) = sym (recovering-before moved role s here) ∙ recovers in cc) in
+        let n : rebuilt_of (with_rebuilt role (rebuilt_of work role + 1) work) r ≡ rebuilt_of work role + 1 = ap (rebuilt_of (with_rebuilt role (rebuilt_of work role + 1) work)) same ∙ rebuilt-here work role (rebuilt_of work role + 1) lt in
+        let high : row < (rebuilt_of work role + 1) * shape.chunk = subst (λ (x : Shape). row < (rebuilt_of work role + 1) * x.chunk) (moved.shape ∙ sym shape_is) (subst (λ (k : ℕ). row < k * (shape_of new.newest).chunk) n under) in
+        elim (cases_lt row (rebuilt_of work role * shape.chunk)) [
+          | inl early ↦ kept r s row below is held within (λ of. let low = of.0 in omega (arith, low, early))
+              (subst (λ (k : ℕ). row < rebuilt_of work k * (shape_of old.newest).chunk) (sym same) (subst (λ (x : Shape). row < rebuilt_of work role * x.chunk) shape_is early))
+          | inr late ↦
+              subst (λ (x : Shape). HasFull (reading_of new) after x list row r s) (shape_is ∙ sym moved.shape)
+              (subst (λ (k : ℕ). HasFull (reading_of new) after shape list row k s) (sym same)
+              (subst (λ (k : ℕ). HasFull (reading_of new) after shape list row role k) (sym own)
+              (full (here ∙ ap (λ (k : ℕ). Recovering k) own) row (late, high) (subst (λ (k : ℕ). rows_held (reading_of old) (Recovering k) ≤ row) own (subst (λ (k : ℕ). k ≤ row) (rows-same moved r s is) held)))))
+        ]
+    | inr apart ↦ kept r s row below is held within (λ of. absurd (apart of.2))
+        (subst (λ (x : Shape). row < rebuilt_of work r * x.chunk) moved.shape (subst (λ (k : ℕ). row < k * (shape_of new.newest).chunk) (rebuilt-other work role (rebuilt_of work role + 1) r apart) under))
+  ]
+    where
+      kept : (r s row : ℕ) → r < (shape_of new.newest).disks → role_state (reading_of new) r ≡ Recovering s → rows_held (reading_of new) (Recovering s) ≤ row → row < new.newest.size
+          → ((rebuilt_of work role * shape.chunk ≤ row) × (row < (rebuilt_of work role + 1) * shape.chunk) × (r ≡ role) → ⊥) → row < rebuilt_of work r * (shape_of old.newest).chunk
+          → HasFull (reading_of new) after (shape_of new.newest) list row r s
+      kept r s row below is held within out under =
+          full-kept moved placed role slot recovers (IsOfStripe shape (rebuilt_of work role)) before after filled (shape_of new.newest) list r s row is (λ same of. out (of.0, of.1, same))
+          (subst (λ (x : Shape). HasFull (reading_of old) before x list row r s) (sym moved.shape)
+          (was r s row (subst (λ (x : Shape). r < x.disks) moved.shape below) (recovering-before moved r s is) (subst (λ (k : ℕ). k ≤ row) (rows-same moved r s is) held) under
+          (subst (λ (k : ℕ). row < k) moved.size within)))
+
+-- a role that a slot recovers isn't vacant
+pub not-vacant : {P : Type 0} (m : Members) (role slot : ℕ) → role_state (reading_of m) role ≡ Recovering slot → is_vacant (reading_of m) role ≡ true → P
+not-vacant m role slot recovers vacant = absurd (let e : false ≡ true = sym (ap (λ (s : Role). not (is_some (holder s))) recovers) ∙ vacant in cc)
+
+-- ---- what is kept
+
+module _ {tells : Type 0} {given : Given} {tape tape' : List Operation} {scope : Scope} {first : ℕ} {entries : List Entry} {members members' : Members} {work : Work}
+    (who : Who) (end : ℕ) (was : IsKept tells given tape scope first entries members work)
+    (opens : IsCallOpen entries who) (caller : who.caller ≢ 254) (at_end : tells → end ≡ length tape')
+    (moved : IsMoved given members members') (grows : Grows tells tape tape')
+    (roles spares : ℕ) (before after : ℕ → ℕ) (since : AreLostSince members members' roles spares before after)
+    (role slot : ℕ) (below : role < (shape_of members.newest).disks) (recovers : role_state (reading_of members) role ≡ Recovering slot)
+    (does : DoesWithout members) (shape : Shape) (shape_is : shape ≡ shape_of members.newest)
+    (rise : IsRisen tells members members' tape tape') (clean : is_clean members'.newest ≡ is_clean members.newest) (safe : NamesSafe tells given members members' tape tape')
+    (others : tells → IsFilledAmong members role slot (IsOfStripe shape (rebuilt_of work role)) (present given tape) (present given tape')) where
+  abbrev W : World
+  W = world_in given tape scope first
+
+  abbrev L : ℕ → Sector
+  L = now (opening_list W) entries
+
+  abbrev losses : List Event
+  losses = losses_of roles spares
+
+  stays : StayPlaced given members members'
+  stays = stays-moved was moved
+
+  are : AreQuiet who end (losses ++ [])
+  are = quiet-behind who end losses [] (losses-are roles spares)
+      (record { silent = record { length = λ n. refl; limit = refl }; values = λ x values. refl; adds = add-none; unbuilt = refl; ends = refl })
+
+  quiet-one : (event : Event) → AreQuiet who end (event ∷ []) → AreQuiet who end (losses ++ event ∷ [])
+  quiet-one event quiet = quiet-behind who end losses (event ∷ []) (losses-are roles spares) quiet
+
+  -- the array stays safe
+  leaves : (work' : Work) → work'.resync ≡ work.resync → work'.carried ≡ work.carried → (tail : List Event) → AreQuiet who end (losses ++ tail) → GivesNone (entries_of who end tail)
+      → LeavesSafe tells given tape' scope first (entries ++ entries_of who end (losses ++ tail)) members' work'
+  leaves work' resync carried tail quiet gives =
+      leaves-named who end was opens caller at_end stays grows work' (λ number is. ap (λ (l : List Bool). slice_index_or l number true) carried ∙ is) (losses ++ tail) quiet.silent quiet.adds rise
+      (told-behind who end was opens caller at_end moved grows roles spares before after since tail gives) resync (λ d. does) clean safe
+
+  -- ---- where it is refused
+
+  pub kept-unfilled : (refusal : Refusal) → AreTooMany members' refusal → IsKept tells given tape' scope first (entries ++ entries_of who end (losses ++ Refused refusal ∷ [])) members' work
+  kept-unfilled refusal many =
+      kept-listed who end was opens caller at_end stays grows {work' = work} (losses ++ Refused refusal ∷ []) quiet.silent quiet.values
+      (work-behind who end was opens caller at_end moved grows roles spares before after since (Refused refusal ∷ []) (λ steps left is. is) refl refl)
+      (last_end-behind first entries who end losses (Refused refusal)) (λ whole none. moved.whole whole)
+      (told-behind who end was opens caller at_end moved grows roles spares before after since (Refused refusal ∷ []) (λ r. refl))
+      (only-behind who end was opens caller at_end moved grows roles spares before after since (Refused refusal ∷ []) (λ role. refl) (λ slot spare is. inl is))
+      (λ t fills. call-refused who end was opens caller at_end moved grows roles spares before after since refusal (too-many-here (list_size (places_of members)) work.resync members' refusal many) t)
+      (λ t does' rebuilds. absurd (never does')) (λ t does' fit. absurd (never does')) (λ t does' fit. absurd (never does'))
+      (leaves work refl refl (Refused refusal ∷ []) quiet (λ r. refl))
+    where
+      quiet : AreQuiet who end (losses ++ Refused refusal ∷ [])
+      quiet = quiet-one (Refused refusal) (record { silent = record { length = λ n. refl; limit = refl }; values = λ x values. refl; adds = add-one (one who end (Refused refusal)) [] (λ x values v may. may) refl refl (λ r. refl) add-none; unbuilt = refl; ends = refl })
+
+      never : DoesWithout members' → ⊥
+      never does' = let above = many.above in omega (arith, above, does')
+
+  -- ---- where it is done
+
+  module _ (few : role < length work.rebuilt) (full : tells → OpensFit W → role_state (reading_of members') role ≡ Recovering slot → (row : ℕ) → IsOfStripe shape (rebuilt_of work role) row → rows_held (reading_of members) (Recovering slot) ≤ row
+      → HasFull (reading_of members') (present given tape') shape L row role slot) where
+    abbrev next : Work
+    next = with_rebuilt role (rebuilt_of work role + 1) work
+
+    done : (tail : List Event) → AreQuiet who end (losses ++ tail) → GivesNone (entries_of who end tail) → LosesNoRole (entries_of who end tail) → MakeSpares members'.spares (entries_of who end tail) → IfSome (told_left (entries ++ entries_of who end (losses ++ tail))) (λ n. n ≡ left_of next members')
+        → last_end_from first (entries ++ entries_of who end (losses ++ tail)) ≡ end → (tells → IsOneShapeCall (opening_in W) entries who end (losses ++ tail))
+        → IsKept tells given tape' scope first (entries ++ entries_of who end (losses ++ tail)) members' next
+    done tail quiet gives loses makes left ended call =
+        kept-listed who end was opens caller at_end stays grows {work' = next} (losses ++ tail) quiet.silent quiet.values
+        (work-kept who end was opens caller at_end stays grows next (losses ++ tail) refl left quiet.ends quiet.unbuilt)
+        ended (λ whole none. moved.whole whole)
+        (told-behind who end was opens caller at_end moved grows roles spares before after since tail gives)
+        (only-behind who end was opens caller at_end moved grows roles spares before after since tail loses makes)
+        (λ t fills. call t)
+        (λ t does' rebuilds. list-filled moved was.placed role slot recovers (IsOfStripe shape (rebuilt_of work role)) (present given tape) (present given tape') (others t) L
+        (was.holds t does (rebuilds-before W entries (entries_of who end (losses ++ tail)) rebuilds)))
+        (λ t does' fit. subst (λ (n : ℕ). RowsStandBelow n members' (present given tape') L) (sym (mended-are who end was opens caller at_end stays grows))
+        (good-filled work moved was.placed role slot recovers shape shape_is (present given tape) (present given tape') L (others t) (mended_rows work.resync members) (was.good t does fit)))
+        (λ t does' fit. rebuilt-filled work moved was.placed role slot recovers shape shape_is (present given tape) (present given tape') L (others t) few (full t fit) (was.rebuilt t does fit))
+        (leaves next refl refl tail quiet gives)
+
+    pub kept-filled : rebuilt_of work role < stripes_of members → (steps : ℕ) → steps ≡ left_of next members'
+        → IsKept tells given tape' scope first (entries ++ entries_of who end (losses ++ Step RebuildStripe steps ∷ [])) members' next
+    kept-filled more steps steps_are =
+        done (Step RebuildStripe steps ∷ [])
+        (quiet-one (Step RebuildStripe steps) (record { silent = record { length = λ n. refl; limit = refl }; values = λ x values. refl; adds = add-one (one who end (Step RebuildStripe steps)) [] (λ x values v may. may) refl refl (λ r. refl) add-none; unbuilt = refl; ends = refl }))
+        (λ r. refl) (λ role. refl) (λ slot spare is. inl is) (subst (λ (o : Option ℕ). IfSome o (λ n. n ≡ left_of next members')) (sym (left-stepped entries who end losses RebuildStripe steps)) steps_are)
+        (last_end-behind first entries who end losses (Step RebuildStripe steps))
+        (λ t. call-stepping (opening_in W) next (left_of work members) entries who end RebuildStripe steps moved since (left-filled work members role slot below few recovers more) was.left tt steps_are)
+
+    -- where the slot was lost, its role's loss is told
+    module _ (vacant : is_vacant (reading_of members') role ≡ true) where
+      pub lost-in : has_slot roles role ≡ true
+      lost-in = elim (since.vacant role (subst (λ (s : Shape). role < s.disks) (sym moved.shape) below) vacant) [
+        | inl former ↦ not-vacant members role slot recovers former
+        | inr has ↦ has
+      ]
+
+      pub among : Contains losses (Lost role Fault)
+      among = role-told roles spares role (let most = (limited (shape_of members.newest) was.placed.valid).most in omega (arith, below, most)) lost-in
+
+      pub kept-lost : IsKept tells given tape' scope first (entries ++ entries_of who end losses) members' next
+      kept-lost = subst (λ (l : List Event). IsKept tells given tape' scope first (entries ++ entries_of who end l) members' next) (append-nil losses)
+          (done [] are (λ r. refl) (λ role. refl) (λ slot spare is. inl is)
+          (left-lost (left_of work members) (left_of next members') entries who end losses [] (losses-are roles spares) (λ none. absurd (some-lost losses (Lost role Fault) among none)) was.left (λ left is. is))
+          (subst (λ (l : List Event). last_end_from first (entries ++ entries_of who end l) ≡ end) (sym (append-nil losses)) (losses-end first entries who end losses (Lost role Fault) among))
+          (λ t. call-faults (opening_in W) entries who end losses [] (faults-are losses (losses-are roles spares)) tt))

@@ -1,0 +1,182 @@
+-- What an array keeps after the step that gives a role to a spare.
+use Rattle.std.proofs.Common.{◌≡◌, ◌≢◌, inl, inr, ℕ, ◌*◌, ◌<◌, true, false, not, Option, Some, is_some, List, [], ◌∷◌, ◌++◌, length, refl, sym, ◌∙◌, ap, subst, arith, ◌⊎◌}
+use Rattle.std.specs.Prelude.{IfSome}
+use Rattle.md_base.specs.Sectors.{Sector}
+use Rattle.md_base.specs.declared.answers.Who.{Who}
+use Rattle.md_base.specs.declared.places.Shape.{Shape}
+use Rattle.md_base.specs.declared.status.Role.{Role}
+use Rattle.bank.specs.Given.{Given}
+use Rattle.bank.specs.declared.bank.Operation.{Operation}
+use Rattle.superblocks.specs.declared.members.Members.{Members}
+use Rattle.superblocks.specs.Reading.{Scope, shape_of, is_whole, is_clean, holder, role_state}
+use Rattle.superblocks.specs.Reads.{has_spare}
+use Rattle.row_io.specs.Rows.{reading_of, present, is_missing}
+use Rattle.flat_history.specs.declared.events.Entry.{Entry}
+use Rattle.flat_history.specs.declared.events.Event.{Event}
+use Rattle.flat_history.specs.declared.events.Event.TheVariants.{Step}
+use Rattle.flat_history.specs.declared.events.StepKind.TheVariants.{RebuildTaken}
+use Rattle.flat_history.specs.World.{World, opening_list}
+use Rattle.flat_history.specs.Flat.{now}
+use Rattle.flat_history.specs.Plain.{entries_of}
+use Rattle.flat_history.specs.OneShape.{opening_in, IsCallOpen}
+use Rattle.flat_history.proofs.OneShapeGrowing.{one}
+use Rattle.views.specs.declared.work.Work.{Work}
+use Rattle.call_entries.specs.Losing.{losses_of}
+use Rattle.views.specs.Placed.{is_vacant, IsPlaced}
+use Rattle.shape_changes.specs.Marking.{AreOthersPresent}
+use Rattle.views.specs.Moving.{Grows, IsMoved}
+use Rattle.shape_changes.specs.Safety.{HasRoomLeft, IsRisen}
+use Rattle.views.specs.Status.{left_of}
+use Rattle.views.specs.Rebuilding.{with_recovering, MayHold}
+use Rattle.views.specs.Lacking.{AreLostSince, DoesWithout, RowsStandBelow, mended_rows}
+use Rattle.array_kept.specs.Kept.{world_in, AreTold, IsKept}
+use Rattle.shape_views.specs.Views.{Ledger}
+use Rattle.shape_changes.specs.Steady.{IsSafeOver, KeepsSafe, AreGoneTold, IsUncleanTold}
+use Rattle.array_kept.specs.Calls.{with_rebuilt}
+use Rattle.call_entries.proofs.CallLaws.{losses-are, last_end-behind, told-losses}
+use Rattle.array_kept.proofs.DegradedLaws.{rebuilt-moved}
+use Rattle.views.proofs.GivenMembers.{IsReceiver, state-here, placed-given, state-other, spare-before}
+use Rattle.views.proofs.HeldRows.{vacant-missing, missing-moved}
+use Rattle.views.proofs.Still.{gone-still}
+use Rattle.array_kept.proofs.KeptLaws.{StayPlaced, rebuilds-before, mended-are, few, leaves-alike, work-kept}
+use Rattle.views.proofs.LackingLaws.{since-missing}
+use Rattle.views.proofs.LackingLists.{list-moved, among-moved}
+use Rattle.array_kept.proofs.LedgerLaws.{told_by, told-unclean, add-none, add-one}
+use Rattle.calls_kept.proofs.RebuildFilled.{rebuilt-here, rebuilt-other}
+use Rattle.calls_kept.proofs.RebuildGiven.{receiver-spare, few-given, free-then, missing-given, list-given, among-given, rebuilt-given, none-recovered}
+use Rattle.calls_kept.proofs.RebuildLaws.{AreQuiet, quiet-behind, kept-listed}
+use Rattle.array_kept.proofs.RecordLaws.{told-more, gone-lately}
+use Rattle.calls_kept.proofs.SteppedLaws.{call-stepping}
+use Rattle.call_entries.proofs.StepLaws.{left-stepped}
+use Rattle.array_kept.proofs.StepsLeft.{left-taken}
+use Rattle.array_kept.proofs.OnlyLaws.{gone-behind-losses, taken-spares, TellsOnly}
+use Rattle.std.proofs.lemmas.Bool.{cases_eq}
+
+module _ {tells : Type 0} {given : Given} {tape tape' : List Operation} {scope : Scope} {first : ℕ} {entries : List Entry} {members members' : Members} {work : Work}
+    (who : Who) (end : ℕ) (was : IsKept tells given tape scope first entries members work)
+    (opens : IsCallOpen entries who) (caller : who.caller ≢ 254) (at_end : tells → end ≡ length tape')
+    (role slot : ℕ) (below : role < (shape_of members.newest).disks) (vacant : is_vacant (reading_of members) role ≡ true) (spare : has_spare members.spares slot ≡ true)
+    (moved : IsMoved given (with_recovering role slot members) members') (grows : Grows tells tape tape')
+    (roles spares : ℕ) (before after : ℕ → ℕ) (since : AreLostSince (with_recovering role slot members) members' roles spares before after)
+    (does : DoesWithout members) (others : tells → AreOthersPresent (present given tape) (present given tape'))
+    (rise : IsRisen tells members members' tape tape') (clean : is_clean members'.newest ≡ is_clean members.newest)
+    (safe : tells → (world : World) (told : Ledger) → HasRoomLeft members tape tape' → AreGoneTold told members' → told.gone role ≡ true → IsUncleanTold told members
+    → IsSafeOver world given told members tape → KeepsSafe world given told members' tape tape')
+    (known : role < length work.rebuilt) (steps : ℕ) (steps_are : steps ≡ left_of (with_rebuilt role 0 work) members') where
+  abbrev W : World
+  W = world_in given tape scope first
+
+  abbrev L : ℕ → Sector
+  L = now (opening_list W) entries
+
+  abbrev losses : List Event
+  losses = losses_of roles spares
+
+  abbrev events : List Event
+  events = losses ++ Step RebuildTaken steps ∷ []
+
+  abbrev added : List Entry
+  added = entries_of who end events
+
+  abbrev next : Work
+  next = with_rebuilt role 0 work
+
+  pub to : IsReceiver given members role slot
+  to = receiver-spare given members was.placed was.free role slot below vacant spare
+
+  abbrev V : Members
+  V = with_recovering role slot members
+
+  pub taker-placed : IsPlaced given V
+  taker-placed = placed-given given members was.placed (Some 0) role slot to
+
+  pub stays : StayPlaced given members members'
+  stays = record {
+    placed = moved.placed;
+    unlost = moved.unlost;
+    free = moved.free (free-then given members was.placed (Some 0) role slot to was.free);
+    spares = moved.spares (few-given given members was.placed (Some 0) role slot to);
+    shape = moved.shape;
+    size = moved.size;
+  }
+
+  quiet : AreQuiet who end events
+  quiet = quiet-behind who end losses (Step RebuildTaken steps ∷ []) (losses-are roles spares)
+      (record {
+        silent = record { length = λ n. refl; limit = refl };
+        values = λ x values. refl;
+        adds = add-one (one who end (Step RebuildTaken steps)) [] (λ x values v may. may) refl refl (λ r. refl) add-none;
+        unbuilt = refl;
+        ends = refl;
+      })
+
+  gone : is_missing (reading_of members) role ≡ true
+  gone = vacant-missing (reading_of members) role vacant
+
+  -- what is missing is told
+  told : AreTold members' (entries ++ added)
+  told r lt missing = elim (since-missing moved since r lt missing) [
+    | inl in_V ↦ told-more members entries added quiet.adds.gives was.told r (subst (λ (s : Shape). r < s.disks) moved.shape lt) (missing-given given members was.placed (Some 0) role slot to gone r in_V)
+    | inr has ↦ gone-lately r entries added quiet.adds.gives
+        (told-losses r roles spares who end (Step RebuildTaken steps ∷ []) (let most = few who end was opens caller at_end stays grows in omega (arith, lt, most)) has)
+  ]
+
+  -- and what is told gone is missing
+  only : TellsOnly members members' entries added
+  only = record {
+    only = record {
+      gone = gone-behind-losses members members' entries who end roles spares (Step RebuildTaken steps ∷ []) (λ r missing. missing-moved moved r (in-given r missing)) (λ r has. vacant-missing (reading_of members') r (since.gone r has))
+          (λ r. refl) was.only;
+      spares = λ s is. absurd (let clash : true ≡ false = sym is ∙ taken-spares entries who end losses steps s in cc);
+    };
+    held = λ r s may. inl (by_held r s may);
+  }
+    where
+      by_held : (r s : ℕ) → MayHold members' r s → (q : ℕ) × MayHold members q s
+      by_held r s (inl held) = from (cases_eq r role) (moved.held r s held)
+        where
+          some-same : {a b : ℕ} → Some a ≡ Some b → a ≡ b
+          some-same is = cc
+
+          from : (r ≡ role) ⊎ (r ≢ role) → holder (role_state (reading_of V) r) ≡ Some s → (q : ℕ) × MayHold members q s
+          from (inl same) at = (
+            role,
+            inr (subst (λ (k : ℕ). has_spare members.spares k ≡ true)
+                (some-same (sym (ap holder (state-here given members was.placed (Some 0) role slot to)) ∙ ap (λ (k : ℕ). holder (role_state (reading_of V) k)) (sym same) ∙ at)) spare),
+          )
+          from (inr apart) at = (r, inl (ap holder (sym (state-other given members was.placed (Some 0) role slot to r apart)) ∙ at))
+      by_held r s (inr has) = (r, inr (spare-before given members was.placed (Some 0) role slot to s (moved.fewer s has)).0)
+
+      in-given : (r : ℕ) → is_missing (reading_of members) r ≡ true → is_missing (reading_of V) r ≡ true
+      in-given r missing = elim (cases_eq r role) [
+        | inl same ↦ subst (λ (k : ℕ). is_missing (reading_of V) k ≡ true) (sym same) (ap (λ (s : Role). not (is_whole s)) (state-here given members was.placed (Some 0) role slot to))
+        | inr apart ↦ ap (λ (s : Role). not (is_whole s)) (state-other given members was.placed (Some 0) role slot to r apart) ∙ missing
+      ]
+
+  pub kept-taken : IsKept tells given tape' scope first (entries ++ added) members' next
+  kept-taken =
+      kept-listed who end was opens caller at_end stays grows {work' = next} events quiet.silent quiet.values
+      (work-kept who end was opens caller at_end stays grows next events refl
+      (subst (λ (o : Option ℕ). IfSome o (λ n. n ≡ left_of next members')) (sym (left-stepped entries who end losses RebuildTaken steps)) steps_are) quiet.ends quiet.unbuilt)
+      (last_end-behind first entries who end losses (Step RebuildTaken steps))
+      (λ whole none. absurd (
+      let here : true ≡ false = sym (ap (λ (s : Role). not (is_whole s)) (state-here given members was.placed (Some 0) role slot to)) ∙ moved.whole whole role below in cc))
+      told only
+      (λ t fills. call-stepping (opening_in W) next (left_of work members) entries who end RebuildTaken steps moved since
+      (left-taken work members role slot below (let n = was.placed.roles in omega (arith, below, n)) known vacant spare to.room.small) was.left tt steps_are)
+      (λ t does' rebuilds. list-moved given V members' (present given tape) (present given tape') L moved taker-placed (others t)
+      (list-given given members was.placed (Some 0) role slot to (present given tape) L (λ s row lt held. absurd (none-recovered given members was.placed role slot to s row held))
+      (was.holds t does (rebuilds-before W entries added rebuilds))))
+      (λ t does' fit. subst (λ (n : ℕ). RowsStandBelow n members' (present given tape') L) (sym (mended-are who end was opens caller at_end stays grows))
+      (among-moved (λ row. row < mended_rows work.resync members) given V members' (present given tape) (present given tape') L moved taker-placed (others t)
+      (among-given given members was.placed (Some 0) role slot to (present given tape) L (λ s row lt held. absurd (none-recovered given members was.placed role slot to s row held))
+      (λ row. row < mended_rows work.resync members) (was.good t does fit))))
+      (λ t does' fit. rebuilt-moved next given V members' (present given tape) (present given tape') L moved taker-placed (others t)
+      (rebuilt-given given members was.placed (Some 0) role slot to work next (present given tape) L (λ other apart. rebuilt-other work role 0 other apart)
+      (λ s row is under. absurd (let none : row < 0 * (shape_of members.newest).chunk = subst (λ (n : ℕ). row < n * (shape_of members.newest).chunk) (rebuilt-here work role 0 known) under in omega (arith, none)))
+      (was.rebuilt t does fit)))
+      (leaves-alike who end was opens caller at_end stays grows next (λ number is. is) events quiet.silent quiet.adds rise
+      (λ t fills room began. safe t W (told_by W next entries added) room (gone-still (told_by W next entries added) members' moved.placed.still told)
+      (told-more members entries added quiet.adds.gives was.told role below gone)
+      (λ is. told-unclean W work next (λ number is. is) entries added quiet.adds (is_some work.resync) (was.recorded t).dirty (was.unclean is)) began)
+      refl (λ d. does) clean)

@@ -1,0 +1,237 @@
+-- What an array keeps after a write.
+use Rattle.std.proofs.Common.{◌≡◌, ◌≢◌, ◌⊎◌, inl, inr, ℕ, ◌+◌, ◌*◌, ◌/◌, ◌<◌, ◌≤◌, ◌||◌, Bool, true, false, Option, Some, None, List, [], ◌∷◌, ◌++◌, length, refl, sym, ◌∙◌, ap, ap₂, subst, arith, append_assoc}
+use Rattle.std.proofs.lemmas.Bool.Decides.{nat_tests}
+use Rattle.md_base.specs.Sectors.{Sector, IsWhole, sectors_of}
+use Rattle.md_base.specs.Shapes.{tolerance, is_multiple, data_disks}
+use Rattle.md_base.specs.declared.places.Shape.{Shape}
+use Rattle.md_base.specs.declared.answers.Who.{Who}
+use Rattle.md_base.specs.declared.answers.Refusal.{Refusal}
+use Rattle.bank.specs.Given.{Given}
+use Rattle.bank.specs.Tape.{Contents, IsIn}
+use Rattle.bank.specs.declared.bank.Operation.{Operation}
+use Rattle.layout.proofs.Places.{chunk_some, place-row_below}
+use Rattle.superblocks.specs.declared.members.Members.{Members}
+use Rattle.md_base.specs.declared.status.Role.TheVariants.{Recovering}
+use Rattle.superblocks.specs.Reading.{Scope, shape_of, role_state, is_clean, list_length}
+use Rattle.row_io.specs.Rows.{reading_of, present}
+use Rattle.list_io.specs.Buffers.{IsTouched}
+use Rattle.list_io.specs.Full.{AreWholeIn, RowStands}
+use Rattle.list_io.specs.Writing.{IsWritten, HasFull}
+use Rattle.flat_history.specs.declared.events.Entry.{Entry}
+use Rattle.flat_history.specs.declared.events.Event.{Event}
+use Rattle.flat_history.specs.declared.events.Event.TheVariants.{Wrote, Torn, Refused}
+use Rattle.flat_history.specs.World.{World, opening_list}
+use Rattle.flat_history.specs.Flat.{now, values_of, values_after, covers, sector_at}
+use Rattle.flat_history.specs.Losses.{is_unsynced, unsettles}
+use Rattle.flat_history.specs.OneShape.{IsCallOpen, is_unsettled}
+use Rattle.flat_history.specs.Sound.{FillsRight}
+use Rattle.md_base.proofs.SectorLaws.{length-sectors_of}
+use Rattle.std.specs.List.{list_any}
+use Rattle.std.specs.Prelude.{fold, IsSome, is_some}
+use Rattle.flat_history.specs.Plain.{entries_of}
+use Rattle.views.specs.declared.work.Work.{Work}
+use Rattle.views.specs.Status.{rebuilt_of}
+use Rattle.views.specs.Rebuilding.{AreRebuilt}
+use Rattle.views.specs.Whole.{list_size}
+use Rattle.views.specs.Placed.{places_of, AreWhole, IsPlaced}
+use Rattle.call_entries.specs.Losing.{losses_of, failure_events}
+use Rattle.shape_changes.specs.Marking.{AreOthersPresent}
+use Rattle.views.specs.Moving.{Grows, IsMoved}
+use Rattle.shape_changes.specs.Safety.{HasRoomLeft, IsRisen}
+use Rattle.shape_views.specs.Views.{Ledger}
+use Rattle.shape_changes.specs.Steady.{IsSafeOver, KeepsSafe, AreGoneTold, AreWritesAllowed}
+use Rattle.views.specs.Lacking.{AreLostSince, AreTooMany, AreBytes, IsUnwritten, DoesWithout, ListStands, RowsStandAmong, RowsStandBelow, are_mended, mended_rows, lacking, too_many}
+use Rattle.array_kept.specs.Kept.{world_in, AreTold, IsKept}
+use Rattle.array_kept.specs.Calls.{IsRefusedHere}
+use Rattle.call_entries.proofs.CallLaws.{losses-are, length-losses, limit-losses, values-losses}
+use Rattle.views.proofs.LackingLists.{sectors-whole}
+use Rattle.views.proofs.LackingWrites.{list-with, list-with-is, recovering-before}
+use Rattle.array_kept.proofs.LedgerLaws.{told_by, allowed-more, HasNewest, OnlyAdd, add-none, add-one, add-losses, wrote-adds, torn-adds, wrote-in, torn-in, written-allowed, unsettles-behind}
+use Rattle.array_kept.proofs.NowLaws.{values-more}
+use Rattle.call_entries.proofs.PlainLaws.{one}
+use Rattle.array_kept.proofs.RecordLaws.{AreSilent, whole-told}
+use Rattle.array_kept.proofs.ReadyLaws.{silent-behind}
+use Rattle.array_kept.proofs.KeptLaws.{LeavesSafe, newest-old, holds-before, mended-are, leaves-unsettled}
+use Rattle.array_kept.proofs.DegradedLaws.{stays-moved, rows-same, too-many-here, pending-of, unwritten-here, told-behind, degraded-refused, degraded-torn, degraded-wrote}
+use Rattle.views.proofs.Stripes.{stripes-multiple}
+use Rattle.views.proofs.HeldRows.{without-before}
+use Rattle.views.proofs.Still.{gone-still, length-still}
+
+-- ---- rows whose parity is to be relied on
+
+-- they are those of whole stripes
+mended-multiple : (given : Given) (m : Members) → IsPlaced given m → (resync : Option ℕ) → is_multiple (mended_rows resync m) (shape_of m.newest).chunk ≡ true
+mended-multiple given m placed None = placed.multiple
+mended-multiple given m placed (Some mended) = stripes-multiple mended (shape_of m.newest).chunk (chunk_some (shape_of m.newest) placed.valid)
+
+-- sectors that end within those of the mended rows touch no other row
+touched-mended : (given : Given) (m : Members) → IsPlaced given m → (resync : Option ℕ) (shape : Shape) → shape ≡ shape_of m.newest → (at count row : ℕ)
+    → are_mended (shape_of m.newest) (mended_rows resync m) (at + count) ≡ true → IsTouched shape at count row → row < mended_rows resync m
+touched-mended given m placed resync shape same at count row mended touched =
+    let here = subst (λ (s : Shape). IsTouched s at count row) same touched in
+    let all : at + count ≤ data_disks (shape_of m.newest) * mended_rows resync m = grind (arith, nat_tests, mended) in
+    let below : here.0 < data_disks (shape_of m.newest) * mended_rows resync m = let last = here.2 in omega (arith, all, last) in
+    subst (λ (r : ℕ). r < mended_rows resync m) here.3 (place-row_below (shape_of m.newest) placed.valid here.0 (mended_rows resync m) (mended-multiple given m placed resync) below)
+
+-- the rows that are touched stand, where the mended rows do
+touched-stand : (given : Given) (m : Members) → IsPlaced given m → (resync : Option ℕ) (shape : Shape) → shape ≡ shape_of m.newest → (at count : ℕ) (c : Contents) (list : ℕ → Sector)
+    → are_mended (shape_of m.newest) (mended_rows resync m) (at + count) ≡ true → RowsStandBelow (mended_rows resync m) m c list → RowsStandAmong (IsTouched shape at count) m c list
+touched-stand given m placed resync shape same at count c list mended below row touched low = below row (touched-mended given m placed resync shape same at count row mended touched) low
+
+-- ---- a write
+
+module _ {tells : Type 0} {given : Given} {tape tape' : List Operation} {scope : Scope} {first : ℕ} {entries : List Entry} {members members' : Members} {work : Work}
+    (who : Who) (end : ℕ) (was : IsKept tells given tape scope first entries members work) (opens : IsCallOpen entries who) (caller : who.caller ≢ 254) (at_end : tells → end ≡ length tape')
+    (moved : IsMoved given members members') (grows : Grows tells tape tape')
+    (roles spares : ℕ) (before after : ℕ → ℕ) (since : AreLostSince members members' roles spares before after)
+    (shape : Shape) (same : shape ≡ shape_of members.newest) (at : ℕ) (from : List ℕ) (within : at + length from / 512 ≤ list_size (places_of members)) (does : DoesWithout members) (begun : Bool)
+    (synced : Bool) (asked : synced ≡ are_mended (shape_of members.newest) (mended_rows work.resync members) (at + length from / 512))
+    (rise : IsRisen tells members members' tape tape') (stays : is_clean members.newest ≡ false → is_clean members'.newest ≡ false)
+    (safe : tells → (world : World) → (told : Ledger) → HasRoomLeft members tape tape' → AreGoneTold told members' → told.unclean ≡ true → (list list' : ℕ → Sector) → IsWritten list list' at from
+    → ListStands members (present given tape) list → (synced ≡ true → AreWhole members' ⊎ RowsStandAmong (IsTouched shape at (length from / 512)) members (present given tape) list)
+    → (begun ≡ true → AreWritesAllowed members told.values list') → IsSafeOver world given told members tape → KeepsSafe world given told members' tape tape') where
+  all-within : at + length (sectors_of from) ≤ list_size (places_of members)
+  all-within = let n : length (sectors_of from) ≡ length from / 512 = length-sectors_of from in omega (arith, within, n)
+
+  -- The call tells these events, of which one unsettles, if it wasn't opened dirty; where rows had begun to be written, they allow its sectors.
+  leaves-written : (events : List Event) → AreSilent who end events → OnlyAdd (entries_of who end events) → AreTold members' (entries ++ entries_of who end events)
+      → (is_some work.resync ≡ false → list_any (λ e. unsettles e.event) (entries_of who end events) ≡ true)
+      → (begun ≡ true → (x : ℕ) (values : List Sector) → HasNewest values → covers at (sectors_of from) x ≡ true
+      → IsIn (fold (λ values e. values_after x values e.event) values (entries_of who end events)) (sector_at at (sectors_of from) x))
+      → LeavesSafe tells given tape' scope first (entries ++ entries_of who end events) members' work
+  leaves-written events silent adds told unsettled allows =
+      leaves-unsettled who end was opens caller at_end (stays-moved was moved) grows work (λ number is. is) events silent adds rise stretch (λ left pending. stays (was.dirty (without-before given members members' was.placed moved left) pending)) unsettled
+    where
+      list : ℕ → Sector
+      list = now (opening_list (world_in given tape scope first)) entries
+
+      allowed : (t : tells) → FillsRight (world_in given tape scope first) (entries ++ entries_of who end events) → begun ≡ true
+          → AreWritesAllowed members (values_of (opening_list (world_in given tape scope first)) (entries ++ entries_of who end events)) (list-with list at from)
+      allowed t fills is =
+          let opened = opening_list (world_in given tape scope first) in
+          let newest = newest-old who end was opens caller at_end (stays-moved was moved) grows (entries_of who end events) t fills in
+          written-allowed (list_length members.newest) at from list (list-with list at from) (values_of opened (entries ++ entries_of who end events)) (list-with-is list at from)
+          (allowed-more opened entries (entries_of who end events) members was.placed.still adds list newest)
+          (λ x lt covered. subst (λ (l : List Sector). IsIn l (sector_at at (sectors_of from) x)) (sym (values-more opened entries (entries_of who end events) x))
+          (allows is x (values_of opened entries x) (newest x (subst (λ (n : ℕ). x < n) (length-still members was.placed.still) lt)) covered))
+
+      unclean : (t : tells) → (told_by (world_in given tape scope first) work entries (entries_of who end events)).unclean ≡ true
+      unclean t = by (is_some work.resync) (is_unsynced (world_in given tape scope first) entries) (is_unsettled entries) (was.recorded t).dirty unsettled
+        where
+          by : (a b c : Bool) → b ≡ a → (a ≡ false → list_any (λ e. unsettles e.event) (entries_of who end events) ≡ true) → (b || (c || list_any (λ e. unsettles e.event) (entries_of who end events))) ≡ true
+          by true b c same is = ap (λ (x : Bool). x || (c || list_any (λ e. unsettles e.event) (entries_of who end events))) same
+          by false b c same is = ap₂ (λ (x y : Bool). x || (c || y)) same (is refl) ∙ last c
+            where
+              last : (c : Bool) → (c || true) ≡ true
+              last true = refl
+              last false = refl
+
+      rows : (t : tells) → FillsRight (world_in given tape scope first) (entries ++ entries_of who end events) → synced ≡ true
+          → AreWhole members' ⊎ RowsStandAmong (IsTouched shape at (length from / 512)) members (present given tape) list
+      rows t (inl none) mended = inl (whole-told members' (entries ++ entries_of who end events) told none)
+      rows t (inr fit) mended = inr (touched-stand given members was.placed work.resync shape same at (length from / 512) (present given tape) list (sym asked ∙ mended) (was.good t does fit))
+
+      stretch : (t : tells) → FillsRight (world_in given tape scope first) (entries ++ entries_of who end events) → HasRoomLeft members tape tape'
+          → IsSafeOver (world_in given tape scope first) given (told_by (world_in given tape scope first) work entries (entries_of who end events)) members tape
+          → KeepsSafe (world_in given tape scope first) given (told_by (world_in given tape scope first) work entries (entries_of who end events)) members' tape tape'
+      stretch t fills room began =
+          safe t (world_in given tape scope first) (told_by (world_in given tape scope first) work entries (entries_of who end events)) room
+          (gone-still (told_by (world_in given tape scope first) work entries (entries_of who end events)) members' moved.placed.still told) (unclean t)
+          list (list-with list at from) (list-with-is list at from)
+          (holds-before who end was opens caller at_end (stays-moved was moved) grows (entries_of who end events) t fills does) (rows t fills) (allowed t fills) began
+
+  -- where the parity of the rows isn't to be relied on, a resync is pending
+  pending : synced ≡ false → IsSome work.resync
+  pending is = pending-of members work.resync (at + length from / 512) within (sym asked ∙ is)
+
+  -- a write that tore rows
+  kept-torn : IsRefusedHere (list_size (places_of members)) work.resync members' (too_many members')
+      → IsKept tells given tape' scope first (entries ++ entries_of who end ((losses_of roles spares ++ Torn at (sectors_of from) ∷ []) ++ Refused (too_many members') ∷ [])) members' work
+  kept-torn here =
+      degraded-torn who end was opens caller at_end moved grows roles spares before after since at (sectors_of from) (lacking members') (tolerance (shape_of members'.newest)) all-within here
+      (subst (λ (l : List Event). LeavesSafe tells given tape' scope first (entries ++ entries_of who end l) members' work) (sym (append_assoc (losses_of roles spares) (Torn at (sectors_of from) ∷ []) (Refused (too_many members') ∷ [])))
+      (leaves-written (losses_of roles spares ++ tail)
+      (record {
+        length = λ n. length-losses who end (losses_of roles spares) tail (losses-are roles spares) n;
+        limit = limit-losses who end (losses_of roles spares) tail (losses-are roles spares) None;
+      })
+      (add-losses who end (losses_of roles spares) tail (losses-are roles spares)
+      (add-one (one who end (Torn at (sectors_of from))) (one who end (Refused (too_many members')) ∷ []) (torn-adds at (sectors_of from)) refl refl (λ role. refl)
+      (add-one (one who end (Refused (too_many members'))) [] (λ x values v may. may) refl refl (λ role. refl) add-none)))
+      (told-behind who end was opens caller at_end moved grows roles spares before after since tail (λ role. refl))
+      (λ none. unsettles-behind who end (losses_of roles spares) tail refl)
+      (λ is x values newest covered. subst (λ (l : List Sector). IsIn l (sector_at at (sectors_of from) x)) (sym (values-losses who end (losses_of roles spares) tail (losses-are roles spares) x values))
+      (torn-in at (sectors_of from) x values newest covered))))
+    where
+      tail : List Event
+      tail = Torn at (sectors_of from) ∷ Refused (too_many members') ∷ []
+
+  -- one that wasn't done
+  pub kept-unwritten : (refusal : Refusal) → IsUnwritten synced members' refusal → (begun ≡ true → AreTooMany members' refusal) → (begun ≡ false → tells → AreOthersPresent (present given tape) (present given tape'))
+      → IsKept tells given tape' scope first (entries ++ entries_of who end (failure_events roles spares begun at (sectors_of from) refusal)) members' work
+  kept-unwritten refusal why many others = by begun refl
+    where
+      by : (b : Bool) → begun ≡ b → IsKept tells given tape' scope first (entries ++ entries_of who end (failure_events roles spares b at (sectors_of from) refusal)) members' work
+      by true is =
+          let told = (many is).told in
+          subst (λ (r : Refusal). IsKept tells given tape' scope first (entries ++ entries_of who end (failure_events roles spares true at (sectors_of from) r)) members' work) (sym told)
+          (kept-torn (subst (IsRefusedHere (list_size (places_of members)) work.resync members') told (too-many-here (list_size (places_of members)) work.resync members' refusal (many is))))
+      by false is =
+          degraded-refused who end was opens caller at_end moved grows roles spares before after since refusal
+          (unwritten-here (list_size (places_of members)) work.resync synced members' refusal pending why) (others is)
+          (leaves-written (losses_of roles spares ++ Refused refusal ∷ [])
+          (silent-behind who end (losses_of roles spares) (Refused refusal) (losses-are roles spares) (record { length = λ n. refl; limit = refl }))
+          (add-losses who end (losses_of roles spares) (Refused refusal ∷ []) (losses-are roles spares) (add-one (one who end (Refused refusal)) [] (λ x values v may. may) refl refl (λ role. refl) add-none))
+          (told-behind who end was opens caller at_end moved grows roles spares before after since (Refused refusal ∷ []) (λ role. refl))
+          (λ none. unsettles-behind who end (losses_of roles spares) (Refused refusal ∷ []) (gave-up why none))
+          (λ now_begun. absurd (let no = sym is ∙ now_begun in cc)))
+        where
+          gave-up : IsUnwritten synced members' refusal → is_some work.resync ≡ false → list_any (λ e. unsettles e.event) (entries_of who end (Refused refusal ∷ [])) ≡ true
+          gave-up (inl too) none = subst (λ (r : Refusal). list_any (λ e. unsettles e.event) (entries_of who end (Refused r ∷ [])) ≡ true) (sym too.told) refl
+          gave-up (inr found) none = absurd (let no = sym none ∙ pending found.2 in cc)
+
+  -- one that was done
+  pub kept-wrote : IsWhole from → AreBytes from
+      → (tells → (list list' : ℕ → Sector) → IsWritten list list' at from → ListStands members (present given tape) list → ListStands members' (present given tape') list')
+      → (tells → (list list' : ℕ → Sector) → IsWritten list list' at from → ListStands members (present given tape) list
+      → (synced ≡ true → AreWhole members' ⊎ RowsStandAmong (IsTouched shape at (length from / 512)) members (present given tape) list)
+      → (row : ℕ) → row < members.newest.size → AreWholeIn shape list row
+      → IsTouched shape at (length from / 512) row ⊎ RowStands (reading_of members) (present given tape) shape list row
+      → RowStands (reading_of members') (present given tape') shape list' row)
+      → (tells → (list list' : ℕ → Sector) → IsWritten list list' at from → ListStands members (present given tape) list
+      → (synced ≡ true → AreWhole members' ⊎ RowsStandAmong (IsTouched shape at (length from / 512)) members (present given tape) list)
+      → (role slot row : ℕ) → role < shape.disks → role_state (reading_of members') role ≡ Recovering slot → row < members.newest.size
+      → HasFull (reading_of members) (present given tape) shape list row role slot → HasFull (reading_of members') (present given tape') shape list' row role slot)
+      → IsKept tells given tape' scope first (entries ++ entries_of who end (losses_of roles spares ++ Wrote at (sectors_of from) ∷ [])) members' work
+  kept-wrote whole bytes put good keeps =
+      degraded-wrote who end was opens caller at_end moved grows roles spares before after since at from within (sectors-whole from whole bytes) put rows rebuilt
+      (leaves-written (losses_of roles spares ++ Wrote at (sectors_of from) ∷ [])
+      (silent-behind who end (losses_of roles spares) (Wrote at (sectors_of from)) (losses-are roles spares) (record { length = λ n. refl; limit = refl }))
+      (add-losses who end (losses_of roles spares) (Wrote at (sectors_of from) ∷ []) (losses-are roles spares)
+      (add-one (one who end (Wrote at (sectors_of from))) [] (wrote-adds at (sectors_of from)) refl refl (λ role. refl) add-none))
+      (told-behind who end was opens caller at_end moved grows roles spares before after since (Wrote at (sectors_of from) ∷ []) (λ role. refl))
+      (λ none. unsettles-behind who end (losses_of roles spares) (Wrote at (sectors_of from) ∷ []) refl)
+      (λ is x values newest covered. subst (λ (l : List Sector). IsIn l (sector_at at (sectors_of from) x)) (sym (values-losses who end (losses_of roles spares) (Wrote at (sectors_of from) ∷ []) (losses-are roles spares) x values))
+      (wrote-in at (sectors_of from) x values covered)))
+    where
+      -- each mended row stands on
+      rows : tells → (list list' : ℕ → Sector) → IsWritten list list' at from → ListStands members (present given tape) list → RowsStandBelow (mended_rows work.resync members) members (present given tape) list
+          → RowsStandBelow (mended_rows work.resync members') members' (present given tape') list'
+      rows t list list' written stands below row mended low =
+          let rows_are = mended-are who end was opens caller at_end (stays-moved was moved) grows in
+          let size : row < members.newest.size = subst (λ (n : ℕ). row < n) moved.size low in
+          let stood = subst (λ (s : Shape). RowStands (reading_of members) (present given tape) s list row) (sym same) (below row (subst (λ (n : ℕ). row < n) rows_are mended) size) in
+          subst (λ (s : Shape). RowStands (reading_of members') (present given tape') s list' row) (same ∙ sym moved.shape)
+          (good t list list' written stands (λ is. inr (touched-stand given members was.placed work.resync shape same at (length from / 512) (present given tape) list (sym asked ∙ is) below)) row size stood.whole (inr stood))
+
+      -- and each row that was rebuilt stays so
+      rebuilt : tells → (list list' : ℕ → Sector) → IsWritten list list' at from → ListStands members (present given tape) list → RowsStandBelow (mended_rows work.resync members) members (present given tape) list
+          → AreRebuilt work members (present given tape) list → AreRebuilt work members' (present given tape') list'
+      rebuilt t list list' written stands below was_rebuilt role slot row lt is held high low =
+          let size : row < members.newest.size = subst (λ (n : ℕ). row < n) moved.size low in
+          let role_lt : role < (shape_of members.newest).disks = subst (λ (s : Shape). role < s.disks) moved.shape lt in
+          let full = was_rebuilt role slot row role_lt (recovering-before moved role slot is) (subst (λ (n : ℕ). n ≤ row) (rows-same moved role slot is) held)
+          (subst (λ (s : Shape). row < rebuilt_of work role * s.chunk) moved.shape high) size in
+          subst (λ (s : Shape). HasFull (reading_of members') (present given tape') s list' row role slot) (same ∙ sym moved.shape)
+          (keeps t list list' written stands (λ is. inr (touched-stand given members was.placed work.resync shape same at (length from / 512) (present given tape) list (sym asked ∙ is) below)) role slot row
+          (subst (λ (s : Shape). role < s.disks) (sym same) role_lt) is size (subst (λ (s : Shape). HasFull (reading_of members) (present given tape) s list row role slot) (sym same) full))

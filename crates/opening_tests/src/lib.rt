@@ -1,0 +1,5 @@
+//! Tests of `assemble`: arrays that are found, or refused, and arrays that are made.
+#![tactic(auto)]
+
+#[cfg(test)]
+mod openings;

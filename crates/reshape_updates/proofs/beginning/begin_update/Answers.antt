@@ -1,0 +1,155 @@
+use Rattle.std.proofs.Common.{◌≡◌, ◌≤◌, ◌&&◌, ℕ, not, refl, sym, ◌∙◌, ap, subst, min, ◌+◌, ◌-◌, arith, List, get_or}
+use Rattle.std.specs.Prelude.{◌^◌}
+use Rattle.md_base.specs.Shapes.{has_slot}
+use Rattle.md_base.specs.declared.status.Role.{Role}
+use Rattle.md_base.specs.declared.status.Role.TheVariants.{Missing}
+use Rattle.bank.specs.Given.{Given}
+use Rattle.bank.specs.Tape.{disk}
+use Rattle.superblocks.specs.declared.change.Change.{Change}
+use Rattle.superblocks.specs.declared.members.Members.{Members}
+use Rattle.superblocks.specs.Reading.{role_count, shape_of}
+use Rattle.superblocks.specs.Reads.{SaysSame}
+use Rattle.superblocks.specs.Update.{IsRoleGive, give_of}
+use Rattle.superblocks.specs.Updating.{AreLosses, planned_newest}
+use Rattle.superblocks.specs.Outcome.{with_added, live_set, AreLive, AreGivesOfLive}
+use Rattle.flat_history.specs.Sound.{OpensFit}
+use Rattle.shape_views.specs.Regions.{ArePlaced}
+use Rattle.shape_views.proofs.Alike.{backup-alike}
+use Rattle.shape_changes.specs.Changing.{IsChanged}
+use Rattle.shape_changes.specs.Kinds.{IsTaking}
+use Rattle.layout.proofs.Limits.{limited}
+use Rattle.shape_changes.specs.Updates.{IsLessView, planned_view}
+use Rattle.shape_changes.proofs.Begin.{begin-safe}
+use Rattle.shape_changes.proofs.CalledLaws.{changed-by}
+use Rattle.shape_changes.proofs.ChangeSafe.{told-changed, risen-changed}
+use Rattle.shape_changes.proofs.ChangeViews.{new-less, later-says, later-fits}
+use Rattle.shape_changes.proofs.FitKinds.{taking-live}
+use Rattle.shape_changes.proofs.PlannedRoles.{count-planned}
+use Rattle.shape_changes.proofs.PlansLose.{plans-lose}
+use Rattle.shape_ends.proofs.EndLaws.{cleared-plain}
+use Rattle.shape_ends.proofs.LessPlaced.{less-placed}
+use Rattle.shape_ends.proofs.PlanPlaced.{planned-placed}
+use Rattle.reshape_updates.specs.Beginning.{beginning}
+use Rattle.reshape_updates.proofs.MoreLess.{less-then}
+use Rattle.reshape_updates.proofs.Taken.{taking-one, taken-whole}
+use Rattle.reshape_updates.proofs.BegunPlan.{begun-alike, few, new-count, given-roles, taking, is-beginning, is-begun, planned-begun-is, planned-fits-is, new-roles-are-taken}
+use Rattle.reshape_updates.proofs.beginning.begin_update.Given.{Over}
+use Rattle.reshape_updates.proofs.beginning.begin_update.Goals.{After-update}
+use Rattle.reshape_updates.proofs.beginning.begin_update.Goals as goal
+
+pub update-requires-clause-roles : goal.update-requires-clause-roles
+update-requires-clause-roles g c = (let same = c.requires.roles in let most = (limited (shape_of c.args.members.now.newest) c.requires.in_force.old_valid).most in omega (arith, same, most))
+
+pub update-requires-clause-count : goal.update-requires-clause-count
+update-requires-clause-count g c =
+    subst (λ (ch : Change). role_count ch.shared ≤ 16) (sym c.beginning-change.ensures) (few c.args.members.now c.args.to.now c.requires.still c.requires.roles c.requires.in_force c.requires.level)
+
+pub update-requires-clause-gives : goal.update-requires-clause-gives
+update-requires-clause-gives g c = λ s below.
+    subst (λ (ch : Change). IsRoleGive (give_of ch.gives s)) (sym c.beginning-change.ensures) (given-roles c.args.members.now c.args.to.now c.requires.still c.requires.roles c.requires.in_force c.requires.level s)
+
+pub update-requires-clause-alone : goal.update-requires-clause-alone
+update-requires-clause-alone g c = subst (λ (ch : Change). AreGivesOfLive c.args.members.now ch) (sym c.beginning-change.ensures)
+    (taking-live c.args.members.now (beginning c.args.members.now c.args.to.now) (taking c.args.members.now c.args.to.now c.requires.still c.requires.roles c.requires.in_force c.requires.level))
+
+module _ (g : Over) (c : After-update g) where
+  abbrev m : Members
+  m = c.args.members.now
+
+  abbrev n : Members
+  n = c.update.new.members
+
+  abbrev ch : Change
+  ch = beginning c.args.members.now c.args.to.now
+
+  done : IsChanged g.B.Bank.tells (g.B.Bank.given c.args.bank.now) ch m n (g.B.Bank.tape c.args.bank.now) (g.B.Bank.tape c.update.new.bank)
+  done =
+      let did = c.update.ensures in
+      changed-by g.B.Bank.tells (g.B.Bank.given c.args.bank.now) c.beginning-change.result ch m n (g.B.Bank.tape c.args.bank.now)
+      (g.B.Bank.tape c.update.new.bank) (g.B.Bank.faults_of c.args.bank.now) (g.B.Bank.faults_of c.update.new.bank) c.beginning-change.ensures refl (record {
+        update = did.update;
+        named = did.named;
+        newest = did.newest;
+        turns = did.turns;
+        turned = did.turned;
+        rise = did.rise;
+        own = did.own;
+        roles = did.roles;
+        spares = did.spares;
+        alive = subst (λ (b : Given). AreLive b n) did.given did.live;
+        losses = did.losses;
+      })
+
+  takes : IsTaking m ch
+  takes = taking m c.args.to.now c.requires.still c.requires.roles c.requires.in_force c.requires.level
+
+  says : SaysSame (planned_newest ch.shared m.newest) n.newest
+  says = later-says (planned_newest ch.shared m.newest) n.newest done.newest
+
+  less : IsLessView (planned_view m ch m.lost) n
+  less = less-then (planned_view m ch m.lost) (planned_view m ch n.lost) n (plans-lose m ch m.lost n.lost done.stay (taking-one m ch takes))
+      (new-less m n ch (taking-live m ch takes) done.newest done.own done.roles done.spares)
+
+pub returns-clause-begun : goal.returns-clause-begun
+returns-clause-begun g c = done g c
+
+pub returns-clause-newest : goal.returns-clause-newest
+returns-clause-newest g c =
+    begun-alike c.args.members.now.newest (planned_newest (ch g c).shared c.args.members.now.newest) c.update.new.members.newest c.args.to.now (says g c)
+    (planned-begun-is c.args.members.now c.args.to.now c.requires.still c.requires.roles c.requires.in_force c.requires.level)
+
+pub returns-clause-fit : goal.returns-clause-fit
+returns-clause-fit g c = later-fits (planned_newest (ch g c).shared c.args.members.now.newest) c.update.new.members.newest (done g c).newest
+    (planned-fits-is c.args.members.now c.args.to.now c.requires.still c.requires.roles c.requires.in_force c.requires.level)
+
+pub returns-clause-events : goal.returns-clause-events
+returns-clause-events g c =
+    subst (λ (ch : Change). c.update.new.members.lost ≡ (with_added c.args.members.now ch.added).lost → c.update.new.members.newest.events ≡ min (c.args.members.now.newest.events + 1) (2 ^ 64 - 1)) c.beginning-change.ensures c.update.ensures.events
+
+pub returns-clause-beginning : goal.returns-clause-beginning
+returns-clause-beginning g c = is-beginning c.args.members.now c.args.to.now c.requires.still c.requires.roles c.requires.in_force c.requires.level
+
+pub returns-clause-plan : goal.returns-clause-plan
+returns-clause-plan g c = is-begun c.args.members.now c.args.to.now c.requires.still c.requires.roles c.requires.in_force c.requires.level
+
+pub returns-clause-taken : goal.returns-clause-taken
+returns-clause-taken g c = λ role from below.
+    let t = new-roles-are-taken c.args.members.now c.args.to.now c.requires.still c.requires.roles c.requires.in_force c.requires.level c.requires.spares role from below in
+    let count = new-count c.args.members.now c.args.to.now c.requires.still c.requires.roles c.requires.in_force c.requires.level in (
+      t.0,
+      t.1.spare,
+      λ kept. ap (λ (l : List Role). get_or l role Missing) (done g c).roles
+          ∙ taken-whole c.args.members.now (ch g c) (takes g c) c.update.new.members.lost (done g c).stay t.0 role t.1.small (omega (arith, count, below)) kept t.1.gets,
+    )
+
+pub returns-clause-less : goal.returns-clause-less
+returns-clause-less g c = less g c
+
+pub returns-clause-placed : goal.returns-clause-placed
+returns-clause-placed g c scope placed there given =
+    let m = c.args.members.now in
+    let plan = planned_view m (ch g c) m.lost in
+    subst (λ (b : Given). ArePlaced scope b c.update.new.members) (sym c.update.ensures.given)
+    (less-placed scope (g.B.Bank.given c.args.bank.now) plan c.update.new.members (less g c)
+    (planned-placed scope (g.B.Bank.given c.args.bank.now) m (ch g c) m.lost placed refl (count-planned m (ch g c))
+    (planned-fits-is m c.args.to.now c.requires.still c.requires.roles c.requires.in_force c.requires.level)
+    (backup-alike (planned_newest (ch g c).shared m.newest) c.update.new.members.newest (says g c) scope ∙ there) given))
+
+pub returns-clause-rise : goal.returns-clause-rise
+returns-clause-rise g c = risen-changed (done g c) refl (taking-live c.args.members.now (ch g c) (takes g c))
+
+pub returns-clause-result : goal.returns-clause-result
+returns-clause-result g c =
+    subst (λ (ch : Change). (s : ℕ) → has_slot c.update.result s ≡ (has_slot c.update.new.members.lost s && not (has_slot (with_added c.args.members.now ch.added).lost s))) c.beginning-change.ensures c.update.ensures.result
+
+pub returns-clause-losses : goal.returns-clause-losses
+returns-clause-losses g c =
+    subst (λ (ch : Change). AreLosses (live_set c.args.members.now ch) (with_added c.args.members.now ch.added).lost c.update.new.members.lost (g.B.Bank.faults_of c.args.bank.now) (g.B.Bank.faults_of c.update.new.bank))
+    c.beginning-change.ensures c.update.ensures.losses
+
+pub returns-clause-safe : goal.returns-clause-safe
+returns-clause-safe g c = λ tell world told more room placed cleared tells gone gone' carried safe.
+    begin-safe (OpensFit world) world.scope (g.B.Bank.given c.args.bank.now) told more (ch g c) c.args.members.now c.update.new.members (g.B.Bank.tape c.args.bank.now) (g.B.Bank.tape c.update.new.bank)
+    (told-changed tell (done g c)) (is-beginning c.args.members.now c.args.to.now c.requires.still c.requires.roles c.requires.in_force c.requires.level) room placed
+    (cleared-plain world.scope (planned_view c.args.members.now (ch g c) c.args.members.now.lost) (disk (g.B.Bank.given c.args.bank.now).start (g.B.Bank.tape c.args.bank.now)) cleared).0
+    tells gone gone' carried safe

@@ -1,0 +1,11 @@
+use Rattle.std.proofs.Common.{◌≤◌, sym, subst}
+use Rattle.md_base.specs.declared.places.Shape.{Shape}
+use Rattle.layout.proofs.Limits.{limited}
+use Rattle.superblocks.specs.Reading.{shape_of}
+use Rattle.reshape_updates.proofs.beginning.beginning.Goals as goal
+
+pub new_gives-requires-clause-first : goal.new_gives-requires-clause-first
+new_gives-requires-clause-first c = subst (λ (s : Shape). s.disks ≤ 16) (sym c.shape_of-now.ensures) (limited (shape_of c.args.members.now.newest) c.requires.in_force.old_valid).most
+
+pub new_gives-requires-clause-disks : goal.new_gives-requires-clause-disks
+new_gives-requires-clause-disks c = (limited c.args.to.now c.requires.in_force.new_valid).most

@@ -1,0 +1,11 @@
+use Rattle.std.proofs.Common.{◌≤◌, sym, subst}
+use Rattle.md_base.specs.declared.places.Shape.{Shape}
+use Rattle.layout.proofs.Limits.{limited}
+use Rattle.superblocks.specs.Reading.{shape_of}
+use Rattle.reshape_updates.proofs.beginning.with_reshape.Goals as goal
+
+pub difference-requires-clause-count : goal.difference-requires-clause-count
+difference-requires-clause-count c = (limited c.args.to.now c.requires.in_force.new_valid).most
+
+pub difference-requires-clause-less : goal.difference-requires-clause-less
+difference-requires-clause-less c = subst (λ (s : Shape). s.disks ≤ 16) (sym c.shape_of-now.ensures) (limited (shape_of c.args.sb.now) c.requires.in_force.old_valid).most

@@ -1,0 +1,97 @@
+//! The position of a reshape moves past a window.
+
+ghost use Rattle.std.specs.Prelude.{◌≡◌, ◌+◌, ◌-◌, ◌^◌, ◌≤◌, ◌&&◌, ◌==◌, ℕ, min, not, length};
+ghost use Rattle.std.specs.Int.{bit_at};
+ghost use Rattle.bank.specs.Given.{NeverFalls};
+ghost use Rattle.bank.specs.Tape.{disk};
+ghost use Rattle.md_base.specs.Shapes.{has_slot};
+ghost use Rattle.superblocks.specs.Reading.{Scope, is_negative, is_zero, is_backward, role_count};
+ghost use Rattle.superblocks.specs.Reads.{SaysSame};
+ghost use Rattle.superblocks.specs.Outcome.{live_set, AreLive};
+ghost use Rattle.superblocks.specs.Updating.{AreLosses};
+ghost use Rattle.flat_history.specs.World.{World};
+ghost use Rattle.flat_history.specs.Sound.{OpensFit};
+ghost use Rattle.shape_views.specs.Regions.{ArePlaced};
+ghost use Rattle.shape_views.specs.Views.{Ledger, IsViewRight};
+ghost use Rattle.shape_views.specs.Windows.{moved_past};
+ghost use Rattle.shape_changes.specs.Safety.{HasRoomLeft, IsRisen};
+ghost use Rattle.shape_changes.specs.Steady.{IsSteady, IsSafeOver, KeepsSafe, AreGoneTold};
+ghost use Rattle.shape_changes.specs.Updates.{IsLessView};
+ghost use Rattle.shape_changes.specs.Changing.{IsChanged};
+ghost use Rattle.shape_changes.specs.Kinds.{recording};
+
+use bank::Bank;
+use md_base::Span;
+use sb1::{Features, Sb};
+use superblock_updates::update;
+use superblocks::{Change, Give, Lostness, Members};
+
+fn is_negative(delta: i32) -> bool
+    ensures { result ≡ is_negative delta }
+{
+    delta < 0
+}
+
+fn is_zero(delta: i32) -> bool
+    ensures { result ≡ is_zero delta }
+{
+    delta == 0
+}
+
+fn has_backward_bit(map: u32) -> bool
+    ensures { result ≡ (bit_at map 5 == 1) }
+{
+    map & Features::RESHAPE_BACKWARDS.0 != 0
+}
+
+// Whether the reshape goes backward: to fewer disks, or to as many where the feature map says so.
+fn is_backward(sb: &Sb) -> bool
+    ensures { result ≡ is_backward sb.now }
+{
+    is_negative(sb.delta_disks) || (is_zero(sb.delta_disks) && has_backward_bit(sb.feature_map))
+}
+
+// The update that records the position behind a window.
+fn recording(members: &Members, span: &Span) -> Change
+    ensures { result ≡ recording span.now members.now }
+{
+    let reshape_position = if is_backward(&members.newest) {
+        span.lo
+    } else {
+        span.hi
+    };
+    Change {
+        shared: Sb {
+            reshape_position,
+            ..members.newest
+        },
+        gives: [Give::Same; 32],
+        added: None,
+    }
+}
+
+/// Records the position behind a window in the superblocks of all live slots, and names the roles that no slot holds;
+/// answers the slots that were lost in this.
+pub fn record_position<B: Bank>(members: &mut Members, bank: &mut B, span: &Span) -> Lostness
+    requires live { AreLive (B.given bank.old) members.old }
+    requires roles { length members.old.roles ≡ role_count members.old.newest }
+    requires few { length members.old.roles ≤ 16 }
+    ensures recorded { IsChanged B.tells (B.given bank.old) (recording span.now members.old) members.old members.new (B.tape bank.old) (B.tape bank.new) }
+    ensures newest { SaysSame (moved_past span.now members.old).newest members.new.newest }
+    ensures events { members.new.lost ≡ members.old.lost → members.new.newest.events ≡ min (members.old.newest.events + 1) (2 ^ 64 - 1) }
+    ensures less { IsLessView (moved_past span.now members.old) members.new }
+    ensures placed { (scope : Scope) → ArePlaced scope (B.given bank.old) (moved_past span.now members.old) → ArePlaced scope (B.given bank.new) members.new }
+    ensures rise { IsRisen B.tells members.old members.new (B.tape bank.old) (B.tape bank.new) }
+    ensures result { (s : ℕ) → has_slot result s ≡ (has_slot members.new.lost s && not (has_slot members.old.lost s)) }
+    ensures losses { AreLosses (live_set members.old (recording span.now members.old)) members.old.lost members.new.lost (B.faults_of bank.old) (B.faults_of bank.new) }
+    ensures safe { B.tells → (world : World) → (told : Ledger) → HasRoomLeft members.old (B.tape bank.old) (B.tape bank.new) → AreGoneTold told members.new
+        → ((steady : IsSteady (OpensFit world) world.scope (B.given bank.old) told members.old (disk (B.given bank.old).start (B.tape bank.old)))
+        → IsViewRight (OpensFit world) world.scope (B.given bank.old) told (moved_past span.now steady.former) (disk (B.given bank.old).start (B.tape bank.old)))
+        → IsSafeOver world (B.given bank.old) told members.old (B.tape bank.old) → KeepsSafe world (B.given bank.old) told members.new (B.tape bank.old) (B.tape bank.new) }
+    ensures live { AreLive (B.given bank.new) members.new }
+    ensures counts { NeverFalls (B.faults_of bank.old) (B.faults_of bank.new) }
+    ensures given { B.given bank.new ≡ B.given bank.old }
+{
+    let change = recording(members, span);
+    update(members, bank, &change)
+}

@@ -1,0 +1,42 @@
+-- Views with a new spare, and with roles that are lost, have no more than others.
+use Rattle.std.proofs.Common.{◌≡◌, ℕ, not, List, length, get_or, Some, refl, sym, ◌∙◌, ap}
+use Rattle.std.proofs.lemmas.List.{length-map}
+use Rattle.md_base.specs.declared.status.Role.{Role}
+use Rattle.md_base.specs.declared.status.Role.TheVariants.{Missing}
+use Rattle.sb1.specs.declared.sb.Sb.{Sb}
+use Rattle.superblocks.specs.declared.members.Members.{Members}
+use Rattle.superblocks.specs.Reading.{is_whole, role_state, holder}
+use Rattle.superblocks.specs.Reads.{SaysSame}
+use Rattle.row_io.specs.Rows.{reading_of, role_without}
+use Rattle.shape_changes.specs.Updates.{IsLessView}
+use Rattle.shape_changes.proofs.ChangeViews.{says-itself}
+use Rattle.shape_changes.proofs.Kept.{still-missing}
+use Rattle.shape_changes.proofs.Without.{without-holder, state-without}
+use Rattle.views.specs.Placed.{AreLess}
+use Rattle.views.specs.Rebuilding.{with_spare}
+use Rattle.views.proofs.AddedRows.{offset-with, rows-as}
+
+-- a slot that holds no role has no part in the view
+pub with-less : (m : Members) (slot : ℕ) (sb : Sb) → ((role : ℕ) → holder (role_state (reading_of m) role) ≡ Some slot → ⊥) → IsLessView m (with_spare slot sb m)
+with-less m slot sb untaken = record {
+  array = says-itself m.newest;
+  roles = refl;
+  states = λ role s held. refl;
+  rows = λ role. rows-as m slot sb untaken role (role_state (reading_of m) role) refl;
+  offsets = λ role s held. offset-with m slot sb untaken role s held;
+  missing = λ role is. is;
+}
+
+-- members that lost slots have fewer roles
+pub less-view : (lost : ℕ) (old new : Members) → AreLess lost old new → SaysSame old.newest new.newest → IsLessView old new
+less-view lost old new less says = record {
+  array = says;
+  roles = ap length less.roles ∙ length-map old.roles (role_without lost);
+  states = λ role slot held. state-is role ∙ without-holder lost (role_state (reading_of old) role) slot (ap holder (sym (state-is role)) ∙ held);
+  rows = λ role. less.rows (role_state (reading_of new) role);
+  offsets = λ role slot held. less.offsets slot;
+  missing = λ role is. ap (λ (s : Role). not (is_whole s)) (state-is role) ∙ still-missing old lost (role_state (reading_of old) role) is;
+}
+  where
+    state-is : (role : ℕ) → role_state (reading_of new) role ≡ role_without lost (role_state (reading_of old) role)
+    state-is role = ap (λ (l : List Role). get_or l role Missing) less.roles ∙ state-without lost old.roles role

@@ -1,0 +1,21 @@
+-- What is missing without some slots is missing without more of them.
+use Rattle.std.proofs.Common.{◌≡◌, ℕ, Bool, true, false, not, cond, refl, ap}
+use Rattle.md_base.specs.Shapes.{has_slot}
+use Rattle.md_base.specs.declared.status.Role.{Role}
+use Rattle.md_base.specs.declared.status.Role.TheVariants.{Whole, Recovering, Missing}
+use Rattle.superblocks.specs.Reading.{is_whole}
+use Rattle.superblocks.specs.Crash.{IsWithin}
+use Rattle.row_io.specs.Rows.{role_without}
+
+pub missing-more : (few many : ℕ) → IsWithin few many → (state : Role) → not (is_whole (role_without few state)) ≡ true → not (is_whole (role_without many state)) ≡ true
+missing-more few many more (Whole s) missing = by (has_slot few s) refl missing
+  where
+    by : (b : Bool) → has_slot few s ≡ b → not (is_whole (cond b Missing (Whole s))) ≡ true → not (is_whole (role_without many (Whole s))) ≡ true
+    by true gone e = ap (λ (b : Bool). not (is_whole (cond b Missing (Whole s)))) (more s gone)
+    by false kept e = absurd (cc)
+missing-more few many more (Recovering s) missing = by (has_slot many s)
+  where
+    by : (b : Bool) → not (is_whole (cond b Missing (Recovering s))) ≡ true
+    by true = refl
+    by false = refl
+missing-more few many more Missing missing = missing

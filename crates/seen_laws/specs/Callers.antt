@@ -1,0 +1,95 @@
+-- What callers that share an array have seen of its history, and which calls they have made in it.
+use Rattle.std.specs.Prelude.{◌≡◌, ◌≢◌, ℕ, ◌-◌, ◌≤◌, true, List, [], ◌∷◌, ◌++◌, length, map, take, drop, slice_get, MatchOption, ⊤}
+use Rattle.std.specs.List.{All}
+use Rattle.md_base.specs.declared.answers.Who.{Who}
+use Rattle.flat_history.specs.declared.events.Entry.{Entry}
+use Rattle.flat_history.specs.declared.events.Event.{Event}
+use Rattle.flat_history.specs.declared.events.Event.TheVariants.{Shown}
+use Rattle.flat_history.specs.declared.events.Request.{Request}
+use Rattle.flat_history.specs.declared.events.Request.TheVariants.{Show as AsksShow}
+use Rattle.flat_history.specs.Flat.{last_of, next_number}
+use Rattle.flat_history.specs.Legal.{last_end}
+use Rattle.flat_history.specs.Growing.{BeginAnother}
+use Rattle.flat_history.specs.OneShape.{OneShapeFits, IsOfCall}
+use Rattle.flat_history.specs.Seen.{Seen, BeginsWith, ends_call, reply_places}
+
+-- ---- what was seen
+
+-- the tape ends where the last entry does
+abbrev pub IsWhole : Type 0 → Seen → Type 0
+IsWhole tells seen = tells → last_end seen.world seen.entries ≡ length seen.world.tape
+
+-- the reply of each call was made at the mark or after it
+abbrev pub RepliesFrom : ℕ → List Entry → Type 0
+RepliesFrom mark [] = ⊤
+RepliesFrom mark (e ∷ entries) = (ends_call e entries ≡ true → mark ≤ e.end) × RepliesFrom mark entries
+
+-- Less was seen before more: the same epoch, with further calls of its own behind, which were answered later.
+pub record IsBefore (tells : Type 0) (less more : Seen) : Type 0 where
+  pub begins : BeginsWith tells less more
+  pub apart : BeginAnother (last_of less.entries) begins.entries.0
+  pub later : tells → RepliesFrom (length less.world.tape) begins.entries.0
+
+-- ---- which calls were made
+
+-- the entry answers the request, over a list of so many sectors, behind these entries; a status tells that size
+abbrev pub IsShownAs : ℕ → Event → Type 0
+IsShownAs size (Shown status) = (status.length ≡ size) × (status.visible ≡ size)
+IsShownAs size event = ⊥
+
+abbrev pub IsReplyTo : ℕ → List Entry → Entry → Request → Type 0
+IsReplyTo size before e AsksShow = IsShownAs size e.event
+IsReplyTo size before e request = OneShapeFits size before e request
+
+-- each of these requests is answered at its place
+abbrev pub AreReplied : ℕ → List Entry → List (Request × ℕ) → Type 0
+AreReplied size entries [] = ⊤
+AreReplied size entries (request ∷ more) =
+    MatchOption (slice_get entries request.1) ⊥ (λ e. IsReplyTo size (take request.1 entries) e request.0) × AreReplied size entries more
+
+-- Behind the start a caller's calls are these requests, each once and in this order, and each is answered at its place.
+pub record HasCalled (size : ℕ) (start now : List Entry) (caller : ℕ) (requests : List (Request × ℕ)) : Type 0 where
+  pub places : map (λ request. request.1) requests ≡ reply_places caller (length start) (drop (length start) now)
+  pub answered : AreReplied size now requests
+
+-- One call was made: its entries bear the caller's next number, and the last one answers the request.
+pub record IsCalled (size : ℕ) (who : Who) (request : Request) (old new : List Entry) : Type 0 where
+  pub inner : List Entry
+  pub reply : Entry
+  pub number : who.number ≡ next_number who.caller old
+  pub own : All (IsOfCall who) inner
+  pub last : IsOfCall who reply
+  pub is : new ≡ old ++ (inner ++ reply ∷ [])
+  pub answers : IsReplyTo size (old ++ inner) reply request
+
+-- ---- laws
+
+-- Nobody has called before the first call.
+abbrev pub NoneHasCalled : Type 0
+NoneHasCalled = (size : ℕ) (start : List Entry) (caller : ℕ) → HasCalled size start start caller []
+
+-- A call is one more of its caller's, at the end of the history.
+abbrev pub CallsAreCounted : Type 0
+CallsAreCounted = (size : ℕ) (start since old new : List Entry) (who : Who) (request : Request) (requests : List (Request × ℕ))
+    → old ≡ start ++ since → IsCalled size who request old new → HasCalled size start old who.caller requests
+    → HasCalled size start new who.caller (requests ++ (request, length new - 1) ∷ [])
+
+-- It is none of another caller's.
+abbrev pub CallsAreOnesOwn : Type 0
+CallsAreOnesOwn = (size : ℕ) (start since old new : List Entry) (who : Who) (other : ℕ) (request : Request) (requests : List (Request × ℕ))
+    → old ≡ start ++ since → IsCalled size who request old new → other ≢ who.caller → HasCalled size start old other requests
+    → HasCalled size start new other requests
+
+-- What was seen before a call was seen before what it left.
+abbrev pub CallsComeLater : Type 0 → Type 0
+CallsComeLater tells = (size : ℕ) (old new : Seen) (who : Who) (request : Request)
+    → IsCalled size who request old.entries new.entries → BeginsWith tells old new → IsWhole tells new → IsBefore tells old new
+
+-- What was seen before is seen before anything later.
+abbrev pub SeenGoesOn : Type 0 → Type 0
+SeenGoesOn tells = (x y z : Seen) → IsBefore tells x y → IsBefore tells y z → IsBefore tells x z
+
+-- Of two that were seen before a third one, the shorter was seen before the longer.
+abbrev pub ShorterIsBefore : Type 0 → Type 0
+ShorterIsBefore tells = (x y now : Seen) → IsWhole tells x → IsWhole tells y → IsBefore tells x now → IsBefore tells y now
+    → length x.entries ≤ length y.entries → IsBefore tells x y

@@ -1,6 +1,0 @@
-use Rattle.std.specs.Prelude.{⊤}
-use Rattle.update_laws.proofs.CalledLaws.{update-is-change}
-use Rattle.update_laws.proofs.an_update_is_a_change.Goals as goal
-
-pub returns : goal.returns
-returns c = update-is-change ⊤

@@ -1,5 +1,0 @@
-use Rattle.update_laws.proofs.FitKinds.{dropping-is-fit}
-use Rattle.update_laws.proofs.dropping_is_fit.Goals as goal
-
-pub returns : goal.returns
-returns c = dropping-is-fit

@@ -1,5 +1,0 @@
-use Rattle.update_laws.proofs.PlansLose.{plans-lose}
-use Rattle.update_laws.proofs.plans_lose_roles.Goals as goal
-
-pub returns : goal.returns
-returns c = plans-lose

@@ -1,5 +1,0 @@
-pub mod Plans
-pub mod Changing
-pub mod Called
-pub mod Kinds
-pub mod Making

@@ -1,0 +1,215 @@
+-- Members of one shape by the definitions for one shape or two: they are placed, and the list and its rows lie alike.
+use Rattle.std.proofs.Common.{◌≡◌, ◌⊎◌, inl, inr, ℕ, ◌+◌, ◌*◌, ◌^◌, ◌<◌, ◌≤◌, ◌==◌, ◌&&◌, ◌||◌, nat_le, max, Bool, true, false, not, cond, drop, ◌/◌, ◌%◌, List, [], ◌∷◌, Option, Some, None, refl, sym, ◌∙◌, ap, subst, arith}
+use Rattle.std.specs.Prelude.{find}
+use Rattle.std.proofs.lemmas.Bool.Decides.{nat_tests}
+use Rattle.std.proofs.lemmas.Nat.{mod_below}
+use Rattle.std.proofs.Math.Nat.{div-add-mod'}
+use Rattle.md_base.specs.Sectors.{Sector}
+use Rattle.md_base.specs.declared.places.Shape.{Shape}
+use Rattle.md_base.specs.declared.places.Place.{Place}
+use Rattle.md_base.specs.declared.places.Span.{Span}
+use Rattle.md_base.specs.declared.answers.Refusal.TheVariants.{BackupAbsent, PositionNotOnUnit}
+use Rattle.md_base.specs.Shapes.{has_slot, is_level, is_layout, is_valid_shape, is_multiple}
+use Rattle.bank.specs.Given.{Given}
+use Rattle.bank.specs.declared.bank.Operation.{Operation}
+use Rattle.bank.specs.Tape.{Contents, IsIn, IsDrawn, disk}
+use Rattle.sb1.specs.declared.sb.Sb.{Sb}
+use Rattle.layout.specs.Layout.{place}
+use Rattle.layout.proofs.Places.{chunk_some, data_some, place-sector, place-sector_below, place-row_below, sector_at}
+use Rattle.geometry.specs.Geometry.{is_size, window}
+use Rattle.superblocks.specs.declared.members.Members.{Members}
+use Rattle.superblocks.specs.Reading.{Scope, is_seen, is_backup, is_reshaping, is_backward, shape_of, final_shape, role_count, list_length, next_window, role_state, holder, data_offset_of}
+use Rattle.superblocks.specs.Verdict.{is_bad_size, judged_fields, unit_of}
+use Rattle.superblock_reads.proofs.SaidSlots.{role-known}
+use Rattle.row_io.specs.Rows.{reading_of, present, held_slot, is_missing, IsTolerated}
+use Rattle.row_io.proofs.Losses.{holder-of}
+use Rattle.list_io.specs.Full.{RowStands}
+use Rattle.flat_history.specs.Stands.{shape_for, has_room, backup_absent, covers, reach_of}
+use Rattle.flat_history.specs.ActiveSection.{section_for}
+use Rattle.shape_views.specs.Regions.{header_in, open_by, place_by, AreShapesFit, ArePlaced, DoWithout}
+use Rattle.shape_views.specs.Views.{Disk, Ledger, IsOutside, IsSettled}
+use Rattle.shape_views.specs.Windows.{IsOfRegion}
+use Rattle.shape_views.proofs.Stands.{for-still, final-still, list-still}
+use Rattle.shape_changes.specs.Held.{IsHeldBy}
+use Rattle.shape_changes.specs.Steady.{IsMoreTold, AreGoneTold}
+use Rattle.shape_changes.proofs.Stretch.{seen-own}
+use Rattle.views.specs.Whole.{list_size}
+use Rattle.views.specs.Placed.{places_of, IsPlaced}
+use Rattle.views.specs.Lacking.{DoesWithout, AreHoldersFlushed, RowsStand}
+use Rattle.views.specs.Still.{StillIsPlaced, FlushedIsSettled}
+use Rattle.views.proofs.Ready.{none-judged}
+
+-- nothing more is told
+pub told-same : (told : Ledger) → IsMoreTold told told
+told-same told = record { size = refl; values = λ x lt v may. may; gone = λ role is. is; unclean = λ is. is; reshaping = λ is. is; carried = λ number is. is }
+
+-- ---- what the newest superblock says
+
+module _ (newest : Sb) (still : is_reshaping newest ≡ false) where
+  pub count-still : role_count newest ≡ (shape_of newest).disks
+  count-still = ap (λ (s : Shape). max (shape_of newest).disks s.disks) (final-still newest still) ∙ same (shape_of newest).disks
+    where
+      same : (n : ℕ) → max n n ≡ n
+      same n = grind (arith, nat_tests)
+
+  pub open-still : (scope : Scope) (header : Sector) → open_by scope newest header ≡ None
+  open-still scope header = ap (λ (w : Option Span). section_for scope (λ s k. header) scope.backup w) none ∙ nothing scope.backup
+    where
+      none : next_window newest ≡ None
+      none = ap (λ (b : Bool). cond b (window (shape_of newest) (final_shape newest) newest.size (is_backward newest) newest.reshape_position) None) still
+
+      nothing : (backup : Option ℕ) → section_for scope (λ s k. header) backup None ≡ None
+      nothing (Some b) = refl
+      nothing None = refl
+
+  pub outside-still : (scope : Scope) (m : Members) (header : Sector) (x : ℕ) → m.newest ≡ newest → x < list_length newest → IsOutside scope m header x
+  outside-still scope m header x is lt = record {
+    within = subst (λ (n : Sb). x < list_length n) (sym is) lt;
+    outside = ap (λ (o : Option Span). covers o x) (ap (λ (n : Sb). open_by scope n header) is ∙ open-still scope header);
+  }
+
+-- ---- the members
+
+-- the list is as long
+pub length-still : (m : Members) → is_reshaping m.newest ≡ false → list_length m.newest ≡ list_size (places_of m)
+length-still m still = list-still m.newest still
+
+pub placed-still : (m : Members) (x : ℕ) → is_reshaping m.newest ≡ false → place_by m.newest x ≡ place (shape_of m.newest) x
+placed-still m x still = ap (λ (s : Shape). place s x) (for-still m.newest still x)
+
+-- it does without as many
+pub without-still : (m : Members) → is_reshaping m.newest ≡ false → DoesWithout m → DoWithout m
+without-still m still does = record { old = does; final = subst (λ (s : Shape). IsTolerated (reading_of m) s) (sym (final-still m.newest still)) does }
+
+-- each row is of the one region
+pub region-still : (m : Members) (touched : ℕ → Type 0) → is_reshaping m.newest ≡ false → IsOfRegion m (shape_of m.newest) touched
+region-still m touched still x lt at = for-still m.newest still x
+
+-- what is missing is told alike
+pub gone-still : (told : Ledger) (m : Members) → is_reshaping m.newest ≡ false → ((role : ℕ) → role < (shape_of m.newest).disks → is_missing (reading_of m) role ≡ true → told.gone role ≡ true) → AreGoneTold told m
+gone-still told m still gone role lt missing = gone role (subst (λ (n : ℕ). role < n) (count-still m.newest still) lt) missing
+
+pub still-gone : (told : Ledger) (m : Members) → is_reshaping m.newest ≡ false → AreGoneTold told m → (role : ℕ) → role < (shape_of m.newest).disks → is_missing (reading_of m) role ≡ true → told.gone role ≡ true
+still-gone told m still gone role lt missing = gone role (subst (λ (n : ℕ). role < n) (sym (count-still m.newest still)) lt) missing
+
+-- ---- they are placed
+
+-- the third of these tests fails
+third-fails : (a b c : ℕ × Bool) (rest : List (ℕ × Bool)) → find (λ f. f.1) (a ∷ b ∷ c ∷ rest) ≡ None → c.1 ≡ false
+third-fails a b c rest e = of a.1 b.1 c.1 refl e
+  where
+    of : (x y z : Bool) → c.1 ≡ z → cond x (Some a) (cond y (Some b) (cond z (Some c) (find (λ f. f.1) rest))) ≡ None → c.1 ≡ false
+    of true y z is e = absurd (cc)
+    of false true z is e = absurd (cc)
+    of false false true is e = absurd (cc)
+    of false false false is e = is
+
+size-good : (sb : Sb) (slots : List (Sb × ℕ)) → find (λ f. f.1) (judged_fields sb slots) ≡ None → is_bad_size sb ≡ false
+size-good sb slots none = third-fails (72, not (is_level sb.level)) (76, not (is_layout sb.level sb.layout)) (80, is_bad_size sb) (drop 3 (judged_fields sb slots)) none
+
+some-size : (sb : Sb) (slots : List (Sb × ℕ)) → find (λ f. f.1) (judged_fields sb slots) ≡ None → 1 ≤ sb.size
+some-size sb slots good = of (nat_le 1 sb.size) refl (size-good sb slots good)
+  where
+    of : (b : Bool) → nat_le 1 sb.size ≡ b → not (b && nat_le sb.size (2 ^ 48) && is_multiple sb.size sb.chunksize && (not (is_reshaping sb) || is_multiple sb.size sb.new_chunk)) ≡ false → 1 ≤ sb.size
+    of true is e = grind (arith, nat_tests, is)
+    of false is e = absurd (cc)
+
+pub shapes-still : (m : Members) (given : Given) → IsPlaced given m → 1 ≤ m.newest.size → AreShapesFit m.newest
+shapes-still m given placed some = record {
+  valid = record { old = placed.valid; final = subst (λ (s : Shape). is_valid_shape s ≡ true) (sym final) placed.valid };
+  size = sized;
+  final_size = subst (λ (s : Shape). is_size m.newest.size s.chunk ≡ true) (sym final) sized;
+  level = ap (λ (s : Shape). s.level) final;
+  unit = ap (λ (b : Bool). cond (not b || is_multiple m.newest.reshape_position (unit_of m.newest) || (m.newest.reshape_position == list_length m.newest)) None (Some (PositionNotOnUnit m.newest.reshape_position (unit_of m.newest)))) placed.still;
+  position = λ active. absurd (let still = placed.still in cc);
+  delta = λ active. absurd (let still = placed.still in cc);
+  delta_back = λ active. absurd (let still = placed.still in cc);
+}
+  where
+    final : final_shape m.newest ≡ shape_of m.newest
+    final = final-still m.newest placed.still
+
+    least : nat_le 1 m.newest.size ≡ true
+    least = grind (arith, nat_tests, some)
+
+    most : nat_le m.newest.size (2 ^ 48) ≡ true
+    most = let short = placed.short in grind (arith, nat_tests, short)
+
+    sized : is_size m.newest.size (shape_of m.newest).chunk ≡ true
+    sized = λ i. least i && most i && placed.multiple i
+
+module _ (scope : Scope) (given : Given) (m : Members) (placed : IsPlaced given m) (some : 1 ≤ m.newest.size)
+    (own : (role slot : ℕ) → holder (role_state (reading_of m) role) ≡ Some slot → scope.backup ≡ Some slot → ⊥) where
+  pub placed-two : ArePlaced scope given m
+  placed-two = record {
+    fit = shapes-still m given placed some;
+    roles = placed.roles ∙ sym (count-still m.newest placed.still);
+    holders = placed.holders;
+    behind = placed.behind;
+    members_own = own;
+    apart = placed.apart;
+    backup = ap (λ (b : Bool). cond (not b || has_room scope (reach_of m.newest)) None (Some BackupAbsent)) placed.still;
+  }
+
+-- so where the superblocks are held
+pub held-own : (scope : Scope) (m : Members) (d : Disk) → IsHeldBy scope m d → (role slot : ℕ) → holder (role_state (reading_of m) role) ≡ Some slot → scope.backup ≡ Some slot → ⊥
+held-own scope m d held role slot holds =
+    let known = (role-known scope held.known m held.said role slot holds).0 in
+    seen-own scope slot (held.updated.held.each slot known).seen
+
+pub still-placed : StillIsPlaced
+still-placed scope given m d placed held =
+    placed-two scope given m placed (some-size m.newest [] (none-judged m.newest held.updated.held.sound.fields)) (held-own scope m d held)
+
+-- ---- rows that are settled
+
+-- rows that stand as a list of allowed values, whatever is drawn
+pub settled-still : (scope : Scope) (given : Given) (m : Members) (values : ℕ → List Sector) (d : Disk) (list : ℕ → Sector) → IsPlaced given m
+    → ((x : ℕ) → x < list_size (places_of m) → IsIn (values x) (list x))
+    → ((c : Contents) → IsDrawn d c → (row : ℕ) → row < m.newest.size → RowStands (reading_of m) c (shape_of m.newest) list row) → IsSettled scope m values d
+settled-still scope given m values d list placed allowed rows = record {
+  list = list;
+  allowed = λ x lt. allowed x (subst (λ (n : ℕ). x < n) (length-still m placed.still) lt);
+  rows = λ c drawn x out.
+      let short : x < list_size (places_of m) = subst (λ (n : ℕ). x < n) (length-still m placed.still) out.within in
+      subst (λ (s : Shape). RowStands (reading_of m) c s list (place s x).row) (sym (for-still m.newest placed.still x))
+      (rows c drawn (place (shape_of m.newest) x).row (place-row_below (shape_of m.newest) placed.valid x m.newest.size placed.multiple short));
+}
+
+-- and the other way
+pub still-settled : (scope : Scope) (given : Given) (m : Members) (values : ℕ → List Sector) (d : Disk) → IsPlaced given m → (s : IsSettled scope m values d)
+    → (c : Contents) → IsDrawn d c → (row : ℕ) → row < m.newest.size → RowStands (reading_of m) c (shape_of m.newest) s.list row
+still-settled scope given m values d placed s c drawn row lt =
+    let shape = shape_of m.newest in
+    let x : ℕ = sector_at shape (row / shape.chunk) 0 (row % shape.chunk) in
+    let at : (place shape x).row ≡ row =
+    ap (λ (p : Place). p.row) (place-sector shape (row / shape.chunk) 0 (row % shape.chunk) (data_some shape placed.valid) (mod_below row shape.chunk (chunk_some shape placed.valid)))
+    ∙ div-add-mod' row shape.chunk in
+    let inside : x < list_size (places_of m) = place-sector_below shape placed.valid x m.newest.size placed.multiple (omega (arith, at, lt)) in
+    let out : IsOutside scope m (header_in scope c) x = outside-still m.newest placed.still scope m (header_in scope c) x refl (subst (λ (n : ℕ). x < n) (sym (length-still m placed.still)) inside) in
+    subst (RowStands (reading_of m) c shape s.list) at
+    (subst (λ (s' : Shape). RowStands (reading_of m) c s' s.list (place s' x).row) (for-still m.newest placed.still x) (s.rows c drawn x out))
+
+pub flushed-is-settled : FlushedIsSettled
+flushed-is-settled scope given members tape values list placed flushed stand allowed = settled-still scope given members values (disk given.start tape) list placed allowed (λ c drawn row lt.
+    let stands = stand row lt in
+    record {
+      whole = stands.whole;
+      sectors = λ role slot below sound held. here c drawn row role slot held ∙ stands.sectors role slot below sound held;
+      parity = λ role slot below parity held. here c drawn row role slot held ∙ stands.parity role slot below parity held;
+    })
+  where
+    alone : (v w : Sector) (values : List Sector) → values ≡ w ∷ [] → IsIn values v → v ≡ w
+    alone v w values is may = only (subst (λ (l : List Sector). IsIn l v) is may)
+      where
+        only : (v ≡ w) ⊎ ⊥ → v ≡ w
+        only (inl same) = same
+        only (inr none) = absurd none
+
+    here : (c : Contents) → IsDrawn (disk given.start tape) c → (row role slot : ℕ) → held_slot (reading_of members) role row ≡ Some slot
+        → c slot (data_offset_of (reading_of members) slot + row) ≡ present given tape slot (data_offset_of (reading_of members) slot + row)
+    here c drawn row role slot held =
+        let holds = holder-of (reading_of members) role row slot held in
+        let behind = placed.behind role slot holds in
+        let k = data_offset_of (reading_of members) slot + row in
+        alone (c slot k) (present given tape slot k) (disk given.start tape slot k) (flushed role slot k holds (λ e. absurd (omega (arith, behind, e)))) (drawn slot k)

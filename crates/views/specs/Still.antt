@@ -1,0 +1,34 @@
+-- What the definitions of arrays of one shape or two say of an array of one shape.
+use Rattle.std.specs.Prelude.{◌≡◌, ℕ, ◌<◌, ◌≤◌, false, List, length}
+use Rattle.md_base.specs.Sectors.{Sector}
+use Rattle.bank.specs.declared.bank.Operation.{Operation}
+use Rattle.bank.specs.Given.{Given}
+use Rattle.bank.specs.Tape.{IsIn, disk}
+use Rattle.superblocks.specs.declared.members.Members.{Members}
+use Rattle.superblocks.specs.Reading.{Scope}
+use Rattle.row_io.specs.Rows.{reading_of, present}
+use Rattle.flat_history.specs.World.{World, may_hold}
+use Rattle.flat_history.specs.Sound.{OpensFit, LeavesSound}
+use Rattle.shape_views.specs.Regions.{ArePlaced}
+use Rattle.shape_views.specs.Views.{Disk, Ledger, IsSettled}
+use Rattle.shape_changes.specs.Held.{IsHeldBy}
+use Rattle.shape_changes.specs.Steady.{AreViewsRight}
+use Rattle.views.specs.Whole.{list_size}
+use Rattle.views.specs.Placed.{places_of, IsPlaced}
+use Rattle.views.specs.Lacking.{AreHoldersFlushed, RowsStand}
+
+-- Members of one shape whose superblocks are held are placed.
+abbrev pub StillIsPlaced : Type 0
+StillIsPlaced = (scope : Scope) (given : Given) (members : Members) (d : Disk) → IsPlaced given members → IsHeldBy scope members d → ArePlaced scope given members
+
+-- Where the holders of roles are flushed and the rows stand as a list of allowed values, they are settled.
+abbrev pub FlushedIsSettled : Type 0
+FlushedIsSettled = (scope : Scope) (given : Given) (members : Members) (tape : List Operation) (values : ℕ → List Sector) (list : ℕ → Sector) → IsPlaced given members
+    → AreHoldersFlushed (reading_of members) given tape → RowsStand members (present given tape) list
+    → ((x : ℕ) → x < list_size (places_of members) → IsIn (values x) (list x)) → IsSettled scope members values (disk given.start tape)
+
+-- Where each view of what a stop may leave is right, no reshape is told, and the epoch opened fit, each image that assembles is sound.
+abbrev pub ViewsAreSound : Type 0
+ViewsAreSound = (world : World) (given : Given) (mark : ℕ) (told : Ledger) (d : Disk) → mark ≤ length world.tape
+    → ((s k : ℕ) (v : Sector) → IsIn (may_hold world mark s k) v → IsIn (d s k) v)
+    → AreViewsRight (OpensFit world) world.scope given told d → told.reshaping ≡ false → OpensFit world → LeavesSound world mark
