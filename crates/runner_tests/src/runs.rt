@@ -85,6 +85,9 @@ fn count_of(alloc: Global, words: &[String]) -> Result<usize, Fail>
 fn bank_of(alloc: Global, row: &Row, slots: usize) -> Result<MemoryBank, Fail>
     ensures { IfOk result (λ bank. length bank.start ≡ slots) }
 {
+    if slots > 32 {
+        return Err(Fail::from("too many slots"));
+    }
     let mut lengths = vec![in alloc; 64; slots]?;
     if slots > 6 {
         lengths[6] = 48;
