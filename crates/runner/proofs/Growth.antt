@@ -195,11 +195,14 @@ module _ (was now : Setting) (wider : IsWider was now) (end later : ℕ) (moved 
   unexamined_stays slot refusal is = absurd is
 
   examined_wider : (line : Line) (slot : ℕ) (found : Option Sb) → IsExaminedBy was end line slot found → IsExaminedBy now later line slot found
-  examined_wider (Examine asked) slot found (same, is) = (same, record {
-    there = subst (λ (g : Given). slot < g.slots) (sym wider.given) is.there;
-    stored = λ t. is.stored (wider.told t) ∙ sym (ap (λ (g : Given). superblock_in (g.sectors slot) (held_at now later slot)) wider.given
-        ∙ ap (λ (c : Contents). superblock_in (was.given.sectors slot) (c slot)) (held t));
-  })
+  examined_wider (Examine asked) slot found (same, is) = (
+    same,
+    record {
+      there = subst (λ (g : Given). slot < g.slots) (sym wider.given) is.there;
+      stored = λ t. is.stored (wider.told t) ∙ sym (ap (λ (g : Given). superblock_in (g.sectors slot) (held_at now later slot)) wider.given
+          ∙ ap (λ (c : Contents). superblock_in (was.given.sectors slot) (c slot)) (held t));
+    },
+  )
   examined_wider line slot found is = absurd is
 
   refused_stays : (running : Bool) (line : Line) (refusal : Refusal) → IsRefusedOutside was running end line refusal → IsRefusedOutside now running later line refusal
