@@ -11,9 +11,12 @@ use Rattle.bank.specs.Tape.{Contents, contents}
 use Rattle.bank.proofs.Laws.{contents-earlier}
 use Rattle.md_base.specs.declared.answers.Fault.TheVariants.{Refused as IsRefusedWith}
 use Rattle.md_base.specs.declared.answers.Refusal.{Refusal}
+use Rattle.md_base.specs.declared.answers.Refusal.TheVariants.{NoSuchSlot, SlotFault}
 use Rattle.md_base.specs.declared.status.Status.{Status}
 use Rattle.md_base.specs.Sectors.{Sector}
 use Rattle.md_base.specs.Shapes.{data_disks, has_slot}
+use Rattle.sb1.specs.declared.sb.Sb.{Sb}
+use Rattle.sb1.specs.Superblock.{superblock_in}
 use Rattle.flat_history.specs.World.{World, opening_list}
 use Rattle.flat_history.specs.Epochs.{OpensAlike}
 use Rattle.flat_history.specs.Opened.{OpensSound}
@@ -26,7 +29,7 @@ use Rattle.assemble.specs.Running.{OpensWithZeros}
 use Rattle.std.specs.List.{All}
 use Rattle.std.proofs.lemmas.List.Elements.{All-head, All-tail}
 use Rattle.array.specs.declared.spec.CreateSpec.{CreateSpec}
-use Rattle.script.specs.declared.lines.Line.TheVariants.{Create, Read, Write, Flush, Fail, Add, Step, Wait, Stop, Halt, Detail, Mdstat, Assemble}
+use Rattle.script.specs.declared.lines.Line.TheVariants.{Create, Read, Write, Flush, Fail, Add, Step, Wait, Stop, Halt, Detail, Mdstat, Examine, Assemble}
 use Rattle.flat_history.specs.declared.events.Entry.{Entry}
 use Rattle.flat_history.specs.declared.events.Event.TheVariants.{Shown}
 use Rattle.flat_history.specs.Plain.{entries_of}
@@ -35,16 +38,17 @@ use Rattle.flat_history.specs.Flat.{rest_of_call, is_same_call}
 use Rattle.script.specs.Texts.{lane_text}
 use Rattle.script.specs.declared.lines.Line.{Line}
 use Rattle.script.specs.declared.lines.Numbered.{Numbered}
-use Rattle.runner.specs.declared.report.Outside.TheVariants.{Created, Assembled, Refused}
+use Rattle.runner.specs.declared.report.Outside.TheVariants.{Created, Assembled, Examined, Refused}
 use Rattle.runner.specs.declared.report.Answered.{Answered}
 use Rattle.runner.specs.declared.report.Answered.TheVariants.{Inside, Outside as IsOutside}
 use Rattle.runner.specs.declared.report.LineReply.{LineReply}
 use Rattle.runner.specs.Histories.{History, entry_at}
+use Rattle.runner.specs.Examining.{stored_at, IsExamined, IsExaminedBy, IsUnexamined}
 use Rattle.runner.specs.Making.{Setting, held_at, history_world, IsUncreated, IsUnassembled, IsStoredNew, IsStoredAs, BeginsShown}
 use Rattle.runner.specs.Replies.{Course, spec_of, FitsLine, IsMadeBy, IsFoundBy, IsRefusedOutside, course_behind, course_after, course_of, leaves_more, leaves_more_at, IsReplyAt, IsWaitedAt, IsRepliedAt, IsAnsweredInside, IsAnswer, IsEnd, IsReplyTo, AreReplies}
 use Rattle.runner.specs.Shown.{entry_text, answer_text, reply_text, report_text, tells_refusal, is_refusal, has_refusal}
 use Rattle.runner.specs.States.{IsGrown, AreGrown, IsNamed, IsCallFor, IsCallNamed}
-use Rattle.runner.proofs.Causes.{given-wider, create-later, assemble-later}
+use Rattle.runner.proofs.Causes.{faulted-wider, given-wider, create-later, assemble-later}
 use Rattle.runner.proofs.Worlds.{list-same, alike-later, sound-later, new-later, stored-later}
 
 rest_append : (e : Entry) (xs ys : List Entry) → rest_of_call e xs ≡ [] → rest_of_call e ys ≡ [] → rest_of_call e (xs ++ ys) ≡ []
@@ -185,6 +189,22 @@ module _ (was now : Setting) (wider : IsWider was now) (end later : ℕ) (moved 
       (subst (λ (g : Given). HasCause now.tells g (held_at now later) was.backup asked now.before now.now (IsRefusedWith refusal)) (sym wider.given)
       (assemble-later wider.told wider.early wider.between wider.late was.given was.backup (held_at was end) (held_at now later) asked held (IsRefusedWith refusal) is))
 
+  unexamined_stays : (slot : ℕ) (refusal : Refusal) → IsUnexamined was slot refusal → IsUnexamined now slot refusal
+  unexamined_stays slot (NoSuchSlot asked) (same, past) = (same, subst (λ (g : Given). g.slots ≤ slot) (sym wider.given) past)
+  unexamined_stays slot (SlotFault failed) (same, faulted) = (same, faulted-wider slot wider.early wider.between wider.late faulted)
+  unexamined_stays slot refusal is = absurd is
+
+  examined_wider : (line : Line) (slot : ℕ) (found : Option Sb) → IsExaminedBy was end line slot found → IsExaminedBy now later line slot found
+  examined_wider (Examine asked) slot found (same, is) = (
+    same,
+    record {
+      there = subst (λ (g : Given). slot < g.slots) (sym wider.given) is.there;
+      stored = λ t. is.stored (wider.told t) ∙ sym (ap (λ (g : Given). superblock_in (g.sectors slot) (held_at now later slot)) wider.given
+          ∙ ap (λ (c : Contents). superblock_in (was.given.sectors slot) (c slot)) (held t));
+    },
+  )
+  examined_wider line slot found is = absurd is
+
   refused_stays : (running : Bool) (line : Line) (refusal : Refusal) → IsRefusedOutside was running end line refusal → IsRefusedOutside now running later line refusal
   refused_stays true (Create line) refusal is = is
   refused_stays true (Read at count) refusal is = is
@@ -198,6 +218,7 @@ module _ (was now : Setting) (wider : IsWider was now) (end later : ℕ) (moved 
   refused_stays true Halt refusal is = is
   refused_stays true Detail refusal is = is
   refused_stays true Mdstat refusal is = is
+  refused_stays true (Examine slot) refusal is = unexamined_stays slot refusal is
   refused_stays true (Assemble uuid) refusal is = is
   refused_stays false (Create line) refusal is = uncreated_stays (spec_of line) refusal is
   refused_stays false (Read at count) refusal is = is
@@ -211,6 +232,7 @@ module _ (was now : Setting) (wider : IsWider was now) (end later : ℕ) (moved 
   refused_stays false Halt refusal is = is
   refused_stays false Detail refusal is = is
   refused_stays false Mdstat refusal is = is
+  refused_stays false (Examine slot) refusal is = unexamined_stays slot refusal is
   refused_stays false (Assemble uuid) refusal is = unassembled_stays uuid refusal is
 
   -- a history that began within the former tape
@@ -246,6 +268,7 @@ module _ (was now : Setting) (wider : IsWider was now) (end later : ℕ) (moved 
   made_wider histories epoch Halt is = is
   made_wider histories epoch Detail is = is
   made_wider histories epoch Mdstat is = is
+  made_wider histories epoch (Examine slot) is = is
   made_wider histories epoch (Assemble uuid) is = is
 
   found_wider : (histories : List History) (epoch : ℕ) (line : Line) (status : Status) → IsFoundBy was histories epoch end line status → IsFoundBy now histories epoch later line status
@@ -261,6 +284,7 @@ module _ (was now : Setting) (wider : IsWider was now) (end later : ℕ) (moved 
   found_wider histories epoch Halt status is = is
   found_wider histories epoch Detail status is = is
   found_wider histories epoch Mdstat status is = is
+  found_wider histories epoch (Examine slot) status is = is
   found_wider histories epoch (Assemble asked) status is = record {
     history = is.history;
     there = is.there;
@@ -281,6 +305,7 @@ module _ (was now : Setting) (wider : IsWider was now) (end later : ℕ) (moved 
   answer_wider histories course line (Inside epoch at) is = is
   answer_wider histories course line (IsOutside Created) (idle, made) = (idle, made_wider histories course.opened line made)
   answer_wider histories course line (IsOutside (Assembled epoch status)) (idle, next, found) = (idle, next, found_wider histories course.opened line status found)
+  answer_wider histories course line (IsOutside (Examined slot found)) is = examined_wider line slot found is
   answer_wider histories course line (IsOutside (Refused refusal)) is = refused_stays course.running line refusal is
 
 -- the world of a history that went on
@@ -318,6 +343,7 @@ made_stays setting olds news grown epoch end Stop is = is
 made_stays setting olds news grown epoch end Halt is = is
 made_stays setting olds news grown epoch end Detail is = is
 made_stays setting olds news grown epoch end Mdstat is = is
+made_stays setting olds news grown epoch end (Examine slot) is = is
 made_stays setting olds news grown epoch end (Assemble uuid) is = is
 
 -- it still begins with its opening
@@ -345,6 +371,7 @@ found_stays setting olds news grown epoch end Stop status is = is
 found_stays setting olds news grown epoch end Halt status is = is
 found_stays setting olds news grown epoch end Detail status is = is
 found_stays setting olds news grown epoch end Mdstat status is = is
+found_stays setting olds news grown epoch end (Examine slot) status is = is
 found_stays setting olds news grown epoch end (Assemble asked) status is =
     let now = history_stays olds news grown epoch is.history is.there in
     record {
@@ -364,6 +391,7 @@ answer_stays : (setting : Setting) (olds news : List History) (course : Course) 
 answer_stays setting olds news course line end (Inside epoch at) grown is = inside_stays olds news course grown is
 answer_stays setting olds news course line end (IsOutside Created) grown (idle, made) = (idle, made_stays setting olds news grown course.opened end line made)
 answer_stays setting olds news course line end (IsOutside (Assembled epoch status)) grown (idle, next, found) = (idle, next, found_stays setting olds news grown course.opened end line status found)
+answer_stays setting olds news course line end (IsOutside (Examined slot found)) grown is = is
 answer_stays setting olds news course line end (IsOutside (Refused refusal)) grown is = is
 
 some_named : (o : Option Entry) → IsSome o → (e : Entry) × (o ≡ Some e)
@@ -406,6 +434,7 @@ course_stays olds news course line (Inside epoch at) grown named =
     ap (λ (o : Option Entry). option_map_or (course_behind course) o course) same
 course_stays olds news course line (IsOutside Created) grown named = refl
 course_stays olds news course line (IsOutside (Assembled epoch status)) grown named = refl
+course_stays olds news course line (IsOutside (Examined slot found)) grown named = refl
 course_stays olds news course line (IsOutside (Refused refusal)) grown named = refl
 
 pub courses_stay : (setting : Setting) (olds news : List History) (course : Course) (lines : List Numbered) (replies : List LineReply) → AreGrown olds news → AreReplies setting olds course lines replies

@@ -3,6 +3,7 @@ pub mod Called
 pub mod Causes
 pub mod Ending
 pub mod Ends
+pub mod Examined
 pub mod Found
 pub mod Growth
 pub mod Legal

@@ -1,5 +1,6 @@
 pub mod Asked
 pub mod Ended
+pub mod Examining
 pub mod Histories
 pub mod Kept
 pub mod Making

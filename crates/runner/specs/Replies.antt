@@ -22,16 +22,17 @@ use Rattle.assemble.specs.Opening.{AreGiven, array_of, scope_of}
 use Rattle.assemble.specs.Made.{used_slot}
 use Rattle.assemble.specs.Running.{OpensWithZeros}
 use Rattle.script.specs.declared.lines.Line.{Line}
-use Rattle.script.specs.declared.lines.Line.TheVariants.{Create, Read, Write, Flush, Fail, Add, Step, Wait, Stop, Halt, Detail, Mdstat, Assemble}
+use Rattle.script.specs.declared.lines.Line.TheVariants.{Create, Read, Write, Flush, Fail, Add, Step, Wait, Stop, Halt, Detail, Mdstat, Examine, Assemble}
 use Rattle.script.specs.declared.lines.Numbered.{Numbered}
 use Rattle.script.specs.declared.reply.Lane.TheVariants.{Script as InScript}
 use Rattle.script.specs.Seeds.{seeded}
-use Rattle.runner.specs.declared.report.Outside.TheVariants.{Created, Assembled, Refused}
+use Rattle.runner.specs.declared.report.Outside.TheVariants.{Created, Assembled, Examined, Refused}
 use Rattle.runner.specs.declared.report.Answered.{Answered}
 use Rattle.runner.specs.declared.report.Answered.TheVariants.{Inside, Outside as IsOutside}
 use Rattle.runner.specs.declared.report.LineReply.{LineReply}
 use Rattle.runner.specs.Histories.{History, entry_at, is_end}
 use Rattle.runner.specs.Showing.{IsShown}
+use Rattle.runner.specs.Examining.{IsExaminedBy, IsUnexamined}
 use Rattle.runner.specs.Making.{Setting, held_at, history_world, IsUncreated, IsUnassembled, IsStoredNew, IsStoredAs, BeginsShown}
 
 -- the array that a line asks for
@@ -52,6 +53,7 @@ FitsLine size before e Stop = FitsStop e.event
 FitsLine size before e Halt = FitsHalt e.event
 FitsLine size before e Detail = IsShown size e.event
 FitsLine size before e Mdstat = IsShown size e.event
+FitsLine size before e (Examine slot) = ⊥
 FitsLine size before e (Assemble uuid) = ⊥
 
 -- where a run stands between two lines: how many arrays were opened, whether the last one runs, and while it does, how many
@@ -85,6 +87,7 @@ size_made Stop = 0
 size_made Halt = 0
 size_made Detail = 0
 size_made Mdstat = 0
+size_made (Examine slot) = 0
 size_made (Assemble uuid) = 0
 
 -- where it stands behind an entry that answers a line: its call is the last, and may have ended the array
@@ -96,6 +99,7 @@ abbrev pub course_after : List History → Course → Line → Answered → Cour
 course_after histories course line (Inside epoch at) = option_map_or (course_behind course) (entry_at histories epoch at) course
 course_after histories course line (IsOutside Created) = begun course.opened 0 (size_made line)
 course_after histories course line (IsOutside (Assembled epoch status)) = begun course.opened 1 status.length
+course_after histories course line (IsOutside (Examined slot found)) = course
 course_after histories course line (IsOutside (Refused refusal)) = course
 
 abbrev pub course_of : List History → Course → List Numbered → List LineReply → Course
@@ -173,6 +177,7 @@ IsMadeBy setting histories epoch end Stop = ⊥
 IsMadeBy setting histories epoch end Halt = ⊥
 IsMadeBy setting histories epoch end Detail = ⊥
 IsMadeBy setting histories epoch end Mdstat = ⊥
+IsMadeBy setting histories epoch end (Examine slot) = ⊥
 IsMadeBy setting histories epoch end (Assemble uuid) = ⊥
 
 -- The next history is that of an array that was found: of the uuid that was asked for, or else of the first superblock in its given
@@ -202,10 +207,11 @@ IsFoundBy setting histories epoch end Stop status = ⊥
 IsFoundBy setting histories epoch end Halt status = ⊥
 IsFoundBy setting histories epoch end Detail status = ⊥
 IsFoundBy setting histories epoch end Mdstat status = ⊥
+IsFoundBy setting histories epoch end (Examine slot) status = ⊥
 IsFoundBy setting histories epoch end (Assemble uuid) status = IsFoundAt setting histories epoch end uuid status
 
--- the refusals that stand in no history: a create or an assemble while an array runs, or for what the bank holds, and the other
--- lines without an array
+-- the refusals that stand in no history: a create or an assemble while an array runs, or for what the bank holds, an examine, and the
+-- other lines without an array
 abbrev pub IsRefusedOutside : Setting → Bool → ℕ → Line → Refusal → Type 0
 IsRefusedOutside setting true end (Create line) refusal = refusal ≡ Running
 IsRefusedOutside setting true end (Assemble uuid) refusal = refusal ≡ Running
@@ -220,6 +226,7 @@ IsRefusedOutside setting true end Stop refusal = ⊥
 IsRefusedOutside setting true end Halt refusal = ⊥
 IsRefusedOutside setting true end Detail refusal = ⊥
 IsRefusedOutside setting true end Mdstat refusal = ⊥
+IsRefusedOutside setting true end (Examine slot) refusal = IsUnexamined setting slot refusal
 IsRefusedOutside setting false end (Create line) refusal = IsUncreated setting (spec_of line) end refusal
 IsRefusedOutside setting false end (Assemble uuid) refusal = IsUnassembled setting uuid end refusal
 IsRefusedOutside setting false end (Read at count) refusal = refusal ≡ NotRunning
@@ -233,6 +240,7 @@ IsRefusedOutside setting false end Stop refusal = refusal ≡ NotRunning
 IsRefusedOutside setting false end Halt refusal = refusal ≡ NotRunning
 IsRefusedOutside setting false end Detail refusal = refusal ≡ NotRunning
 IsRefusedOutside setting false end Mdstat refusal = refusal ≡ NotRunning
+IsRefusedOutside setting false end (Examine slot) refusal = IsUnexamined setting slot refusal
 
 -- an answer to a line, given at this mark, where the run stands at this point
 abbrev pub IsAnswer : Setting → List History → Course → Line → ℕ → Answered → Type 0
@@ -240,6 +248,7 @@ IsAnswer setting histories course line end (Inside epoch at) = IsAnsweredInside 
 IsAnswer setting histories course line end (IsOutside Created) = IsFalse course.running × IsMadeBy setting histories course.opened end line
 IsAnswer setting histories course line end (IsOutside (Assembled epoch status)) =
     IsFalse course.running × (epoch ≡ course.opened) × IsFoundBy setting histories course.opened end line status
+IsAnswer setting histories course line end (IsOutside (Examined slot found)) = IsExaminedBy setting end line slot found
 IsAnswer setting histories course line end (IsOutside (Refused refusal)) = IsRefusedOutside setting course.running end line refusal
 
 -- a reply that an entry gives was made when the entry ended

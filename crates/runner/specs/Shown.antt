@@ -8,9 +8,9 @@ use Rattle.script.specs.declared.lines.Line.{Line}
 use Rattle.script.specs.declared.lines.Line.TheVariants.{Wait, Detail, Mdstat}
 use Rattle.script.specs.declared.lines.Numbered.{Numbered}
 use Rattle.script.specs.Texts.{created_text, assembled_text, refusal_text, event_text, waited_text, lane_text}
-use Rattle.status_text.specs.Texts.{detail_text, mdstat_text}
+use Rattle.status_text.specs.Texts.{detail_text, mdstat_text, examined_text}
 use Rattle.runner.specs.declared.report.Outside.{Outside}
-use Rattle.runner.specs.declared.report.Outside.TheVariants.{Created, Assembled, Refused}
+use Rattle.runner.specs.declared.report.Outside.TheVariants.{Created, Assembled, Examined, Refused}
 use Rattle.runner.specs.declared.report.Answered.{Answered}
 use Rattle.runner.specs.declared.report.Answered.TheVariants.{Inside, Outside as IsOutside}
 use Rattle.runner.specs.declared.report.LineReply.{LineReply}
@@ -19,6 +19,7 @@ use Rattle.runner.specs.Histories.{History, entry_at}
 abbrev pub outside_text : Outside → List ℕ
 outside_text Created = created_text
 outside_text (Assembled epoch status) = assembled_text status
+outside_text (Examined slot found) = examined_text slot found
 outside_text (Refused refusal) = refusal_text refusal
 
 -- the event of an entry that answers a line; a wait has a text of its own, and a status one for each form that is asked for
@@ -53,6 +54,7 @@ tells_refusal line event = false
 abbrev pub is_refused_outside : Outside → Bool
 is_refused_outside Created = false
 is_refused_outside (Assembled epoch status) = false
+is_refused_outside (Examined slot found) = false
 is_refused_outside (Refused refusal) = true
 
 abbrev pub is_refusal : List History → Line → Answered → Bool

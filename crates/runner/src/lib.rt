@@ -2,6 +2,7 @@
 #![tactic(auto)]
 
 mod asks;
+mod examines;
 mod pace;
 mod report;
 mod runs;

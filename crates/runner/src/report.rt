@@ -2,13 +2,15 @@
 
 use flat_history::Epoch;
 use md_base::{Refusal, Status};
+use sb1::Sb;
 use script::Lane;
 
-/// A reply that no history holds: an array was made or found, or the line was refused.
+/// A reply that no history holds: an array was made or found, a slot's superblock was looked at, or the line was refused.
 #[derive(Drop)]
 pub enum Outside {
     Created,
     Assembled { epoch: u32, status: Status },
+    Examined { slot: u32, found: Option<Sb> },
     Refused { refusal: Refusal },
 }
 

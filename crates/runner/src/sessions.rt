@@ -23,7 +23,7 @@ use script::{
     Lane, Line, Numbered, push_assembled, push_created, push_event, push_lane, push_refusal,
     push_waited,
 };
-use status_text::{push_detail, push_mdstat};
+use status_text::{push_detail, push_examined, push_mdstat};
 use std::alloc::{AllocError, Global};
 use text_io::Sink;
 
@@ -88,6 +88,7 @@ fn push_outside(text: &mut Vec<u8>, outside: &Outside) -> Result<(), AllocError>
     match outside {
         Outside::Created => push_created(text),
         Outside::Assembled { status, .. } => push_assembled(text, status),
+        Outside::Examined { slot, found } => push_examined(text, *slot, found),
         Outside::Refused { refusal } => push_refusal(text, refusal),
     }
 }

@@ -19,6 +19,7 @@ ghost use Rattle.runner.specs.declared.states.State.TheVariants.{Idle as IsIdle,
 use crate::asks::{
     ask_add, ask_fail, ask_flush, ask_read, ask_steps, ask_wait, ask_write, last_place, script_call,
 };
+use crate::examines::{examine_idle, examine_running};
 use crate::report::{Answered, Outside};
 use crate::shows::ask_show;
 use array::{Array, CreateSpec};
@@ -194,6 +195,7 @@ fn answer_running<B: Bank>(
             let place = ask_show(&mut array);
             goes_on(array, epochs, place)
         }
+        Line::Examine { slot } => examine_running(array, epochs, backup, slot),
         Line::Create(_) => (State::Running(array, epochs), Ok(refused(Refusal::Running))),
         Line::Assemble { .. } => (State::Running(array, epochs), Ok(refused(Refusal::Running))),
     }
@@ -330,6 +332,7 @@ fn answer_idle<B: Bank>(
         Line::Halt => (State::Idle(bank, epochs), Ok(refused(Refusal::NotRunning))),
         Line::Detail => (State::Idle(bank, epochs), Ok(refused(Refusal::NotRunning))),
         Line::Mdstat => (State::Idle(bank, epochs), Ok(refused(Refusal::NotRunning))),
+        Line::Examine { slot } => examine_idle(bank, epochs, backup, slot),
     }
 }
 

@@ -375,6 +375,31 @@ const COMING_AND_GOING: [Row; 20] = [
     },
 ];
 
+// A slot's superblock, with and without an array, and where the slot fails.
+const EXAMINED: [Row; 3] = [
+    Row {
+        lines: "examine 0\nexamine 5\nexamine 8\nstop\nexamine 2\n",
+        status: 1,
+        output: b"created\nslot 0 array 6ba7b810-9dad-11d1-80b4-00c04fd430c8 dev 0 role 0 events 1 level 5 layout 2 chunk 8 disks 3 size 40 features 0 clean\nslot 5 no superblock\nrefused 30 NoSuchSlot 8\nstopped\nslot 2 array 6ba7b810-9dad-11d1-80b4-00c04fd430c8 dev 2 role 2 events 1 level 5 layout 2 chunk 8 disks 3 size 40 features 0 clean\n",
+        ..PLAIN
+    },
+    Row {
+        create: false,
+        lines: "examine 5\nexamine 5\nexamine 4\nexamine 8\n",
+        calls: &[0],
+        status: 1,
+        output: b"refused 9 SlotFault 5\nrefused 9 SlotFault 5\nslot 4 no superblock\nrefused 30 NoSuchSlot 8\n",
+        ..PLAIN
+    },
+    Row {
+        lines: "examine 1\nread 8 1\nmdstat\n",
+        calls: &[147],
+        status: 1,
+        output: b"created\nrefused 9 SlotFault 1\nread 8 1: zero x1\nmd: raid5 [3/2] [U_U] 80 sectors\n",
+        ..PLAIN
+    },
+];
+
 // Four slots each, the last of which is the backup or a member.
 const NAMED: [Row; 2] = [
     Row {
@@ -441,6 +466,7 @@ fn runs_of_scripts(rt: HostRuntime) -> Result<(), Fail> {
     compare(&rt, rt.alloc(), &ANSWERED)?;
     compare(&rt, rt.alloc(), &SHOWN)?;
     compare(&rt, rt.alloc(), &COMING_AND_GOING)?;
+    compare(&rt, rt.alloc(), &EXAMINED)?;
     compare(&rt, rt.alloc(), &NAMED)?;
     compare(&rt, rt.alloc(), &ENDING)
 }

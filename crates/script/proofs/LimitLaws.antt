@@ -9,10 +9,10 @@ use lib.Chars.{codes}
 use Rattle.md_base.specs.declared.places.Shape.{Shape}
 use Rattle.script.specs.Keys.{has_key}
 use Rattle.script.specs.Numbers.{words_of, number_below}
-use Rattle.script.specs.Grammar.{is_span, span_of, array_from, array_of, shape_of, create_keys, create_of, assemble_of, alone, read_of, write_of, fail_of, add_of, step_of, line_of, is_printable, is_passed_over, asks_or_bad, meaning_of}
+use Rattle.script.specs.Grammar.{is_span, span_of, array_from, array_of, shape_of, create_keys, create_of, assemble_of, alone, read_of, write_of, fail_of, add_of, step_of, examine_of, line_of, is_printable, is_passed_over, asks_or_bad, meaning_of}
 use Rattle.script.specs.Script.{numbered, asked, is_within_limits}
 use Rattle.script.specs.declared.lines.Line.{Line}
-use Rattle.script.specs.declared.lines.Line.TheVariants.{Create, Read, Write, Flush, Fail, Add, Step, Wait, Stop, Halt, Detail, Mdstat, Assemble}
+use Rattle.script.specs.declared.lines.Line.TheVariants.{Create, Read, Write, Flush, Fail, Add, Step, Wait, Stop, Halt, Detail, Mdstat, Examine, Assemble}
 use Rattle.script.specs.declared.lines.Numbered.{Numbered}
 use Rattle.script.specs.declared.grammar.Meaning.{Meaning}
 use Rattle.script.specs.declared.grammar.Meaning.TheVariants.{PassedOver, Asks, Bad}
@@ -75,6 +75,12 @@ add_ok (slot ∷ []) line e =
     let made = map_some (λ (n : ℕ). Add n) (number_below (2 ^ 32) slot) line e in ap is_within_limits (sym (made.2))
 add_ok (slot ∷ more ∷ rest) line e = absurd (cc)
 
+examine_ok : (values : List (List ℕ)) (line : Line) → examine_of values ≡ Some line → is_within_limits line ≡ true
+examine_ok [] line e = absurd (cc)
+examine_ok (slot ∷ []) line e =
+    let made = map_some (λ (n : ℕ). Examine n) (number_below (2 ^ 32) slot) line e in ap is_within_limits (sym (made.2))
+examine_ok (slot ∷ more ∷ rest) line e = absurd (cc)
+
 step_ok : (values : List (List ℕ)) (line : Line) → step_of values ≡ Some line → is_within_limits line ≡ true
 step_ok [] line e = absurd (cc)
 step_ok (most ∷ []) line e =
@@ -131,7 +137,8 @@ line_ok (verb ∷ values) line e =
     (verb_ok (bytes_eq verb (codes "stop")) (alone Stop values) _ line (alone_ok Stop line values refl)
     (verb_ok (bytes_eq verb (codes "halt")) (alone Halt values) _ line (alone_ok Halt line values refl)
     (verb_ok (bytes_eq verb (codes "detail")) (alone Detail values) _ line (alone_ok Detail line values refl)
-    (verb_ok (bytes_eq verb (codes "mdstat")) (alone Mdstat values) None line (alone_ok Mdstat line values refl) (λ h. absurd (cc))))))))))))))
+    (verb_ok (bytes_eq verb (codes "mdstat")) (alone Mdstat values) _ line (alone_ok Mdstat line values refl)
+    (verb_ok (bytes_eq verb (codes "examine")) (examine_of values) None line (examine_ok values line) (λ h. absurd (cc)))))))))))))))
     e
 
 meaning_ok : (text : List ℕ) (line : Line) → meaning_of text ≡ Asks line → is_within_limits line ≡ true

@@ -8,7 +8,7 @@ use Rattle.script.specs.Keys.{has_key, given}
 use Rattle.script.specs.Layouts.{layout_named}
 use Rattle.script.specs.Numbers.{is_space, words_of, number_below}
 use Rattle.script.specs.declared.lines.Line.{Line}
-use Rattle.script.specs.declared.lines.Line.TheVariants.{Create, Read, Write, Flush, Fail, Add, Step, Wait, Stop, Halt, Detail, Mdstat, Assemble}
+use Rattle.script.specs.declared.lines.Line.TheVariants.{Create, Read, Write, Flush, Fail, Add, Step, Wait, Stop, Halt, Detail, Mdstat, Examine, Assemble}
 use Rattle.script.specs.declared.grammar.Meaning.{Meaning}
 use Rattle.script.specs.declared.grammar.Meaning.TheVariants.{PassedOver, Asks, Bad}
 
@@ -92,6 +92,11 @@ abbrev pub step_of : List (List ℕ) → Option Line
 step_of (most ∷ []) = option_and_then (λ n. if nat_le 1 n then Some (Step n) else None) (number_below (2 ^ 32) most)
 step_of _ = None
 
+-- `examine SLOT`
+abbrev pub examine_of : List (List ℕ) → Option Line
+examine_of (slot ∷ []) = option_map (λ n. Examine n) (number_below (2 ^ 32) slot)
+examine_of _ = None
+
 -- a line of one word
 abbrev pub alone : Line → List (List ℕ) → Option Line
 alone line [] = Some line
@@ -114,6 +119,7 @@ line_of (verb ∷ values) =
     else if bytes_eq verb (codes "halt") then alone Halt values
     else if bytes_eq verb (codes "detail") then alone Detail values
     else if bytes_eq verb (codes "mdstat") then alone Mdstat values
+    else if bytes_eq verb (codes "examine") then examine_of values
     else None
 
 -- printable ASCII and spaces

@@ -3,7 +3,7 @@
 ghost use Rattle.std.specs.Prelude.{◌≡◌, ◌==◌, slice_index};
 ghost use Rattle.std.specs.List.{list_all};
 ghost use Rattle.uuid.specs.Text.{parsed};
-ghost use Rattle.script.specs.Grammar.{meaning_of, is_printable, line_of, alone, create_keys, create_of, shape_of, assemble_of, read_of, write_of, fail_of, add_of, step_of, span_of};
+ghost use Rattle.script.specs.Grammar.{meaning_of, is_printable, line_of, alone, create_keys, create_of, shape_of, assemble_of, read_of, write_of, fail_of, add_of, step_of, examine_of, span_of};
 ghost use Rattle.script.specs.Keys.{has_key};
 ghost use Rattle.script.specs.Numbers.{is_space, words_of};
 
@@ -87,6 +87,8 @@ fn parse_line(mut words: Words<'_>) -> Option<Line>
         parse_alone(words, Line::Detail)
     } else if verb == b"mdstat".as_slice() {
         parse_alone(words, Line::Mdstat)
+    } else if verb == b"examine".as_slice() {
+        parse_examine(words)
     } else {
         None
     }
@@ -201,6 +203,13 @@ fn parse_add(mut words: Words<'_>) -> Option<Line>
 {
     let slot = small_number(words.next()?)?;
     parse_alone(words, Line::Add { slot })
+}
+
+fn parse_examine(mut words: Words<'_>) -> Option<Line>
+    ensures { result ≡ examine_of (words_of words.entry.line.now) }
+{
+    let slot = small_number(words.next()?)?;
+    parse_alone(words, Line::Examine { slot })
 }
 
 fn parse_step(mut words: Words<'_>) -> Option<Line>

@@ -24,6 +24,7 @@ pub enum Line {
     Halt,
     Detail,
     Mdstat,
+    Examine { slot: u32 },
     Assemble { uuid: Option<[u8; 16]> },
 }
 

@@ -57,7 +57,7 @@ const TEXTS: [Text; 28] = [
 ];
 
 // Lines that begin with a verb and a uuid, or not.
-const LINES: [Text; 47] = [
+const LINES: [Text; 52] = [
     ("flush", None),
     ("  stop  ", None),
     ("halt", None),
@@ -114,6 +114,11 @@ const LINES: [Text; 47] = [
     ("mdstat", None),
     ("mdstat all", Some(1)),
     ("Mdstat", Some(1)),
+    ("examine 0", None),
+    ("examine 4294967295", None),
+    ("examine 4294967296", Some(1)),
+    ("examine", Some(1)),
+    ("examine 0 1", Some(1)),
 ];
 
 // Keys of `create` that make the line bad.
@@ -400,10 +405,10 @@ fn ask(rt: &impl Abort, alloc: Global, rows: &[Asked]) -> Result<(), Fail> {
 }
 
 const SCRIPT: &str =
-    "assemble\n# one\ncreate 6ba7b810-9dad-11d1-80b4-00c04fd430c8 level=5 disks=3 chunk=8 size=40 offset=16\n\nwrite 5 1 7\nread 0 2\nflush\nhalt\nassemble 6ba7b810-9dad-11d1-80b4-00c04fd430c8\nfail 3\nadd 4\nstep 1\nstep 4294967295\nwait\nstop\ndetail\nmdstat";
+    "assemble\n# one\ncreate 6ba7b810-9dad-11d1-80b4-00c04fd430c8 level=5 disks=3 chunk=8 size=40 offset=16\n\nwrite 5 1 7\nread 0 2\nflush\nhalt\nassemble 6ba7b810-9dad-11d1-80b4-00c04fd430c8\nfail 3\nadd 4\nstep 1\nstep 4294967295\nwait\nstop\ndetail\nmdstat\nexamine 31";
 
 // What that script asks, with the numbers of its lines.
-const WANTED: [(u64, Line); 15] = [
+const WANTED: [(u64, Line); 16] = [
     (1, Line::Assemble { uuid: None }),
     (
         3,
@@ -444,6 +449,7 @@ const WANTED: [(u64, Line); 15] = [
     (15, Line::Stop),
     (16, Line::Detail),
     (17, Line::Mdstat),
+    (18, Line::Examine { slot: 31 }),
 ];
 
 fn compare(rt: &impl Abort, lines: &[Numbered], wanted: &[(u64, Line)]) {
