@@ -1,1 +1,2 @@
 pub mod SteadyLaws
+pub mod EnterLaws

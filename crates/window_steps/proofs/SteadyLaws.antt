@@ -151,7 +151,7 @@ record IsToZero (d e : Disk) (members : Members) : Type 0 where
   written : IsWrittenAt (IsPastPlace members) d e
 
 -- the same is told
-told-alike : (told : Ledger) → IsMoreTold told told
+pub told-alike : (told : Ledger) → IsMoreTold told told
 told-alike told = record { size = refl; values = λ x lt v may. may; gone = λ role is. is; unclean = λ is. is; reshaping = λ is. is; carried = λ number is. is }
 
 module _ (sound : Type 0) (scope : Scope) (given : Given) (told : Ledger) (d e : Disk) (some : IsSomewhere d) where
