@@ -1,2 +1,3 @@
 pub mod SteadyLaws
 pub mod EnterLaws
+pub mod RecordLaws
