@@ -1,0 +1,3 @@
+pub mod SteadyLaws
+pub mod EnterLaws
+pub mod RecordLaws

@@ -1,0 +1,56 @@
+-- What the steps of a window leave of an array that is steady or safe: its section is stored and named, or cleared, its rows are copied, and rows behind the list are zeroed.
+use Rattle.std.specs.Prelude.{◌≡◌, ℕ, true, List, length, Some, None}
+use Rattle.md_base.specs.declared.places.Span.{Span}
+use Rattle.md_base.specs.Sectors.{Sector}
+use Rattle.bank.specs.Given.{Given}
+use Rattle.bank.specs.Tape.{IsIn}
+use Rattle.superblocks.specs.declared.members.Members.{Members}
+use Rattle.superblocks.specs.Reading.{Scope, is_reshaping, next_window}
+use Rattle.row_io.specs.Rows.{members_without}
+use Rattle.backup.specs.Written.{header_of, cleared_header}
+use Rattle.backup.specs.Storing.{IsStoringOrNaming, IsHeading}
+use Rattle.shape_views.specs.Regions.{open_by}
+use Rattle.shape_views.specs.Views.{Disk, Ledger}
+use Rattle.shape_views.specs.Windows.{IsSomewhere, IsWrittenAt, HasNoSection, IsCopying, IsCopyable}
+use Rattle.shape_views.specs.Backups.{IsSectionOf}
+use Rattle.shape_changes.specs.Updates.{IsAtEnd, IsPastPlace}
+use Rattle.shape_changes.specs.Steady.{IsSteady, IsSafeNow, AreHolders, AreUnlost}
+
+-- ---- the backup
+
+-- While no section is active, the next window's may be stored and named: at each mark of the call the array is as steady as before.
+abbrev pub SectionsStaySteady : (sound : Type 0) → Type 0
+SectionsStaySteady sound = (scope : Scope) (given : Given) (told : Ledger) (members : Members) (slot : ℕ) (span : Span) (bytes : List ℕ) (d e : Disk) → scope.backup ≡ Some slot
+    → IsSomewhere d → HasNoSection scope members d → IsSectionOf members told.values span bytes → IsStoringOrNaming slot (header_of scope.uuid span) bytes d e
+    → IsSteady sound scope given told members d → IsSteady sound scope given told members e
+
+-- Where a stop may leave a header without an active section, one of no section may be written.
+abbrev pub ClearingStaysSteady : (sound : Type 0) → Type 0
+ClearingStaysSteady sound = (scope : Scope) (given : Given) (told : Ledger) (members : Members) (slot : ℕ) (plain : Sector) (d e : Disk) → scope.backup ≡ Some slot
+    → length scope.uuid ≡ 16 → IsSomewhere d → IsIn (d slot 0) plain → open_by scope members.newest plain ≡ None → IsHeading slot (cleared_header scope.uuid) d e
+    → IsSteady sound scope given told members d → IsSteady sound scope given told members e
+
+-- ---- rows
+
+-- The next window's rows may be copied, where its section is active or it isn't critical, whichever slots are lost meanwhile.
+abbrev pub CopyingStaysSteady : (sound : Type 0) → Type 0
+CopyingStaysSteady sound = (scope : Scope) (given : Given) (told : Ledger) (members : Members) (span : Span) (lost : ℕ) (d e : Disk)
+    → IsSomewhere d → IsCopyable scope members span d → IsCopying members span d e
+    → IsSteady sound scope given told members d → IsSteady sound scope given told (members_without lost members) e
+
+-- Rows behind the list may be written, once a forward reshape has gone through it, whichever slots are lost meanwhile.
+abbrev pub ZeroingStaysSteady : (sound : Type 0) → Type 0
+ZeroingStaysSteady sound = (scope : Scope) (given : Given) (told : Ledger) (members : Members) (lost : ℕ) (d e : Disk)
+    → IsSomewhere d → is_reshaping members.newest ≡ true → next_window members.newest ≡ None → IsAtEnd members.newest → IsWrittenAt (IsPastPlace members) d e
+    → IsSteady sound scope given told members d → IsSteady sound scope given told (members_without lost members) e
+
+-- It is the same where no live slot is left: no slot that holds a role is there to be written.
+abbrev pub CopyingStaysSafe : (sound : Type 0) → Type 0
+CopyingStaysSafe sound = (scope : Scope) (given : Given) (told : Ledger) (members : Members) (span : Span) (lost : ℕ) (d e : Disk)
+    → AreHolders given members → AreUnlost members → IsSomewhere d → IsCopyable scope members span d → IsCopying members span d e
+    → IsSafeNow sound scope given told members d → IsSafeNow sound scope given told (members_without lost members) e
+
+abbrev pub ZeroingStaysSafe : (sound : Type 0) → Type 0
+ZeroingStaysSafe sound = (scope : Scope) (given : Given) (told : Ledger) (members : Members) (lost : ℕ) (d e : Disk)
+    → AreHolders given members → AreUnlost members → IsSomewhere d → is_reshaping members.newest ≡ true → next_window members.newest ≡ None → IsAtEnd members.newest
+    → IsWrittenAt (IsPastPlace members) d e → IsSafeNow sound scope given told members d → IsSafeNow sound scope given told (members_without lost members) e
