@@ -26,13 +26,11 @@ bits-at map bits i c k ec ek = bit_at_or (bit_and map (2 ^ 32 - 1 - (4 + 32))) b
 only : (b k : ℕ) → max (min b 0) k ≡ k
 only b k = omega arith
 
-map-active : (map : ℕ) (back : Bool) → (bit_at (map_with_reshape map back) 2 == 1) ≡ true
-map-active map true = ap (λ (n : ℕ). n == 1) (bits-at map (4 + 32) 2 0 1 refl refl ∙ only (bit_at map 2) 1)
-map-active map false = ap (λ (n : ℕ). n == 1) (bits-at map 4 2 0 1 refl refl ∙ only (bit_at map 2) 1)
+map-active : (map : ℕ) → (bit_at (map_with_reshape map) 2 == 1) ≡ true
+map-active map = ap (λ (n : ℕ). n == 1) (bits-at map 4 2 0 1 refl refl ∙ only (bit_at map 2) 1)
 
-map-backward : (map : ℕ) (back : Bool) → (bit_at (map_with_reshape map back) 5 == 1) ≡ back
-map-backward map true = ap (λ (n : ℕ). n == 1) (bits-at map (4 + 32) 5 0 1 refl refl ∙ only (bit_at map 5) 1)
-map-backward map false = ap (λ (n : ℕ). n == 1) (bits-at map 4 5 0 0 refl refl ∙ only (bit_at map 5) 0)
+map-forth : (map : ℕ) → (bit_at (map_with_reshape map) 5 == 1) ≡ false
+map-forth map = ap (λ (n : ℕ). n == 1) (bits-at map 4 5 0 0 refl refl ∙ only (bit_at map 5) 0)
 
 -- ---- its fields
 
@@ -41,7 +39,7 @@ module _ (sb : Sb) (to : Shape) (still : is_reshaping sb ≡ false) (forced : Ar
   Then = with_reshape to sb
 
   pub active : is_reshaping Then ≡ true
-  active = map-active sb.feature_map (goes_back (shape_of sb) to)
+  active = map-active sb.feature_map
 
   pub old-shape : shape_of Then ≡ shape_of sb
   old-shape = ap (λ (n : ℕ). record { level = sb.level; layout = sb.layout; chunk = sb.chunksize; disks = n })
@@ -68,13 +66,13 @@ module _ (sb : Sb) (to : Shape) (still : is_reshaping sb ≡ false) (forced : Ar
           by false is = grind (arith, nat_tests)
 
   pub backward : is_backward Then ≡ goes_back (shape_of sb) to
-  backward = ap₂ (λ (n b : Bool). n || is_zero (pos to.disks -ℤ pos (shape_of sb).disks) && b) (negative-is to.disks (shape_of sb).disks ∙ fewer) (map-backward sb.feature_map (goes_back (shape_of sb) to))
-      ∙ twice (goes_back (shape_of sb) to) (is_zero (pos to.disks -ℤ pos (shape_of sb).disks))
+  backward = ap₂ (λ (n b : Bool). n || is_zero (pos to.disks -ℤ pos (shape_of sb).disks) && b) (negative-is to.disks (shape_of sb).disks ∙ fewer) (map-forth sb.feature_map)
+      ∙ counted (goes_back (shape_of sb) to) (is_zero (pos to.disks -ℤ pos (shape_of sb).disks))
     where
-      twice : (a z : Bool) → (a || z && a) ≡ a
-      twice true z = refl
-      twice false true = refl
-      twice false false = refl
+      counted : (a z : Bool) → (a || z && false) ≡ a
+      counted true z = refl
+      counted false true = refl
+      counted false false = refl
 
   pub length-is : list_length Then ≡ list_end (shape_of sb) to sb.size
   length-is = ap₂ (λ (a b : Shape). min (data_disks a) (data_disks b) * sb.size) old-shape new-shape

@@ -20,9 +20,9 @@ use Rattle.shape_changes.specs.Updates.{IsAtStart}
 abbrev pub goes_back : Shape → Shape → Bool
 goes_back now to = nat_lt (data_disks to) (data_disks now)
 
--- the feature map with bit 4, and with bit 32 where it goes backward
-abbrev pub map_with_reshape : ℕ → Bool → ℕ
-map_with_reshape map back = bit_or (bit_and map (2 ^ 32 - 1 - (4 + 32))) (if back then 4 + 32 else 4)
+-- the feature map with bit 4, and without bit 32: the disk counts tell the direction
+abbrev pub map_with_reshape : ℕ → ℕ
+map_with_reshape map = bit_or (bit_and map (2 ^ 32 - 1 - (4 + 32))) 4
 
 -- forward it begins at 0, backward at the end of the list that both shapes have room for
 abbrev pub first_position : Shape → Shape → ℕ → ℕ
@@ -31,7 +31,7 @@ first_position now to size = if goes_back now to then list_end now to size else 
 -- A superblock with a reshape to this shape that has just begun; its own shape is the old one.
 abbrev pub with_reshape : Shape → Sb → Sb
 with_reshape to sb = record sb {
-  feature_map = map_with_reshape sb.feature_map (goes_back (shape_of sb) to);
+  feature_map = map_with_reshape sb.feature_map;
   raid_disks = to.disks;
   new_level = to.level;
   reshape_position = first_position (shape_of sb) to sb.size;

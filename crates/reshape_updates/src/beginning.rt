@@ -47,15 +47,10 @@ fn goes_back(now: &Shape, to: &Shape) -> bool
 }
 
 // The feature map while a reshape is active.
-fn map_with_reshape(map: u32, back: bool) -> u32
-    ensures { result ≡ map_with_reshape map back }
+fn map_with_reshape(map: u32) -> u32
+    ensures { result ≡ map_with_reshape map }
 {
-    let bits = if back {
-        RESHAPE_BITS
-    } else {
-        Features::RESHAPE_ACTIVE.0
-    };
-    map & !RESHAPE_BITS | bits
+    map & !RESHAPE_BITS | Features::RESHAPE_ACTIVE.0
 }
 
 // Where a reshape begins: at 0 forward, and at the end of the list backward.
@@ -87,7 +82,7 @@ fn with_reshape(to: &Shape, sb: &Sb) -> Sb
 {
     let now = shape_of(sb);
     Sb {
-        feature_map: map_with_reshape(sb.feature_map, goes_back(&now, to)),
+        feature_map: map_with_reshape(sb.feature_map),
         raid_disks: to.disks,
         new_level: to.level,
         reshape_position: first_position(&now, to, sb.size),
