@@ -3,18 +3,18 @@
 ghost use Rattle.std.specs.Prelude.{◌≡◌, ◌⊎◌, ◌+◌, ◌*◌, ◌/◌, ◌^◌, ◌<◌, ◌≤◌, ℕ, false, length, None, Some, OnOk, MatchOption, IsTrue, ⊤};
 ghost use Rattle.bank.specs.Given.{NeverFalls};
 ghost use Rattle.md_base.specs.Sectors.{Sector, IsWhole};
-ghost use Rattle.md_base.specs.Shapes.{is_multiple};
+ghost use Rattle.md_base.specs.Shapes.{is_multiple, data_disks};
 ghost use Rattle.parity.specs.Rows.{sector_of};
-ghost use Rattle.superblocks.specs.Reading.{shape_of, is_clean};
+ghost use Rattle.superblocks.specs.Reading.{is_clean};
 ghost use Rattle.row_io.specs.Rows.{reading_of, present};
 ghost use Rattle.list_io.specs.Calls.{AreLost, IsAnswer};
-ghost use Rattle.views.specs.Whole.{list_size};
-ghost use Rattle.views.specs.Placed.{places_of, AreWhole, IsPlaced};
+ghost use Rattle.views.specs.Placed.{AreWhole, IsPlaced, IsInForce};
 ghost use Rattle.shape_changes.specs.Steady.{AreUnlost, IsSafeOver, KeepsSafe, AreGoneTold, IsUncleanTold};
 ghost use Rattle.views.specs.Rebuilding.{AreSparesFree};
 ghost use Rattle.shape_changes.specs.Marking.{AreOthersPresent};
 ghost use Rattle.views.specs.Moving.{Grows, IsMoved};
-ghost use Rattle.views.specs.Lacking.{HaveFailedSince, IsAskedBeyond, IsUnread, ListStands, RowsStandBelow};
+ghost use Rattle.list_io.specs.Buffers.{IsTouched};
+ghost use Rattle.views.specs.Lacking.{HaveFailedSince, IsAskedBeyond, IsUnread, DataStandsAmong, RowsStandAmong};
 ghost use Rattle.safe_updates.specs.First.{read_refusal};
 ghost use Rattle.flat_history.specs.World.{World};
 ghost use Rattle.shape_changes.specs.Safety.{HasRoomLeft, IsRisen};
@@ -46,17 +46,18 @@ fn read_parts<B: Bank>(
     mended: u64,
 ) -> Outcome
     requires placed { IsPlaced (B.given bank.old) members.old }
-    requires shape { shape.now ≡ shape_of members.old.newest }
+    requires shape { IsInForce members.old.newest shape.now }
     requires into { IsWhole into.old }
-    requires within { first + length into.old / 512 ≤ list_size (places_of members.old) }
+    requires within { first + length into.old / 512 ≤ data_disks shape.now * members.old.newest.size }
     requires short { first + length into.old / 512 ≤ 2 ^ 53 }
     requires scratch { 8192 ≤ length scratch.old }
     requires mended { mended ≤ members.old.newest.size }
     requires stripes { IsTrue (is_multiple mended shape.now.chunk) }
     ensures lost { AreLost shape.now members.old members.new result.lost (B.faults_of bank.old) (B.faults_of bank.new) }
     ensures answer { IsAnswer shape.now false (reading_of members.new) (IsAskedBeyond shape.now mended first (length into.old / 512)) result.answer }
-    ensures sectors { OnOk result.answer (B.tells → (list : ℕ → Sector) → ListStands members.old (present (B.given bank.old) (B.tape bank.old)) list
-        → AreWhole members.new ⊎ RowsStandBelow mended members.old (present (B.given bank.old) (B.tape bank.old)) list
+    ensures sectors { OnOk result.answer (B.tells → (list : ℕ → Sector)
+        → DataStandsAmong shape.now (IsTouched shape.now first (length into.old / 512)) members.old (present (B.given bank.old) (B.tape bank.old)) list
+        → AreWhole members.new ⊎ RowsStandAmong shape.now (λ row. IsTouched shape.now first (length into.old / 512) row × (row < mended)) members.old (present (B.given bank.old) (B.tape bank.old)) list
         → (i : ℕ) → i < length into.old / 512 → sector_of into.new i ≡ list (first + i)) }
     ensures tape { B.tells → B.tape bank.new ≡ B.tape bank.old }
     ensures given { B.given bank.new ≡ B.given bank.old }
@@ -75,8 +76,8 @@ fn read_parts<B: Bank>(
     }
 }
 
-/// Fills `into` with sectors of the list, from `first` on: each from the slot that holds it, or, in one of the mended rows,
-/// filled in from its row; and names the members that are missing.
+/// Fills `into` with sectors of the list, from `first` on, which are placed by this shape: each from the slot that holds it, or,
+/// in one of the mended rows, filled in from its row; and names the members that are missing.
 pub fn fetch<B: Bank>(
     members: &mut Members,
     bank: &mut B,
@@ -90,21 +91,22 @@ pub fn fetch<B: Bank>(
     requires placed { IsPlaced (B.given bank.old) members.old }
     requires unlost { AreUnlost members.old }
     requires free { AreSparesFree (B.given bank.old) members.old }
-    requires shape { shape.now ≡ shape_of members.old.newest }
+    requires shape { IsInForce members.old.newest shape.now }
     requires into { IsWhole into.old }
-    requires within { first + length into.old / 512 ≤ list_size (places_of members.old) }
+    requires within { first + length into.old / 512 ≤ data_disks shape.now * members.old.newest.size }
     requires short { first + length into.old / 512 ≤ 2 ^ 53 }
     requires scratch { 8192 ≤ length scratch.old }
     requires mended { mended ≤ members.old.newest.size }
     requires stripes { IsTrue (is_multiple mended shape.now.chunk) }
     ensures moved { IsMoved (B.given bank.old) members.old members.new }
     ensures failed { HaveFailedSince members.old members.new result.spares (B.faults_of bank.old) (B.faults_of bank.new) }
-    ensures refused { MatchOption result.refusal ⊤ (IsUnread mended first (length into.old / 512) members.new) }
-    ensures first { MatchOption result.refusal ⊤ (λ refusal. read_refusal mended first (length into.old / 512) members.new ≡ Some refusal) }
+    ensures refused { MatchOption result.refusal ⊤ (IsUnread shape.now mended first (length into.old / 512) members.new) }
+    ensures first { MatchOption result.refusal ⊤ (λ refusal. read_refusal shape.now mended first (length into.old / 512) members.new ≡ Some refusal) }
     ensures grows { Grows B.tells (B.tape bank.old) (B.tape bank.new) }
     ensures others { B.tells → AreOthersPresent (present (B.given bank.old) (B.tape bank.old)) (present (B.given bank.old) (B.tape bank.new)) }
-    ensures holds { result.refusal ≡ None → B.tells → (list : ℕ → Sector) → ListStands members.old (present (B.given bank.old) (B.tape bank.old)) list
-        → AreWhole members.new ⊎ RowsStandBelow mended members.old (present (B.given bank.old) (B.tape bank.old)) list
+    ensures holds { result.refusal ≡ None → B.tells → (list : ℕ → Sector)
+        → DataStandsAmong shape.now (IsTouched shape.now first (length into.old / 512)) members.old (present (B.given bank.old) (B.tape bank.old)) list
+        → AreWhole members.new ⊎ RowsStandAmong shape.now (λ row. IsTouched shape.now first (length into.old / 512) row × (row < mended)) members.old (present (B.given bank.old) (B.tape bank.old)) list
         → (i : ℕ) → i < length into.old / 512 → sector_of into.new i ≡ list (first + i) }
     ensures clean { is_clean members.new.newest ≡ is_clean members.old.newest }
     ensures kept { AreWhole members.new → members.new ≡ members.old }
@@ -119,7 +121,7 @@ pub fn fetch<B: Bank>(
     let count = (into.len() / 512) as u64;
     let read = read_parts(members, bank, shape, first, into, scratch, mended);
     if read.answer.is_err() {
-        let refusal = unread(members, first, count, mended);
+        let refusal = unread(members, shape, first, count, mended);
         return Fetched { spares: 0, refusal };
     }
     let spares = name_missing(members, bank);

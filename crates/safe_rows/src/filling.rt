@@ -4,7 +4,7 @@ ghost use Rattle.std.specs.Prelude.{◌≡◌, ◌⊎◌, ◌+◌, ◌*◌, ◌^
 ghost use Rattle.bank.specs.Given.{NeverFalls, IsFaulted};
 ghost use Rattle.bank.specs.Tape.{EachMark, disk};
 ghost use Rattle.md_base.specs.Sectors.{Sector};
-ghost use Rattle.md_base.specs.Shapes.{is_valid_shape};
+ghost use Rattle.md_base.specs.Shapes.{is_valid_shape, data_disks};
 ghost use Rattle.md_base.specs.declared.status.Role.TheVariants.{Recovering as IsRecovering};
 ghost use Rattle.parity.specs.Rows.{IsRowOf, sector_of};
 ghost use Rattle.superblocks.specs.Reading.{is_reshaping, shape_of, is_clean, role_state, rows_held, data_offset_of};
@@ -13,13 +13,12 @@ ghost use Rattle.list_io.specs.Full.{full_sector};
 ghost use Rattle.list_io.specs.Buffers.{AreDistinct, IsTouched};
 ghost use Rattle.list_io.specs.Writing.{AreDataOf, AreDataFrom, AreSuperblocksKept, HasFull};
 ghost use Rattle.flat_history.specs.World.{World};
-ghost use Rattle.views.specs.Whole.{list_size};
-ghost use Rattle.views.specs.Placed.{places_of, IsPlaced};
+ghost use Rattle.views.specs.Placed.{IsPlaced};
 ghost use Rattle.shape_changes.specs.Steady.{AreUnlost, IsSafeOver, KeepsSafe, AreGoneTold, IsUncleanTold};
 ghost use Rattle.views.specs.Moving.{Grows, IsMoved};
 ghost use Rattle.shape_changes.specs.Safety.{HasLiveSlot, HasRoomLeft, IsRisen};
 ghost use Rattle.views.specs.Status.{stripes_of};
-ghost use Rattle.views.specs.Lacking.{HaveFailedSince, AreTooMany, ListStands, RowsStandAmong, IsOfStripe};
+ghost use Rattle.views.specs.Lacking.{HaveFailedSince, LacksTooMany, DataStandsAmong, RowsStandAmong, IsOfStripe};
 ghost use Rattle.views.specs.Rebuilding.{AreSparesFree, IsFilling, IsFilledAmong};
 ghost use Rattle.safe_updates.specs.Named.{AreNamedMissing};
 ghost use Rattle.safe_rows.specs.Filled.{IsNamedFirst};
@@ -32,7 +31,7 @@ use md_base::{Refusal, Role, Shape};
 use parity::syndromes;
 use row_io::lose_slot;
 use safe_updates::naming::name_missing;
-use safe_updates::refusing::{refused_by, too_many};
+use safe_updates::refusing::{refused_by, too_many_of};
 use safe_updates::roles::list_length;
 use superblocks::Members;
 
@@ -226,20 +225,20 @@ fn fill_part<B: Bank>(
     requires offset { target.now.offset ≡ data_offset_of (reading_of members.old) target.now.slot }
     requires held { target.now.held ≡ rows_held (reading_of members.old) (IsRecovering target.now.slot) }
     requires few { count ≤ 128 }
-    requires within { first + count ≤ list_size (places_of members.old) }
+    requires within { first + count ≤ data_disks shape.now * members.old.newest.size }
     requires short { first + count < 2 ^ 53 }
     requires rows { 128 ≤ vec_capacity rows.old }
     requires buffer { 1048576 ≤ length buffer.old.items }
     ensures moved { IsMoved (B.given bank.old) members.old members.new }
     ensures failed { HaveFailedSince members.old members.new result.spares (B.faults_of bank.old) (B.faults_of bank.new) }
-    ensures refused { MatchOption result.refusal ⊤ (AreTooMany members.new) }
+    ensures refused { MatchOption result.refusal ⊤ (LacksTooMany shape.now members.new) }
     ensures grows { Grows B.tells (B.tape bank.old) (B.tape bank.new) }
     ensures clean { is_clean members.new.newest ≡ is_clean members.old.newest }
     ensures missing { result.refusal ≡ None → HasLiveSlot members.new → AreNamedMissing members.new }
     ensures named { role_state (reading_of members.new) target.now.role ≡ IsRecovering target.now.slot → let start = (B.given bank.old).start in EachMark B.tells start (B.tape bank.old) (B.tape bank.new)
         (IsNamedFirst (disk start (B.tape bank.old)) (disk start (B.tape bank.new))) }
     ensures filled { result.refusal ≡ None → role_state (reading_of members.new) target.now.role ≡ IsRecovering target.now.slot → B.tells → (list : ℕ → Sector)
-        → ListStands members.old (present (B.given bank.old) (B.tape bank.old)) list → RowsStandAmong (IsTouched shape.now first count) members.old (present (B.given bank.old) (B.tape bank.old)) list
+        → DataStandsAmong shape.now (IsTouched shape.now first count) members.old (present (B.given bank.old) (B.tape bank.old)) list → RowsStandAmong shape.now (IsTouched shape.now first count) members.old (present (B.given bank.old) (B.tape bank.old)) list
         → (row : ℕ) → IsTouched shape.now first count row → target.now.held ≤ row
         → HasFull (reading_of members.new) (present (B.given bank.old) (B.tape bank.new)) shape.now list row target.now.role target.now.slot }
     ensures others { B.tells → IsFilledAmong members.old target.now.role target.now.slot (IsTouched shape.now first count) (present (B.given bank.old) (B.tape bank.old)) (present (B.given bank.old) (B.tape bank.new)) }
@@ -253,12 +252,12 @@ fn fill_part<B: Bank>(
     ensures buffer { length buffer.new.items ≡ length buffer.old.items }
 {
     let read = read_touched(members, bank, shape, first, count, rows, buffer, true);
-    let refusal = refused_by(read.answer, members);
+    let refusal = refused_by(read.answer, members, shape);
     if refusal.is_some() {
         return Filled { spares: 0, refusal };
     }
     let named = name_missing(members, bank);
-    let refusal = too_many(members);
+    let refusal = too_many_of(members, shape);
     if refusal.is_some() {
         return Filled {
             spares: named,
@@ -327,6 +326,7 @@ pub fn fill<B: Bank>(
     requires placed { IsPlaced (B.given bank.old) members.old }
     requires unlost { AreUnlost members.old }
     requires free { AreSparesFree (B.given bank.old) members.old }
+    requires still { is_reshaping members.old.newest ≡ false }
     requires shape { shape.now ≡ shape_of members.old.newest }
     requires role { role < shape.now.disks }
     requires recovering { role_state (reading_of members.old) role ≡ IsRecovering slot }
@@ -335,11 +335,11 @@ pub fn fill<B: Bank>(
     requires buffer { 1048576 ≤ length buffer.old.items }
     ensures moved { IsMoved (B.given bank.old) members.old members.new }
     ensures failed { HaveFailedSince members.old members.new result.spares (B.faults_of bank.old) (B.faults_of bank.new) }
-    ensures refused { MatchOption result.refusal ⊤ (AreTooMany members.new) }
+    ensures refused { MatchOption result.refusal ⊤ (LacksTooMany shape.now members.new) }
     ensures grows { Grows B.tells (B.tape bank.old) (B.tape bank.new) }
     ensures clean { is_clean members.new.newest ≡ is_clean members.old.newest }
     ensures filled { result.refusal ≡ None → role_state (reading_of members.new) role ≡ IsRecovering slot → B.tells → (list : ℕ → Sector)
-        → ListStands members.old (present (B.given bank.old) (B.tape bank.old)) list → RowsStandAmong (IsOfStripe shape.now stripe) members.old (present (B.given bank.old) (B.tape bank.old)) list
+        → DataStandsAmong shape.now (IsOfStripe shape.now stripe) members.old (present (B.given bank.old) (B.tape bank.old)) list → RowsStandAmong shape.now (IsOfStripe shape.now stripe) members.old (present (B.given bank.old) (B.tape bank.old)) list
         → (row : ℕ) → IsOfStripe shape.now stripe row → rows_held (reading_of members.old) (IsRecovering slot) ≤ row
         → HasFull (reading_of members.new) (present (B.given bank.old) (B.tape bank.new)) shape.now list row role slot }
     ensures others { B.tells → IsFilledAmong members.old role slot (IsOfStripe shape.now stripe) (present (B.given bank.old) (B.tape bank.old)) (present (B.given bank.old) (B.tape bank.new)) }

@@ -1,6 +1,6 @@
 //! The parity of stripes is made to fit their data.
 
-ghost use Rattle.std.specs.Prelude.{◌≡◌, ◌<◌, ◌≤◌, ℕ, true, false, length, vec_capacity, None, Some, MatchOption, IfSome, IsTrue, ⊤};
+ghost use Rattle.std.specs.Prelude.{◌≡◌, ◌/◌, ◌<◌, ◌≤◌, ℕ, true, false, length, vec_capacity, None, Some, MatchOption, IfSome, IsTrue, ⊤};
 ghost use Rattle.bank.specs.Given.{NeverFalls};
 ghost use Rattle.md_base.specs.Sectors.{Sector};
 ghost use Rattle.md_base.specs.Shapes.{is_valid_shape, is_multiple};
@@ -9,13 +9,14 @@ ghost use Rattle.superblocks.specs.Reading.{shape_of, is_clean, role_state};
 ghost use Rattle.row_io.specs.Rows.{reading_of, present};
 ghost use Rattle.list_io.specs.Full.{AreWholeIn, RowStands};
 ghost use Rattle.list_io.specs.Writing.{HasFull};
-ghost use Rattle.views.specs.Placed.{IsPlaced};
+ghost use Rattle.views.specs.Placed.{IsPlaced, IsInForce};
 ghost use Rattle.shape_changes.specs.Steady.{AreUnlost, IsSafeOver, KeepsSafe, AreGoneTold, AreWritesAllowed};
 ghost use Rattle.views.specs.Rebuilding.{AreSparesFree};
 ghost use Rattle.views.specs.Moving.{Grows, IsMoved};
 ghost use Rattle.shape_changes.specs.Safety.{HasRoomLeft, IsRisen};
 ghost use Rattle.views.specs.Status.{stripes_of};
-ghost use Rattle.views.specs.Lacking.{HaveFailedSince, DoesWithout, IsUnwritten, ListStands, IsOfStripe, mended_rows};
+ghost use Rattle.shape_views.specs.Windows.{IsOfRegion};
+ghost use Rattle.views.specs.Lacking.{HaveFailedSince, DoesWithout, IsUnwritten, DataStandsAmong, AreOtherRowsKept, IsOfStripe, mended_rows};
 ghost use Rattle.safe_updates.specs.First.{write_refusal};
 ghost use Rattle.flat_history.specs.World.{World};
 ghost use Rattle.shape_views.specs.Views.{Ledger};
@@ -60,7 +61,7 @@ pub struct Mended {
     pub refusal: Option<Refusal>,
 }
 
-/// Makes the parity of a stripe fit its data: its rows are read and rewritten, a part of them at a time, and those that are
+/// Makes the parity of a stripe of this shape fit its data: its rows are read and rewritten, a part of them at a time, and those that are
 /// missing are named. It ends where more are missing than the array can do without, or one that has data.
 pub fn mend<B: Bank>(
     members: &mut Members,
@@ -74,32 +75,33 @@ pub fn mend<B: Bank>(
     requires placed { IsPlaced (B.given bank.old) members.old }
     requires unlost { AreUnlost members.old }
     requires free { AreSparesFree (B.given bank.old) members.old }
-    requires shape { shape.now ≡ shape_of members.old.newest }
-    requires stripe { stripe < stripes_of members.old }
+    requires shape { IsInForce members.old.newest shape.now }
+    requires stripe { stripe < members.old.newest.size / shape.now.chunk }
     requires dirty { is_clean members.old.newest ≡ false }
     requires rows { 128 ≤ vec_capacity rows.old }
     requires buffer { 1048576 ≤ length buffer.old.items }
     ensures moved { IsMoved (B.given bank.old) members.old members.new }
     ensures failed { HaveFailedSince members.old members.new result.spares (B.faults_of bank.old) (B.faults_of bank.new) }
-    ensures refused { MatchOption result.refusal ⊤ (IsUnwritten false members.new) }
-    ensures first { MatchOption result.refusal ⊤ (λ refusal. write_refusal false members.new ≡ Some refusal) }
+    ensures refused { MatchOption result.refusal ⊤ (IsUnwritten shape.now false members.new) }
+    ensures first { MatchOption result.refusal ⊤ (λ refusal. write_refusal shape.now false members.new ≡ Some refusal) }
     ensures grows { Grows B.tells (B.tape bank.old) (B.tape bank.new) }
     ensures dirty { is_clean members.new.newest ≡ false }
-    ensures mended { result.refusal ≡ None → B.tells → (list : ℕ → Sector) → ListStands members.old (present (B.given bank.old) (B.tape bank.old)) list
+    ensures mended { result.refusal ≡ None → B.tells → (list : ℕ → Sector) → DataStandsAmong shape.now (IsOfStripe shape.now stripe) members.old (present (B.given bank.old) (B.tape bank.old)) list
         → (row : ℕ) → IsOfStripe shape.now stripe row → AreWholeIn shape.now list row → RowStands (reading_of members.new) (present (B.given bank.old) (B.tape bank.new)) shape.now list row }
-    ensures stands { DoesWithout members.new → B.tells → (list : ℕ → Sector) → ListStands members.old (present (B.given bank.old) (B.tape bank.old)) list
-        → ListStands members.new (present (B.given bank.old) (B.tape bank.new)) list }
-    ensures kept { DoesWithout members.new → B.tells → (list : ℕ → Sector) → ListStands members.old (present (B.given bank.old) (B.tape bank.old)) list
-        → (row : ℕ) → row < members.old.newest.size → RowStands (reading_of members.old) (present (B.given bank.old) (B.tape bank.old)) shape.now list row
+    ensures stands { DoesWithout shape.now members.new → B.tells → (list : ℕ → Sector) → DataStandsAmong shape.now (IsOfStripe shape.now stripe) members.old (present (B.given bank.old) (B.tape bank.old)) list
+        → DataStandsAmong shape.now (IsOfStripe shape.now stripe) members.new (present (B.given bank.old) (B.tape bank.new)) list }
+    ensures others { B.tells → AreOtherRowsKept (IsOfStripe shape.now stripe) (reading_of members.new) (present (B.given bank.old) (B.tape bank.old)) (present (B.given bank.old) (B.tape bank.new)) }
+    ensures kept { DoesWithout shape.now members.new → B.tells → (list : ℕ → Sector) → DataStandsAmong shape.now (IsOfStripe shape.now stripe) members.old (present (B.given bank.old) (B.tape bank.old)) list
+        → (row : ℕ) → IsOfStripe shape.now stripe row → RowStands (reading_of members.old) (present (B.given bank.old) (B.tape bank.old)) shape.now list row
         → RowStands (reading_of members.new) (present (B.given bank.old) (B.tape bank.new)) shape.now list row }
-    ensures rebuilt { DoesWithout members.new → B.tells → (list : ℕ → Sector) → ListStands members.old (present (B.given bank.old) (B.tape bank.old)) list
-        → (role slot row : ℕ) → role < shape.now.disks → role_state (reading_of members.new) role ≡ IsRecovering slot → row < members.old.newest.size
+    ensures rebuilt { DoesWithout shape.now members.new → B.tells → (list : ℕ → Sector) → DataStandsAmong shape.now (IsOfStripe shape.now stripe) members.old (present (B.given bank.old) (B.tape bank.old)) list
+        → (role slot row : ℕ) → role < shape.now.disks → role_state (reading_of members.new) role ≡ IsRecovering slot → IsOfStripe shape.now stripe row
         → HasFull (reading_of members.old) (present (B.given bank.old) (B.tape bank.old)) shape.now list row role slot
         → HasFull (reading_of members.new) (present (B.given bank.old) (B.tape bank.new)) shape.now list row role slot }
     ensures rise { IsRisen B.tells members.old members.new (B.tape bank.old) (B.tape bank.new) }
     ensures safe { B.tells → (world : World) → (told : Ledger) → HasRoomLeft members.old (B.tape bank.old) (B.tape bank.new)
-        → AreGoneTold told members.new → told.unclean ≡ true → (list : ℕ → Sector) → ListStands members.old (present (B.given bank.old) (B.tape bank.old)) list
-        → AreWritesAllowed members.old told.values list → IsSafeOver world (B.given bank.old) told members.old (B.tape bank.old)
+        → AreGoneTold told members.new → told.unclean ≡ true → (list : ℕ → Sector) → DataStandsAmong shape.now (IsOfStripe shape.now stripe) members.old (present (B.given bank.old) (B.tape bank.old)) list
+        → IsOfRegion members.old shape.now (IsOfStripe shape.now stripe) → AreWritesAllowed members.old told.values list → IsSafeOver world (B.given bank.old) told members.old (B.tape bank.old)
         → KeepsSafe world (B.given bank.old) told members.new (B.tape bank.old) (B.tape bank.new) }
     ensures given { B.given bank.new ≡ B.given bank.old }
     ensures counts { NeverFalls (B.faults_of bank.old) (B.faults_of bank.new) }

@@ -5,19 +5,20 @@ ghost use Rattle.bank.specs.Given.{NeverFalls};
 ghost use Rattle.bank.specs.Tape.{EachMark, disk};
 ghost use Rattle.md_base.specs.Sectors.{Sector, IsWhole};
 ghost use Rattle.md_base.specs.declared.status.Role.TheVariants.{Recovering as IsRecovering};
-ghost use Rattle.superblocks.specs.Reading.{Scope, shape_of, is_clean, role_state};
+ghost use Rattle.superblocks.specs.Reading.{Scope, is_clean, role_state};
 ghost use Rattle.row_io.specs.Rows.{reading_of, present};
 ghost use Rattle.list_io.specs.Buffers.{buffered, AreDistinct, AreStanding, AreTouched, IsTouched};
 ghost use Rattle.list_io.specs.Full.{AreWholeIn, RowStands};
 ghost use Rattle.list_io.specs.Writing.{IsWritten, AreDataFrom, HasFull};
-ghost use Rattle.views.specs.Placed.{places_of, AreWhole, IsPlaced};
+ghost use Rattle.md_base.specs.Shapes.{data_disks};
+ghost use Rattle.views.specs.Placed.{AreWhole, IsPlaced, IsInForce};
 ghost use Rattle.shape_changes.specs.Steady.{AreUnlost, IsSafeOver, KeepsSafe, AreGoneTold, AreWritesAllowed};
 ghost use Rattle.views.specs.Rebuilding.{AreSparesFree};
 ghost use Rattle.views.specs.Moving.{Grows, IsMoved};
-ghost use Rattle.views.specs.Whole.{list_size};
 ghost use Rattle.shape_changes.specs.Marking.{AreOthersPresent};
 ghost use Rattle.shape_changes.specs.Safety.{HasMarkRoom, HasRoomLeft, IsRisen};
-ghost use Rattle.views.specs.Lacking.{HaveFailedSince, AreTooMany, IsUnwritten, ListStands, RowsStandAmong, AreBytes, AreRowsRead, AreRowsWritten, IsListPut};
+ghost use Rattle.shape_views.specs.Windows.{IsOfRegion};
+ghost use Rattle.views.specs.Lacking.{HaveFailedSince, LacksTooMany, IsUnwritten, DataStandsAmong, RowsStandAmong, AreOtherRowsKept, AreBytes, AreRowsRead, AreRowsWritten, IsListPut};
 ghost use Rattle.safe_updates.specs.First.{write_refusal};
 ghost use Rattle.flat_history.specs.World.{World};
 ghost use Rattle.shape_views.specs.Views.{Ledger};
@@ -26,7 +27,7 @@ use bank::Bank;
 use list_io::{read_touched, write_touched};
 use md_base::{Refusal, Shape};
 use safe_updates::naming::{name_missing, raise};
-use safe_updates::refusing::{refused_by, too_many, unwritten};
+use safe_updates::refusing::{refused_by, too_many_of, unwritten};
 use superblocks::Members;
 
 // The first row that isn't written, and why the rows weren't all written.
@@ -65,7 +66,7 @@ fn write_stretch<B: Bank>(
     requires slots { (B.given bank.old).slots ≤ 32 }
     requires placed { IsPlaced (B.given bank.old) members.old }
     requires unlost { AreUnlost members.old }
-    requires shape { shape.now ≡ shape_of members.old.newest }
+    requires shape { IsInForce members.old.newest shape.now }
     requires from { IsWhole from.now }
     requires short { first + length from.now / 512 < 2 ^ 63 }
     requires below { (row : ℕ) → Contains rows.now row → row < members.old.newest.size }
@@ -77,7 +78,7 @@ fn write_stretch<B: Bank>(
         (present (B.given bank.old) (B.tape bank.old)) shape.now (slice_index rows.now i) (buffered buffer.old.items i) }
     ensures moved { IsMoved (B.given bank.old) members.old members.new }
     ensures failed { HaveFailedSince members.old members.new 0 (B.faults_of bank.old) (B.faults_of bank.new) }
-    ensures refused { MatchOption result.refusal ⊤ (AreTooMany members.new) }
+    ensures refused { MatchOption result.refusal ⊤ (LacksTooMany shape.now members.new) }
     ensures grows { Grows B.tells (B.tape bank.old) (B.tape bank.new) }
     ensures written { B.tells → AreRowsWritten shape.now first from.now rows.now start result.next members.new
         (present (B.given bank.old) (B.tape bank.old)) (present (B.given bank.old) (B.tape bank.new)) buffer.old.items buffer.new.items }
@@ -87,7 +88,7 @@ fn write_stretch<B: Bank>(
     ensures clean { is_clean members.new.newest ≡ is_clean members.old.newest }
     ensures kept { AreWhole members.new → members.new ≡ members.old }
     ensures rise { IsRisen B.tells members.old members.new (B.tape bank.old) (B.tape bank.new) }
-    ensures safe { B.tells → (world : World) → (told : Ledger) → is_clean members.old.newest ≡ false → (list list' : ℕ → Sector) → IsWritten list list' first from.now
+    ensures safe { B.tells → (world : World) → (told : Ledger) → is_clean members.old.newest ≡ false → IsOfRegion members.old shape.now (Contains rows.now) → (list list' : ℕ → Sector) → IsWritten list list' first from.now
         → (B.tells → AreDataFrom start shape.now list rows.now buffer.old.items) → AreWritesAllowed members.old told.values list' → IsSafeOver world (B.given bank.old) told members.old (B.tape bank.old)
         → KeepsSafe world (B.given bank.old) told members.new (B.tape bank.old) (B.tape bank.new) }
     ensures given { B.given bank.new ≡ B.given bank.old }
@@ -96,7 +97,7 @@ fn write_stretch<B: Bank>(
 {
     let written = write_touched(members, bank, shape, first, from, rows, start, buffer);
     let next = written.next_row;
-    let refusal = refused_by(written.answer, members);
+    let refusal = refused_by(written.answer, members, shape);
     Part { next, refusal }
 }
 
@@ -115,7 +116,7 @@ fn put_stretch<B: Bank>(
     requires placed { IsPlaced (B.given bank.old) members.old }
     requires unlost { AreUnlost members.old }
     requires free { AreSparesFree (B.given bank.old) members.old }
-    requires shape { shape.now ≡ shape_of members.old.newest }
+    requires shape { IsInForce members.old.newest shape.now }
     requires from { IsWhole from.now }
     requires short { first + length from.now / 512 < 2 ^ 63 }
     requires below { (row : ℕ) → Contains rows.now row → row < members.old.newest.size }
@@ -127,7 +128,7 @@ fn put_stretch<B: Bank>(
         (present (B.given bank.old) (B.tape bank.old)) shape.now (slice_index rows.now i) (buffered buffer.old.items i) }
     ensures moved { IsMoved (B.given bank.old) members.old members.new }
     ensures failed { HaveFailedSince members.old members.new result.spares (B.faults_of bank.old) (B.faults_of bank.new) }
-    ensures refused { MatchOption result.refusal ⊤ (AreTooMany members.new) }
+    ensures refused { MatchOption result.refusal ⊤ (LacksTooMany shape.now members.new) }
     ensures grows { Grows B.tells (B.tape bank.old) (B.tape bank.new) }
     ensures written { B.tells → AreRowsWritten shape.now first from.now rows.now start result.next members.new
         (present (B.given bank.old) (B.tape bank.old)) (present (B.given bank.old) (B.tape bank.new)) buffer.old.items buffer.new.items }
@@ -138,7 +139,7 @@ fn put_stretch<B: Bank>(
     ensures kept { AreWhole members.new → members.new ≡ members.old }
     ensures rise { IsRisen B.tells members.old members.new (B.tape bank.old) (B.tape bank.new) }
     ensures safe { B.tells → (world : World) → (told : Ledger) → HasRoomLeft members.old (B.tape bank.old) (B.tape bank.new)
-        → AreGoneTold told members.new → told.unclean ≡ true → is_clean members.old.newest ≡ false → (list list' : ℕ → Sector) → IsWritten list list' first from.now
+        → AreGoneTold told members.new → told.unclean ≡ true → is_clean members.old.newest ≡ false → IsOfRegion members.old shape.now (Contains rows.now) → (list list' : ℕ → Sector) → IsWritten list list' first from.now
         → (B.tells → AreDataFrom start shape.now list rows.now buffer.old.items) → AreWritesAllowed members.old told.values list' → IsSafeOver world (B.given bank.old) told members.old (B.tape bank.old)
         → KeepsSafe world (B.given bank.old) told members.new (B.tape bank.old) (B.tape bank.new) }
     ensures given { B.given bank.new ≡ B.given bank.old }
@@ -177,7 +178,7 @@ fn put_rows<B: Bank>(
     requires placed { IsPlaced (B.given bank.old) members.old }
     requires unlost { AreUnlost members.old }
     requires free { AreSparesFree (B.given bank.old) members.old }
-    requires shape { shape.now ≡ shape_of members.old.newest }
+    requires shape { IsInForce members.old.newest shape.now }
     requires from { IsWhole from.now }
     requires short { first + length from.now / 512 < 2 ^ 63 }
     requires below { (row : ℕ) → Contains rows.now row → row < members.old.newest.size }
@@ -188,7 +189,7 @@ fn put_rows<B: Bank>(
         (present (B.given bank.old) (B.tape bank.old)) shape.now (slice_index rows.now i) (buffered buffer.old.items i) }
     ensures moved { IsMoved (B.given bank.old) members.old members.new }
     ensures failed { HaveFailedSince members.old members.new result.spares (B.faults_of bank.old) (B.faults_of bank.new) }
-    ensures refused { MatchOption result.refusal ⊤ (AreTooMany members.new) }
+    ensures refused { MatchOption result.refusal ⊤ (LacksTooMany shape.now members.new) }
     ensures grows { Grows B.tells (B.tape bank.old) (B.tape bank.new) }
     ensures written { B.tells → AreRowsWritten shape.now first from.now rows.now 0 result.next members.new
         (present (B.given bank.old) (B.tape bank.old)) (present (B.given bank.old) (B.tape bank.new)) buffer.old.items buffer.new.items }
@@ -198,7 +199,7 @@ fn put_rows<B: Bank>(
     ensures kept { AreWhole members.new → members.new ≡ members.old }
     ensures rise { IsRisen B.tells members.old members.new (B.tape bank.old) (B.tape bank.new) }
     ensures safe { B.tells → (world : World) → (told : Ledger) → HasRoomLeft members.old (B.tape bank.old) (B.tape bank.new)
-        → AreGoneTold told members.new → told.unclean ≡ true → is_clean members.old.newest ≡ false → (list list' : ℕ → Sector) → IsWritten list list' first from.now
+        → AreGoneTold told members.new → told.unclean ≡ true → is_clean members.old.newest ≡ false → IsOfRegion members.old shape.now (Contains rows.now) → (list list' : ℕ → Sector) → IsWritten list list' first from.now
         → (B.tells → AreDataFrom 0 shape.now list rows.now buffer.old.items) → AreWritesAllowed members.old told.values list' → IsSafeOver world (B.given bank.old) told members.old (B.tape bank.old)
         → KeepsSafe world (B.given bank.old) told members.new (B.tape bank.old) (B.tape bank.new) }
     ensures given { B.given bank.new ≡ B.given bank.old }
@@ -242,16 +243,16 @@ fn prepare<B: Bank>(
     requires placed { IsPlaced (B.given bank.old) members.old }
     requires unlost { AreUnlost members.old }
     requires free { AreSparesFree (B.given bank.old) members.old }
-    requires shape { shape.now ≡ shape_of members.old.newest }
+    requires shape { IsInForce members.old.newest shape.now }
     requires few { count ≤ 128 }
-    requires within { first + count ≤ list_size (places_of members.old) }
+    requires within { first + count ≤ data_disks shape.now * members.old.newest.size }
     requires short { first + count < 2 ^ 53 }
     requires rows { 128 ≤ vec_capacity rows.old }
     requires buffer { 1048576 ≤ length buffer.old.items }
     ensures moved { IsMoved (B.given bank.old) members.old members.new }
     ensures failed { HaveFailedSince members.old members.new result.spares (B.faults_of bank.old) (B.faults_of bank.new) }
-    ensures refused { MatchOption result.refusal ⊤ (IsUnwritten synced members.new) }
-    ensures first { MatchOption result.refusal ⊤ (λ refusal. write_refusal synced members.new ≡ Some refusal) }
+    ensures refused { MatchOption result.refusal ⊤ (IsUnwritten shape.now synced members.new) }
+    ensures first { MatchOption result.refusal ⊤ (λ refusal. write_refusal shape.now synced members.new ≡ Some refusal) }
     ensures grows { Grows B.tells (B.tape bank.old) (B.tape bank.new) }
     ensures others { B.tells → AreOthersPresent (present (B.given bank.old) (B.tape bank.old)) (present (B.given bank.old) (B.tape bank.new)) }
     ensures read { result.refusal ≡ None → B.tells → AreRowsRead shape.now synced members.old members.new (present (B.given bank.old) (B.tape bank.old)) rows.new.items buffer.new.items }
@@ -273,13 +274,13 @@ fn prepare<B: Bank>(
     if read.answer.is_err() {
         return Prepared {
             spares: 0,
-            refusal: unwritten(members, synced),
+            refusal: unwritten(members, shape, synced),
         };
     }
     let spares = raise(members, bank);
     Prepared {
         spares,
-        refusal: too_many(members),
+        refusal: too_many_of(members, shape),
     }
 }
 
@@ -291,8 +292,8 @@ pub struct Outcome {
     pub refusal: Option<Refusal>,
 }
 
-/// Puts the sectors of `from` into the list from `first` on, where so many sectors have their places in the rows that are
-/// written: these rows are read, the array is marked dirty where it is clean, those that are missing are named, and the
+/// Puts the sectors of `from` into the list from `first` on, where so many sectors, which are placed by this shape, have their
+/// places in the rows that are written: these rows are read, the array is marked dirty where it is clean, those that are missing are named, and the
 /// rows are written with their parity. It ends where more are missing than the array can do without, or, where the parity
 /// of the rows isn't to be relied on, one that has data.
 pub fn put<B: Bank>(
@@ -310,32 +311,32 @@ pub fn put<B: Bank>(
     requires placed { IsPlaced (B.given bank.old) members.old }
     requires unlost { AreUnlost members.old }
     requires free { AreSparesFree (B.given bank.old) members.old }
-    requires shape { shape.now ≡ shape_of members.old.newest }
+    requires shape { IsInForce members.old.newest shape.now }
     requires from { IsWhole from.now }
     requires few { count ≤ 128 }
     requires from_few { length from.now / 512 ≤ count }
-    requires within { first + count ≤ list_size (places_of members.old) }
+    requires within { first + count ≤ data_disks shape.now * members.old.newest.size }
     requires short { first + count < 2 ^ 53 }
     requires rows { 128 ≤ vec_capacity rows.old }
     requires buffer { 1048576 ≤ length buffer.old.items }
     ensures moved { IsMoved (B.given bank.old) members.old members.new }
     ensures failed { HaveFailedSince members.old members.new result.spares (B.faults_of bank.old) (B.faults_of bank.new) }
-    ensures refused { MatchOption result.refusal ⊤ (IsUnwritten synced members.new) }
-    ensures first { MatchOption result.refusal ⊤ (λ refusal. write_refusal synced members.new ≡ Some refusal) }
-    ensures torn { result.begun ≡ true → MatchOption result.refusal ⊤ (AreTooMany members.new) }
+    ensures refused { MatchOption result.refusal ⊤ (IsUnwritten shape.now synced members.new) }
+    ensures first { MatchOption result.refusal ⊤ (λ refusal. write_refusal shape.now synced members.new ≡ Some refusal) }
+    ensures torn { result.begun ≡ true → MatchOption result.refusal ⊤ (LacksTooMany shape.now members.new) }
     ensures grows { Grows B.tells (B.tape bank.old) (B.tape bank.new) }
     ensures put { result.refusal ≡ None → B.tells → (list list' : ℕ → Sector) → IsWritten list list' first from.now
-        → ListStands members.old (present (B.given bank.old) (B.tape bank.old)) list → ListStands members.new (present (B.given bank.old) (B.tape bank.new)) list' }
+        → DataStandsAmong shape.now (IsTouched shape.now first count) members.old (present (B.given bank.old) (B.tape bank.old)) list → DataStandsAmong shape.now (IsTouched shape.now first count) members.new (present (B.given bank.old) (B.tape bank.new)) list' }
+    ensures others { B.tells → AreOtherRowsKept (IsTouched shape.now first count) (reading_of members.new) (present (B.given bank.old) (B.tape bank.old)) (present (B.given bank.old) (B.tape bank.new)) }
     ensures good { result.refusal ≡ None → B.tells → (list list' : ℕ → Sector) → IsWritten list list' first from.now → AreBytes from.now
-        → ListStands members.old (present (B.given bank.old) (B.tape bank.old)) list
-        → (synced ≡ true → AreWhole members.new ⊎ RowsStandAmong (IsTouched shape.now first count) members.old (present (B.given bank.old) (B.tape bank.old)) list)
-        → (row : ℕ) → row < members.old.newest.size → AreWholeIn shape.now list row
-        → IsTouched shape.now first count row ⊎ RowStands (reading_of members.old) (present (B.given bank.old) (B.tape bank.old)) shape.now list row
+        → DataStandsAmong shape.now (IsTouched shape.now first count) members.old (present (B.given bank.old) (B.tape bank.old)) list
+        → (synced ≡ true → AreWhole members.new ⊎ RowsStandAmong shape.now (IsTouched shape.now first count) members.old (present (B.given bank.old) (B.tape bank.old)) list)
+        → (row : ℕ) → IsTouched shape.now first count row → row < members.old.newest.size → AreWholeIn shape.now list row
         → RowStands (reading_of members.new) (present (B.given bank.old) (B.tape bank.new)) shape.now list' row }
     ensures rebuilt { result.refusal ≡ None → B.tells → (list list' : ℕ → Sector) → IsWritten list list' first from.now
-        → ListStands members.old (present (B.given bank.old) (B.tape bank.old)) list
-        → (synced ≡ true → AreWhole members.new ⊎ RowsStandAmong (IsTouched shape.now first count) members.old (present (B.given bank.old) (B.tape bank.old)) list)
-        → (role slot row : ℕ) → role < shape.now.disks → role_state (reading_of members.new) role ≡ IsRecovering slot → row < members.old.newest.size
+        → DataStandsAmong shape.now (IsTouched shape.now first count) members.old (present (B.given bank.old) (B.tape bank.old)) list
+        → (synced ≡ true → AreWhole members.new ⊎ RowsStandAmong shape.now (IsTouched shape.now first count) members.old (present (B.given bank.old) (B.tape bank.old)) list)
+        → (role slot row : ℕ) → role < shape.now.disks → role_state (reading_of members.new) role ≡ IsRecovering slot → IsTouched shape.now first count row → row < members.old.newest.size
         → HasFull (reading_of members.old) (present (B.given bank.old) (B.tape bank.old)) shape.now list row role slot
         → HasFull (reading_of members.new) (present (B.given bank.old) (B.tape bank.new)) shape.now list' row role slot }
     ensures dirty { result.refusal ≡ None → is_clean members.new.newest ≡ false }
@@ -344,8 +345,8 @@ pub fn put<B: Bank>(
     ensures rise { IsRisen B.tells members.old members.new (B.tape bank.old) (B.tape bank.new) }
     ensures safe { B.tells → (world : World) → (told : Ledger) → HasRoomLeft members.old (B.tape bank.old) (B.tape bank.new)
         → AreGoneTold told members.new → told.unclean ≡ true → (list list' : ℕ → Sector) → IsWritten list list' first from.now
-        → ListStands members.old (present (B.given bank.old) (B.tape bank.old)) list → (synced ≡ true → AreWhole members.new ⊎ RowsStandAmong (IsTouched shape.now first count) members.old (present (B.given bank.old) (B.tape bank.old)) list)
-        → (result.begun ≡ true → AreWritesAllowed members.old told.values list') → IsSafeOver world (B.given bank.old) told members.old (B.tape bank.old)
+        → DataStandsAmong shape.now (IsTouched shape.now first count) members.old (present (B.given bank.old) (B.tape bank.old)) list → (synced ≡ true → AreWhole members.new ⊎ RowsStandAmong shape.now (IsTouched shape.now first count) members.old (present (B.given bank.old) (B.tape bank.old)) list)
+        → IsOfRegion members.old shape.now (IsTouched shape.now first count) → (result.begun ≡ true → AreWritesAllowed members.old told.values list') → IsSafeOver world (B.given bank.old) told members.old (B.tape bank.old)
         → KeepsSafe world (B.given bank.old) told members.new (B.tape bank.old) (B.tape bank.new) }
     ensures given { B.given bank.new ≡ B.given bank.old }
     ensures counts { NeverFalls (B.faults_of bank.old) (B.faults_of bank.new) }

@@ -8,30 +8,32 @@ use Rattle.md_base.specs.declared.answers.Refusal.{Refusal}
 use Rattle.md_base.specs.declared.answers.Refusal.TheVariants.{PastEnd, NotResynced}
 use Rattle.layout.specs.Layout.{place}
 use Rattle.superblocks.specs.declared.members.Members.{Members}
-use Rattle.superblocks.specs.Reading.{shape_of}
+use Rattle.md_base.specs.declared.places.Shape.{Shape}
 use Rattle.row_io.specs.Rows.{reading_of, is_missing}
 use Rattle.views.specs.Lacking.{lacking, too_many}
 use Rattle.views.specs.Refusals.{lowest_missing}
 
--- more are missing than the array can do without
-abbrev pub are_too_many : Members → Bool
-are_too_many m = nat_lt (tolerance (shape_of m.newest)) (lacking m)
+-- more of the shape's roles are missing than it tolerates
+abbrev pub are_too_many : Shape → Members → Bool
+are_too_many shape m = nat_lt (tolerance shape) (lacking shape m)
 
 -- this sector of the list lies behind the mended rows, on a role that is missing
-abbrev pub is_lacking : Members → ℕ → ℕ → Bool
-is_lacking m mended x = nat_le mended (place (shape_of m.newest) x).row && is_missing (reading_of m) (place (shape_of m.newest) x).role
+abbrev pub is_lacking : Shape → Members → ℕ → ℕ → Bool
+is_lacking shape m mended x = nat_le mended (place shape x).row && is_missing (reading_of m) (place shape x).role
 
 -- the role of the first of so many sectors from this one on that does
-abbrev pub first_lacking : ℕ → ℕ → ℕ → Members → Option ℕ
-first_lacking mended first count m = option_map (λ i. (place (shape_of m.newest) (first + i)).role) (least_below count (λ i. is_lacking m mended (first + i)))
+abbrev pub first_lacking : Shape → ℕ → ℕ → ℕ → Members → Option ℕ
+first_lacking shape mended first count m = option_map (λ i. (place shape (first + i)).role) (least_below count (λ i. is_lacking shape m mended (first + i)))
 
 -- why a read of so many sectors from this one on isn't done, the first of two causes: too many are missing; or the first sector that can't be had
-abbrev pub read_refusal : ℕ → ℕ → ℕ → Members → Option Refusal
-read_refusal mended first count m = if are_too_many m then Some (too_many m) else option_map (λ role. NotResynced role) (first_lacking mended first count m)
+abbrev pub read_refusal : Shape → ℕ → ℕ → ℕ → Members → Option Refusal
+read_refusal shape mended first count m =
+    if are_too_many shape m then Some (too_many shape m) else option_map (λ role. NotResynced role) (first_lacking shape mended first count m)
 
 -- why a write isn't done, the first of two causes: too many are missing; or the lowest that has data, where parity isn't to be relied on
-abbrev pub write_refusal : Bool → Members → Option Refusal
-write_refusal synced m = if are_too_many m then Some (too_many m) else if synced then None else option_map (λ role. NotResynced role) (lowest_missing m)
+abbrev pub write_refusal : Shape → Bool → Members → Option Refusal
+write_refusal shape synced m =
+    if are_too_many shape m then Some (too_many shape m) else if synced then None else option_map (λ role. NotResynced role) (lowest_missing shape m)
 
 -- why a call that ends at this place isn't done: it ends past the visible size; or else what its kind gives
 abbrev pub call_refusal : ℕ → ℕ → Option Refusal → Option Refusal

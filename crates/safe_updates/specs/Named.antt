@@ -3,13 +3,13 @@ use Rattle.std.specs.Prelude.{◌≡◌, ◌≢◌, ℕ, ◌<◌, true, List}
 use Rattle.md_base.specs.Sectors.{Sector}
 use Rattle.bank.specs.Tape.{Kept}
 use Rattle.superblocks.specs.declared.members.Members.{Members}
-use Rattle.superblocks.specs.Reading.{shape_of, entry_of}
+use Rattle.superblocks.specs.Reading.{role_count, entry_of}
 use Rattle.row_io.specs.Rows.{reading_of}
 use Rattle.views.specs.Placed.{is_vacant}
 
 -- Each role that no slot holds is named missing: by the newest superblock no device, whose numbers are below 128, has it.
 abbrev pub AreNamedMissing : Members → Type 0
-AreNamedMissing m = (role : ℕ) → role < (shape_of m.newest).disks → is_vacant (reading_of m) role ≡ true → (device : ℕ) → device < 128 → entry_of m.newest device ≡ role → ⊥
+AreNamedMissing m = (role : ℕ) → role < role_count m.newest → is_vacant (reading_of m) role ≡ true → (device : ℕ) → device < 128 → entry_of m.newest device ≡ role → ⊥
 
 -- no data is written: what a stop may leave of each sector but the superblocks is as it was, or a flush has settled it
 abbrev pub AreDataKept : (ℕ → ℕ → List Sector) → (ℕ → ℕ → List Sector) → Type 0

@@ -4,7 +4,7 @@ ghost use Rattle.std.specs.Prelude.{◌≡◌, ◌≢◌, ◌<◌, ◌≤◌, �
 ghost use Rattle.bank.specs.declared.bank.Operation.TheVariants.{Flush};
 ghost use Rattle.bank.specs.Given.{IsFaulted, NeverFalls};
 ghost use Rattle.md_base.specs.Shapes.{has_slot};
-ghost use Rattle.superblocks.specs.Reading.{shape_of, role_state, holder};
+ghost use Rattle.superblocks.specs.Reading.{role_count, role_state, holder};
 ghost use Rattle.superblocks.specs.Update.{is_held_by};
 ghost use Rattle.row_io.specs.Rows.{reading_of, HaveFailed};
 ghost use Rattle.views.specs.Placed.{IsPlaced};
@@ -83,7 +83,7 @@ pub fn flush_members<B: Bank>(members: &Members, bank: &mut B) -> u32
     requires slots { (B.given bank.old).slots ≤ 32 }
     requires placed { IsPlaced (B.given bank.old) members.now }
     ensures flushed { AreMembersFlushed B.tells (B.given bank.old) (B.tape bank.new) (reading_of members.now) result }
-    ensures failed { HaveFailed (reading_of members.now) (shape_of members.now.newest).disks result (B.faults_of bank.old) (B.faults_of bank.new) }
+    ensures failed { HaveFailed (reading_of members.now) (role_count members.now.newest) result (B.faults_of bank.old) (B.faults_of bank.new) }
     ensures tape { B.tells → OnlyFlushesAdded (B.tape bank.old) (B.tape bank.new) }
     ensures given { B.given bank.new ≡ B.given bank.old }
     ensures counts { OnlyItsSlotsFail (B.given bank.old) (B.faults_of bank.old) (B.faults_of bank.new) }

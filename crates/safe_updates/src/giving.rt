@@ -5,7 +5,7 @@ ghost use Rattle.bank.specs.Given.{NeverFalls};
 ghost use Rattle.bank.specs.Tape.{disk};
 ghost use Rattle.md_base.specs.Sectors.{Sector};
 ghost use Rattle.md_base.specs.declared.status.Role.TheVariants.{Whole as IsWhole, Recovering as IsRecovering};
-ghost use Rattle.superblocks.specs.Reading.{shape_of, is_clean, role_state};
+ghost use Rattle.superblocks.specs.Reading.{is_reshaping, shape_of, is_clean, role_state};
 ghost use Rattle.superblocks.specs.Reads.{has_spare};
 ghost use Rattle.row_io.specs.Rows.{reading_of, present};
 ghost use Rattle.flat_history.specs.World.{World};
@@ -15,9 +15,10 @@ ghost use Rattle.shape_changes.specs.Steady.{AreUnlost, IsSafeOver, KeepsSafe, A
 ghost use Rattle.shape_changes.specs.Marking.{giving, AreOthersPresent};
 ghost use Rattle.views.specs.Moving.{Grows, IsMoved};
 ghost use Rattle.shape_changes.specs.Safety.{HasRoomLeft, IsRisen};
-ghost use Rattle.views.specs.Lacking.{HaveFailedSince, DoesWithout, RowsStand};
+ghost use Rattle.views.specs.Lacking.{HaveFailedSince, RowsStand};
 ghost use Rattle.views.specs.Rebuilding.{AreSparesFree, with_recovering, with_whole, IsFlushedFull, AreRowsFull};
 ghost use Rattle.shape_views.specs.Views.{Ledger};
+ghost use Rattle.shape_views.specs.Regions.{DoWithout};
 
 use crate::flushes::holders;
 use crate::naming::name_missing;
@@ -48,6 +49,7 @@ pub fn give_role<B: Bank>(members: &mut Members, bank: &mut B, role: u32, slot: 
     requires placed { IsPlaced (B.given bank.old) members.old }
     requires unlost { AreUnlost members.old }
     requires free { AreSparesFree (B.given bank.old) members.old }
+    requires still { is_reshaping members.old.newest ≡ false }
     requires role { role < (shape_of members.old.newest).disks }
     requires vacant { is_vacant (reading_of members.old) role ≡ true }
     requires spare { has_spare members.old.spares slot ≡ true }
@@ -76,6 +78,7 @@ pub fn make_whole<B: Bank>(members: &mut Members, bank: &mut B, role: u32, slot:
     requires placed { IsPlaced (B.given bank.old) members.old }
     requires unlost { AreUnlost members.old }
     requires free { AreSparesFree (B.given bank.old) members.old }
+    requires still { is_reshaping members.old.newest ≡ false }
     requires role { role < (shape_of members.old.newest).disks }
     requires recovering { role_state (reading_of members.old) role ≡ IsRecovering slot }
     ensures moved { IsMoved (B.given bank.old) (with_whole role slot members.old) members.new }
@@ -85,12 +88,12 @@ pub fn make_whole<B: Bank>(members: &mut Members, bank: &mut B, role: u32, slot:
     ensures clean { is_clean members.new.newest ≡ is_clean members.old.newest }
     ensures rise { IsRisen B.tells members.old members.new (B.tape bank.old) (B.tape bank.new) }
     ensures safe { B.tells → (world : World) → (told : Ledger) → HasRoomLeft members.old (B.tape bank.old) (B.tape bank.new)
-        → AreGoneTold told members.new → told.gone role ≡ true → IsUncleanTold told members.old → OpensFit world → DoesWithout members.old → (list : ℕ → Sector)
+        → AreGoneTold told members.new → told.gone role ≡ true → IsUncleanTold told members.old → OpensFit world → DoWithout members.old → (list : ℕ → Sector)
         → RowsStand members.old (present (B.given bank.old) (B.tape bank.old)) list → AreWritesAllowed members.old told.values list
         → IsFlushedFull members.old role slot list (disk (B.given bank.old).start (B.tape bank.old)) → IsSafeOver world (B.given bank.old) told members.old (B.tape bank.old)
         → KeepsSafe world (B.given bank.old) told members.new (B.tape bank.old) (B.tape bank.new) }
     ensures given_back { role_state (reading_of members.new) role ≡ IsWhole slot → B.tells → (world : World) → (told : Ledger) → HasRoomLeft members.old (B.tape bank.old) (B.tape bank.new)
-        → AreGoneTold told members.new → told.gone role ≡ true → IsUncleanTold told members.old → OpensFit world → DoesWithout members.old → (list : ℕ → Sector)
+        → AreGoneTold told members.new → told.gone role ≡ true → IsUncleanTold told members.old → OpensFit world → DoWithout members.old → (list : ℕ → Sector)
         → RowsStand members.old (present (B.given bank.old) (B.tape bank.old)) list → AreWritesAllowed members.old told.values list
         → IsFlushedFull members.old role slot list (disk (B.given bank.old).start (B.tape bank.old)) → IsSafeOver world (B.given bank.old) told members.old (B.tape bank.old)
         → IsSafeOver world (B.given bank.old) (given_back role told) members.new (B.tape bank.new) }
@@ -111,6 +114,7 @@ pub fn flush_and_record<B: Bank>(members: &mut Members, bank: &mut B, role: u32,
     requires unlost { AreUnlost members.old }
     requires free { AreSparesFree (B.given bank.old) members.old }
     requires few { length members.old.spares ≤ 32 }
+    requires still { is_reshaping members.old.newest ≡ false }
     requires role { role < (shape_of members.old.newest).disks }
     requires recovering { role_state (reading_of members.old) role ≡ IsRecovering slot }
     ensures moved { IsMoved (B.given bank.old) (with_whole role slot members.old) members.new }
@@ -120,12 +124,12 @@ pub fn flush_and_record<B: Bank>(members: &mut Members, bank: &mut B, role: u32,
     ensures clean { is_clean members.new.newest ≡ is_clean members.old.newest }
     ensures rise { IsRisen B.tells members.old members.new (B.tape bank.old) (B.tape bank.new) }
     ensures safe { B.tells → (world : World) → (told : Ledger) → HasRoomLeft members.old (B.tape bank.old) (B.tape bank.new)
-        → AreGoneTold told members.new → told.gone role ≡ true → IsUncleanTold told members.old → OpensFit world → DoesWithout members.old → (list : ℕ → Sector)
+        → AreGoneTold told members.new → told.gone role ≡ true → IsUncleanTold told members.old → OpensFit world → DoWithout members.old → (list : ℕ → Sector)
         → RowsStand members.old (present (B.given bank.old) (B.tape bank.old)) list → AreWritesAllowed members.old told.values list
         → AreRowsFull members.old role slot list (present (B.given bank.old) (B.tape bank.old)) → IsSafeOver world (B.given bank.old) told members.old (B.tape bank.old)
         → KeepsSafe world (B.given bank.old) told members.new (B.tape bank.old) (B.tape bank.new) }
     ensures given_back { role_state (reading_of members.new) role ≡ IsWhole slot → B.tells → (world : World) → (told : Ledger) → HasRoomLeft members.old (B.tape bank.old) (B.tape bank.new)
-        → AreGoneTold told members.new → told.gone role ≡ true → IsUncleanTold told members.old → OpensFit world → DoesWithout members.old → (list : ℕ → Sector)
+        → AreGoneTold told members.new → told.gone role ≡ true → IsUncleanTold told members.old → OpensFit world → DoWithout members.old → (list : ℕ → Sector)
         → RowsStand members.old (present (B.given bank.old) (B.tape bank.old)) list → AreWritesAllowed members.old told.values list
         → AreRowsFull members.old role slot list (present (B.given bank.old) (B.tape bank.old)) → IsSafeOver world (B.given bank.old) told members.old (B.tape bank.old)
         → IsSafeOver world (B.given bank.old) (given_back role told) members.new (B.tape bank.new) }

@@ -1,10 +1,10 @@
 //! Marks of the superblocks, which name the roles that no slot holds.
 
-ghost use Rattle.std.specs.Prelude.{◌≡◌, ◌≢◌, ◌<◌, ◌≤◌, ◌&&◌, ℕ, List, true, false, nat_lt, not, length, IsTrue};
+ghost use Rattle.std.specs.Prelude.{◌≡◌, ◌≢◌, ◌<◌, ◌≤◌, ◌^◌, ◌&&◌, ℕ, List, true, false, nat_lt, not, length};
 ghost use Rattle.bank.specs.Given.{NeverFalls};
 ghost use Rattle.md_base.specs.Sectors.{Sector};
-ghost use Rattle.md_base.specs.Shapes.{has_slot, is_valid_shape};
-ghost use Rattle.superblocks.specs.Reading.{Scope, shape_of, is_clean};
+ghost use Rattle.md_base.specs.Shapes.{has_slot};
+ghost use Rattle.superblocks.specs.Reading.{Scope, role_count, is_clean};
 ghost use Rattle.row_io.specs.Rows.{reading_of, present};
 ghost use Rattle.views.specs.Placed.{places_of, is_vacant, AreWhole, IsPlaced};
 ghost use Rattle.shape_changes.specs.Steady.{AreUnlost, IsSafeOver, IsNamedOver, KeepsSafe, AreGoneTold, IsUncleanTold};
@@ -22,7 +22,7 @@ ghost use Rattle.shape_changes.specs.Kinds.{IsMarkable};
 
 use crate::flushes::holders;
 use crate::marks::mark;
-use crate::roles::{is_vacant, shape_in, vacant_roles};
+use crate::roles::{is_vacant, vacant_roles};
 use bank::Bank;
 use sb1::Sb;
 use superblocks::Members;
@@ -53,12 +53,12 @@ fn is_named(newest: &Sb, role: u32) -> bool
 
 /// Whether the newest superblock still gives a device a role that no slot holds.
 pub fn has_unnamed(members: &Members) -> bool
-    requires shape { IsTrue (is_valid_shape (shape_of members.now.newest)) }
-    requires roles { (shape_of members.now.newest).disks ≤ length members.now.roles }
-    ensures some { result ≡ true → (role : ℕ) × (role < (shape_of members.now.newest).disks) × (is_vacant (reading_of members.now) role ≡ true) × IsNamed members.now.newest role }
+    requires roles { length members.now.roles ≡ role_count members.now.newest }
+    requires few { length members.now.roles < 2 ^ 32 }
+    ensures some { result ≡ true → (role : ℕ) × (role < role_count members.now.newest) × (is_vacant (reading_of members.now) role ≡ true) × IsNamed members.now.newest role }
     ensures none { result ≡ false → AreUnnamed members.now }
 {
-    for role in 0..shape_in(members).disks {
+    for role in 0..members.roles.len() as u32 {
         if is_vacant(members, role) && is_named(&members.newest, role) {
             return true;
         }

@@ -2,14 +2,14 @@
 
 ghost use Rattle.std.specs.Prelude.{◌≡◌, ◌*◌, ◌^◌, ◌<◌, ◌≤◌, ◌&&◌, ℕ, nat_lt, length, IsTrue};
 ghost use Rattle.md_base.specs.Shapes.{has_slot, is_valid_shape, data_disks};
-ghost use Rattle.superblocks.specs.Reading.{shape_of};
+ghost use Rattle.superblocks.specs.Reading.{shape_of, final_shape};
 ghost use Rattle.superblocks.specs.Reads.{has_spare};
 ghost use Rattle.row_io.specs.Rows.{reading_of};
 ghost use Rattle.views.specs.Placed.{is_vacant};
 
 use md_base::{Role, Shape};
 use superblocks::Members;
-use superblocks::says::shape_of;
+use superblocks::says::{shape_of, target_of};
 use superblocks::sets::with;
 
 /// The shape of the array, by its newest superblock.
@@ -18,6 +18,14 @@ pub fn shape_in(members: &Members) -> Shape
     ensures { result ≡ shape_of members.now.newest }
 {
     shape_of(&members.newest)
+}
+
+/// The shape that the array will have in the end: the new one of an active reshape, or else the one that it has.
+pub fn final_in(members: &Members) -> Shape
+    requires { IsTrue (is_valid_shape (shape_of members.now.newest)) }
+    ensures { result ≡ final_shape members.now.newest }
+{
+    target_of(&members.newest).unwrap_or(shape_in(members))
 }
 
 /// The sectors of the flat list over so many rows of each data disk.

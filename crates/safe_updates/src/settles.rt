@@ -1,10 +1,9 @@
 //! A flush of the members, and the clean mark behind it.
 
 ghost use Rattle.std.specs.Prelude.{◌≡◌, ◌<◌, ◌≤◌, ℕ, List, length, true, false, Some, None, MatchOption, IsTrue, ⊤};
-ghost use Rattle.md_base.specs.Shapes.{is_valid_shape};
 ghost use Rattle.bank.specs.Given.{NeverFalls};
 ghost use Rattle.md_base.specs.Sectors.{Sector};
-ghost use Rattle.superblocks.specs.Reading.{Scope, is_clean, shape_of, role_state, holder};
+ghost use Rattle.superblocks.specs.Reading.{Scope, is_clean, is_reshaping, role_count, role_state, holder};
 ghost use Rattle.row_io.specs.Rows.{reading_of, present};
 ghost use Rattle.views.specs.Placed.{places_of, AreWhole, IsPlaced};
 ghost use Rattle.shape_changes.specs.Steady.{AreUnlost, IsSafeOver, IsNamedOver, KeepsSafe, AreGoneTold, IsUncleanTold, AreWritesAllowed, settled_ledger};
@@ -13,10 +12,12 @@ ghost use Rattle.shape_changes.specs.Marking.{AreOthersPresent};
 ghost use Rattle.views.specs.Flushing.{OnlyFlushesAdded};
 ghost use Rattle.views.specs.Moving.{Grows, IsMoved};
 ghost use Rattle.shape_changes.specs.Safety.{HasMarkRoom, HasLiveSlot, HasRoomLeft, IsRisen};
-ghost use Rattle.views.specs.Lacking.{DoesWithout, HaveFailedSince, AreHoldersFlushed, AreTooMany, ListStands, RowsStand};
+ghost use Rattle.views.specs.Lacking.{HaveFailedSince, AreHoldersFlushed, AreTooMany, ListStands, RowsStand};
 ghost use Rattle.flat_history.specs.World.{World};
 ghost use Rattle.flat_history.specs.Sound.{OpensFit};
 ghost use Rattle.shape_views.specs.Views.{Ledger};
+ghost use Rattle.shape_views.specs.Regions.{DoWithout};
+ghost use Rattle.superblocks.specs.Verdict.{AreValidShapes};
 
 use crate::flushes::{flush_members, holders};
 use crate::naming::{mark_members, name_missing};
@@ -64,8 +65,8 @@ fn flush_naming<B: Bank>(members: &mut Members, bank: &mut B) -> u32
 
 // The refusal where no member is left on which a mark could stand.
 fn unmarked(members: &Members) -> Option<Refusal>
-    requires shape { IsTrue (is_valid_shape (shape_of members.now.newest)) }
-    requires roles { length members.now.roles ≡ (shape_of members.now.newest).disks }
+    requires shapes { AreValidShapes members.now.newest }
+    requires roles { length members.now.roles ≡ role_count members.now.newest }
     requires small { (role slot : ℕ) → holder (role_state (reading_of members.now) role) ≡ Some slot → slot < 32 }
     ensures refused { MatchOption result ⊤ (AreTooMany members.now) }
     ensures left { result ≡ None → (role : ℕ) × (slot : ℕ) × (holder (role_state (reading_of members.now) role) ≡ Some slot) }
@@ -82,6 +83,7 @@ fn unmarked(members: &Members) -> Option<Refusal>
 pub fn settle<B: Bank>(members: &mut Members, bank: &mut B, unsynced: bool) -> Settled
     requires slots { (B.given bank.old).slots ≤ 32 }
     requires placed { IsPlaced (B.given bank.old) members.old }
+    requires still { is_reshaping members.old.newest ≡ false }
     requires unlost { AreUnlost members.old }
     requires free { AreSparesFree (B.given bank.old) members.old }
     ensures moved { IsMoved (B.given bank.old) members.old members.new }
@@ -94,13 +96,13 @@ pub fn settle<B: Bank>(members: &mut Members, bank: &mut B, unsynced: bool) -> S
     ensures stays { unsynced ≡ true → is_clean members.new.newest ≡ is_clean members.old.newest }
     ensures rise { IsRisen B.tells members.old members.new (B.tape bank.old) (B.tape bank.new) }
     ensures safe { B.tells → (world : World) → (told : Ledger) → HasRoomLeft members.old (B.tape bank.old) (B.tape bank.new)
-        → AreGoneTold told members.new → IsUncleanTold told members.old → (list : ℕ → Sector) → (DoesWithout members.old → ListStands members.old (present (B.given bank.old) (B.tape bank.old)) list)
-        → (unsynced ≡ false → DoesWithout members.old → OpensFit world → RowsStand members.old (present (B.given bank.old) (B.tape bank.old)) list)
+        → AreGoneTold told members.new → IsUncleanTold told members.old → (list : ℕ → Sector) → (DoWithout members.old → ListStands members.old (present (B.given bank.old) (B.tape bank.old)) list)
+        → (unsynced ≡ false → DoWithout members.old → OpensFit world → RowsStand members.old (present (B.given bank.old) (B.tape bank.old)) list)
         → AreWritesAllowed members.old told.values list → IsSafeOver world (B.given bank.old) told members.old (B.tape bank.old)
         → KeepsSafe world (B.given bank.old) told members.new (B.tape bank.old) (B.tape bank.new) }
     ensures settled { result.refusal ≡ None → B.tells → (world : World) → (told : Ledger) → HasRoomLeft members.old (B.tape bank.old) (B.tape bank.new)
-        → AreGoneTold told members.new → IsUncleanTold told members.old → (DoesWithout members.old → unsynced ≡ true → is_clean members.old.newest ≡ false) → (list : ℕ → Sector) → (DoesWithout members.old → ListStands members.old (present (B.given bank.old) (B.tape bank.old)) list)
-        → (unsynced ≡ false → DoesWithout members.old → OpensFit world → RowsStand members.old (present (B.given bank.old) (B.tape bank.old)) list)
+        → AreGoneTold told members.new → IsUncleanTold told members.old → (DoWithout members.old → unsynced ≡ true → is_clean members.old.newest ≡ false) → (list : ℕ → Sector) → (DoWithout members.old → ListStands members.old (present (B.given bank.old) (B.tape bank.old)) list)
+        → (unsynced ≡ false → DoWithout members.old → OpensFit world → RowsStand members.old (present (B.given bank.old) (B.tape bank.old)) list)
         → AreWritesAllowed members.old told.values list → IsSafeOver world (B.given bank.old) told members.old (B.tape bank.old)
         → IsSafeOver world (B.given bank.old) (settled_ledger unsynced list told) members.new (B.tape bank.new) }
     ensures given { B.given bank.new ≡ B.given bank.old }

@@ -137,10 +137,7 @@ module _ (given : Given) (m : Members) (slot : ℕ) (sb : Sb) (made : IsSpareSb 
 
     pub placed-with : IsPlaced given (with_spare slot sb m)
     placed-with = record {
-      still = placed.still;
-      valid = placed.valid;
-      multiple = placed.multiple;
-      short = placed.short;
+      fit = placed.fit;
       roles = placed.roles;
       holders = λ role s held.
           let was = placed.holders role s held in

@@ -48,10 +48,10 @@ module _ (m : Members) (slot : ℕ) (sb : Sb) (untaken : (role : ℕ) → holder
   pub list-with : (c : Contents) (list : ℕ → Sector) → ListStands m c list → ListStands (with_spare slot sb m) c list
   list-with c list stands row lt = data-with c (shape_of m.newest) list row (stands row lt)
 
-  pub among-with : (among : ℕ → Type 0) (c : Contents) (list : ℕ → Sector) → RowsStandAmong among m c list → RowsStandAmong among (with_spare slot sb m) c list
-  among-with among c list stands row is lt =
+  pub among-with : (shape : Shape) (among : ℕ → Type 0) (c : Contents) (list : ℕ → Sector) → RowsStandAmong shape among m c list → RowsStandAmong shape among (with_spare slot sb m) c list
+  among-with shape among c list stands row is lt =
       let was = stands row is lt in
-      record { whole = was.whole; sectors = data-with c (shape_of m.newest) list row was.sectors; parity = parity-with c (shape_of m.newest) list row was.parity }
+      record { whole = was.whole; sectors = data-with c shape list row was.sectors; parity = parity-with c shape list row was.parity }
 
   pub rebuilt-with : (work : Work) (c : Contents) (list : ℕ → Sector) → AreRebuilt work m c list → AreRebuilt work (with_spare slot sb m) c list
   rebuilt-with work c list rebuilt role s row lt is held below within =

@@ -24,7 +24,7 @@ use Rattle.views.specs.Placed.{IsPlaced}
 use Rattle.shape_changes.specs.Steady.{AreUnlost, IsSafeNow, IsSafeStretch}
 use Rattle.shape_changes.specs.Marking.{AreOthersPresent}
 use Rattle.views.specs.Moving.{IsMoved}
-use Rattle.views.specs.Lacking.{IsOfStripe, ListStands}
+use Rattle.views.specs.Lacking.{IsOfStripe, ListStands, DataStandsAmong}
 use Rattle.views.specs.Rebuilding.{IsUnheld, IsFilling, IsFilledAmong}
 use Rattle.shape_views.specs.Views.{Ledger}
 use Rattle.shape_changes.proofs.Steady.{safe-is-seen}
@@ -172,28 +172,17 @@ module _ {given : Given} {old new : Members} (moved : IsMoved given old new) (pl
           by true lt found = grind (arith, nat_tests, lt)
           by false lt found = absurd (cc)
 
-  -- so the list stands as it stood
-  pub list-filled : (list : ℕ → Sector) → ListStands old before list → ListStands new after list
-  list-filled list stands row below r s lt here held =
-      still-held r s row held
-      ∙ subst (λ (shape : Shape). before s (data_offset_of (reading_of old) s + row) ≡ full_sector shape list row r) (sym moved.shape)
-      (stands row (subst (λ (n : ℕ). row < n) moved.size below) r s (subst (λ (shape : Shape). r < shape.disks) moved.shape lt)
-      (subst (λ (shape : Shape). is_parity (row_roles shape row) r ≡ false) moved.shape here) (held-moved moved r row s held))
+  -- so the data of rows stands as it stood
+  pub data-filled : (shape : Shape) (of : ℕ → Type 0) (list : ℕ → Sector) → DataStandsAmong shape of old before list → DataStandsAmong shape of new after list
+  data-filled shape of list stands row has below r s lt here held =
+      still-held r s row held ∙ stands row has (subst (λ (n : ℕ). row < n) moved.size below) r s lt here (held-moved moved r row s held)
 
   -- and so does a row
-  pub row-filled : (list : ℕ → Sector) (row : ℕ) → RowStands (reading_of old) before (shape_of old.newest) list row → RowStands (reading_of new) after (shape_of new.newest) list row
-  row-filled list row stands = record {
-    whole = subst (λ (shape : Shape). AreWholeIn shape list row) (sym moved.shape) stands.whole;
-    sectors = λ r s lt here held.
-        still-held r s row held
-        ∙ subst (λ (shape : Shape). before s (data_offset_of (reading_of old) s + row) ≡ full_sector shape list row r) (sym moved.shape)
-        (stands.sectors r s (subst (λ (shape : Shape). r < shape.disks) moved.shape lt)
-        (subst (λ (shape : Shape). is_parity (row_roles shape row) r ≡ false) moved.shape here) (held-moved moved r row s held));
-    parity = λ r s lt here held.
-        still-held r s row held
-        ∙ subst (λ (shape : Shape). before s (data_offset_of (reading_of old) s + row) ≡ full_sector shape list row r) (sym moved.shape)
-        (stands.parity r s (subst (λ (shape : Shape). r < shape.disks) moved.shape lt)
-        (subst (λ (shape : Shape). is_parity (row_roles shape row) r ≡ true) moved.shape here) (held-moved moved r row s held));
+  pub row-filled : (shape : Shape) (list : ℕ → Sector) (row : ℕ) → RowStands (reading_of old) before shape list row → RowStands (reading_of new) after shape list row
+  row-filled shape list row stands = record {
+    whole = stands.whole;
+    sectors = λ r s lt here held. still-held r s row held ∙ stands.sectors r s lt here (held-moved moved r row s held);
+    parity = λ r s lt here held. still-held r s row held ∙ stands.parity r s lt here (held-moved moved r row s held);
   }
 
   -- a full sector of a recovering slot stays, but perhaps that of one of these rows of the role

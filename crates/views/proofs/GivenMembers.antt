@@ -163,10 +163,7 @@ module _ (given : Given) (m : Members) (placed : IsPlaced given m) (recovery : O
 
   pub placed-given : IsPlaced given W
   placed-given = record {
-    still = placed.still;
-    valid = placed.valid;
-    multiple = placed.multiple;
-    short = placed.short;
+    fit = placed.fit;
     roles = length-set m.roles role (state_given recovery slot) ∙ placed.roles;
     holders = λ r s is. room-at s (⊎_elim
         (λ here. subst (λ (t : ℕ). IsHolder given (reading_of m) t) (sym here.1) to.room)

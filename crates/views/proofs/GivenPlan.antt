@@ -21,7 +21,7 @@ use Rattle.superblocks.specs.Update.{with_give, with_recovery, give_of, own_in, 
 use Rattle.superblocks.specs.Outcome.{is_in_update, AreLive, AreGivesOfLive, planned_roles}
 use Rattle.superblocks.proofs.ReadAlike.{shape-same}
 use Rattle.row_io.specs.Rows.{reading_of, role_without}
-use Rattle.views.specs.Placed.{is_vacant, IsPlaced}
+use Rattle.views.specs.Placed.{is_vacant, IsPlaced, HaveSameReshape}
 use Rattle.views.specs.Rebuilding.{AreSparesFree}
 use Rattle.shape_changes.specs.Marking.{giving}
 use Rattle.shape_changes.specs.Updates.{planned_view, IsLessView}
@@ -33,16 +33,14 @@ use Rattle.shape_changes.proofs.Without.{state-without, without-holder}
 use Rattle.shape_changes.proofs.ChangeViews.{planned-live}
 use Rattle.shape_changes.proofs.Kept.{without-less, still-missing}
 use Rattle.shape_changes.proofs.PlannedRoles.{says-shared}
+use Rattle.views.proofs.Fit.{reshape-said, fit-alike, count-alike}
 
 -- ---- a view that loses roles is placed, if its live slots can be written
 
 pub less-placed : (given : Given) (m view : Members) → IsLessView m view → AreLive given view → IsPlaced given m → IsPlaced given view
 less-placed given m view less live placed = record {
-  still = sym less.array.reshaping ∙ placed.still;
-  valid = ap is_valid_shape same ∙ placed.valid;
-  multiple = ap₂ (λ (n : ℕ) (s : Shape). is_multiple n s.chunk) (sym less.array.size) same ∙ placed.multiple;
-  short = (let s = placed.short in let e = less.array.size in omega (arith, s, e));
-  roles = less.roles ∙ placed.roles ∙ ap (λ (s : Shape). s.disks) (sym same);
+  fit = fit-alike m.newest view.newest reshape same (sym less.array.size) placed.fit;
+  roles = less.roles ∙ placed.roles ∙ sym (count-alike m.newest view.newest reshape same (sym less.array.size));
   holders = λ role slot held.
       let k = placed.holders role slot (was role slot held) in
       let off = less.offsets role slot held in
@@ -57,13 +55,16 @@ less-placed given m view less live placed = record {
     same : shape_of view.newest ≡ shape_of m.newest
     same = sym (shape-same m.newest view.newest less.array)
 
+    reshape : HaveSameReshape m.newest view.newest
+    reshape = reshape-said m.newest view.newest less.array
+
     was : (role slot : ℕ) → holder (role_state (reading_of view) role) ≡ Some slot → holder (role_state (reading_of m) role) ≡ Some slot
     was role slot held = ap holder (sym (less.states role slot held)) ∙ held
 
 -- ---- a spare that gets a vacant role
 
 -- a spare may get a vacant role
-pub receiver-of : (given : Given) (m : Members) (role slot : ℕ) → IsPlaced given m → AreSparesFree given m → role < (shape_of m.newest).disks → is_vacant (reading_of m) role ≡ true → has_spare m.spares slot ≡ true
+pub receiver-of : (given : Given) (m : Members) (role slot : ℕ) → IsPlaced given m → AreSparesFree given m → role < role_count m.newest → is_vacant (reading_of m) role ≡ true → has_spare m.spares slot ≡ true
     → IsReceiver given m role slot
 receiver-of given m role slot placed free below vacant spare = record {
   room = (free slot spare).room;
@@ -84,13 +85,13 @@ receiver-of given m role slot placed free below vacant spare = record {
     live = ap (λ (b : Bool). list_any (is_held_by slot) m.roles || b) spare ∙ or_true (list_any (is_held_by slot) m.roles)
 
 -- as the law of such an update has it
-pub spare-receives : (given : Given) (m : Members) (role slot : ℕ) → IsPlaced given m → AreSparesFree given m → role < (shape_of m.newest).disks → is_vacant (reading_of m) role ≡ true → has_spare m.spares slot ≡ true
+pub spare-receives : (given : Given) (m : Members) (role slot : ℕ) → IsPlaced given m → AreSparesFree given m → role < role_count m.newest → is_vacant (reading_of m) role ≡ true → has_spare m.spares slot ≡ true
     → law.IsReceiver given m role slot
 spare-receives given m role slot placed free below vacant spare = record {
   spare = spare;
   room = (free slot spare).room;
   behind = (free slot spare).behind;
-  below = let same = count-is m placed.still in omega (arith, below, same);
+  below = below;
   vacant = λ s is. absurd (let e = sym (ap (λ (h : Option ℕ). not (is_some h)) is) ∙ vacant in cc);
 }
 
@@ -121,7 +122,7 @@ module _ (given : Given) (old : Members) (placed : IsPlaced given old) (recovery
 
     roles-are : planned_roles old Gives lost ≡ map (role_without lost) With.roles
     roles-are = roles-given old.roles lost placed.apart (λ r s is. (placed.holders r s is).small) role slot recovery small (givable given old placed recovery role slot to lost)
-        (role_count old.newest) (count-is old placed.still ∙ sym placed.roles) to.below
+        (role_count old.newest) (sym placed.roles) to.below
 
     state-is : (r : ℕ) → role_state (reading_of Plan) r ≡ role_without lost (role_state (reading_of With) r)
     state-is r = ap (λ (l : List Role). get_or l r Missing) roles-are ∙ state-without lost With.roles r

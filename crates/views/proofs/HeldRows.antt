@@ -10,7 +10,7 @@ use Rattle.md_base.specs.declared.places.Shape.{Shape}
 use Rattle.bank.specs.Given.{Given}
 use Rattle.bank.specs.Tape.{Contents}
 use Rattle.superblocks.specs.declared.members.Members.{Members}
-use Rattle.superblocks.specs.Reading.{Reading, shape_of, is_reshaping, is_whole, role_state, rows_held, holder, own_of, data_offset_of}
+use Rattle.superblocks.specs.Reading.{Reading, shape_of, is_reshaping, is_whole, role_state, rows_held, holder, own_of, data_offset_of, final_shape}
 use Rattle.row_io.specs.Rows.{reading_of, is_held, is_missing, held_slot, held_sector, role_without, missing_count}
 use Rattle.row_io.proofs.Losses.{holder-of, state_kept}
 use Rattle.row_io.proofs.Tables.{get_or-map}
@@ -18,6 +18,7 @@ use Rattle.views.specs.Placed.{IsPlaced, is_vacant, AreLess}
 use Rattle.views.specs.Moving.{IsMoved}
 use Rattle.views.specs.Lacking.{DoesWithout}
 use Rattle.views.proofs.Counts.{count-implied}
+use Rattle.shape_views.specs.Regions.{DoWithout}
 
 -- ---- by the state of the role
 
@@ -138,10 +139,15 @@ vacant-moved {old = old} {new = new} moved role none = by (holder (role_state (r
     by (Some slot) is = absurd (let e = sym (ap (λ (h : Option ℕ). not (is_some h)) (moved.held role slot is)) ∙ none in cc)
     by None is = ap (λ (h : Option ℕ). not (is_some h)) is
 
--- an array that does without those that are missing did so before
-pub without-before : (given : Given) (old new : Members) → IsPlaced given old → IsMoved given old new → DoesWithout new → DoesWithout old
-without-before given old new was moved does =
-    let more : missing_count (reading_of old) (shape_of old.newest) ≤ missing_count (reading_of new) (shape_of old.newest) =
-    count-implied (shape_of old.newest).disks (is_missing (reading_of old)) (is_missing (reading_of new)) (λ role lt missing. missing-moved moved role missing) in
-    let same : missing_count (reading_of new) (shape_of old.newest) ≤ tolerance (shape_of old.newest) = subst (λ (s : Shape). missing_count (reading_of new) s ≤ tolerance s) moved.shape does in
-    omega (arith, more, same)
+-- an array that does without those that are missing did so before: of one shape, or of both
+pub shape-without-before : (given : Given) (old new : Members) → IsMoved given old new → (shape : Shape) → DoesWithout shape new → DoesWithout shape old
+shape-without-before given old new moved shape does =
+    let more : missing_count (reading_of old) shape ≤ missing_count (reading_of new) shape =
+    count-implied shape.disks (is_missing (reading_of old)) (is_missing (reading_of new)) (λ role lt missing. missing-moved moved role missing) in
+    omega (arith, more, does)
+
+pub without-before : (given : Given) (old new : Members) → IsMoved given old new → DoWithout new → DoWithout old
+without-before given old new moved does = record {
+  old = shape-without-before given old new moved (shape_of old.newest) (subst (λ (s : Shape). DoesWithout s new) moved.shape does.old);
+  final = shape-without-before given old new moved (final_shape old.newest) (subst (λ (s : Shape). DoesWithout s new) moved.reshape.final does.final);
+}

@@ -14,18 +14,18 @@ use Rattle.bank.specs.Tape.{disk}
 use Rattle.bank.proofs.Causes.{faulted_longer}
 use Rattle.superblocks.specs.declared.members.Members.{Members}
 use Rattle.superblocks.specs.Updating.{IsUpdate}
-use Rattle.superblocks.specs.Reading.{Reading, shape_of, role_state, holder}
+use Rattle.superblocks.specs.Reading.{Reading, shape_of, role_state, holder, final_shape, is_reshaping, role_count}
 use Rattle.superblocks.specs.Reads.{has_spare}
 use Rattle.superblocks.proofs.SlotSets.{none_there}
 use Rattle.row_io.specs.Rows.{reading_of, present, is_missing, role_without, missing_count}
-use Rattle.views.specs.Placed.{is_vacant, AreStillHeld, AreWhole, IsPlaced, AreLost, AreLess}
+use Rattle.views.specs.Placed.{is_vacant, AreStillHeld, AreWhole, IsPlaced, AreLost, AreLess, IsInForce}
 use Rattle.views.specs.Flushing.{AreMembersFlushed}
 use Rattle.views.specs.Moving.{IsMoved, AreFailed}
 use Rattle.row_io.proofs.Losses.{state_kept}
 use Rattle.views.proofs.HeldRows.{missing-before, vacant-missing}
 use Rattle.views.proofs.MemberLaws.{less-without}
 use Rattle.shape_changes.proofs.Without.{in-both, state-without}
-use Rattle.views.specs.Lacking.{HaveFailedSince, AreLostSince, AreHoldersFlushed, AreTooMany, DoesWithout, lacking, refused_by, too_many}
+use Rattle.views.specs.Lacking.{HaveFailedSince, AreLostSince, AreHoldersFlushed, AreTooMany, DoesWithout, lacking, refused_by, too_many, LacksTooMany}
 use Rattle.std.specs.Prelude.{MatchOption, ⊤, Result, Ok, Err}
 use Rattle.md_base.specs.declared.answers.Refusal.{Refusal}
 use Rattle.list_io.specs.declared.outcome.Unavailable.{Unavailable}
@@ -33,6 +33,9 @@ use Rattle.list_io.specs.declared.outcome.Unavailable.TheVariants.{TooManyMissin
 use Rattle.list_io.specs.Calls.{IsAnswer}
 use Rattle.views.proofs.MovedLaws.{not-whole}
 use Rattle.views.proofs.MarkedLaws.{others-updated, single-kept}
+use Rattle.shape_views.specs.Regions.{DoWithout}
+use Rattle.views.proofs.Fit.{count-alike}
+use Rattle.shape_views.proofs.Stands.{final-still}
 
 -- ---- the slots that failed
 
@@ -111,9 +114,9 @@ abbrev pub AreNewlyVacant : Members → ℕ → ℕ → ℕ → Type 0
 AreNewlyVacant m disks before roles = (role : ℕ) → has_slot roles role ≡ ((nat_lt role disks && is_vacant (reading_of m) role) && not (has_slot before role))
 
 pub lost-since : (given : Given) (old new : Members) (disks was roles spares : ℕ) (before after : ℕ → ℕ) → IsPlaced given old → IsMoved given old new → HaveFailedSince old new spares before after
-    → disks ≡ (shape_of old.newest).disks → AreVacant old disks was → AreNewlyVacant new disks was roles → AreLostSince old new roles spares before after
+    → disks ≡ role_count old.newest → AreVacant old disks was → AreNewlyVacant new disks was roles → AreLostSince old new roles spares before after
 lost-since given old new disks was roles spares before after placed moved failed same vacant newly = record {
-  vacant = λ role lt is. old-or role (is_vacant (reading_of old) role) refl (subst (λ (n : ℕ). role < n) (sym same) (subst (λ (s : Shape). role < s.disks) moved.shape lt)) is;
+  vacant = λ role lt is. old-or role (is_vacant (reading_of old) role) refl (subst (λ (n : ℕ). role < n) (sym same) (subst (λ (n : ℕ). role < n) (count-alike old.newest new.newest moved.reshape moved.shape moved.size) lt)) is;
   gone = λ role has. (parts (nat_lt role disks) (is_vacant (reading_of new) role) (has_slot was role) (sym (newly role) ∙ has)).1;
   held = λ role has. at role (parts (nat_lt role disks) (is_vacant (reading_of new) role) (has_slot was role) (sym (newly role) ∙ has)) (holder (role_state (reading_of old) role)) refl;
   failed = failed.spares_are;
@@ -160,7 +163,7 @@ lost-since given old new disks was roles spares before after placed moved failed
 
 -- so each role that is missing was so before, or is one of them
 pub since-missing : {given : Given} {old new : Members} {roles spares : ℕ} {before after : ℕ → ℕ} → IsMoved given old new → AreLostSince old new roles spares before after
-    → (role : ℕ) → role < (shape_of new.newest).disks → is_missing (reading_of new) role ≡ true → (is_missing (reading_of old) role ≡ true) ⊎ (has_slot roles role ≡ true)
+    → (role : ℕ) → role < role_count new.newest → is_missing (reading_of new) role ≡ true → (is_missing (reading_of old) role ≡ true) ⊎ (has_slot roles role ≡ true)
 since-missing {old = old} moved since role lt gone = elim (missing-before moved role gone) [
   | inl was ↦ inl was
   | inr none ↦ elim (since.vacant role lt none) [
@@ -227,22 +230,45 @@ since-same m before after = record { roles = λ role slot held. inl held; spares
 -- ---- refusals
 
 -- where no role was asked for, an answer is refused only where too many are missing
-pub too-many-answer : {T : Type 0} (m : Members) (shape : Shape) (answer : Result T Unavailable) → shape ≡ shape_of m.newest → IsAnswer shape true (reading_of m) (λ role. ⊥) answer
-    → MatchOption (refused_by m answer) ⊤ (AreTooMany m)
-too-many-answer m shape (Ok done) same is = tt
-too-many-answer m shape (Err TooManyMissing) same is = record { above = subst (λ (s : Shape). tolerance s < missing_count (reading_of m) s) same is; told = refl }
-too-many-answer m shape (Err (NotResynced role)) same is = absurd (is.3)
+pub too-many-answer : {T : Type 0} (m : Members) (shape : Shape) (answer : Result T Unavailable) → IsAnswer shape true (reading_of m) (λ role. ⊥) answer
+    → MatchOption (refused_by shape m answer) ⊤ (LacksTooMany shape m)
+too-many-answer m shape (Ok done) is = tt
+too-many-answer m shape (Err TooManyMissing) is = record { above = is; told = refl }
+too-many-answer m shape (Err (NotResynced role)) is = absurd (is.3)
 
 -- where nothing tells that too many are missing, the array does without those that are
-pub does-without : (m : Members) → ((refusal : Refusal) → AreTooMany m refusal → ⊥) → DoesWithout m
-does-without m never = elim (cases_lt (tolerance (shape_of m.newest)) (lacking m)) [
-  | inl above ↦ absurd (never (too_many m) (record { above = above; told = refl }))
+pub shape-without : (shape : Shape) (m : Members) → ((refusal : Refusal) → LacksTooMany shape m refusal → ⊥) → DoesWithout shape m
+shape-without shape m never = elim (cases_lt (tolerance shape) (lacking shape m)) [
+  | inl above ↦ absurd (never (too_many shape m) (record { above = above; told = refl }))
   | inr few ↦ few
 ]
 
+pub does-without : (m : Members) → ((refusal : Refusal) → AreTooMany m refusal → ⊥) → DoWithout m
+does-without m never =
+    let old = shape-without (shape_of m.newest) m (λ refusal many. never refusal (inl many)) in
+    record { old = old; final = shape-without (final_shape m.newest) m (λ refusal many. never refusal (inr (old, many))) }
+
+-- an array that does without them is refused for no shape
+pub never-both : (m : Members) (refusal : Refusal) → DoWithout m → AreTooMany m refusal → ⊥
+never-both m refusal does (inl many) = absurd (let above = many.above in let few = does.old in omega (arith, above, few))
+never-both m refusal does (inr many) = absurd (let above = many.1.above in let few = does.final in omega (arith, above, few))
+
+-- in one of one shape, too many are missing of that
+pub too-many-still : (m : Members) (refusal : Refusal) → is_reshaping m.newest ≡ false → AreTooMany m refusal → LacksTooMany (shape_of m.newest) m refusal
+too-many-still m refusal still (inl many) = many
+too-many-still m refusal still (inr many) = subst (λ (s : Shape). LacksTooMany s m refusal) (final-still m.newest still) many.1
+
+pub never-lacking : {P : Type 0} (given : Given) (m : Members) (shape : Shape) (refusal : Refusal) → IsPlaced given m → IsInForce m.newest shape → AreWhole m → LacksTooMany shape m refusal → P
+never-lacking given m shape refusal placed force whole many = absurd (not-whole given m placed shape force (let above = many.above in omega (arith, above)) whole)
+
 pub never-too-many : {P : Type 0} (given : Given) (m : Members) (refusal : Refusal) → IsPlaced given m → AreWhole m → AreTooMany m refusal → P
-never-too-many given m refusal placed whole many = absurd (not-whole given m placed (let above = many.above in omega (arith, above)) whole)
+never-too-many given m refusal placed whole (inl many) = never-lacking given m (shape_of m.newest) refusal placed (inl refl) whole many
+never-too-many given m refusal placed whole (inr many) = never-lacking given m (final_shape m.newest) refusal placed (inr refl) whole many.1
 
 pub none-refused : (given : Given) (m : Members) (o : Option Refusal) → MatchOption o ⊤ (AreTooMany m) → IsPlaced given m → AreWhole m → o ≡ None
 none-refused given m None fine placed whole = refl
 none-refused given m (Some refusal) many placed whole = never-too-many given m refusal placed whole many
+
+pub none-lacking : (given : Given) (m : Members) (shape : Shape) (o : Option Refusal) → MatchOption o ⊤ (LacksTooMany shape m) → IsPlaced given m → IsInForce m.newest shape → AreWhole m → o ≡ None
+none-lacking given m shape None fine placed force whole = refl
+none-lacking given m shape (Some refusal) many placed force whole = never-lacking given m shape refusal placed force whole many

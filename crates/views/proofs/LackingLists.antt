@@ -13,7 +13,7 @@ use Rattle.bank.specs.Tape.{Contents}
 use Rattle.layout.specs.Layout.{place, row_roles}
 use Rattle.parity.specs.Rows.{IsSector, sector_of}
 use Rattle.superblocks.specs.declared.members.Members.{Members}
-use Rattle.superblocks.specs.Reading.{shape_of, role_state, holder, data_offset_of}
+use Rattle.superblocks.specs.Reading.{shape_of, role_count, role_state, holder, data_offset_of}
 use Rattle.row_io.specs.Rows.{reading_of, held_slot}
 use Rattle.row_io.specs.Writes.{is_parity}
 use Rattle.row_io.proofs.Losses.{holder-of}
@@ -25,10 +25,11 @@ use Rattle.layout.proofs.Places.{place-role_below}
 use Rattle.views.specs.Rows.{row_sector}
 use Rattle.views.proofs.MemberLaws.{holder-is}
 use Rattle.list_io.proofs.FullLaws.{data_here, full-data, full-same, sector_there}
-use Rattle.views.specs.Placed.{places_of, AreWhole, IsPlaced}
+use Rattle.views.specs.Placed.{places_of, AreWhole, IsPlaced, IsInForce}
 use Rattle.shape_changes.specs.Marking.{AreOthersPresent}
 use Rattle.views.specs.Moving.{IsMoved}
-use Rattle.views.specs.Lacking.{ListStands, RowsStand, RowsStandAmong, AreBytes, AreRowsRead, AreRowsWritten}
+use Rattle.views.specs.Lacking.{ListStands, RowsStand, DataStandsAmong, RowsStandAmong, AreOtherRowsKept, AreBytes, AreRowsRead, AreRowsWritten}
+use Rattle.views.proofs.Fit.{force-valid, force-disks, count-alike}
 use Rattle.views.proofs.Elements.{contains_or_not, contains-at}
 use Rattle.views.proofs.MovedLaws.{moved-then}
 use Rattle.views.proofs.LackingWrites.{list-in, list-in-is, list-with, list-with-is}
@@ -48,55 +49,58 @@ module _ (given : Given) (old new : Members) (before after : Contents) (list : �
       ap (λ (n : ℕ). after slot (n + row)) (moved.offsets slot)
       ∙ others slot (data_offset_of (reading_of old) slot + row) (λ e. absurd (let far = was.behind role slot (moved.held role slot held) in omega (arith, e, far)))
 
-  pub data-moved : DataStands (reading_of old) before (shape_of old.newest) list row → DataStands (reading_of new) after (shape_of new.newest) list row
-  data-moved stands role slot lt here held =
-      still-there role slot (holder-of (reading_of new) role row slot held)
-      ∙ subst (λ (s : Shape). before slot (data_offset_of (reading_of old) slot + row) ≡ full_sector s list row role) (sym moved.shape)
-      (stands role slot (subst (λ (s : Shape). role < s.disks) moved.shape lt)
-      (subst (λ (s : Shape). is_parity (row_roles s row) role ≡ false) moved.shape here) (held-moved moved role row slot held))
+  module _ (shape : Shape) where
+    pub data-moved : DataStands (reading_of old) before shape list row → DataStands (reading_of new) after shape list row
+    data-moved stands role slot lt here held =
+        still-there role slot (holder-of (reading_of new) role row slot held) ∙ stands role slot lt here (held-moved moved role row slot held)
 
-  pub row-moved : RowStands (reading_of old) before (shape_of old.newest) list row → RowStands (reading_of new) after (shape_of new.newest) list row
-  row-moved stands = record {
-    whole = subst (λ (s : Shape). AreWholeIn s list row) (sym moved.shape) stands.whole;
-    sectors = data-moved stands.sectors;
-    parity = λ role slot lt here held.
-        still-there role slot (holder-of (reading_of new) role row slot held)
-        ∙ subst (λ (s : Shape). before slot (data_offset_of (reading_of old) slot + row) ≡ full_sector s list row role) (sym moved.shape)
-        (stands.parity role slot (subst (λ (s : Shape). role < s.disks) moved.shape lt)
-        (subst (λ (s : Shape). is_parity (row_roles s row) role ≡ true) moved.shape here) (held-moved moved role row slot held));
-  }
+    pub row-moved : RowStands (reading_of old) before shape list row → RowStands (reading_of new) after shape list row
+    row-moved stands = record {
+      whole = stands.whole;
+      sectors = data-moved stands.sectors;
+      parity = λ role slot lt here held.
+          still-there role slot (holder-of (reading_of new) role row slot held) ∙ stands.parity role slot lt here (held-moved moved role row slot held);
+    }
 
 -- and so do the list, and all rows, or those among some
 pub list-moved : (given : Given) (old new : Members) (before after : Contents) (list : ℕ → Sector) → IsMoved given old new → IsPlaced given old → AreOthersPresent before after
     → ListStands old before list → ListStands new after list
 list-moved given old new before after list moved was others stands row below =
-    data-moved given old new before after list moved was others row (stands row (subst (λ (n : ℕ). row < n) moved.size below))
+    subst (λ (s : Shape). DataStands (reading_of new) after s list row) (sym moved.shape)
+    (data-moved given old new before after list moved was others row (shape_of old.newest) (stands row (subst (λ (n : ℕ). row < n) moved.size below)))
 
 pub rows-moved : (given : Given) (old new : Members) (before after : Contents) (list : ℕ → Sector) → IsMoved given old new → IsPlaced given old → AreOthersPresent before after
     → RowsStand old before list → RowsStand new after list
 rows-moved given old new before after list moved was others stands row below =
-    row-moved given old new before after list moved was others row (stands row (subst (λ (n : ℕ). row < n) moved.size below))
+    subst (λ (s : Shape). RowStands (reading_of new) after s list row) (sym moved.shape)
+    (row-moved given old new before after list moved was others row (shape_of old.newest) (stands row (subst (λ (n : ℕ). row < n) moved.size below)))
 
-pub among-moved : (among : ℕ → Type 0) (given : Given) (old new : Members) (before after : Contents) (list : ℕ → Sector) → IsMoved given old new → IsPlaced given old → AreOthersPresent before after
-    → RowsStandAmong among old before list → RowsStandAmong among new after list
-among-moved among given old new before after list moved was others stands row has below =
-    row-moved given old new before after list moved was others row (stands row has (subst (λ (n : ℕ). row < n) moved.size below))
+-- those of one shape, among some
+pub data-among-moved : (shape : Shape) (among : ℕ → Type 0) (given : Given) (old new : Members) (before after : Contents) (list : ℕ → Sector) → IsMoved given old new → IsPlaced given old → AreOthersPresent before after
+    → DataStandsAmong shape among old before list → DataStandsAmong shape among new after list
+data-among-moved shape among given old new before after list moved was others stands row has below =
+    data-moved given old new before after list moved was others row shape (stands row has (subst (λ (n : ℕ). row < n) moved.size below))
+
+pub among-moved : (shape : Shape) (among : ℕ → Type 0) (given : Given) (old new : Members) (before after : Contents) (list : ℕ → Sector) → IsMoved given old new → IsPlaced given old → AreOthersPresent before after
+    → RowsStandAmong shape among old before list → RowsStandAmong shape among new after list
+among-moved shape among given old new before after list moved was others stands row has below =
+    row-moved given old new before after list moved was others row shape (stands row has (subst (λ (n : ℕ). row < n) moved.size below))
 
 -- ---- a write
 
-module _ (given : Given) (old mid new : Members) (one : IsMoved given old mid) (two : IsMoved given mid new) (was : IsPlaced given old)
+module _ (given : Given) (old mid new : Members) (one : IsMoved given old mid) (two : IsMoved given mid new) (was : IsPlaced given old) (shape : Shape) (force : IsInForce old.newest shape)
     (before between after : Contents) (others : AreOthersPresent before between) (first count : ℕ) (from rows buffer buffer' : List ℕ) (fits : length from / 512 ≤ count)
-    (touched : AreTouched (shape_of old.newest) first count rows)
-    (done : AreRowsWritten (shape_of old.newest) first from rows 0 (length rows) new between after buffer buffer')
+    (touched : AreTouched shape first count rows)
+    (done : AreRowsWritten shape first from rows 0 (length rows) new between after buffer buffer')
     (list list' : ℕ → Sector) (write : IsWritten list list' first from) where
   both : IsMoved given old new
   both = moved-then given old mid new one two
 
-  valid : is_valid_shape (shape_of old.newest) ≡ true
-  valid = was.valid
+  valid : is_valid_shape shape ≡ true
+  valid = force-valid old.newest was.fit shape force
 
   -- a sector of a row that isn't touched is as it was
-  outside : (row x : ℕ) → (Contains rows row → ⊥) → (place (shape_of old.newest) x).row ≡ row → list' x ≡ list x
+  outside : (row x : ℕ) → (Contains rows row → ⊥) → (place shape x).row ≡ row → list' x ≡ list x
   outside row x none at = elim (cases_lt x first) [
     | inl low ↦ write.other x (inl low)
     | inr from_first ↦ elim (cases_lt x (first + length from / 512)) [
@@ -118,47 +122,47 @@ module _ (given : Given) (old mid new : Members) (one : IsMoved given old mid) (
       done.others row (λ i low lt e. none (subst (λ (r : ℕ). Contains rows r) e (contains-at rows i lt))) role slot held
       ∙ between-there row role slot held
 
-  module _ (row role slot : ℕ) (lt : role < (shape_of old.newest).disks) (held : held_slot (reading_of new) role row ≡ Some slot) where
+  module _ (row role slot : ℕ) (lt : role < shape.disks) (held : held_slot (reading_of new) role row ≡ Some slot) where
     holds : holder (role_state (reading_of new) role) ≡ Some slot
     holds = holder-of (reading_of new) role row slot held
 
     -- where the row is touched, it has the full sector of any list that was read
-    full-there : (has : Contains rows row) (list0 list0' : ℕ → Sector) → IsWritten list0 list0' first from → AreDataFrom 0 (shape_of old.newest) list0 rows buffer
-        → after slot (data_offset_of (reading_of new) slot + row) ≡ full_sector (shape_of old.newest) list0' row role
+    full-there : (has : Contains rows row) (list0 list0' : ℕ → Sector) → IsWritten list0 list0' first from → AreDataFrom 0 shape list0 rows buffer
+        → after slot (data_offset_of (reading_of new) slot + row) ≡ full_sector shape list0' row role
     full-there has list0 list0' w data_of_it =
         let at = index-of rows row has in
-        subst (λ (r : ℕ). held_slot (reading_of new) role r ≡ Some slot → after slot (data_offset_of (reading_of new) slot + r) ≡ full_sector (shape_of old.newest) list0' r role) at.2
+        subst (λ (r : ℕ). held_slot (reading_of new) role r ≡ Some slot → after slot (data_offset_of (reading_of new) slot + r) ≡ full_sector shape list0' r role) at.2
         (done.full list0 list0' w data_of_it at.0 (omega arith) at.1 role slot lt) held
 
     -- where it isn't, it still has that of the list
-    still-full : (none : Contains rows row → ⊥) → before slot (data_offset_of (reading_of old) slot + row) ≡ full_sector (shape_of old.newest) list row role
-        → after slot (data_offset_of (reading_of new) slot + row) ≡ full_sector (shape_of old.newest) list' row role
+    still-full : (none : Contains rows row → ⊥) → before slot (data_offset_of (reading_of old) slot + row) ≡ full_sector shape list row role
+        → after slot (data_offset_of (reading_of new) slot + row) ≡ full_sector shape list' row role
     still-full none stands =
-        kept-there row role slot none holds ∙ stands ∙ full-same (shape_of old.newest) list list' row valid (λ x at. outside row x none at) role lt
+        kept-there row role slot none holds ∙ stands ∙ full-same shape list list' row valid (λ x at. outside row x none at) role lt
 
     -- the place of a data role
-    module _ (synced : Bool) (read : AreRowsRead (shape_of old.newest) synced old mid before rows buffer) (x : ℕ) (there : place (shape_of old.newest) x ≡ record { role = role; row = row })
-        (stands : before slot (data_offset_of (reading_of old) slot + row) ≡ full_sector (shape_of old.newest) list row role) where
+    module _ (synced : Bool) (read : AreRowsRead shape synced old mid before rows buffer) (x : ℕ) (there : place shape x ≡ record { role = role; row = row })
+        (stands : before slot (data_offset_of (reading_of old) slot + row) ≡ full_sector shape list row role) where
       -- what was read there is the list's
-      read-is : (has : Contains rows row) → list-in (shape_of old.newest) rows buffer x ≡ list x
+      read-is : (has : Contains rows row) → list-in shape rows buffer x ≡ list x
       read-is has =
           let at = index-of rows row has in
-          let own : (place (shape_of old.newest) x).row ≡ slice_index rows at.0 = ap (λ (p : Place). p.row) there ∙ sym at.2 in
-          sym (list-in-is (shape_of old.newest) rows buffer 0 touched.once at.0 (omega arith) at.1 x own)
+          let own : (place shape x).row ≡ slice_index rows at.0 = ap (λ (p : Place). p.row) there ∙ sym at.2 in
+          sym (list-in-is shape rows buffer 0 touched.once at.0 (omega arith) at.1 x own)
           ∙ ap (λ (p : Place). buffered buffer at.0 p.role) there
           ∙ read.held at.0 at.1 role slot lt (subst (λ (r : ℕ). held_slot (reading_of mid) role r ≡ Some slot) (sym at.2) (held-moved two role row slot held))
           ∙ ap (λ (r : ℕ). before slot (data_offset_of (reading_of mid) slot + r)) at.2
           ∙ ap (λ (n : ℕ). before slot (n + row)) (one.offsets slot)
-          ∙ stands ∙ full-data (shape_of old.newest) list role row x valid there
+          ∙ stands ∙ full-data shape list role row x valid there
 
-      data-written : after slot (data_offset_of (reading_of new) slot + row) ≡ full_sector (shape_of old.newest) list' row role
+      data-written : after slot (data_offset_of (reading_of new) slot + row) ≡ full_sector shape list' row role
       data-written = elim (contains_or_not rows row) [
         | inl has ↦
-            let list0 = list-in (shape_of old.newest) rows buffer in
+            let list0 = list-in shape rows buffer in
             let list1 = list-with list0 first from in
             let w : IsWritten list0 list1 first from = list-with-is list0 first from in
-            full-there has list0 list1 w (list-in-is (shape_of old.newest) rows buffer 0 touched.once)
-            ∙ full-data (shape_of old.newest) list1 role row x valid there
+            full-there has list0 list1 w (list-in-is shape rows buffer 0 touched.once)
+            ∙ full-data shape list1 role row x valid there
             ∙ elim (cases_lt x first) [
               | inl low ↦ w.other x (inl low) ∙ read-is has ∙ sym (write.other x (inl low))
               | inr from_first ↦ elim (cases_lt x (first + length from / 512)) [
@@ -166,33 +170,39 @@ module _ (given : Given) (old mid new : Members) (one : IsMoved given old mid) (
                 | inr high ↦ w.other x (inr high) ∙ read-is has ∙ sym (write.other x (inr high))
               ]
             ]
-            ∙ sym (full-data (shape_of old.newest) list' role row x valid there)
+            ∙ sym (full-data shape list' role row x valid there)
         | inr none ↦ still-full none stands
       ]
 
-  -- the list stands
-  pub list-written : (synced : Bool) → AreRowsRead (shape_of old.newest) synced old mid before rows buffer → ListStands old before list → ListStands new after list'
-  list-written synced read stands row below = subst (λ (s : Shape). DataStands (reading_of new) after s list' row) (sym both.shape) (λ role slot lt here held.
+  -- the list stands in the rows that are touched
+  pub data-touched : (synced : Bool) → AreRowsRead shape synced old mid before rows buffer → DataStandsAmong shape (IsTouched shape first count) old before list
+      → DataStandsAmong shape (IsTouched shape first count) new after list'
+  data-touched synced read stands row touch below role slot lt here held =
       let low : row < old.newest.size = subst (λ (n : ℕ). row < n) both.size below in
-      let found = sector_there (shape_of old.newest) role row valid lt here in
-      data-written row role slot lt held synced read found.0 found.1 (stands row low role slot lt here (held-moved both role row slot held)))
+      let found = sector_there shape role row valid lt here in
+      data-written row role slot lt held synced read found.0 found.1 (stands row touch low role slot lt here (held-moved both role row slot held))
+
+  -- and the others are as they were
+  pub others-kept : AreOtherRowsKept (IsTouched shape first count) (reading_of new) before after
+  others-kept row none role slot held =
+      kept-there row role slot (λ has. none (touched.only row has)) held ∙ ap (λ (n : ℕ). before slot (n + row)) (sym (both.offsets slot))
 
   -- a row that was rebuilt on a recovering slot stays so
-  pub rebuilt-written : AreDataFrom 0 (shape_of old.newest) list rows buffer → (role slot row : ℕ) → role < (shape_of old.newest).disks → role_state (reading_of new) role ≡ Recovering slot
-      → HasFull (reading_of old) before (shape_of old.newest) list row role slot → HasFull (reading_of new) after (shape_of old.newest) list' row role slot
+  pub rebuilt-written : AreDataFrom 0 shape list rows buffer → (role slot row : ℕ) → role < shape.disks → role_state (reading_of new) role ≡ Recovering slot
+      → HasFull (reading_of old) before shape list row role slot → HasFull (reading_of new) after shape list' row role slot
   rebuilt-written has role slot row lt is full = elim (contains_or_not rows row) [
     | inl there ↦
         let at = index-of rows row there in
-        subst (λ (r : ℕ). between slot (data_offset_of (reading_of new) slot + r) ≡ full_sector (shape_of old.newest) list r role
-        → after slot (data_offset_of (reading_of new) slot + r) ≡ full_sector (shape_of old.newest) list' r role) at.2
+        subst (λ (r : ℕ). between slot (data_offset_of (reading_of new) slot + r) ≡ full_sector shape list r role
+        → after slot (data_offset_of (reading_of new) slot + r) ≡ full_sector shape list' r role) at.2
         (done.rebuilt list list' write has at.0 (omega arith) at.1 role slot lt is) (between-there row role slot (ap holder is) ∙ full)
-    | inr none ↦ kept-there row role slot none (ap holder is) ∙ full ∙ full-same (shape_of old.newest) list list' row valid (λ x at. outside row x none at) role lt
+    | inr none ↦ kept-there row role slot none (ap holder is) ∙ full ∙ full-same shape list list' row valid (λ x at. outside row x none at) role lt
   ]
 
   -- and a row with its parity, if it is touched or stood before, where its sectors are whole
-  pub row-written : AreDataFrom 0 (shape_of old.newest) list rows buffer → ((x : ℕ) → first ≤ x → x < first + length from / 512 → IsSector (sector_of from (x - first)))
-      → (row : ℕ) → AreWholeIn (shape_of old.newest) list row → IsTouched (shape_of old.newest) first count row ⊎ RowStands (reading_of old) before (shape_of old.newest) list row
-      → RowStands (reading_of new) after (shape_of old.newest) list' row
+  pub row-written : AreDataFrom 0 shape list rows buffer → ((x : ℕ) → first ≤ x → x < first + length from / 512 → IsSector (sector_of from (x - first)))
+      → (row : ℕ) → AreWholeIn shape list row → IsTouched shape first count row ⊎ RowStands (reading_of old) before shape list row
+      → RowStands (reading_of new) after shape list' row
   row-written has small row whole which = record {
     whole = whole_after;
     sectors = λ role slot lt here held. elim (contains_or_not rows row) [
@@ -205,12 +215,12 @@ module _ (given : Given) (old mid new : Members) (one : IsMoved given old mid) (
     ];
   }
     where
-      stood : (Contains rows row → ⊥) → IsTouched (shape_of old.newest) first count row ⊎ RowStands (reading_of old) before (shape_of old.newest) list row
-          → RowStands (reading_of old) before (shape_of old.newest) list row
+      stood : (Contains rows row → ⊥) → IsTouched shape first count row ⊎ RowStands (reading_of old) before shape list row
+          → RowStands (reading_of old) before shape list row
       stood none (inl touch) = absurd (none (subst (λ (r : ℕ). Contains rows r) touch.3 (touched.all touch.0 touch.1 touch.2)))
       stood none (inr stands) = stands
 
-      whole_after : AreWholeIn (shape_of old.newest) list' row
+      whole_after : AreWholeIn shape list' row
       whole_after x at = elim (cases_lt x first) [
         | inl less ↦ subst IsSector (sym (write.other x (inl less))) (whole x at)
         | inr from_first ↦ elim (cases_lt x (first + length from / 512)) [
@@ -225,38 +235,41 @@ pub row-sector : (bytes : List ℕ) (i : ℕ) → sector_of bytes i ≡ row_sect
 row-sector bytes i = let n : 512 * i + 512 - 512 * i ≡ 512 = omega arith in ap (λ (k : ℕ). take k (drop (512 * i) bytes)) n
 
 -- and by a list that stands there
-pub data-held : (given : Given) (old mid : Members) → IsMoved given old mid → IsPlaced given old → AreWhole mid → (c : Contents) (rows buffer : List ℕ) (list : ℕ → Sector)
-    → ((row : ℕ) → Contains rows row → row < mid.newest.size) → ((i : ℕ) → i < length rows → AreStanding (reading_of mid) c (shape_of old.newest) (slice_index rows i) (buffered buffer i))
-    → ListStands old c list → AreDataFrom 0 (shape_of old.newest) list rows buffer
-data-held given old mid moved was whole c rows buffer list below standing stands i low lt x at =
-    let shape = shape_of old.newest in
+pub data-held : (given : Given) (old mid : Members) (shape : Shape) → IsInForce old.newest shape → IsMoved given old mid → IsPlaced given old → AreWhole mid → (c : Contents) (rows buffer : List ℕ) (list : ℕ → Sector)
+    → ((row : ℕ) → Contains rows row → row < mid.newest.size) → ((i : ℕ) → i < length rows → AreStanding (reading_of mid) c shape (slice_index rows i) (buffered buffer i))
+    → DataStandsAmong shape (Contains rows) old c list → AreDataFrom 0 shape list rows buffer
+data-held given old mid shape force moved was whole c rows buffer list below standing stands i low lt x at =
+    let valid = force-valid old.newest was.fit shape force in
     let row = slice_index rows i in
     let role = (place shape x).role in
     let slot = (places_of mid).slot role in
     let there : place shape x ≡ record { role = role; row = row } = λ k. record { role = role; row = at k } in
-    let role_lt : role < shape.disks = place-role_below shape was.valid x in
+    let role_lt : role < shape.disks = place-role_below shape valid x in
     let below_row = below row (contains-at rows i lt) in
-    let low : role < (shape_of mid.newest).disks = subst (λ (s : Shape). role < s.disks) (sym moved.shape) role_lt in
+    let low : role < role_count mid.newest = (let within = force-disks old.newest was.fit shape force in let count = count-alike old.newest mid.newest moved.reshape moved.shape moved.size in omega (arith, role_lt, within, count)) in
     let held = whole-held (reading_of mid) role row slot (whole role low) (holder-is given mid moved.placed whole role low) below_row in
     standing i lt role slot role_lt held
     ∙ ap (λ (n : ℕ). c slot (n + row)) (moved.offsets slot)
-    ∙ stands row (subst (λ (n : ℕ). row < n) moved.size below_row) role slot role_lt (data_here shape role row x was.valid there) (held-moved moved role row slot held)
-    ∙ full-data shape list role row x was.valid there
+    ∙ stands row (contains-at rows i lt) (subst (λ (n : ℕ). row < n) moved.size below_row) role slot role_lt (data_here shape role row x valid there) (held-moved moved role row slot held)
+    ∙ full-data shape list role row x valid there
 
 -- So the buffer has the list's data where every role is whole in the end, and, where parity is relied on, where the touched rows stood. Where it
 -- isn't, each role that has data was there.
-pub data-read : (given : Given) (old mid new : Members) → IsMoved given old mid → IsMoved given mid new → IsPlaced given old → (c : Contents) (first count : ℕ) (rows buffer : List ℕ) (list : ℕ → Sector)
-    (synced : Bool) → AreTouched (shape_of old.newest) first count rows → ((row : ℕ) → Contains rows row → row < mid.newest.size) → AreRowsRead (shape_of old.newest) synced old mid c rows buffer
-    → ListStands old c list → (synced ≡ true → AreWhole new ⊎ RowsStandAmong (IsTouched (shape_of old.newest) first count) old c list) → AreDataFrom 0 (shape_of old.newest) list rows buffer
-data-read given old mid new one two was c first count rows buffer list synced touched below read stands full = of synced refl
+pub data-read : (given : Given) (old mid new : Members) (shape : Shape) → IsInForce old.newest shape → IsMoved given old mid → IsMoved given mid new → IsPlaced given old → (c : Contents) (first count : ℕ) (rows buffer : List ℕ) (list : ℕ → Sector)
+    (synced : Bool) → AreTouched shape first count rows → ((row : ℕ) → Contains rows row → row < mid.newest.size) → AreRowsRead shape synced old mid c rows buffer
+    → DataStandsAmong shape (IsTouched shape first count) old c list → (synced ≡ true → AreWhole new ⊎ RowsStandAmong shape (IsTouched shape first count) old c list) → AreDataFrom 0 shape list rows buffer
+data-read given old mid new shape force one two was c first count rows buffer list synced touched below read stands full = of synced refl
   where
-    by : AreWhole new ⊎ RowsStandAmong (IsTouched (shape_of old.newest) first count) old c list → AreDataFrom 0 (shape_of old.newest) list rows buffer
-    by (inl whole) = data-held given old mid one was (two.whole whole) c rows buffer list below read.held stands
-    by (inr good) = read.listed list stands (λ is row has. good row (touched.only row has))
+    only : DataStandsAmong shape (Contains rows) old c list
+    only row has = stands row (touched.only row has)
 
-    of : (b : Bool) → synced ≡ b → AreDataFrom 0 (shape_of old.newest) list rows buffer
+    by : AreWhole new ⊎ RowsStandAmong shape (IsTouched shape first count) old c list → AreDataFrom 0 shape list rows buffer
+    by (inl whole) = data-held given old mid shape force one was (two.whole whole) c rows buffer list below read.held only
+    by (inr good) = read.listed list only (λ is row has. good row (touched.only row has))
+
+    of : (b : Bool) → synced ≡ b → AreDataFrom 0 shape list rows buffer
     of true is = by (full is)
-    of false not = read.listed list stands (λ is. absurd (let both = sym not ∙ is in cc))
+    of false not = read.listed list only (λ is. absurd (let both = sym not ∙ is in cc))
 
 pub sectors-whole : (from : List ℕ) → IsWhole from → AreBytes from → (i : ℕ) → i < length from / 512 → IsSector (sector_of from i)
 sectors-whole from whole small i lt = whole_sector from (length from / 512) i whole small lt

@@ -24,33 +24,20 @@ use Rattle.list_io.specs.Calls.{HasRows, AreLost as IsListLost}
 use Rattle.list_io.specs.Buffers.{buffered, AreDistinct, AreStanding}
 use Rattle.list_io.specs.Full.{full_sector}
 use Rattle.list_io.specs.Writing.{IsWritten, AreDataFrom, HasFull}
-use Rattle.views.specs.Placed.{IsPlaced, AreLost}
+use Rattle.views.specs.Placed.{IsPlaced, AreLost, IsInForce}
 use Rattle.list_io.specs.declared.outcome.Unavailable.{Unavailable}
 use Rattle.views.proofs.HeldRows.{held-moved}
 use Rattle.views.proofs.MemberLaws.{are_lost}
 use Rattle.bank.proofs.Marks.{each_mark-along}
 use Rattle.shape_changes.specs.Marking.{AreOthersPresent}
 use Rattle.views.specs.Moving.{IsMoved}
-use Rattle.views.specs.Lacking.{AreRowsWritten, refused_by}
+use Rattle.views.specs.Lacking.{AreOtherRowsKept, AreRowsWritten, refused_by}
+use Rattle.views.proofs.Fit.{force-valid}
 
 -- ---- the rows of the members
 
 lt-is : (a b : ℕ) → a < b → nat_lt a b ≡ true
 lt-is a b lt = grind (arith, nat_tests, lt)
-
-module _ (given : Given) (m : Members) (placed : IsPlaced given m) where
-  pub has-rows : (shape : Shape) → shape ≡ shape_of m.newest → HasRows given (reading_of m) shape
-  has-rows shape same = subst (HasRows given (reading_of m)) (sym same) (record {
-    valid = placed.valid;
-    multiple = placed.multiple;
-    short = placed.short;
-    roles = let n = placed.roles in omega (arith, n);
-    few = few;
-    holders = placed.holders;
-  })
-    where
-      few : length m.roles ≤ 16
-      few = let most = (limited (shape_of m.newest) placed.valid).most in let n = placed.roles in omega (arith, n, most)
 
 -- ---- from one time to a later one
 
@@ -97,6 +84,21 @@ pub full-later : {given : Given} {mid new : Members} → IsMoved given mid new �
 full-later {given = given} {mid = mid} {new = new} moved was {between = between} {after = after} others shape list row role slot held full =
     at-later given mid new moved was between after others role slot row held ∙ full
 
+-- rows that are kept by one and by the next
+pub others-then : (given : Given) (among : ℕ → Type 0) (a b c : Members) (before between after : Contents) → IsMoved given b c → AreOtherRowsKept among (reading_of b) before between
+    → AreOtherRowsKept among (reading_of c) between after → AreOtherRowsKept among (reading_of c) before after
+others-then given among a b c before between after moved one two row out role slot held =
+    two row out role slot held
+    ∙ ap (λ (n : ℕ). between slot (n + row)) (moved.offsets slot)
+    ∙ one row out role slot (moved.held role slot held)
+    ∙ ap (λ (n : ℕ). before slot (n + row)) (sym (moved.offsets slot))
+
+-- each row is kept where no sector but superblocks has changed
+pub others-same : (given : Given) (among : ℕ → Type 0) (mid new : Members) (between after : Contents) → IsMoved given mid new → IsPlaced given mid → AreOthersPresent between after
+    → AreOtherRowsKept among (reading_of new) between after
+others-same given among mid new between after moved was others row out role slot held =
+    at-later given mid new moved was between after others role slot row held ∙ ap (λ (n : ℕ). between slot (n + row)) (sym (moved.offsets slot))
+
 -- ---- one stretch after another
 
 -- the rows that aren't written yet still have the list's data
@@ -105,10 +107,10 @@ pub data-later : (shape : Shape) → IsTrue (is_valid_shape shape) → (first : 
 data-later shape valid first from rows a b ab mid before between x y list one has i from_b lt k there =
     one.rest i (place shape k).role from_b lt (place-role_below shape valid k) ∙ has i (omega (arith, ab, from_b)) lt k there
 
-pub written-then : (given : Given) (mid new : Members) → IsMoved given mid new → IsPlaced given mid → (shape : Shape) → shape ≡ shape_of mid.newest → (first : ℕ) (from rows : List ℕ) → AreDistinct rows
+pub written-then : (given : Given) (mid new : Members) → IsMoved given mid new → IsPlaced given mid → (shape : Shape) → IsInForce mid.newest shape → (first : ℕ) (from rows : List ℕ) → AreDistinct rows
     → (a b c : ℕ) → a ≤ b → c ≤ length rows → (before between after : Contents) (x y z : List ℕ) → AreRowsWritten shape first from rows a b mid before between x y
     → AreRowsWritten shape first from rows b c new between after y z → b ≤ c → AreRowsWritten shape first from rows a c new before after x z
-written-then given mid new moved was shape same first from rows once a b c ab within before between after x y z one two bc = record {
+written-then given mid new moved was shape force first from rows once a b c ab within before between after x y z one two bc = record {
   rebuilt = λ list list' w has i from_a lt. elim (cases_lt i b) [
     | inl early ↦ (λ role slot l is full.
         let row = slice_index rows i in
@@ -142,7 +144,7 @@ written-then given mid new moved was shape same first from rows once a b c ab wi
   where
     -- the rows that aren't written yet still have the list's data
     later : (list : ℕ → Sector) → AreDataFrom a shape list rows x → AreDataFrom b shape list rows y
-    later list has = data-later shape (subst (λ (s : Shape). IsTrue (is_valid_shape s)) (sym same) was.valid) first from rows a b ab mid before between x y list one has
+    later list has = data-later shape (force-valid mid.newest was.fit shape force) first from rows a b ab mid before between x y list one has
 
 -- ---- a list that has the data of these rows
 -- the first of these rows on which the sector has its place
@@ -205,6 +207,6 @@ marks-here {P = P} tells start tape here = subst (λ (l : List Operation). EachM
 pub lost-of : (given : Given) (shape : Shape) (old new : Members) (lost : ℕ) (before after : ℕ → ℕ) → IsPlaced given old → IsListLost shape old new lost before after → AreLost given shape old new lost before after
 lost-of given shape old new lost before after placed did = are_lost given shape old new lost before after placed did.members did.failed did.never_falls
 
-pub ok-of : {T Q : Type 0} (m : Members) (answer : Result T Unavailable) → is_some (refused_by m answer) ≡ false → OnOk answer Q → Q
-ok-of m (Ok done) none q = q
-ok-of m (Err cause) none q = absurd (cc)
+pub ok-of : {T Q : Type 0} (shape : Shape) (m : Members) (answer : Result T Unavailable) → is_some (refused_by shape m answer) ≡ false → OnOk answer Q → Q
+ok-of shape m (Ok done) none q = q
+ok-of shape m (Err cause) none q = absurd (cc)

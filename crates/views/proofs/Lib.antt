@@ -1,4 +1,5 @@
 pub mod Counts
+pub mod Fit
 pub mod WholeLaws
 pub mod MarkLaws
 pub mod PlacedLaws
@@ -12,6 +13,7 @@ pub mod HeldRows
 pub mod LackingLaws
 pub mod LackingWrites
 pub mod LackingLists
+pub mod PutLists
 pub mod Stripes
 pub mod AddedMembers
 pub mod AddedRows

@@ -17,6 +17,7 @@ use Rattle.views.specs.Lacking.{DoesWithout}
 use Rattle.shape_changes.specs.Safety.{HasLiveSlot}
 use Rattle.shape_views.specs.Views.{Ledger}
 use Rattle.shape_changes.proofs.Spent.{live-holder}
+use Rattle.shape_views.specs.Regions.{DoWithout}
 
 -- a test that fails somewhere, or passes everywhere
 fails-or-all : (n : ℕ) (test : ℕ → Bool) → ((k : ℕ) × (test k ≡ false)) ⊎ (count_below n test ≡ n)
@@ -43,7 +44,7 @@ fewer level disks (inl five) least least_6 = grind (arith, nat_tests, five, leas
 fewer level disks (inr six) least least_6 = let four = least_6 six in grind (arith, nat_tests, six, four)
 
 -- a valid shape has more disks than it can do without, so some role is held
-pub some-held : (m : Members) → is_valid_shape (shape_of m.newest) ≡ true → DoesWithout m → (role : ℕ) × (slot : ℕ) × (holder (role_state (reading_of m) role) ≡ Some slot)
+pub some-held : (m : Members) → is_valid_shape (shape_of m.newest) ≡ true → DoesWithout (shape_of m.newest) m → (role : ℕ) × (slot : ℕ) × (holder (role_state (reading_of m) role) ≡ Some slot)
 some-held m valid does = by (fails-or-all (shape_of m.newest).disks (is_missing (reading_of m)))
   where
     by : ((k : ℕ) × (is_missing (reading_of m) k ≡ false)) ⊎ (count_below (shape_of m.newest).disks (is_missing (reading_of m)) ≡ (shape_of m.newest).disks)
@@ -58,8 +59,8 @@ some-held m valid does = by (fails-or-all (shape_of m.newest).disks (is_missing 
 pub holder-left : (given : Given) (m : Members) (role slot : ℕ) → IsPlaced given m → AreUnlost m → holder (role_state (reading_of m) role) ≡ Some slot → HasLiveSlot m
 holder-left given m role slot placed unlost held = (slot, live-holder given m false role slot placed.holders held, unlost role slot held)
 
-pub without-left : (given : Given) (m : Members) → IsPlaced given m → AreUnlost m → DoesWithout m → HasLiveSlot m
-without-left given m placed unlost does = let held = some-held m placed.valid does in holder-left given m held.0 held.1 placed unlost held.2
+pub without-left : (given : Given) (m : Members) → IsPlaced given m → AreUnlost m → DoWithout m → HasLiveSlot m
+without-left given m placed unlost does = let held = some-held m placed.fit.valid.old does.old in holder-left given m held.0 held.1 placed unlost held.2
 
 -- and where one is, it is steady
 pub left-steady : {sound : Type 0} {scope : Scope} {given : Given} {told : Ledger} {members : Members} {d : ℕ → ℕ → List Sector} → HasLiveSlot members

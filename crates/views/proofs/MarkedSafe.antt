@@ -1,12 +1,12 @@
 -- Marks and flushes of a call that keep an array safe.
-use Rattle.std.proofs.Common.{◌≡◌, ℕ, ◌<◌, ◌≤◌, Bool, true, List, length, length-append, take, take_all, le_refl, ◌++◌, sym, ◌∙◌, ap, subst, arith}
+use Rattle.std.proofs.Common.{◌≡◌, ℕ, ◌<◌, ◌≤◌, Bool, true, List, length, length-append, take, take_all, le_refl, ◌++◌, sym, ◌∙◌, ap, subst, arith, false}
 use Rattle.std.specs.Prelude.{⊤}
 use Rattle.md_base.specs.Sectors.{Sector}
 use Rattle.bank.specs.declared.bank.Operation.{Operation}
 use Rattle.bank.specs.Given.{Given}
 use Rattle.bank.specs.Tape.{EachMark, disk}
 use Rattle.superblocks.specs.declared.members.Members.{Members}
-use Rattle.superblocks.specs.Reading.{Scope, is_clean}
+use Rattle.superblocks.specs.Reading.{Scope, is_clean, is_reshaping}
 use Rattle.row_io.specs.Rows.{reading_of, present, members_without}
 use Rattle.views.specs.Placed.{IsPlaced}
 use Rattle.shape_changes.specs.Steady.{AreUnlost, IsSteady, IsSafeNow, IsSafeStretch, AreGoneTold, IsUncleanTold, AreWritesAllowed}
@@ -30,7 +30,7 @@ told-marks told marks = record { longer = λ u. marks.longer told; earlier = λ 
 pub clean-settled : (sound : Type 0) (scope : Scope) (given : Given) (told : Ledger) (m : Members) (d : ℕ → ℕ → List Sector) → IsPlaced given m → AreUnlost m
     → IsSafeNow sound scope given told m d → is_clean m.newest ≡ true → DoWithout m → sound → IsSettled scope m told.values d
 clean-settled sound scope given told m d placed unlost safe clean does premise =
-    let steady = left-steady (without-left given m placed unlost does.old) safe in
+    let steady = left-steady (without-left given m placed unlost does) safe in
     of steady steady.since.gone steady.since.since
   where
     of : (steady : IsSteady sound scope given told m d) (gone : ℕ) → m ≡ members_without gone steady.former → IsSettled scope m told.values d
@@ -52,12 +52,12 @@ same-markable sound scope given told clean old new d placed unlost same gone unc
 }
 
 -- A clean mark behind a flush: the rows stand as the list, where the array can do without the roles that it misses.
-pub settled-markable : (sound : Type 0) (scope : Scope) (given : Given) (told : Ledger) (old new : Members) (tape : List Operation) (list : ℕ → Sector) → IsPlaced given old → AreHoldersFlushed (reading_of old) given tape
-    → AreGoneTold told new → AreWritesAllowed old told.values list → (DoesWithout old → sound → RowsStand old (present given tape) list) → IsMarkable sound scope true told old new (disk given.start tape)
-settled-markable sound scope given told old new tape list placed flushed gone allowed rows = record {
+pub settled-markable : (sound : Type 0) (scope : Scope) (given : Given) (told : Ledger) (old new : Members) (tape : List Operation) (list : ℕ → Sector) → IsPlaced given old → is_reshaping old.newest ≡ false → AreHoldersFlushed (reading_of old) given tape
+    → AreGoneTold told new → AreWritesAllowed old told.values list → (DoWithout old → sound → RowsStand old (present given tape) list) → IsMarkable sound scope true told old new (disk given.start tape)
+settled-markable sound scope given told old new tape list placed still flushed gone allowed rows = record {
   gone = gone;
   unclean = λ dirty. absurd (cc);
-  settled = λ clean does premise. flushed-is-settled scope given old tape told.values list placed flushed (rows does.old premise) (λ x lt. allowed x (subst (λ (n : ℕ). x < n) (sym (length-still old placed.still)) lt));
+  settled = λ clean does premise. flushed-is-settled scope given old tape told.values list placed still flushed (rows does premise) (λ x lt. allowed x (subst (λ (n : ℕ). x < n) (sym (length-still old still)) lt));
 }
 
 -- ---- flushes

@@ -17,7 +17,7 @@ use Rattle.bank.specs.Given.{Given, NeverFalls}
 use Rattle.layout.proofs.Limits.{limited}
 use Rattle.parity.proofs.Columns.{bool_cases}
 use Rattle.superblocks.specs.declared.members.Members.{Members}
-use Rattle.superblocks.specs.Reading.{role_state, holder, shape_of, is_whole}
+use Rattle.superblocks.specs.Reading.{role_state, holder, shape_of, is_whole, role_count}
 use Rattle.superblocks.specs.Update.{is_held_by}
 use Rattle.superblocks.proofs.SlotSets.{same_set, none_there}
 use Rattle.row_io.specs.Rows.{reading_of, is_missing, missing_count, role_without, members_without, HaveFailed}
@@ -25,9 +25,10 @@ use Rattle.row_io.proofs.Losses.{state_after, state_kept, holder-after}
 use Rattle.row_io.proofs.Written.{members_without-none}
 use Rattle.row_io.proofs.Tables.{count_below-above, length-mapped}
 use Rattle.views.specs.Whole.{AreFit, placed, list_size}
-use Rattle.views.specs.Placed.{places_of, AreWhole, IsPlaced, AreLess, AreLost}
+use Rattle.views.specs.Placed.{places_of, AreWhole, IsPlaced, AreLess, AreLost, IsInForce}
 use Rattle.shape_changes.specs.Steady.{AreUnlost}
 use Rattle.views.proofs.HeldRows.{rows-same}
+use Rattle.views.proofs.Fit.{reshape-same, valid, force-disks, multiple, short}
 
 -- ---- the roles
 
@@ -37,10 +38,10 @@ whole_by (Recovering slot) not = absurd (cc)
 whole_by Missing not = absurd (cc)
 
 module _ (given : Given) (m : Members) (is : IsPlaced given m) (whole : AreWhole m) where
-  pub state-is : (role : ℕ) → role < (shape_of m.newest).disks → role_state (reading_of m) role ≡ Whole ((places_of m).slot role)
+  pub state-is : (role : ℕ) → role < role_count m.newest → role_state (reading_of m) role ≡ Whole ((places_of m).slot role)
   state-is role lt = whole_by (role_state (reading_of m) role) (whole role lt)
 
-  pub holder-is : (role : ℕ) → role < (shape_of m.newest).disks → holder (role_state (reading_of m) role) ≡ Some ((places_of m).slot role)
+  pub holder-is : (role : ℕ) → role < role_count m.newest → holder (role_state (reading_of m) role) ≡ Some ((places_of m).slot role)
   holder-is role lt = ap holder (state-is role lt)
 
   count_none : (n : ℕ) (test : ℕ → Bool) → ((k : ℕ) → k < n → test k ≡ false) → count_below n test ≡ 0
@@ -51,17 +52,17 @@ module _ (given : Given) (m : Members) (is : IsPlaced given m) (whole : AreWhole
       let last : ◌≡◌ {A = ℕ} (cond (test n) 1 0) 0 = ap (λ (b : Bool). cond b 1 0) (none n (omega arith)) in
       omega (arith, before, last)
 
-  pub none_missing : missing_count (reading_of m) (shape_of m.newest) ≡ 0
-  none_missing = count_none (shape_of m.newest).disks (is_missing (reading_of m)) whole
+  pub none_missing : (shape : Shape) → IsInForce m.newest shape → missing_count (reading_of m) shape ≡ 0
+  none_missing shape force = count_none shape.disks (is_missing (reading_of m)) (λ role lt. let within = force-disks m.newest is.fit shape force in whole role (omega (arith, lt, within)))
 
 pub fit-of : (given : Given) (m : Members) → IsPlaced given m → AreFit (places_of m)
-fit-of given m is = record { valid = is.valid; multiple = is.multiple; short = is.short }
+fit-of given m is = record { valid = valid given m is; multiple = multiple given m is; short = short given m is }
 
 pub list-few : (given : Given) (m : Members) → IsPlaced given m → list_size (places_of m) ≤ 2 ^ 52
 list-few given m placed =
-    let most = (limited (shape_of m.newest) placed.valid).most in
+    let most = (limited (shape_of m.newest) (valid given m placed)).most in
     let few : data_disks (shape_of m.newest) ≤ 16 = omega (arith, most) in
-    let all = mul-le (data_disks (shape_of m.newest)) m.newest.size 16 (2 ^ 48) few placed.short in
+    let all = mul-le (data_disks (shape_of m.newest)) m.newest.size 16 (2 ^ 48) few (short given m placed) in
     omega (arith, all)
 
 -- ---- losses
@@ -121,10 +122,7 @@ any_before lost slot (state ∷ roles) held =
 
 pub placed-without : (given : Given) (m : Members) (lost : ℕ) → IsPlaced given m → IsPlaced given (members_without lost m)
 placed-without given m lost is = record {
-  still = is.still;
-  valid = is.valid;
-  multiple = is.multiple;
-  short = is.short;
+  fit = is.fit;
   roles = length-mapped (role_without lost) m.roles ∙ is.roles;
   holders = λ role slot held.
       let was = is.holders role slot (holder-after m lost role slot held) in
@@ -142,7 +140,7 @@ placed-without given m lost is = record {
 -- such members say the same of the array, but for the lost roles
 pub less-without : (m : Members) (lost : ℕ) → AreLess lost m (members_without lost m)
 less-without m lost = record {
-  still = refl;
+  reshape = reshape-same m.newest;
   shape = refl;
   size = refl;
   roles = refl;

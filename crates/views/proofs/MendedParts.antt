@@ -1,5 +1,5 @@
 -- The parts of a stripe that are mended one after another: where they are, what stands after each, and why the array stays safe.
-use Rattle.std.proofs.Common.{◌≡◌, ◌⊎◌, inl, inr, ℕ, ◌+◌, ◌*◌, ◌^◌, ◌<◌, ◌≤◌, Bool, true, false, List, [], Option, Some, None, refl, sym, ◌∙◌, ap, subst, arith}
+use Rattle.std.proofs.Common.{◌≡◌, ◌⊎◌, inl, inr, ℕ, ◌+◌, ◌*◌, ◌/◌, ◌^◌, ◌<◌, ◌≤◌, Bool, true, false, List, [], Option, Some, None, refl, sym, ◌∙◌, ap, subst, arith}
 use Rattle.std.specs.Prelude.{MatchOption, ⊤, is_some}
 use Rattle.std.proofs.lemmas.Bool.{cases_lt}
 use Rattle.std.proofs.lemmas.Nat.{mul-le}
@@ -21,19 +21,20 @@ use Rattle.list_io.specs.Writing.{IsWritten, HasFull}
 use Rattle.flat_history.specs.World.{World}
 use Rattle.flat_history.specs.Sound.{OpensFit}
 use Rattle.views.specs.Whole.{list_size}
-use Rattle.views.specs.Placed.{places_of, IsPlaced}
+use Rattle.views.specs.Placed.{places_of, IsPlaced, IsInForce}
 use Rattle.shape_changes.specs.Marking.{AreOthersPresent}
 use Rattle.views.specs.Moving.{Grows, IsMoved}
 use Rattle.shape_changes.specs.Safety.{HasRoomLeft, IsRisen}
 use Rattle.views.specs.Status.{stripes_of}
-use Rattle.views.specs.Lacking.{AreBytes, AreTooMany, DoesWithout, ListStands}
+use Rattle.views.specs.Lacking.{AreBytes, AreTooMany, DoesWithout, ListStands, DataStandsAmong, LacksTooMany, AreOtherRowsKept}
 use Rattle.shape_views.specs.Views.{Ledger}
 use Rattle.shape_changes.specs.Steady.{IsSafeOver, KeepsSafe, AreGoneTold}
-use Rattle.views.proofs.LackingLists.{list-moved, row-moved}
-use Rattle.views.proofs.LackingWrites.{recovering-before, full-later}
+use Rattle.views.proofs.LackingLists.{list-moved, row-moved, data-among-moved}
+use Rattle.views.proofs.LackingWrites.{recovering-before, full-later, others-then, others-same}
 use Rattle.shape_changes.proofs.Risen.{room-first, room-then}
 use Rattle.views.proofs.SafeStretch.{gone-before, safe-then, grows-longer, over-at, keeps-from}
 use Rattle.views.proofs.Stripes.{stripes-within, of_stripe-touched}
+use Rattle.views.proofs.Fit.{force-valid, force-multiple, short}
 
 -- ---- where a part is
 
@@ -41,25 +42,23 @@ use Rattle.views.proofs.Stripes.{stripes-within, of_stripe-touched}
 abbrev pub IsInParts : Shape → ℕ → ℕ → ℕ → Type 0
 IsInParts shape stripe done row = (stripe * shape.chunk ≤ row) × (row < stripe * shape.chunk + done)
 
-pub valid-in : (given : Given) (m : Members) → IsPlaced given m → (shape : Shape) → shape ≡ shape_of m.newest → is_valid_shape shape ≡ true
-valid-in given m placed shape same = ap is_valid_shape same ∙ placed.valid
+pub valid-in : (given : Given) (m : Members) → IsPlaced given m → (shape : Shape) → IsInForce m.newest shape → is_valid_shape shape ≡ true
+valid-in given m placed shape force = force-valid m.newest placed.fit shape force
 
 -- the stripe's rows are rows of the members
-pub stripe-within : (given : Given) (m : Members) → IsPlaced given m → (shape : Shape) → shape ≡ shape_of m.newest → (stripe : ℕ) → stripe < stripes_of m → (stripe + 1) * shape.chunk ≤ m.newest.size
-stripe-within given m placed shape same stripe lt =
-    subst (λ (s : Shape). (stripe + 1) * s.chunk ≤ m.newest.size) (sym same) (stripes-within m.newest.size (shape_of m.newest).chunk (stripe + 1) placed.multiple (omega (arith, lt)))
+pub stripe-within : (given : Given) (m : Members) → IsPlaced given m → (shape : Shape) → IsInForce m.newest shape → (stripe : ℕ) → stripe < m.newest.size / shape.chunk → (stripe + 1) * shape.chunk ≤ m.newest.size
+stripe-within given m placed shape force stripe lt = stripes-within m.newest.size shape.chunk (stripe + 1) (force-multiple m.newest placed.fit shape force) (omega (arith, lt))
 
 -- a part of its first chunk is within the list, which is short
-pub part-within : (given : Given) (m : Members) → IsPlaced given m → (shape : Shape) → shape ≡ shape_of m.newest → (stripe : ℕ) → stripe < stripes_of m → (long : ℕ) → long ≡ data_disks shape * shape.chunk
-    → (done count : ℕ) → done + count ≤ shape.chunk → (stripe * long + done + count ≤ list_size (places_of m)) × (list_size (places_of m) < 2 ^ 53)
-part-within given m placed shape same stripe lt long is done count part = (
-  subst (λ (n : ℕ). stripe * n + done + count ≤ list_size (places_of m)) (sym is)
-      (subst (λ (s : Shape). stripe * (data_disks shape * shape.chunk) + done + count ≤ data_disks s * m.newest.size) same
-      (fits (data_disks shape) shape.chunk m.newest.size (data_some shape (valid-in given m placed shape same)) (stripe-within given m placed shape same stripe lt) part)),
-  let most = (limited (shape_of m.newest) placed.valid).most in
-      let few : data_disks (shape_of m.newest) ≤ 16 = omega (arith, most) in
-      let short = mul-le (data_disks (shape_of m.newest)) m.newest.size 16 (2 ^ 48) few placed.short in
-      omega (arith, short),
+pub part-within : (given : Given) (m : Members) → IsPlaced given m → (shape : Shape) → IsInForce m.newest shape → (stripe : ℕ) → stripe < m.newest.size / shape.chunk → (long : ℕ) → long ≡ data_disks shape * shape.chunk
+    → (done count : ℕ) → done + count ≤ shape.chunk → (stripe * long + done + count ≤ data_disks shape * m.newest.size) × (data_disks shape * m.newest.size < 2 ^ 53)
+part-within given m placed shape force stripe lt long is done count part = (
+  subst (λ (n : ℕ). stripe * n + done + count ≤ data_disks shape * m.newest.size) (sym is)
+      (fits (data_disks shape) shape.chunk m.newest.size (data_some shape (valid-in given m placed shape force)) (stripe-within given m placed shape force stripe lt) part),
+  let most = (limited shape (valid-in given m placed shape force)).most in
+      let few : data_disks shape ≤ 16 = omega (arith, most) in
+      let all = mul-le (data_disks shape) m.newest.size 16 (2 ^ 48) few (short given m placed) in
+      omega (arith, all),
 )
   where
     fits : (disks chunk size : ℕ) → 0 < disks → (stripe + 1) * chunk ≤ size → done + count ≤ chunk → stripe * (disks * chunk) + done + count ≤ disks * size
@@ -80,55 +79,58 @@ part-touches shape valid stripe long is done count part row at = elim (cases_lt 
 
 -- ---- what stands behind a part
 
--- The list stands as it stood, and so do the rows that were put, where the list is whole in them, and those that stood before; what was rebuilt
--- on a recovering slot stays so.
-pub record ArePut (given : Given) (shape : Shape) (put : ℕ → Type 0) (old new : Members) (before after : List Operation) : Type 0 where
-  pub stands : (list : ℕ → Sector) → ListStands old (present given before) list → ListStands new (present given after) list
-  pub rows : (list : ℕ → Sector) → ListStands old (present given before) list → (row : ℕ) → row < old.newest.size → AreWholeIn shape list row
+-- Of these rows of one shape the data stands as it stood, and so do the rows that were put, where the list is whole in them, and those that stood before;
+-- what was rebuilt on a recovering slot stays so. Each other row is as it was.
+pub record ArePut (given : Given) (shape : Shape) (region put : ℕ → Type 0) (old new : Members) (before after : List Operation) : Type 0 where
+  pub stands : (list : ℕ → Sector) → DataStandsAmong shape region old (present given before) list → DataStandsAmong shape region new (present given after) list
+  pub rows : (list : ℕ → Sector) → DataStandsAmong shape region old (present given before) list → (row : ℕ) → region row → row < old.newest.size → AreWholeIn shape list row
       → put row ⊎ RowStands (reading_of old) (present given before) shape list row → RowStands (reading_of new) (present given after) shape list row
-  pub rebuilt : (list : ℕ → Sector) → ListStands old (present given before) list → (role slot row : ℕ) → role < shape.disks → role_state (reading_of new) role ≡ Recovering slot → row < old.newest.size
+  pub rebuilt : (list : ℕ → Sector) → DataStandsAmong shape region old (present given before) list → (role slot row : ℕ) → role < shape.disks → role_state (reading_of new) role ≡ Recovering slot
+      → region row → row < old.newest.size
       → HasFull (reading_of old) (present given before) shape list row role slot → HasFull (reading_of new) (present given after) shape list row role slot
+  pub others : AreOtherRowsKept region (reading_of new) (present given before) (present given after)
 
-pub put-none : (given : Given) (shape : Shape) (put : ℕ → Type 0) (m : Members) (tape : List Operation) → ((row : ℕ) → put row → ⊥) → ArePut given shape put m m tape tape
-put-none given shape put m tape none = record {
+pub put-none : (given : Given) (shape : Shape) (region put : ℕ → Type 0) (m : Members) (tape : List Operation) → ((row : ℕ) → put row → ⊥) → ArePut given shape region put m m tape tape
+put-none given shape region put m tape none = record {
   stands = λ list stands. stands;
-  rows = λ list stands row lt whole is. elim is [
+  rows = λ list stands row has lt whole is. elim is [
     | inl put ↦ absurd (none row put)
     | inr here ↦ here
   ];
-  rebuilt = λ list stands role slot row below is lt full. full;
+  rebuilt = λ list stands role slot row below is has lt full. full;
+  others = λ row out role slot held. refl;
 }
 
-pub put-then : (given : Given) (shape : Shape) (one two both : ℕ → Type 0) (a b c : Members) (first second third : List Operation) → b.newest.size ≡ a.newest.size → IsMoved given b c → ((row : ℕ) → both row → one row ⊎ two row)
-    → ArePut given shape one a b first second → ArePut given shape two b c second third → ArePut given shape both a c first third
-put-then given shape one two both a b c first second third size moved either early late = record {
+pub put-then : (given : Given) (shape : Shape) (region one two both : ℕ → Type 0) (a b c : Members) (first second third : List Operation) → b.newest.size ≡ a.newest.size → IsMoved given b c → ((row : ℕ) → both row → one row ⊎ two row)
+    → ArePut given shape region one a b first second → ArePut given shape region two b c second third → ArePut given shape region both a c first third
+put-then given shape region one two both a b c first second third size moved either early late = record {
   stands = λ list stands. late.stands list (early.stands list stands);
-  rows = λ list stands row lt whole is. late.rows list (early.stands list stands) row (subst (λ (n : ℕ). row < n) (sym size) lt) whole
+  rows = λ list stands row has lt whole is. late.rows list (early.stands list stands) row has (subst (λ (n : ℕ). row < n) (sym size) lt) whole
       (elim is [
         | inl put ↦ elim (either row put) [
-          | inl first ↦ inr (early.rows list stands row lt whole (inl first))
+          | inl first ↦ inr (early.rows list stands row has lt whole (inl first))
           | inr second ↦ inl second
         ]
-        | inr here ↦ inr (early.rows list stands row lt whole (inr here))
+        | inr here ↦ inr (early.rows list stands row has lt whole (inr here))
       ]);
-  rebuilt = λ list stands role slot row below is lt full.
-      late.rebuilt list (early.stands list stands) role slot row below is (subst (λ (n : ℕ). row < n) (sym size) lt)
-      (early.rebuilt list stands role slot row below (recovering-before moved role slot is) lt full);
+  rebuilt = λ list stands role slot row below is has lt full.
+      late.rebuilt list (early.stands list stands) role slot row below is has (subst (λ (n : ℕ). row < n) (sym size) lt)
+      (early.rebuilt list stands role slot row below (recovering-before moved role slot is) has lt full);
+  others = others-then given region a b c (present given first) (present given second) (present given third) moved early.others late.others;
 }
 
 -- where no row was begun, they stand on
-pub put-untouched : (given given1 : Given) → given1 ≡ given → (shape : Shape) (put : ℕ → Type 0) (a b c : Members) (first second third : List Operation) → shape ≡ shape_of a.newest → IsMoved given a b → IsMoved given b c
-    → AreOthersPresent (present given1 second) (present given1 third) → ArePut given shape put a b first second → ArePut given shape put a c first third
-put-untouched given given1 same shape put a b c first second third is early late others before =
-    put-then given shape put (λ row. ⊥) put a b c first second third early.size late (λ row at. inl at) before (record {
-      stands = λ list stands. list-moved given b c (present given second) (present given third) list late early.placed kept stands;
-      rows = λ list stands row lt whole at. elim at [
+pub put-untouched : (given given1 : Given) → given1 ≡ given → (shape : Shape) (region put : ℕ → Type 0) (a b c : Members) (first second third : List Operation) → IsMoved given a b → IsMoved given b c
+    → AreOthersPresent (present given1 second) (present given1 third) → ArePut given shape region put a b first second → ArePut given shape region put a c first third
+put-untouched given given1 same shape region put a b c first second third early late others before =
+    put-then given shape region put (λ row. ⊥) put a b c first second third early.size late (λ row at. inl at) before (record {
+      stands = λ list stands. data-among-moved shape region given b c (present given second) (present given third) list late early.placed kept stands;
+      rows = λ list stands row has lt whole at. elim at [
         | inl none ↦ absurd none
-        | inr here ↦ subst (λ (s : Shape). RowStands (reading_of c) (present given third) s list row) (late.shape ∙ early.shape ∙ sym is)
-            (row-moved given b c (present given second) (present given third) list late early.placed kept row
-            (subst (λ (s : Shape). RowStands (reading_of b) (present given second) s list row) (is ∙ sym early.shape) here))
+        | inr here ↦ row-moved given b c (present given second) (present given third) list late early.placed kept row shape here
       ];
-      rebuilt = λ list stands role slot row below recovers lt full. full-later late early.placed kept shape list row role slot (ap holder recovers) full;
+      rebuilt = λ list stands role slot row below recovers has lt full. full-later late early.placed kept shape list row role slot (ap holder recovers) full;
+      others = others-same given region b c (present given second) (present given third) late early.placed kept;
     })
   where
     kept : AreOthersPresent (present given second) (present given third)
@@ -145,10 +147,10 @@ pub no-bytes : AreBytes []
 no-bytes at = omega arith
 
 -- a refusal that isn't for too many comes before a row is begun
-pub not-begun : (m : Members) (begun : Bool) (refusal : Option Refusal) → is_some refusal ≡ true → DoesWithout m → (begun ≡ true → MatchOption refusal ⊤ (AreTooMany m)) → begun ≡ false
-not-begun m false refusal some does torn = refl
-not-begun m true None some does torn = absurd (cc)
-not-begun m true (Some refusal) some does torn = absurd (let above = (torn refl).above in omega (arith, above, does))
+pub not-begun : (shape : Shape) (m : Members) (begun : Bool) (refusal : Option Refusal) → is_some refusal ≡ true → DoesWithout shape m → (begun ≡ true → MatchOption refusal ⊤ (LacksTooMany shape m)) → begun ≡ false
+not-begun shape m false refusal some does torn = refl
+not-begun shape m true None some does torn = absurd (cc)
+not-begun shape m true (Some refusal) some does torn = absurd (let above = (torn refl).above in omega (arith, above, does))
 
 -- ---- why the array stays safe
 

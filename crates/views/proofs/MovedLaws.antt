@@ -9,12 +9,12 @@ use Rattle.md_base.specs.declared.status.Role.TheVariants.{Whole, Recovering, Mi
 use Rattle.bank.specs.Given.{Given}
 use Rattle.bank.specs.declared.bank.Operation.{Operation}
 use Rattle.superblocks.specs.declared.members.Members.{Members}
-use Rattle.superblocks.specs.Reading.{Reading, shape_of, role_state, rows_held, holder, is_whole}
+use Rattle.superblocks.specs.Reading.{Reading, shape_of, role_state, rows_held, holder, is_whole, role_count}
 use Rattle.superblocks.specs.Reads.{has_spare}
 use Rattle.row_io.specs.Rows.{reading_of, missing_count, role_without, members_without}
 use Rattle.row_io.proofs.Losses.{state_kept}
 use Rattle.views.specs.Whole.{list_size}
-use Rattle.views.specs.Placed.{places_of, AreWhole, IsPlaced, AreLost, AreStillHeld, AreLess}
+use Rattle.views.specs.Placed.{places_of, AreWhole, IsPlaced, AreLost, AreStillHeld, AreLess, IsInForce}
 use Rattle.shape_changes.specs.Steady.{AreUnlost}
 use Rattle.views.specs.Moving.{Grows, IsMoved}
 use Rattle.views.specs.Rebuilding.{IsFree}
@@ -23,6 +23,7 @@ use Rattle.views.proofs.PlacedLaws.{kept-roles, none-lost, places-same}
 use Rattle.shape_changes.proofs.Without.{state-without, in-both}
 use Rattle.views.proofs.HeldRows.{state-less}
 use Rattle.views.proofs.MemberLaws.{less-without, none_missing, placed-without, unlost-without}
+use Rattle.views.proofs.Fit.{count-alike, reshape-same, reshape-then}
 
 -- ---- the tape
 
@@ -60,7 +61,7 @@ module _ (given : Given) (lost : ℕ) (old new : Members) (less : AreLess lost o
   -- where all roles are whole afterwards, none lost its slot
   pub less-whole : AreWhole new → AreLess 0 old new
   less-whole whole = record {
-    still = less.still;
+    reshape = less.reshape;
     shape = less.shape;
     size = less.size;
     roles = less.roles ∙ kept-roles lost old.roles kept ∙ sym (none-lost old.roles);
@@ -69,9 +70,9 @@ module _ (given : Given) (lost : ℕ) (old new : Members) (less : AreLess lost o
   }
     where
       kept : (role slot : ℕ) → holder (get_or old.roles role Missing) ≡ Some slot → has_slot lost slot ≡ false
-      kept role slot held = elim (cases_lt role (shape_of old.newest).disks) [
+      kept role slot held = elim (cases_lt role (role_count old.newest)) [
         | inl below ↦ whole-kept lost slot (get_or old.roles role Missing)
-            (ap (λ (s : Role). not (is_whole s)) (sym (state-is role)) ∙ whole role (subst (λ (s : Shape). role < s.disks) (sym less.shape) below)) held
+            (ap (λ (s : Role). not (is_whole s)) (sym (state-is role)) ∙ whole role (subst (λ (n : ℕ). role < n) (sym (count-alike old.newest new.newest less.reshape less.shape less.size)) below)) held
         | inr above ↦ absurd (let past : get_or old.roles role Missing ≡ Missing = get_or_past old.roles role Missing (omega (arith, above, was.roles)) in
             let none : ◌≡◌ {A = Option ℕ} None (Some slot) = sym (ap holder past) ∙ held in cc)
       ]
@@ -79,7 +80,7 @@ module _ (given : Given) (lost : ℕ) (old new : Members) (less : AreLess lost o
   whole-before : AreWhole new → AreWhole old
   whole-before whole role below =
       ap (λ (s : Role). not (is_whole s)) (sym (ap (λ (l : List Role). get_or l role Missing) ((less-whole whole).roles ∙ none-lost old.roles)))
-      ∙ whole role (subst (λ (s : Shape). role < s.disks) (sym less.shape) below)
+      ∙ whole role (subst (λ (n : ℕ). role < n) (sym (count-alike old.newest new.newest less.reshape less.shape less.size)) below)
 
   still-held : AreStillHeld old new
   still-held role slot held = (state_kept lost slot (role_state (reading_of old) role) (ap holder (sym (state-is role)) ∙ held)).holder
@@ -110,6 +111,7 @@ module _ (given : Given) (lost : ℕ) (old new : Members) (less : AreLess lost o
     spares = spares;
     fewer = fewer;
     free = λ all slot has. let free = all slot (fewer slot has) in still-free slot free (out slot has free);
+    reshape = less.reshape;
     shape = less.shape;
     size = less.size;
     offsets = less.offsets;
@@ -129,6 +131,7 @@ moved-same given given' old new same is placed unlost =
       spares = λ few. few;
       fewer = λ slot has. has;
       free = λ all. all;
+      reshape = reshape-same old.newest;
       shape = refl;
       size = refl;
       offsets = λ slot. refl;
@@ -156,6 +159,7 @@ moved-then given a b c one two = record {
   spares = λ few. two.spares (one.spares few);
   fewer = λ slot has. one.fewer slot (two.fewer slot has);
   free = λ all. two.free (one.free all);
+  reshape = reshape-then a.newest b.newest c.newest one.reshape two.reshape;
   shape = two.shape ∙ one.shape;
   size = two.size ∙ one.size;
   offsets = λ slot. two.offsets slot ∙ one.offsets slot;
@@ -188,13 +192,12 @@ module _ (given : Given) (shape : Shape) (old new : Members) (lost : ℕ) (befor
   moved-lost unlost = subst (IsMoved given old) (sym did.members) (moved-without given old lost was unlost (λ slot gone. let failed = did.failed slot gone in (failed.1, failed.3)))
 
 -- with a role missing, not every role is whole
-pub not-whole : (given : Given) (m : Members) → IsPlaced given m → 0 < lacking m → AreWhole m → ⊥
-not-whole given m placed some whole = absurd (let none = none_missing given m placed whole in omega (arith, none, some))
+pub not-whole : (given : Given) (m : Members) → IsPlaced given m → (shape : Shape) → IsInForce m.newest shape → 0 < lacking shape m → AreWhole m → ⊥
+not-whole given m placed shape force some whole = absurd (let none = none_missing given m placed whole shape force in omega (arith, none, some))
 
 -- where no role is missing afterwards, none was lost
-pub lost-none : (given : Given) (shape : Shape) (old new : Members) (lost : ℕ) (before after : ℕ → ℕ) → AreLost given shape old new lost before after → shape ≡ shape_of old.newest → shape_of new.newest ≡ shape_of old.newest
-    → AreWhole new → lost ≡ 0
-lost-none given shape old new lost before after did same kept whole = elim (cases_eq lost 0) [
+pub lost-none : (given : Given) (shape : Shape) (old new : Members) (lost : ℕ) (before after : ℕ → ℕ) → AreLost given shape old new lost before after → IsInForce old.newest shape → AreWhole new → lost ≡ 0
+lost-none given shape old new lost before after did force whole = elim (cases_eq lost 0) [
   | inl is ↦ is
-  | inr some ↦ absurd (not-whole given new did.placed (subst (λ (s : Shape). 0 < missing_count (reading_of new) s) (same ∙ sym kept) (did.missing some)) whole)
+  | inr some ↦ absurd (not-whole given new did.placed shape (subst (λ (m : Members). IsInForce m.newest shape) (sym did.members) force) (did.missing some) whole)
 ]

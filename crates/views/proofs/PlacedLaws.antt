@@ -12,7 +12,7 @@ use Rattle.sb1.specs.Superblock.{checksum}
 use Rattle.sb1.specs.declared.sb.Sb.{Sb}
 use Rattle.superblocks.specs.declared.change.Give.TheVariants.{Same}
 use Rattle.superblocks.specs.declared.members.Members.{Members}
-use Rattle.superblocks.specs.Reading.{count_of, is_reshaping, shape_of, role_count, role_state, holder, data_offset_of}
+use Rattle.superblocks.specs.Reading.{count_of, is_reshaping, shape_of, role_count, role_state, holder, data_offset_of, final_shape, is_backward, target_of}
 use Rattle.superblocks.specs.Reads.{SaysSame}
 use Rattle.superblocks.specs.Update.{own_in, planned}
 use Rattle.superblocks.specs.Updating.{IsLater, planned_newest}
@@ -27,6 +27,9 @@ use Rattle.shape_changes.specs.Marking.{resync_of, marking}
 use Rattle.views.proofs.MarkLaws.{roles-kept}
 use Rattle.shape_changes.proofs.Kept.{give_of-same}
 use Rattle.views.proofs.HeldRows.{rows-same}
+use Rattle.views.proofs.Fit.{fit-alike, count-alike}
+use Rattle.superblocks.specs.Verdict.{AreValidShapes}
+use Rattle.superblocks.proofs.ValidFields.{few-roles}
 
 -- ---- a role whose slot may be lost
 
@@ -67,11 +70,8 @@ module _ (given : Given) (lost : ℕ) (old new : Members) (less : AreLess lost o
 
   pub placed-less : IsPlaced given old → AreLive given new → IsPlaced given new
   placed-less placed live = record {
-    still = less.still ∙ placed.still;
-    valid = ap is_valid_shape less.shape ∙ placed.valid;
-    multiple = ap₂ (λ (n : ℕ) (s : Shape). is_multiple n s.chunk) less.size less.shape ∙ placed.multiple;
-    short = rw less.size placed.short;
-    roles = ap length less.roles ∙ length-without lost old.roles ∙ placed.roles ∙ ap (λ (s : Shape). s.disks) (sym less.shape);
+    fit = fit-alike old.newest new.newest less.reshape less.shape less.size placed.fit;
+    roles = ap length less.roles ∙ length-without lost old.roles ∙ placed.roles ∙ sym (count-alike old.newest new.newest less.reshape less.shape less.size);
     holders = λ role slot is.
         let was : IsHolder given (reading_of old) slot = placed.holders role slot (held-before role slot is) in
         record { small = was.small; known = was.known; short = was.short; within = rw (less.offsets slot) (rw less.size was.within) };
@@ -169,52 +169,22 @@ module _ (old new : Members) (clean : Bool) (kept : ℕ → Bool)
   size-same : new.newest.size ≡ old.newest.size
   size-same = ap (λ (s : Sb). s.size) later.same
 
-  -- without a reshape there are as many roles as disks
-  count-is : is_reshaping old.newest ≡ false → role_count old.newest ≡ (shape_of old.newest).disks
-  count-is still =
-      ap (λ (t : Option Shape). max (shape_of old.newest).disks (unwrap_or t (shape_of old.newest)).disks) (none (is_reshaping old.newest) still)
-      ∙ max-same (shape_of old.newest).disks
-    where
-      none : (b : Bool) → b ≡ false → ◌≡◌ {A = Option Shape} (cond b (Some (record { level = old.newest.new_level; layout = old.newest.new_layout; chunk = old.newest.new_chunk; disks = old.newest.raid_disks })) None) None
-      none true e = absurd (cc)
-      none false e = refl
+  target-same : target_of new.newest ≡ target_of old.newest
+  target-same = ap target_of later.same ∙ ap (λ (b : Bool). cond b (Some (record { level = old.newest.new_level; layout = old.newest.new_layout; chunk = old.newest.new_chunk; disks = old.newest.raid_disks })) None) (sym says.reshaping)
 
-      max-same : (n : ℕ) → max n n ≡ n
-      max-same n = grind (arith, nat_tests)
+  same-final : final_shape new.newest ≡ final_shape old.newest
+  same-final i = unwrap_or (target-same i) (same-shape i)
 
   pub marked-less : (given : Given) (lost : ℕ) → IsPlaced given old → new.roles ≡ planned_roles old (marking old clean) lost → AreLess lost old new
   marked-less given lost placed roles = record {
-    still = reshaping-same;
+    reshape = record { reshaping = reshaping-same; final = same-final; position = ap (λ (s : Sb). s.reshape_position) later.same; backward = ap is_backward later.same ∙ sym says.backward };
     shape = same-shape;
     size = size-same;
-    roles = roles ∙ roles-kept old.roles lost placed.apart (λ role slot is. (placed.holders role slot is).small) (role_count old.newest) (count-is placed.still ∙ sym placed.roles);
+    roles = roles ∙ roles-kept old.roles lost placed.apart (λ role slot is. (placed.holders role slot is).small) (role_count old.newest) (sym placed.roles);
     offsets = own-kept (λ sb. sb.data_offset) (λ sb csum. refl);
     rows = rows-same (reading_of new) (reading_of old) reshaping-same size-same (own-kept (λ sb. sb.recovery_offset) (λ sb csum. refl));
   }
 
--- without a reshape there are as many roles as disks
-pub same-count : (newest : Sb) → is_reshaping newest ≡ false → (shape_of newest).disks ≤ 16 → role_count newest ≤ 16
-same-count newest still few = rw (count-by newest still) (few-disks still few)
-  where
-    disks-is : (sb : Sb) (b : Bool) → b ≡ false → (cond b (count_of (pos sb.raid_disks -ℤ sb.delta_disks)) sb.raid_disks) ≡ sb.raid_disks
-    disks-is sb true e = absurd (cc)
-    disks-is sb false e = refl
-
-    few-disks : is_reshaping newest ≡ false → (shape_of newest).disks ≤ 16 → newest.raid_disks ≤ 16
-    few-disks not few = subst (λ (n : ℕ). n ≤ 16) (disks-is newest (is_reshaping newest) not) few
-
-    no-target : (sb : Sb) (b : Bool) → b ≡ false → ◌≡◌ {A = Option Shape} (cond b (Some (record { level = sb.new_level; layout = sb.new_layout; chunk = sb.new_chunk; disks = sb.raid_disks })) None) None
-    no-target sb true e = absurd (cc)
-    no-target sb false e = refl
-
-    max-same : (n : ℕ) → max n n ≡ n
-    max-same n = grind (arith, nat_tests)
-
-    count-by : (sb : Sb) → is_reshaping sb ≡ false → role_count sb ≡ sb.raid_disks
-    count-by sb not =
-        ap (λ (t : Option Shape). max (shape_of sb).disks (unwrap_or t (shape_of sb)).disks) (no-target sb (is_reshaping sb) not)
-        ∙ max-same (shape_of sb).disks ∙ disks-is sb (is_reshaping sb) not
-
--- so the mark's update has no more roles
-pub marked-count : (old : Members) (clean : Bool) → is_reshaping old.newest ≡ false → (shape_of old.newest).disks ≤ 16 → role_count (marking old clean).shared ≤ 16
-marked-count old clean still few = same-count old.newest still few
+-- the mark's update has no more roles
+pub marked-count : (old : Members) (clean : Bool) → AreValidShapes old.newest → role_count (marking old clean).shared ≤ 16
+marked-count old clean valid = few-roles old.newest valid

@@ -8,7 +8,7 @@ use Rattle.bank.specs.Given.{Given}
 use Rattle.bank.specs.Tape.{EachMark, disk}
 use Rattle.bank.proofs.Marks.{each_mark-then}
 use Rattle.superblocks.specs.declared.members.Members.{Members}
-use Rattle.superblocks.specs.Reading.{Scope, is_clean, shape_of}
+use Rattle.superblocks.specs.Reading.{Scope, is_clean}
 use Rattle.row_io.specs.Rows.{members_without}
 use Rattle.flat_history.specs.World.{World}
 use Rattle.views.specs.Placed.{IsPlaced}
@@ -20,14 +20,16 @@ use Rattle.shape_views.specs.Views.{Ledger}
 use Rattle.shape_changes.proofs.Steady.{safe-is-seen, losing-stays-safe}
 use Rattle.shape_changes.proofs.WriteSafe.{writes-stay-safe}
 use Rattle.views.proofs.LackingWrites.{marks-here}
-use Rattle.views.proofs.MovedLaws.{size-moved}
-use Rattle.views.proofs.Still.{told-same, gone-still, still-gone, region-still, length-still}
+use Rattle.layout.specs.Layout.{place}
+use Rattle.shape_views.specs.Windows.{IsOfRegion}
+use Rattle.views.proofs.Fit.{count-alike, list-alike, for-alike}
+use Rattle.views.proofs.Still.{told-same}
 
 -- ---- what is told of the end is told of what was before
 
 module _ (given : Given) (old new : Members) (was : IsPlaced given old) (moved : IsMoved given old new) where
   pub gone-before : (told : Ledger) → AreGoneTold told new → AreGoneTold told old
-  gone-before told gone = gone-still told old was.still (λ role lt missing. still-gone told new moved.placed.still gone role (subst (λ (s : Shape). role < s.disks) (sym moved.shape) lt) (missing-moved moved role missing))
+  gone-before told gone role lt missing = gone role (subst (λ (n : ℕ). role < n) (sym (count-alike old.newest new.newest moved.reshape moved.shape moved.size)) lt) (missing-moved moved role missing)
 
 -- ---- one after another
 
@@ -52,11 +54,11 @@ module _ (sound : Type 0) (scope : Scope) (given : Given) (told : Ledger) where
           (losing-stays-safe sound scope given lost told told old (disk given.start before) (told-same told) safe)
 
   -- rows were written
-  pub safe-put : {tells : Type 0} (old new : Members) (lost : ℕ) (list : ℕ → Sector) (rows : List ℕ) (before after : List Operation) → tells → new ≡ members_without lost old
-      → IsPlaced given old → is_clean old.newest ≡ false → AreUnlost old → AreWritesAllowed old told.values list
-      → EachMark tells given.start before after (IsListPut old list rows (disk given.start before)) → IsSafeNow sound scope given told old (disk given.start before)
+  pub safe-put : {tells : Type 0} (old new : Members) (lost : ℕ) (shape : Shape) (list : ℕ → Sector) (rows : List ℕ) (before after : List Operation) → tells → new ≡ members_without lost old
+      → IsPlaced given old → is_clean old.newest ≡ false → AreUnlost old → IsOfRegion old shape (Contains rows) → AreWritesAllowed old told.values list
+      → EachMark tells given.start before after (IsListPut shape old list rows (disk given.start before)) → IsSafeNow sound scope given told old (disk given.start before)
       → IsSafeStretch sound scope given told new before after
-  safe-put old new lost list rows before after tell is placed dirty unlost allowed marks safe = record {
+  safe-put old new lost shape list rows before after tell is placed dirty unlost region allowed marks safe = record {
     marks = record {
       longer = λ one. marks.longer tell;
       earlier = λ one. marks.earlier tell;
@@ -70,13 +72,19 @@ module _ (sound : Type 0) (scope : Scope) (given : Given) (told : Ledger) where
       safe-at n low high =
           let put = marks.each tell n low high in
           subst (λ (m : Members). IsSafeNow sound scope given told m (disk given.start (take n after))) (sym is)
-          (writes-stay-safe sound scope given told old (shape_of old.newest) list rows lost (disk given.start before) (disk given.start (take n after)) placed.holders dirty unlost
-          (region-still old (Contains rows) placed.still) allowed put.0 put.1 safe)
+          (writes-stay-safe sound scope given told old shape list rows lost (disk given.start before) (disk given.start (take n after)) placed.holders dirty unlost
+          region allowed put.0 put.1 safe)
 
 -- a list whose sectors are allowed
-pub allowed-later : (given : Given) (old new : Members) → IsMoved given old new → IsPlaced given old → (values : ℕ → List Sector) (list : ℕ → Sector) → AreWritesAllowed old values list → AreWritesAllowed new values list
-allowed-later given old new moved placed values list allowed x lt =
-    allowed x (subst (λ (n : ℕ). x < n) (length-still new moved.placed.still ∙ size-moved given old new moved ∙ sym (length-still old placed.still)) lt)
+pub allowed-later : (given : Given) (old new : Members) → IsMoved given old new → (values : ℕ → List Sector) (list : ℕ → Sector) → AreWritesAllowed old values list → AreWritesAllowed new values list
+allowed-later given old new moved values list allowed x lt =
+    allowed x (subst (λ (n : ℕ). x < n) (list-alike old.newest new.newest moved.reshape moved.shape moved.size) lt)
+
+-- and rows of one region
+pub region-later : (given : Given) (old new : Members) (shape : Shape) (among : ℕ → Type 0) → IsMoved given old new → IsOfRegion old shape among → IsOfRegion new shape among
+region-later given old new shape among moved region x lt at =
+    let same = for-alike old.newest new.newest moved.reshape moved.shape moved.size x in
+    same ∙ region x (subst (λ (n : ℕ). x < n) (list-alike old.newest new.newest moved.reshape moved.shape moved.size) lt) (subst (λ (s : Shape). among (place s x).row) same at)
 
 -- ---- the tape
 

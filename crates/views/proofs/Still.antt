@@ -36,8 +36,8 @@ use Rattle.shape_changes.proofs.Stretch.{seen-own}
 use Rattle.views.specs.Whole.{list_size}
 use Rattle.views.specs.Placed.{places_of, IsPlaced}
 use Rattle.views.specs.Lacking.{DoesWithout, AreHoldersFlushed, RowsStand}
-use Rattle.views.specs.Still.{StillIsPlaced, FlushedIsSettled}
-use Rattle.views.proofs.Ready.{none-judged}
+use Rattle.views.specs.Still.{HeldIsPlaced, FlushedIsSettled}
+use Rattle.views.proofs.Fit.{valid, multiple}
 
 -- nothing more is told
 pub told-same : (told : Ledger) → IsMoreTold told told
@@ -78,7 +78,7 @@ pub placed-still : (m : Members) (x : ℕ) → is_reshaping m.newest ≡ false �
 placed-still m x still = ap (λ (s : Shape). place s x) (for-still m.newest still x)
 
 -- it does without as many
-pub without-still : (m : Members) → is_reshaping m.newest ≡ false → DoesWithout m → DoWithout m
+pub without-still : (m : Members) → is_reshaping m.newest ≡ false → DoesWithout (shape_of m.newest) m → DoWithout m
 without-still m still does = record { old = does; final = subst (λ (s : Shape). IsTolerated (reading_of m) s) (sym (final-still m.newest still)) does }
 
 -- each row is of the one region
@@ -94,62 +94,22 @@ still-gone told m still gone role lt missing = gone role (subst (λ (n : ℕ). r
 
 -- ---- they are placed
 
--- the third of these tests fails
-third-fails : (a b c : ℕ × Bool) (rest : List (ℕ × Bool)) → find (λ f. f.1) (a ∷ b ∷ c ∷ rest) ≡ None → c.1 ≡ false
-third-fails a b c rest e = of a.1 b.1 c.1 refl e
-  where
-    of : (x y z : Bool) → c.1 ≡ z → cond x (Some a) (cond y (Some b) (cond z (Some c) (find (λ f. f.1) rest))) ≡ None → c.1 ≡ false
-    of true y z is e = absurd (cc)
-    of false true z is e = absurd (cc)
-    of false false true is e = absurd (cc)
-    of false false false is e = is
-
-size-good : (sb : Sb) (slots : List (Sb × ℕ)) → find (λ f. f.1) (judged_fields sb slots) ≡ None → is_bad_size sb ≡ false
-size-good sb slots none = third-fails (72, not (is_level sb.level)) (76, not (is_layout sb.level sb.layout)) (80, is_bad_size sb) (drop 3 (judged_fields sb slots)) none
-
-some-size : (sb : Sb) (slots : List (Sb × ℕ)) → find (λ f. f.1) (judged_fields sb slots) ≡ None → 1 ≤ sb.size
-some-size sb slots good = of (nat_le 1 sb.size) refl (size-good sb slots good)
-  where
-    of : (b : Bool) → nat_le 1 sb.size ≡ b → not (b && nat_le sb.size (2 ^ 48) && is_multiple sb.size sb.chunksize && (not (is_reshaping sb) || is_multiple sb.size sb.new_chunk)) ≡ false → 1 ≤ sb.size
-    of true is e = grind (arith, nat_tests, is)
-    of false is e = absurd (cc)
-
-pub shapes-still : (m : Members) (given : Given) → IsPlaced given m → 1 ≤ m.newest.size → AreShapesFit m.newest
-shapes-still m given placed some = record {
-  valid = record { old = placed.valid; final = subst (λ (s : Shape). is_valid_shape s ≡ true) (sym final) placed.valid };
-  size = sized;
-  final_size = subst (λ (s : Shape). is_size m.newest.size s.chunk ≡ true) (sym final) sized;
-  level = ap (λ (s : Shape). s.level) final;
-  unit = ap (λ (b : Bool). cond (not b || is_multiple m.newest.reshape_position (unit_of m.newest) || (m.newest.reshape_position == list_length m.newest)) None (Some (PositionNotOnUnit m.newest.reshape_position (unit_of m.newest)))) placed.still;
-  position = λ active. absurd (let still = placed.still in cc);
-  delta = λ active. absurd (let still = placed.still in cc);
-  delta_back = λ active. absurd (let still = placed.still in cc);
-}
-  where
-    final : final_shape m.newest ≡ shape_of m.newest
-    final = final-still m.newest placed.still
-
-    least : nat_le 1 m.newest.size ≡ true
-    least = grind (arith, nat_tests, some)
-
-    most : nat_le m.newest.size (2 ^ 48) ≡ true
-    most = let short = placed.short in grind (arith, nat_tests, short)
-
-    sized : is_size m.newest.size (shape_of m.newest).chunk ≡ true
-    sized = λ i. least i && most i && placed.multiple i
-
-module _ (scope : Scope) (given : Given) (m : Members) (placed : IsPlaced given m) (some : 1 ≤ m.newest.size)
+module _ (scope : Scope) (given : Given) (m : Members) (placed : IsPlaced given m) (backup : backup_absent scope m.newest ≡ None)
     (own : (role slot : ℕ) → holder (role_state (reading_of m) role) ≡ Some slot → scope.backup ≡ Some slot → ⊥) where
   pub placed-two : ArePlaced scope given m
   placed-two = record {
-    fit = shapes-still m given placed some;
-    roles = placed.roles ∙ sym (count-still m.newest placed.still);
+    fit = placed.fit;
+    roles = placed.roles;
     holders = placed.holders;
     behind = placed.behind;
     members_own = own;
     apart = placed.apart;
-    backup = ap (λ (b : Bool). cond (not b || has_room scope (reach_of m.newest)) None (Some BackupAbsent)) placed.still;
+    backup = backup;
   }
+
+-- an array of one shape needs no backup
+pub backup-still : (scope : Scope) (newest : Sb) → is_reshaping newest ≡ false → backup_absent scope newest ≡ None
+backup-still scope newest still = ap (λ (b : Bool). cond (not b || has_room scope (reach_of newest)) None (Some BackupAbsent)) still
 
 -- so where the superblocks are held
 pub held-own : (scope : Scope) (m : Members) (d : Disk) → IsHeldBy scope m d → (role slot : ℕ) → holder (role_state (reading_of m) role) ≡ Some slot → scope.backup ≡ Some slot → ⊥
@@ -157,41 +117,40 @@ held-own scope m d held role slot holds =
     let known = (role-known scope held.known m held.said role slot holds).0 in
     seen-own scope slot (held.updated.held.each slot known).seen
 
-pub still-placed : StillIsPlaced
-still-placed scope given m d placed held =
-    placed-two scope given m placed (some-size m.newest [] (none-judged m.newest held.updated.held.sound.fields)) (held-own scope m d held)
+pub held-placed : HeldIsPlaced
+held-placed scope given m d placed backup held = placed-two scope given m placed backup (held-own scope m d held)
 
 -- ---- rows that are settled
 
 -- rows that stand as a list of allowed values, whatever is drawn
-pub settled-still : (scope : Scope) (given : Given) (m : Members) (values : ℕ → List Sector) (d : Disk) (list : ℕ → Sector) → IsPlaced given m
+pub settled-still : (scope : Scope) (given : Given) (m : Members) (values : ℕ → List Sector) (d : Disk) (list : ℕ → Sector) → IsPlaced given m → is_reshaping m.newest ≡ false
     → ((x : ℕ) → x < list_size (places_of m) → IsIn (values x) (list x))
     → ((c : Contents) → IsDrawn d c → (row : ℕ) → row < m.newest.size → RowStands (reading_of m) c (shape_of m.newest) list row) → IsSettled scope m values d
-settled-still scope given m values d list placed allowed rows = record {
+settled-still scope given m values d list placed still allowed rows = record {
   list = list;
-  allowed = λ x lt. allowed x (subst (λ (n : ℕ). x < n) (length-still m placed.still) lt);
+  allowed = λ x lt. allowed x (subst (λ (n : ℕ). x < n) (length-still m still) lt);
   rows = λ c drawn x out.
-      let short : x < list_size (places_of m) = subst (λ (n : ℕ). x < n) (length-still m placed.still) out.within in
-      subst (λ (s : Shape). RowStands (reading_of m) c s list (place s x).row) (sym (for-still m.newest placed.still x))
-      (rows c drawn (place (shape_of m.newest) x).row (place-row_below (shape_of m.newest) placed.valid x m.newest.size placed.multiple short));
+      let short : x < list_size (places_of m) = subst (λ (n : ℕ). x < n) (length-still m still) out.within in
+      subst (λ (s : Shape). RowStands (reading_of m) c s list (place s x).row) (sym (for-still m.newest still x))
+      (rows c drawn (place (shape_of m.newest) x).row (place-row_below (shape_of m.newest) (valid given m placed) x m.newest.size (multiple given m placed) short));
 }
 
 -- and the other way
-pub still-settled : (scope : Scope) (given : Given) (m : Members) (values : ℕ → List Sector) (d : Disk) → IsPlaced given m → (s : IsSettled scope m values d)
+pub still-settled : (scope : Scope) (given : Given) (m : Members) (values : ℕ → List Sector) (d : Disk) → IsPlaced given m → is_reshaping m.newest ≡ false → (s : IsSettled scope m values d)
     → (c : Contents) → IsDrawn d c → (row : ℕ) → row < m.newest.size → RowStands (reading_of m) c (shape_of m.newest) s.list row
-still-settled scope given m values d placed s c drawn row lt =
+still-settled scope given m values d placed still s c drawn row lt =
     let shape = shape_of m.newest in
     let x : ℕ = sector_at shape (row / shape.chunk) 0 (row % shape.chunk) in
     let at : (place shape x).row ≡ row =
-    ap (λ (p : Place). p.row) (place-sector shape (row / shape.chunk) 0 (row % shape.chunk) (data_some shape placed.valid) (mod_below row shape.chunk (chunk_some shape placed.valid)))
+    ap (λ (p : Place). p.row) (place-sector shape (row / shape.chunk) 0 (row % shape.chunk) (data_some shape (valid given m placed)) (mod_below row shape.chunk (chunk_some shape (valid given m placed))))
     ∙ div-add-mod' row shape.chunk in
-    let inside : x < list_size (places_of m) = place-sector_below shape placed.valid x m.newest.size placed.multiple (omega (arith, at, lt)) in
-    let out : IsOutside scope m (header_in scope c) x = outside-still m.newest placed.still scope m (header_in scope c) x refl (subst (λ (n : ℕ). x < n) (sym (length-still m placed.still)) inside) in
+    let inside : x < list_size (places_of m) = place-sector_below shape (valid given m placed) x m.newest.size (multiple given m placed) (omega (arith, at, lt)) in
+    let out : IsOutside scope m (header_in scope c) x = outside-still m.newest still scope m (header_in scope c) x refl (subst (λ (n : ℕ). x < n) (sym (length-still m still)) inside) in
     subst (RowStands (reading_of m) c shape s.list) at
-    (subst (λ (s' : Shape). RowStands (reading_of m) c s' s.list (place s' x).row) (for-still m.newest placed.still x) (s.rows c drawn x out))
+    (subst (λ (s' : Shape). RowStands (reading_of m) c s' s.list (place s' x).row) (for-still m.newest still x) (s.rows c drawn x out))
 
 pub flushed-is-settled : FlushedIsSettled
-flushed-is-settled scope given members tape values list placed flushed stand allowed = settled-still scope given members values (disk given.start tape) list placed allowed (λ c drawn row lt.
+flushed-is-settled scope given members tape values list placed still flushed stand allowed = settled-still scope given members values (disk given.start tape) list placed still allowed (λ c drawn row lt.
     let stands = stand row lt in
     record {
       whole = stands.whole;

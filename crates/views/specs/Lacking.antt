@@ -11,7 +11,7 @@ use Rattle.bank.specs.Given.{Given, IsFaulted}
 use Rattle.bank.specs.Tape.{Contents, disk}
 use Rattle.superblocks.specs.declared.members.Members.{Members}
 use Rattle.sb1.specs.declared.sb.Sb.{Sb}
-use Rattle.superblocks.specs.Reading.{Reading, shape_of, role_state, holder, data_offset_of, entry_of}
+use Rattle.superblocks.specs.Reading.{Reading, shape_of, final_shape, role_count, role_state, holder, data_offset_of, entry_of}
 use Rattle.superblocks.specs.Reads.{has_spare}
 use Rattle.row_io.specs.Rows.{reading_of, present, is_missing, missing_count, IsTolerated}
 use Rattle.views.specs.Placed.{is_vacant}
@@ -23,32 +23,37 @@ use Rattle.list_io.specs.Writing.{IsWritten, AreDataFrom, IsFull, StaysRebuilt, 
 
 -- ---- why a call is refused
 
--- so many roles are missing
-abbrev pub lacking : Members → ℕ
-lacking members = missing_count (reading_of members) (shape_of members.newest)
+-- so many roles of the shape are missing
+abbrev pub lacking : Shape → Members → ℕ
+lacking shape members = missing_count (reading_of members) shape
 
--- no more are missing than the array can do without
-abbrev pub DoesWithout : Members → Type 0
-DoesWithout members = IsTolerated (reading_of members) (shape_of members.newest)
+-- no more are missing than it tolerates
+abbrev pub DoesWithout : Shape → Members → Type 0
+DoesWithout shape members = IsTolerated (reading_of members) shape
 
--- the refusal that tells how many are missing, and how many the array can do without
-abbrev pub too_many : Members → Refusal
-too_many members = TooMany (lacking members) (tolerance (shape_of members.newest))
+-- the refusal that tells how many are missing, and how many it tolerates
+abbrev pub too_many : Shape → Members → Refusal
+too_many shape members = TooMany (lacking shape members) (tolerance shape)
 
--- more are missing than the array can do without, and this refusal tells so
-pub record AreTooMany (members : Members) (refusal : Refusal) : Type 0 where
-  pub above : tolerance (shape_of members.newest) < lacking members
-  pub told : refusal ≡ too_many members
+-- more are missing than it tolerates, and this refusal tells so
+pub record LacksTooMany (shape : Shape) (members : Members) (refusal : Refusal) : Type 0 where
+  pub above : tolerance shape < lacking shape members
+  pub told : refusal ≡ too_many shape members
+
+-- So it is of a shape in force: of the array's, or where that does without them, of the one that will stand in the end.
+abbrev pub AreTooMany : Members → Refusal → Type 0
+AreTooMany members refusal = LacksTooMany (shape_of members.newest) members refusal
+    ⊎ (DoesWithout (shape_of members.newest) members × LacksTooMany (final_shape members.newest) members refusal)
 
 -- the refusal for sectors that can't be had
-abbrev pub refusal_for : Members → Unavailable → Refusal
-refusal_for members TooManyMissing = too_many members
-refusal_for members (NotResynced role) = Unsynced role
+abbrev pub refusal_for : Shape → Members → Unavailable → Refusal
+refusal_for shape members TooManyMissing = too_many shape members
+refusal_for shape members (NotResynced role) = Unsynced role
 
 -- the refusal that stands in an answer
-abbrev pub refused_by : {T : Type 0} → Members → Result T Unavailable → Option Refusal
-refused_by members (Ok done) = None
-refused_by members (Err cause) = Some (refusal_for members cause)
+abbrev pub refused_by : {T : Type 0} → Shape → Members → Result T Unavailable → Option Refusal
+refused_by shape members (Ok done) = None
+refused_by shape members (Err cause) = Some (refusal_for shape members cause)
 
 -- ---- a resync
 
@@ -70,17 +75,17 @@ abbrev pub IsAskedBeyond : Shape → ℕ → ℕ → ℕ → ℕ → Type 0
 IsAskedBeyond shape mended first count role = (x : ℕ) × (first ≤ x) × (x < first + count) × ((place shape x).role ≡ role) × (mended ≤ (place shape x).row)
 
 -- a role that has data is missing where parity isn't to be relied on, and this refusal tells so
-abbrev pub IsNotResynced : Bool → Members → Refusal → Type 0
-IsNotResynced synced members refusal = (role : ℕ) × (refusal ≡ Unsynced role) × (synced ≡ false) × (is_missing (reading_of members) role ≡ true) × HasData (shape_of members.newest) role
+abbrev pub IsNotResynced : Shape → Bool → Members → Refusal → Type 0
+IsNotResynced shape synced members refusal = (role : ℕ) × (refusal ≡ Unsynced role) × (synced ≡ false) × (is_missing (reading_of members) role ≡ true) × HasData shape role
 
 -- why a read of so many sectors from this one on isn't done: too many are missing, or one of theirs is, behind the mended rows
-abbrev pub IsUnread : ℕ → ℕ → ℕ → Members → Refusal → Type 0
-IsUnread mended first count members refusal = AreTooMany members refusal
-    ⊎ ((role : ℕ) × (refusal ≡ Unsynced role) × (is_missing (reading_of members) role ≡ true) × IsAskedBeyond (shape_of members.newest) mended first count role)
+abbrev pub IsUnread : Shape → ℕ → ℕ → ℕ → Members → Refusal → Type 0
+IsUnread shape mended first count members refusal = LacksTooMany shape members refusal
+    ⊎ ((role : ℕ) × (refusal ≡ Unsynced role) × (is_missing (reading_of members) role ≡ true) × IsAskedBeyond shape mended first count role)
 
 -- why a write isn't done
-abbrev pub IsUnwritten : Bool → Members → Refusal → Type 0
-IsUnwritten synced members refusal = AreTooMany members refusal ⊎ IsNotResynced synced members refusal
+abbrev pub IsUnwritten : Shape → Bool → Members → Refusal → Type 0
+IsUnwritten shape synced members refusal = LacksTooMany shape members refusal ⊎ IsNotResynced shape synced members refusal
 
 -- ---- what a call lost
 
@@ -97,7 +102,7 @@ pub record HaveFailedSince (old new : Members) (spares : ℕ) (before after : �
 -- Each role that no slot holds now had none before, or is one of these; no slot holds these now, and the slot of each has failed since, as have
 -- these spares; each other spare is one still.
 pub record AreLostSince (old new : Members) (roles spares : ℕ) (before after : ℕ → ℕ) : Type 0 where
-  pub vacant : (role : ℕ) → role < (shape_of new.newest).disks → is_vacant (reading_of new) role ≡ true → (is_vacant (reading_of old) role ≡ true) ⊎ (has_slot roles role ≡ true)
+  pub vacant : (role : ℕ) → role < role_count new.newest → is_vacant (reading_of new) role ≡ true → (is_vacant (reading_of old) role ≡ true) ⊎ (has_slot roles role ≡ true)
   pub gone : (role : ℕ) → has_slot roles role ≡ true → is_vacant (reading_of new) role ≡ true
   pub held : (role : ℕ) → has_slot roles role ≡ true → (slot : ℕ) × (holder (role_state (reading_of old) role) ≡ Some slot) × IsFaulted slot before after
   pub failed : (slot : ℕ) → has_slot spares slot ≡ true → IsFaulted slot before after
@@ -113,13 +118,19 @@ ListStands members c list = (row : ℕ) → row < members.newest.size → DataSt
 abbrev pub RowsStand : Members → Contents → (ℕ → Sector) → Type 0
 RowsStand members c list = (row : ℕ) → row < members.newest.size → RowStands (reading_of members) c (shape_of members.newest) list row
 
--- so it is of the rows among these
-abbrev pub RowsStandAmong : (ℕ → Type 0) → Members → Contents → (ℕ → Sector) → Type 0
-RowsStandAmong among members c list = (row : ℕ) → among row → row < members.newest.size → RowStands (reading_of members) c (shape_of members.newest) list row
+-- ---- the rows of one shape, be it the only one in force or not
 
--- and of those below this one
+-- each data role of these rows that a slot holds has the list's sectors
+abbrev pub DataStandsAmong : Shape → (ℕ → Type 0) → Members → Contents → (ℕ → Sector) → Type 0
+DataStandsAmong shape among members c list = (row : ℕ) → among row → row < members.newest.size → DataStands (reading_of members) c shape list row
+
+-- and each parity role what belongs to them
+abbrev pub RowsStandAmong : Shape → (ℕ → Type 0) → Members → Contents → (ℕ → Sector) → Type 0
+RowsStandAmong shape among members c list = (row : ℕ) → among row → row < members.newest.size → RowStands (reading_of members) c shape list row
+
+-- so it is of those below this one, in an array of one shape
 abbrev pub RowsStandBelow : ℕ → Members → Contents → (ℕ → Sector) → Type 0
-RowsStandBelow mended members c list = RowsStandAmong (λ row. row < mended) members c list
+RowsStandBelow mended members c list = RowsStandAmong (shape_of members.newest) (λ row. row < mended) members c list
 
 -- a stop leaves what the holders of roles have as it is, but for their superblocks, and nothing else
 abbrev pub AreHoldersFlushed : Reading → Given → List Operation → Type 0
@@ -133,13 +144,17 @@ IsNamed newest role = (device : ℕ) × (device < 384) × (entry_of newest devic
 
 -- it gives no device a role that no slot holds
 abbrev pub AreUnnamed : Members → Type 0
-AreUnnamed m = (role : ℕ) → role < (shape_of m.newest).disks → is_vacant (reading_of m) role ≡ true → IsNamed m.newest role → ⊥
+AreUnnamed m = (role : ℕ) → role < role_count m.newest → is_vacant (reading_of m) role ≡ true → IsNamed m.newest role → ⊥
 
 -- ---- a write
 
 -- what the holders of roles have of this row is as it was
 abbrev pub IsHeldRowKept : Reading → Contents → Contents → ℕ → Type 0
 IsHeldRowKept r before after row = (role slot : ℕ) → holder (role_state r role) ≡ Some slot → after slot (data_offset_of r slot + row) ≡ before slot (data_offset_of r slot + row)
+
+-- so it is of each row that isn't among these
+abbrev pub AreOtherRowsKept : (ℕ → Type 0) → Reading → Contents → Contents → Type 0
+AreOtherRowsKept among r before after = (row : ℕ) → (among row → ⊥) → IsHeldRowKept r before after row
 
 -- each of these is a byte
 abbrev pub AreBytes : List ℕ → Type 0
@@ -149,7 +164,7 @@ AreBytes bytes = (at : ℕ) → slice_index bytes at < 256
 -- where data roles stood as the list, and, in a synced array, parity did so too.
 pub record AreRowsRead (shape : Shape) (synced : Bool) (old new : Members) (c : Contents) (rows buffer : List ℕ) : Type 0 where
   pub held : (i : ℕ) → i < length rows → AreStanding (reading_of new) c shape (slice_index rows i) (buffered buffer i)
-  pub listed : (list : ℕ → Sector) → ListStands old c list → (synced ≡ true → RowsStandAmong (Contains rows) old c list) → AreDataFrom 0 shape list rows buffer
+  pub listed : (list : ℕ → Sector) → DataStandsAmong shape (Contains rows) old c list → (synced ≡ true → RowsStandAmong shape (Contains rows) old c list) → AreDataFrom 0 shape list rows buffer
 
 -- What a stretch of a write leaves: of these rows those from one up to the next are written, each other row is as it was, and those behind can be
 -- written.
@@ -163,5 +178,5 @@ pub record AreRowsWritten (shape : Shape) (first : ℕ) (from rows : List ℕ) (
   pub standing : (i : ℕ) → next ≤ i → i < length rows → AreStanding (reading_of new) after shape (slice_index rows i) (buffered buffer' i)
 
 -- at each mark each place has its former values, and perhaps its full sector of the new list, and no superblock is touched
-abbrev pub IsListPut : Members → (ℕ → Sector) → List ℕ → (ℕ → ℕ → List Sector) → (ℕ → ℕ → List Sector) → Type 0
-IsListPut members list rows d e = IsPutting (reading_of members) (shape_of members.newest) list (Contains rows) d e × AreSuperblocksKept d e
+abbrev pub IsListPut : Shape → Members → (ℕ → Sector) → List ℕ → (ℕ → ℕ → List Sector) → (ℕ → ℕ → List Sector) → Type 0
+IsListPut shape members list rows d e = IsPutting (reading_of members) shape list (Contains rows) d e × AreSuperblocksKept d e

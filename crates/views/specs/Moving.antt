@@ -8,7 +8,7 @@ use Rattle.superblocks.specs.Reading.{shape_of, role_state, rows_held, holder, d
 use Rattle.superblocks.specs.Reads.{has_spare}
 use Rattle.row_io.specs.Rows.{reading_of}
 use Rattle.views.specs.Rebuilding.{AreSparesFree}
-use Rattle.views.specs.Placed.{places_of, AreWhole, IsPlaced, AreStillHeld, AreLess}
+use Rattle.views.specs.Placed.{places_of, AreWhole, IsPlaced, AreStillHeld, HaveSameReshape, AreLess}
 use Rattle.shape_changes.specs.Steady.{AreUnlost}
 
 -- more was done
@@ -26,6 +26,7 @@ pub record IsMoved (given : Given) (old new : Members) : Type 0 where
   pub spares : length old.spares ≤ 32 → length new.spares ≤ 32
   pub fewer : (slot : ℕ) → has_spare new.spares slot ≡ true → has_spare old.spares slot ≡ true
   pub free : AreSparesFree given old → AreSparesFree given new
+  pub reshape : HaveSameReshape old.newest new.newest
   pub shape : shape_of new.newest ≡ shape_of old.newest
   pub size : new.newest.size ≡ old.newest.size
   pub offsets : (slot : ℕ) → data_offset_of (reading_of new) slot ≡ data_offset_of (reading_of old) slot

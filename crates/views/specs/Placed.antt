@@ -1,14 +1,16 @@
 -- Where the rows of a running array stand, by what its members say.
-use Rattle.std.specs.Prelude.{◌≡◌, ◌≢◌, ℕ, ◌^◌, ◌<◌, ◌≤◌, Bool, false, not, length, map, unwrap_or, Some, is_some, IsTrue}
+use Rattle.std.specs.Prelude.{◌≡◌, ◌≢◌, ◌⊎◌, ℕ, ◌<◌, ◌≤◌, Bool, false, not, length, map, unwrap_or, Some, is_some}
 use Rattle.md_base.specs.declared.places.Shape.{Shape}
 use Rattle.md_base.specs.declared.status.Role.{Role}
-use Rattle.md_base.specs.Shapes.{is_valid_shape, is_multiple, has_slot}
+use Rattle.md_base.specs.Shapes.{has_slot}
+use Rattle.sb1.specs.declared.sb.Sb.{Sb}
 use Rattle.bank.specs.Given.{Given, NeverFalls}
 use Rattle.superblocks.specs.declared.members.Members.{Members}
-use Rattle.superblocks.specs.Reading.{Reading, is_reshaping, shape_of, role_state, rows_held, holder, data_offset_of}
+use Rattle.superblocks.specs.Reading.{Reading, is_reshaping, is_backward, shape_of, final_shape, role_count, role_state, rows_held, holder, data_offset_of}
 use Rattle.superblocks.specs.Outcome.{AreLive}
 use Rattle.row_io.specs.Rows.{reading_of, is_missing, missing_count, role_without, members_without, IsHolder, HaveFailed}
 use Rattle.row_io.specs.Writes.{AreApart}
+use Rattle.shape_views.specs.Regions.{AreShapesFit}
 use Rattle.views.specs.Whole.{Places}
 
 -- each role has the slot that holds it, and its rows begin at that slot's data offset
@@ -29,20 +31,28 @@ is_vacant r role = not (is_some (holder (role_state r role)))
 
 -- every role is whole
 abbrev pub AreWhole : Members → Type 0
-AreWhole members = (role : ℕ) → role < (shape_of members.newest).disks → is_missing (reading_of members) role ≡ false
+AreWhole members = (role : ℕ) → role < role_count members.newest → is_missing (reading_of members) role ≡ false
 
--- The members of an array of one shape: each role that a slot holds, whole or in part, has a slot of its own, where its rows lie behind the
--- superblock.
+-- The members of an array of one shape or of two: the shapes in force fit, and each role that a slot holds, whole or in part, has a slot of its own,
+-- where its rows lie behind the superblock.
 pub record IsPlaced (given : Given) (members : Members) : Type 0 where
-  pub still : is_reshaping members.newest ≡ false
-  pub valid : IsTrue (is_valid_shape (shape_of members.newest))
-  pub multiple : IsTrue (is_multiple members.newest.size (shape_of members.newest).chunk)
-  pub short : members.newest.size ≤ 2 ^ 48
-  pub roles : length members.roles ≡ (shape_of members.newest).disks
+  pub fit : AreShapesFit members.newest
+  pub roles : length members.roles ≡ role_count members.newest
   pub holders : (role slot : ℕ) → holder (role_state (reading_of members) role) ≡ Some slot → IsHolder given (reading_of members) slot
   pub behind : (role slot : ℕ) → holder (role_state (reading_of members) role) ≡ Some slot → 10 ≤ data_offset_of (reading_of members) slot
   pub apart : AreApart (reading_of members)
   pub live : AreLive given members
+
+-- the shape is one of those in force: that of the array, which is the old one while a reshape is active, or the one that will stand in the end
+abbrev pub IsInForce : Sb → Shape → Type 0
+IsInForce newest shape = (shape ≡ shape_of newest) ⊎ (shape ≡ final_shape newest)
+
+-- The two superblocks say the same of a reshape: whether one is active, to which shape, which way, and how far it has come.
+pub record HaveSameReshape (old new : Sb) : Type 0 where
+  pub reshaping : is_reshaping new ≡ is_reshaping old
+  pub final : final_shape new ≡ final_shape old
+  pub position : new.reshape_position ≡ old.reshape_position
+  pub backward : is_backward new ≡ is_backward old
 
 -- What a call leaves of the members: these slots are lost, and each of them held a role and has failed in the call.
 pub record AreLost (given : Given) (shape : Shape) (old new : Members) (lost : ℕ) (before after : ℕ → ℕ) : Type 0 where
@@ -63,7 +73,7 @@ AreStillHeld old new = (role slot : ℕ) → holder (role_state (reading_of new)
 
 -- the members say the same of the array, and some roles may have lost their slots
 pub record AreLess (lost : ℕ) (old new : Members) : Type 0 where
-  pub still : is_reshaping new.newest ≡ is_reshaping old.newest
+  pub reshape : HaveSameReshape old.newest new.newest
   pub shape : shape_of new.newest ≡ shape_of old.newest
   pub size : new.newest.size ≡ old.newest.size
   pub roles : new.roles ≡ map (role_without lost) old.roles

@@ -1,10 +1,10 @@
 //! Laws of an array's superblocks, and of what a stop leaves of it.
 
-ghost use Rattle.views.specs.Still.{StillIsPlaced, FlushedIsSettled, ViewsAreSound};
+ghost use Rattle.views.specs.Still.{HeldIsPlaced, FlushedIsSettled, ViewsAreSound};
 
-/// Members of one shape whose superblocks are held are placed by the definitions for one shape or two.
-pub fn still_members_are_placed()
-    ensures { StillIsPlaced }
+/// Members whose superblocks are held are placed, where the backup that a reshape needs is there.
+pub fn held_members_are_placed()
+    ensures { HeldIsPlaced }
 {}
 
 /// Where the holders of roles are flushed and the rows stand as a list of allowed values, they are settled.
