@@ -11,7 +11,7 @@ use Rattle.flat_history.specs.Epochs.{OpensAlike}
 use Rattle.flat_history.specs.Opened.{OpensSound}
 use Rattle.views.specs.Parts.{Parts}
 use Rattle.views.specs.Placed.{AreWhole}
-use Rattle.views.specs.Lacking.{DoesWithout}
+use Rattle.shape_views.specs.Regions.{DoWithout}
 use Rattle.array_kept.specs.Calls.{world_for}
 use Rattle.array_kept.specs.Adopting.{opener, found_losses, found_work}
 use Rattle.flat_history.specs.Plain.{entries_of}
@@ -33,7 +33,7 @@ pub record IsBegun {B : Type 0} (tells : Type 0) (tape : List Operation) (backup
   pub backup_is : array.backup ≡ backup
   pub uuid : array.uuid ≡ array.members.newest.set_uuid
   pub work : array.work ≡ found_work array.members
-  pub does : DoesWithout array.members
+  pub does : DoWithout array.members
 
 -- its list is of so many sectors, all zero
 pub record OpensWithZeros (size : ℕ) (list : List (List ℕ)) : Type 0 where

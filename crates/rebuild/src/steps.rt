@@ -14,7 +14,8 @@ ghost use Rattle.views.specs.Whole.{list_size};
 ghost use Rattle.views.specs.Placed.{places_of};
 ghost use Rattle.views.specs.Moving.{Grows};
 ghost use Rattle.views.specs.Status.{left_of};
-ghost use Rattle.views.specs.Lacking.{HaveRolesFailed, AreTooMany, DoesWithout, RowsStand};
+ghost use Rattle.views.specs.Lacking.{HaveRolesFailed, AreTooMany, RowsStand};
+ghost use Rattle.shape_views.specs.Regions.{DoWithout};
 ghost use Rattle.array_kept.specs.Calls.{world_for, AreHeldOrSpare, IsWholeOrLost, by_answer, AreStepsFewer, AreStepsKept, AreValuesKept, IsRebuildStepped, IsCausedBy, IsSameArray, AreLossesBy, IsEndOf};
 ghost use Rattle.rebuild.specs.Steps.{first_recovering, first_vacant, first_spare, rebuilt_role, rebuild_kind, rebuild_events, after_rebuild, IsRebuildNext, IsGivenToSpare, IsHeldOrNext};
 
@@ -86,7 +87,7 @@ pub fn rebuild_step<B: Bank>(array: &mut Array<B>, who: Who) -> Result<(), Fault
     ensures clean { is_clean array.new.members.newest ≡ is_clean array.old.members.newest }
     ensures taken { OnOk result (rebuild_kind array.old.work array.old.members ≡ TakesRole → IsGivenToSpare array.old.members array.new.members) }
     ensures whole { OnOk result (rebuild_kind array.old.work array.old.members ≡ EndsRebuild → IsWholeOrLost array.old.members array.new.members (rebuilt_role array.old.members)) }
-    ensures good { OnOk result (rebuild_kind array.old.work array.old.members ≡ EndsRebuild → B.tells → DoesWithout array.new.members → OpensFit (world_for (B.given array.new.bank) (B.tape array.new.bank) array.new)
+    ensures good { OnOk result (rebuild_kind array.old.work array.old.members ≡ EndsRebuild → B.tells → DoWithout array.new.members → OpensFit (world_for (B.given array.new.bank) (B.tape array.new.bank) array.new)
         → RowsStand array.new.members (present (B.given array.old.bank) (B.tape array.new.bank)) (now (opening_list (world_for (B.given array.new.bank) (B.tape array.new.bank) array.new)) array.new.entries)) }
     ensures grows { Grows B.tells (B.tape array.old.bank) (B.tape array.new.bank) }
     ensures failed { HaveRolesFailed array.old.members array.new.members (B.faults_of array.old.bank) (B.faults_of array.new.bank) }

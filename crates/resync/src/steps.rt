@@ -14,7 +14,8 @@ ghost use Rattle.views.specs.Whole.{list_size};
 ghost use Rattle.views.specs.Placed.{places_of, AreStillHeld};
 ghost use Rattle.views.specs.Moving.{Grows};
 ghost use Rattle.views.specs.Status.{left_of};
-ghost use Rattle.views.specs.Lacking.{HaveRolesFailed, AreHoldersFlushed, DoesWithout, RowsStand};
+ghost use Rattle.views.specs.Lacking.{HaveRolesFailed, AreHoldersFlushed, RowsStand};
+ghost use Rattle.shape_views.specs.Regions.{DoWithout};
 ghost use Rattle.array_kept.specs.Calls.{world_for, AreSparesFewer, by_answer, AreStepsFewer, AreStepsKept, AreValuesKept, IsSettled, IsCausedBy, IsSameArray, AreLossesOf, IsEndOf};
 ghost use Rattle.resync.specs.Steps.{is_at_end, next_kind, after_step, IsUnmended};
 
@@ -40,7 +41,7 @@ pub fn resync_step<B: Bank>(array: &mut Array<B>, who: Who) -> Result<(), Fault>
     ensures caused { IsCausedBy (list_size (places_of array.old.members)) 0 (IsUnmended (is_at_end array.old.work.resync array.old.members)) array.old.members array.new.members result }
     ensures clean { OnOk result (is_clean array.new.members.newest ≡ is_at_end array.old.work.resync array.old.members) }
     ensures flushed { OnOk result (IsTrue (is_at_end array.old.work.resync array.old.members) → B.tells → AreHoldersFlushed (reading_of array.new.members) (B.given array.old.bank) (B.tape array.new.bank)) }
-    ensures good { OnOk result (IsTrue (is_at_end array.old.work.resync array.old.members) → B.tells → DoesWithout array.new.members → OpensFit (world_for (B.given array.new.bank) (B.tape array.new.bank) array.new)
+    ensures good { OnOk result (IsTrue (is_at_end array.old.work.resync array.old.members) → B.tells → DoWithout array.new.members → OpensFit (world_for (B.given array.new.bank) (B.tape array.new.bank) array.new)
         → RowsStand array.new.members (present (B.given array.old.bank) (B.tape array.new.bank)) (now (opening_list (world_for (B.given array.new.bank) (B.tape array.new.bank) array.new)) array.new.entries)) }
     ensures grows { Grows B.tells (B.tape array.old.bank) (B.tape array.new.bank) }
     ensures failed { HaveRolesFailed array.old.members array.new.members (B.faults_of array.old.bank) (B.faults_of array.new.bank) }

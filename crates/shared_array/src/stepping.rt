@@ -14,7 +14,8 @@ ghost use Rattle.views.specs.Whole.{list_size};
 ghost use Rattle.views.specs.Placed.{places_of};
 ghost use Rattle.views.specs.Moving.{Grows};
 ghost use Rattle.views.specs.Status.{left_of};
-ghost use Rattle.views.specs.Lacking.{HaveRolesFailed, AreHoldersFlushed, DoesWithout, RowsStand, IsUnwritten};
+ghost use Rattle.views.specs.Lacking.{HaveRolesFailed, AreHoldersFlushed, RowsStand, IsUnwritten};
+ghost use Rattle.shape_views.specs.Regions.{DoWithout};
 ghost use Rattle.array_kept.specs.Calls.{world_for, AreHeldOrSpare, IsWholeOrLost, by_answer, OnNoMemory, TellNoLoss, TellNoRoleLoss, AreStepsFewer, AreStepsKept, AreValuesKept, IsCausedBy, IsSameArray, AreLossesBy, IsEndOf};
 ghost use Rattle.views.specs.Rebuilding.{MayHold};
 ghost use Rattle.flat_history.specs.declared.events.StepKind.TheVariants.{RebuildTaken as TakesRole, RebuildEnded as EndsRebuild};
@@ -47,7 +48,7 @@ fn take_step<B: Bank>(array: &mut Array<B>, who: Who) -> Result<u64, Fault>
     ensures caused { IsCausedBy (list_size (places_of array.old.members)) 0 (IsUndone array.old.work array.old.members) array.old.members array.new.members result }
     ensures clean { OnOk result (is_clean array.new.members.newest ≡ (if is_some array.old.work.resync then is_at_end array.old.work.resync array.old.members else is_clean array.old.members.newest)) }
     ensures flushed { OnOk result (IsTrue (is_at_end array.old.work.resync array.old.members) → B.tells → AreHoldersFlushed (reading_of array.new.members) (B.given array.old.bank) (B.tape array.new.bank)) }
-    ensures good { OnOk result (IsEnd (next_kind array.old.work array.old.members) → B.tells → DoesWithout array.new.members → OpensFit (world_for (B.given array.new.bank) (B.tape array.new.bank) array.new)
+    ensures good { OnOk result (IsEnd (next_kind array.old.work array.old.members) → B.tells → DoWithout array.new.members → OpensFit (world_for (B.given array.new.bank) (B.tape array.new.bank) array.new)
         → RowsStand array.new.members (present (B.given array.old.bank) (B.tape array.new.bank)) (now (opening_list (world_for (B.given array.new.bank) (B.tape array.new.bank) array.new)) array.new.entries)) }
     ensures taken { OnOk result (next_kind array.old.work array.old.members ≡ TakesRole → IsGivenToSpare array.old.members array.new.members) }
     ensures whole { OnOk result (next_kind array.old.work array.old.members ≡ EndsRebuild → IsWholeOrLost array.old.members array.new.members (rebuilt_role array.old.members)) }
@@ -94,7 +95,7 @@ pub fn step<B: Bank>(array: &mut Array<B>, who: Who) -> Result<u64, Fault>
     ensures caused { IsCausedBy (list_size (places_of array.old.members)) 0 (IsUndone array.old.work array.old.members) array.old.members array.new.members result }
     ensures clean { OnOk result (is_clean array.new.members.newest ≡ (if is_some array.old.work.resync then is_at_end array.old.work.resync array.old.members else is_clean array.old.members.newest)) }
     ensures flushed { OnOk result (IsTrue (is_at_end array.old.work.resync array.old.members) → B.tells → AreHoldersFlushed (reading_of array.new.members) (B.given array.old.bank) (B.tape array.new.bank)) }
-    ensures good { OnOk result (IsEnd (next_kind array.old.work array.old.members) → B.tells → DoesWithout array.new.members → OpensFit (world_for (B.given array.new.bank) (B.tape array.new.bank) array.new)
+    ensures good { OnOk result (IsEnd (next_kind array.old.work array.old.members) → B.tells → DoWithout array.new.members → OpensFit (world_for (B.given array.new.bank) (B.tape array.new.bank) array.new)
         → RowsStand array.new.members (present (B.given array.old.bank) (B.tape array.new.bank)) (now (opening_list (world_for (B.given array.new.bank) (B.tape array.new.bank) array.new)) array.new.entries)) }
     ensures taken { OnOk result (next_kind array.old.work array.old.members ≡ TakesRole → IsGivenToSpare array.old.members array.new.members) }
     ensures whole { OnOk result (next_kind array.old.work array.old.members ≡ EndsRebuild → IsWholeOrLost array.old.members array.new.members (rebuilt_role array.old.members)) }

@@ -14,7 +14,8 @@ ghost use Rattle.views.specs.Whole.{list_size};
 ghost use Rattle.views.specs.Placed.{places_of, IsPlaced, AreStillHeld};
 ghost use Rattle.shape_changes.specs.Marking.{AreOthersPresent};
 ghost use Rattle.views.specs.Moving.{Grows};
-ghost use Rattle.views.specs.Lacking.{DoesWithout, HaveRolesFailed, AreUnnamed};
+ghost use Rattle.views.specs.Lacking.{HaveRolesFailed, AreUnnamed};
+ghost use Rattle.shape_views.specs.Regions.{DoWithout};
 ghost use Rattle.views.specs.Numbers.{IsSpareSb, free_number};
 ghost use Rattle.array_kept.specs.Calls.{world_for, IsTaken, IsFirstOffset, IsUnaddable, IsAddedFor, IsAddedAs, IsWorkAdded, IsAnswered, IsSameArray, AreLossesOf, IsEndOf, OnNoMemory};
 ghost use Rattle.views.specs.Rebuilding.{Held};
@@ -82,7 +83,7 @@ fn spare_for<B: Bank>(
 ) -> Sb
     requires placed { IsPlaced (B.given bank.now) members.now }
     requires slot { slot < (B.given bank.now).slots }
-    requires does { DoesWithout members.now }
+    requires does { DoWithout members.now }
     requires fits { (offset : ℕ) → IsFirstOffset members.now offset → offset + members.now.newest.size ≤ (B.given bank.now).sectors slot }
     requires few { number < 128 }
     requires free { 0xfffe ≤ entry_of members.now.newest number }

@@ -13,7 +13,8 @@ ghost use Rattle.flat_history.specs.OneShape.{opening_in, IsOneShapeLegal};
 ghost use Rattle.flat_history.specs.declared.events.Event.TheVariants.{Halted, Stopped};
 ghost use Rattle.views.specs.Placed.{places_of, AreStillHeld};
 ghost use Rattle.array_kept.specs.Kept.{AreRebuildsRight};
-ghost use Rattle.views.specs.Lacking.{DoesWithout, ListStands, RowsStandBelow, mended_rows, AreTooMany, HaveRolesFailed};
+ghost use Rattle.views.specs.Lacking.{ListStands, RowsStandBelow, mended_rows, AreTooMany, HaveRolesFailed};
+ghost use Rattle.shape_views.specs.Regions.{DoWithout};
 ghost use Rattle.flat_history.specs.Sound.{OpensFit, FillsRight};
 ghost use Rattle.array_kept.specs.Calls.{AreSparesFewer, world_for, IsEntered, IsBehind, IsUnsettled, IsFaultFor, IsEndOf, IsSameArray, AreLossesOf, AreLeftFlushed};
 
@@ -34,9 +35,9 @@ impl<B: Bank> Array<B> {
         ensures legal { B.tells → FillsRight (world_for (B.given self.bank) (B.tape self.bank) self) result.1.entries.items
             → IsOneShapeLegal (opening_in (world_for (B.given self.bank) (B.tape self.bank) self)) (length (B.tape self.bank)) result.1.entries.items }
         ensures ends { B.tells → EndBy (length (B.tape self.bank)) result.1.entries.items }
-        ensures holds { B.tells → DoesWithout self.members → AreRebuildsRight (world_for (B.given self.bank) (B.tape self.bank) self) self.entries
+        ensures holds { B.tells → DoWithout self.members → AreRebuildsRight (world_for (B.given self.bank) (B.tape self.bank) self) self.entries
             → ListStands self.members (present (B.given self.bank) (B.tape self.bank)) (now (opening_list (world_for (B.given self.bank) (B.tape self.bank) self)) self.entries) }
-        ensures good { B.tells → DoesWithout self.members → OpensFit (world_for (B.given self.bank) (B.tape self.bank) self)
+        ensures good { B.tells → DoWithout self.members → OpensFit (world_for (B.given self.bank) (B.tape self.bank) self)
             → RowsStandBelow (mended_rows self.work.resync self.members) self.members (present (B.given self.bank) (B.tape self.bank)) (now (opening_list (world_for (B.given self.bank) (B.tape self.bank) self)) self.entries) }
         ensures right { B.tells → FillsRight (world_of (B.given result.0) (B.tape result.0) self.backup result.1) result.1.entries.items → HasRoomForEvents (world_of (B.given result.0) (B.tape result.0) self.backup result.1) → OpensAlike (world_of (B.given result.0) (B.tape result.0) self.backup result.1)
             → IsEpochRight (B.given result.0) (B.tape result.0) self.backup result.1 }
@@ -68,7 +69,7 @@ impl<B: Bank> Array<B> {
         requires next { who.number ≡ next_number who.caller self.entries }
         requires caller { who.caller ≢ 254 }
         ensures stopped { IfOk result (λ r. IsBehind who self.entries r.1.entries.items Stopped) }
-        ensures ready { IfOk result (λ r. DoesWithout self.members) }
+        ensures ready { IfOk result (λ r. DoWithout self.members) }
         ensures flushed { IfOk result (λ r. B.tells → AreLeftFlushed self.members r.1.entries.items (B.given self.bank) (B.tape r.0)) }
         ensures grows { IfOk result (λ r. Grows B.tells (B.tape self.bank) (B.tape r.0)) }
         ensures losses { IfOk result (λ r. AreLossesOf self.members (B.faults_of self.bank) (B.faults_of r.0) self.entries r.1.entries.items) }

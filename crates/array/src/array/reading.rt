@@ -11,6 +11,7 @@ ghost use Rattle.flat_history.specs.Flat.{next_number, now};
 ghost use Rattle.flat_history.specs.declared.events.Event.TheVariants.{Read};
 ghost use Rattle.flat_history.specs.declared.events.Request.TheVariants.{Read as AsksRead};
 ghost use Rattle.views.specs.Whole.{list_size};
+ghost use Rattle.superblocks.specs.Reading.{shape_of};
 ghost use Rattle.views.specs.Placed.{places_of, AreWhole, AreStillHeld};
 ghost use Rattle.shape_changes.specs.Marking.{AreOthersPresent};
 ghost use Rattle.views.specs.Moving.{Grows};
@@ -46,15 +47,15 @@ impl<B: Bank> Array<B> {
     // Why so many sectors from one on aren't read, before any is.
     fn unread(&self, at: u64, count: u64) -> Option<Refusal>
         requires short { at + count < 2 ^ 63 }
-        ensures first { result ≡ call_refusal (list_size (places_of self.now.members)) (at + count) (read_refusal (mended_rows self.now.work.resync self.now.members) at count self.now.members) }
-        ensures why { IsRefusalOf (list_size (places_of self.now.members)) (at + count) (IsUnread (mended_rows self.now.work.resync self.now.members) at count) self.now.members result }
+        ensures first { result ≡ call_refusal (list_size (places_of self.now.members)) (at + count) (read_refusal (shape_of self.now.members.newest) (mended_rows self.now.work.resync self.now.members) at count self.now.members) }
+        ensures why { IsRefusalOf (list_size (places_of self.now.members)) (at + count) (IsUnread (shape_of self.now.members.newest) (mended_rows self.now.work.resync self.now.members) at count) self.now.members result }
     {
         let visible = self.visible();
         if visible < at + count {
             return Some(Refusal::PastEnd(visible));
         }
         let mended = mended_rows(&self.members, self.work.resync);
-        unread(&self.members, at, count, mended)
+        unread(&self.members, &shape_in(&self.members), at, count, mended)
     }
 
     /// Fills `into`, of whole sectors, with those of the list from `at` on; what a missing member held is filled in from the
@@ -72,9 +73,9 @@ impl<B: Bank> Array<B> {
         ensures grows { Grows B.tells (B.tape self.old.bank) (B.tape self.new.bank) }
         ensures tape { AreWhole self.new.members → B.tells → B.tape self.new.bank ≡ B.tape self.old.bank }
         ensures others { B.tells → AreOthersPresent (present (B.given self.old.bank) (B.tape self.old.bank)) (present (B.given self.old.bank) (B.tape self.new.bank)) }
-        ensures caused { IsCausedBy (list_size (places_of self.old.members)) (at + length into.old / 512) (IsUnread (mended_rows self.old.work.resync self.old.members) at (length into.old / 512)) self.old.members self.new.members result }
+        ensures caused { IsCausedBy (list_size (places_of self.old.members)) (at + length into.old / 512) (IsUnread (shape_of self.old.members.newest) (mended_rows self.old.work.resync self.old.members) at (length into.old / 512)) self.old.members self.new.members result }
         ensures first { IsFirstRefused (λ members. call_refusal (list_size (places_of self.old.members)) (at + length into.old / 512)
-            (read_refusal (mended_rows self.old.work.resync self.old.members) at (length into.old / 512) members)) self.old.members self.new.members result }
+            (read_refusal (shape_of self.old.members.newest) (mended_rows self.old.work.resync self.old.members) at (length into.old / 512) members)) self.old.members self.new.members result }
         ensures failed { HaveRolesFailed self.old.members self.new.members (B.faults_of self.old.bank) (B.faults_of self.new.bank) }
         ensures held { AreStillHeld self.old.members self.new.members }
         ensures spares { AreSparesFewer self.old.members self.new.members }

@@ -16,7 +16,8 @@ ghost use Rattle.views.specs.Whole.{list_size};
 ghost use Rattle.views.specs.Placed.{places_of, is_vacant};
 ghost use Rattle.views.specs.Moving.{Grows};
 ghost use Rattle.views.specs.Status.{stripes_of, rebuilt_of, left_of};
-ghost use Rattle.views.specs.Lacking.{HaveRolesFailed, AreTooMany, DoesWithout, RowsStand};
+ghost use Rattle.views.specs.Lacking.{HaveRolesFailed, AreTooMany, RowsStand};
+ghost use Rattle.shape_views.specs.Regions.{DoWithout};
 ghost use Rattle.array_kept.specs.Calls.{world_for, IsHeldOrGiven, AreHeldOrSpare, HasStripeUnbuilt, AreStripesRebuilt, IsWholeOrLost, IsRecoveredOrLost, with_rebuilt, by_answer, AreStepsFewer, AreStepsKept, IsRebuildStepped, IsCausedBy, IsSameArray, AreLossesBy, AreLossesOf, IsEndOf};
 
 use crate::array::asking::steps_left;
@@ -172,7 +173,7 @@ impl<B: Bank> Array<B> {
         ensures open { IsCallOpen self.new.entries who }
         ensures room { self.new.steps + 1 ≡ self.old.steps }
         ensures whole { OnOk result (IsWholeOrLost self.old.members self.new.members role) }
-        ensures good { OnOk result (B.tells → DoesWithout self.new.members → OpensFit (world_for (B.given self.new.bank) (B.tape self.new.bank) self.new)
+        ensures good { OnOk result (B.tells → DoWithout self.new.members → OpensFit (world_for (B.given self.new.bank) (B.tape self.new.bank) self.new)
             → RowsStand self.new.members (present (B.given self.old.bank) (B.tape self.new.bank)) (now (opening_list (world_for (B.given self.new.bank) (B.tape self.new.bank) self.new)) self.new.entries)) }
         ensures work { self.new.work ≡ self.old.work }
         ensures left { OnOk result (AreStepsFewer self.old.entries self.new.entries (left_of self.old.work self.old.members) (left_of self.new.work self.new.members)) }

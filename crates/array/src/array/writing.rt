@@ -39,15 +39,15 @@ impl<B: Bank> Array<B> {
     // Why so many sectors from one on aren't written, before any row is read.
     fn unwritten(&self, at: u64, count: u64) -> Option<Refusal>
         requires short { at + count < 2 ^ 63 }
-        ensures first { result ≡ call_refusal (list_size (places_of self.now.members)) (at + count) (write_refusal (are_mended (shape_of self.now.members.newest) (mended_rows self.now.work.resync self.now.members) (at + count)) self.now.members) }
-        ensures why { IsRefusalOf (list_size (places_of self.now.members)) (at + count) (IsUnwritten (are_mended (shape_of self.now.members.newest) (mended_rows self.now.work.resync self.now.members) (at + count))) self.now.members result }
+        ensures first { result ≡ call_refusal (list_size (places_of self.now.members)) (at + count) (write_refusal (shape_of self.now.members.newest) (are_mended (shape_of self.now.members.newest) (mended_rows self.now.work.resync self.now.members) (at + count)) self.now.members) }
+        ensures why { IsRefusalOf (list_size (places_of self.now.members)) (at + count) (IsUnwritten (shape_of self.now.members.newest) (are_mended (shape_of self.now.members.newest) (mended_rows self.now.work.resync self.now.members) (at + count))) self.now.members result }
     {
         let visible = self.visible();
         if visible < at + count {
             return Some(Refusal::PastEnd(visible));
         }
         let shape = shape_in(&self.members);
-        unwritten(&self.members, self.are_mended(&shape, at + count))
+        unwritten(&self.members, &shape, self.are_mended(&shape, at + count))
     }
 
     /// Makes the list hold `from`, of 1 to 128 whole sectors, from `at` on. Refusals: `PastEnd`, `TooManyMissing`, and
@@ -64,9 +64,9 @@ impl<B: Bank> Array<B> {
         ensures dirty { OnOk result (is_clean self.new.members.newest ≡ false) }
         ensures untouched { OnErr result (IsFalse (has_torn self.old.entries self.new.entries) → B.tells
             → AreOthersPresent (present (B.given self.old.bank) (B.tape self.old.bank)) (present (B.given self.old.bank) (B.tape self.new.bank))) }
-        ensures caused { IsCausedBy (list_size (places_of self.old.members)) (at + length from.now / 512) (IsUnwritten (are_mended (shape_of self.old.members.newest) (mended_rows self.old.work.resync self.old.members) (at + length from.now / 512))) self.old.members self.new.members result }
+        ensures caused { IsCausedBy (list_size (places_of self.old.members)) (at + length from.now / 512) (IsUnwritten (shape_of self.old.members.newest) (are_mended (shape_of self.old.members.newest) (mended_rows self.old.work.resync self.old.members) (at + length from.now / 512))) self.old.members self.new.members result }
         ensures first { IsFirstRefused (λ members. call_refusal (list_size (places_of self.old.members)) (at + length from.now / 512)
-            (write_refusal (are_mended (shape_of self.old.members.newest) (mended_rows self.old.work.resync self.old.members) (at + length from.now / 512)) members)) self.old.members self.new.members result }
+            (write_refusal (shape_of self.old.members.newest) (are_mended (shape_of self.old.members.newest) (mended_rows self.old.work.resync self.old.members) (at + length from.now / 512)) members)) self.old.members self.new.members result }
         ensures failed { HaveRolesFailed self.old.members self.new.members (B.faults_of self.old.bank) (B.faults_of self.new.bank) }
         ensures held { AreStillHeld self.old.members self.new.members }
         ensures spares { AreSparesFewer self.old.members self.new.members }
