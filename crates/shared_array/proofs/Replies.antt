@@ -117,7 +117,8 @@ answered-nothing {who = who} {old = old} size most same number was = record {
 
 -- what speaks against a step may end a request for steps
 ends : (members : Members) (refusal : Refusal) → IsUnmendable members refusal → EndsIdleSteps refusal
-ends members refusal (inl many) = subst EndsIdleSteps (sym many.told) tt
+ends members refusal (inl (inl many)) = subst EndsIdleSteps (sym many.told) tt
+ends members refusal (inl (inr many)) = subst EndsIdleSteps (sym many.1.told) tt
 ends members refusal (inr (role, is, synced, missing, holds)) = subst EndsIdleSteps (sym is) tt
 
 all-ended : (members : Members) (ended : Option Refusal) → IfSome ended (IsUnmendable members) → IfSome ended EndsIdleSteps
