@@ -84,8 +84,8 @@ found_work members = record {
 abbrev pub AreNumbersKept : Scope → List (Option Sb) → (ℕ → ℕ → List Sector) → Type 0
 AreNumbersKept scope own d = (slot : ℕ) (sb : Sb) → MayRead scope d slot (Some sb) → (kept : Sb) × (own_in own slot ≡ Some kept) × (kept.dev_number ≡ sb.dev_number)
 
--- What an array needs that begins here: the members are read from its slots, and no reshape is active in it yet; its list stands on them, and its rows where the opening
--- finds them good, over the whole sectors that every bank has; a stop leaves what is there, and the next update may start.
+-- What an array needs that begins here: the members are read from its slots, and no reshape is active in it yet; its list stands on them, and its rows
+-- where the opening finds them good, over the whole sectors that every bank has; a stop leaves what is there, and the next update may start.
 pub record IsAdoptable (tells : Type 0) (given : Given) (tape : List Operation) (scope : Scope) (members : Members) : Type 0 where
   pub slots : given.slots ≤ 32
   pub spares : length members.spares ≤ 32
