@@ -32,7 +32,7 @@ use Rattle.flat_history.specs.OneShape.{is_gone_now, EndsIdleSteps, OneShapeFits
 use Rattle.views.specs.Placed.{is_vacant}
 use Rattle.call_entries.specs.Losing.{losses_of}
 use Rattle.shape_views.specs.Regions.{DoWithout}
-use Rattle.views.specs.Lacking.{AreTooMany}
+use Rattle.views.specs.Lacking.{AreTooMany, IsNotResynced}
 use Rattle.views.specs.Parts.{Parts}
 use Rattle.views.specs.declared.work.Work.{Work}
 use Rattle.views.specs.Status.{stripes_of, rebuilt_of, left_of}
@@ -127,6 +127,10 @@ IsRefusedHere visible resync members refusal = ⊥
 abbrev pub IsRefusedFor : ℕ → ℕ → (Members → Refusal → Type 0) → Members → Members → Refusal → Type 0
 IsRefusedFor visible to why old new (PastEnd told) = (told ≡ visible) × (visible < to) × (new ≡ old)
 IsRefusedFor visible to why old new refusal = (to ≤ visible) × why new refusal
+
+-- why a stripe of a resync isn't mended
+abbrev pub IsUnmendable : Members → Refusal → Type 0
+IsUnmendable members refusal = AreTooMany members refusal ⊎ IsNotResynced (shape_of members.newest) false members refusal
 
 -- nothing of the kind spoke against a call that is answered Ok
 abbrev pub IsCausedBy : {T : Type 0} → ℕ → ℕ → (Members → Refusal → Type 0) → Members → Members → Result T Fault → Type 0

@@ -17,8 +17,8 @@ use Rattle.flat_history.specs.declared.events.StepKind.TheVariants.{RebuildTaken
 use Rattle.views.specs.declared.work.Work.{Work}
 use Rattle.views.specs.Placed.{is_vacant}
 use Rattle.views.specs.Status.{stripes_of, rebuilt_of, vacant_count, spare_count, resync_left, role_left, recovery_left, left_of}
-use Rattle.views.specs.Lacking.{AreTooMany, IsUnmendable}
-use Rattle.array_kept.specs.Calls.{IsRefusedFor}
+use Rattle.views.specs.Lacking.{AreTooMany}
+use Rattle.array_kept.specs.Calls.{IsRefusedFor, IsUnmendable}
 use Rattle.views.specs.Rebuilding.{Held, MayHold}
 use Rattle.resync.specs.Steps.{is_at_end, IsUnmended}
 use Rattle.resync.specs.Steps as resync

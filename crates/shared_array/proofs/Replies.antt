@@ -27,9 +27,8 @@ use Rattle.flat_history.specs.Legal.{call_before}
 use Rattle.flat_history.specs.Fits.{IsTornOf, AreTornOf, is_step_event, is_lost_event}
 use Rattle.flat_history.specs.Plain.{entries_of}
 use Rattle.flat_history.specs.OneShape.{GoesOnBehind, IsOfCall, EndsIdleSteps, DidOneShapeSteps}
-use Rattle.views.specs.Lacking.{IsUnmendable}
 use Rattle.views.specs.Parts.{Parts}
-use Rattle.array_kept.specs.Calls.{StandsInside, IsEntered, IsReplied, IsAnswered, TellNoRoleLoss}
+use Rattle.array_kept.specs.Calls.{StandsInside, IsEntered, IsReplied, IsAnswered, TellNoRoleLoss, IsUnmendable}
 use Rattle.call_entries.proofs.PlainLaws.{one}
 use Rattle.call_entries.proofs.LosingLaws.{entries-both}
 use Rattle.call_entries.proofs.CallLaws.{torn-reverse}

@@ -87,10 +87,6 @@ IsUnread shape mended first count members refusal = LacksTooMany shape members r
 abbrev pub IsUnwritten : Shape → Bool → Members → Refusal → Type 0
 IsUnwritten shape synced members refusal = LacksTooMany shape members refusal ⊎ IsNotResynced shape synced members refusal
 
--- why a stripe of a resync isn't mended
-abbrev pub IsUnmendable : Members → Refusal → Type 0
-IsUnmendable members refusal = AreTooMany members refusal ⊎ IsNotResynced (shape_of members.newest) false members refusal
-
 -- ---- what a call lost
 
 -- Each role has the slot that held it, or that slot has failed since.

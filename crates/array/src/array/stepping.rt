@@ -16,10 +16,10 @@ ghost use Rattle.views.specs.Whole.{list_size};
 ghost use Rattle.views.specs.Placed.{places_of, AreStillHeld};
 ghost use Rattle.views.specs.Moving.{Grows};
 ghost use Rattle.views.specs.Status.{left_of};
-ghost use Rattle.views.specs.Lacking.{HaveRolesFailed, AreHoldersFlushed, AreTooMany, IsUnmendable, RowsStand};
+ghost use Rattle.views.specs.Lacking.{HaveRolesFailed, AreHoldersFlushed, AreTooMany, RowsStand};
 ghost use Rattle.shape_views.specs.Regions.{DoWithout};
 ghost use Rattle.safe_updates.specs.First.{write_refusal, IsFirstRefused};
-ghost use Rattle.array_kept.specs.Calls.{world_for, AreSparesFewer, HasStripeLeft, IsAllMended, one_more, AreStepsFewer, AreStepsKept, IsStepsReply, by_answer, IsSettled, IsEntered, IsCausedBy, IsSameArray, AreLossesOf, IsEndOf};
+ghost use Rattle.array_kept.specs.Calls.{world_for, AreSparesFewer, HasStripeLeft, IsAllMended, one_more, AreStepsFewer, AreStepsKept, IsStepsReply, by_answer, IsSettled, IsEntered, IsCausedBy, IsSameArray, AreLossesOf, IsEndOf, IsUnmendable};
 
 use crate::array::asking::steps_left;
 use crate::array::{Array, refusal_of};
