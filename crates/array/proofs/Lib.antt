@@ -1,2 +1,3 @@
 mod StillKept
 pub mod FirstLaws
+mod UnmendableLaws

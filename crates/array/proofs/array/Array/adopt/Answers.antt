@@ -9,6 +9,7 @@ use Rattle.array_kept.specs.Kept.{scope_in}
 use Rattle.array_kept.specs.Adopting.{opener, absent_losses, found_losses, IsAdoptable}
 use Rattle.array_kept.proofs.ReadyLaws.{scope-same}
 use Rattle.calls_kept.proofs.AdoptingLaws.{ready_adopted}
+use Rattle.views.proofs.Fit.{valid, roles-still}
 use Rattle.array.proofs.array.Array.adopt.Goals as goal
 
 pub invariant_of-result : goal.invariant_of-result
@@ -29,3 +30,9 @@ invariant_of-result g c =
 
 pub found_work-work-requires-clause-small : goal.found_work-work-requires-clause-small
 found_work-work-requires-clause-small g c = λ role slot is. (c.requires.adoptable.placed.holders role slot is).small
+
+pub found_work-work-requires-clause-shape : goal.found_work-work-requires-clause-shape
+found_work-work-requires-clause-shape g c = valid (g.B.Bank.given c.args.bank) c.args.opened.members c.requires.adoptable.placed
+
+pub found_work-work-requires-clause-roles : goal.found_work-work-requires-clause-roles
+found_work-work-requires-clause-roles g c = roles-still (g.B.Bank.given c.args.bank) c.args.opened.members c.requires.adoptable.placed c.requires.adoptable.still

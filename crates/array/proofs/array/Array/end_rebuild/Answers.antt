@@ -42,6 +42,8 @@ use Rattle.calls_kept.proofs.RebuildLaws.{losses-open, losses-end}
 use Rattle.calls_kept.proofs.RebuildWhole.{kept-ended_lost, ended-among, kept-whole}
 use Rattle.call_entries.proofs.StepLaws.{still-open}
 use Rattle.array_kept.proofs.StepsLeft.{left-whole, steps-fewer}
+use Rattle.views.proofs.Still.{count-still}
+use Rattle.views.proofs.Fit.{valid}
 use Rattle.array.proofs.array.Array.end_rebuild.Goals as goal
 
 -- losses alone
@@ -90,7 +92,7 @@ returns-in-Some-clause-ended g c =
 
 pub vacant_roles-before-requires-clause-few : goal.vacant_roles-before-requires-clause-few
 vacant_roles-before-requires-clause-few g c =
-    let most = (limited (shape_of c.self.inside.members.newest) c.self.invariant.kept.placed.valid).most in
+    let most = (limited (shape_of c.self.inside.members.newest) (valid (g.B.Bank.given c.self.inside.bank) c.self.inside.members c.self.invariant.kept.placed)).most in
     let disks = ap (λ (s : Shape). s.disks) c.shape_in-disks.ensures in
     omega (arith, most, disks)
 
@@ -112,11 +114,11 @@ invariant_of-self-then-is_vacant g c =
     let slot = c.in-Some-recovering_slot.slot in
     let recovers : role_state (reading_of a.members) role ≡ Recovering slot = c.in-Some-recovering_slot.ensures.some in
     let left : AreStripesRebuilt a.work a.members role = subst (λ p. AreStripesRebuilt p.work p.members role) (sym c.self.view_is) c.requires.pending in
-    let below : role < (shape_of a.members.newest).disks = left.0.0 in
+    let below : role < (shape_of a.members.newest).disks = subst (λ (n : ℕ). role < n) (count-still a.members.newest was.kept.still) left.0.0 in
     let to = receiver-recovering given a.members was.kept.placed was.kept.unlost role slot below recovers in
     let V = with_whole role slot a.members in
     let since : AreLostSince V m roles spares before after = lost-since given V m c.shape_in-disks.result.disks c.vacant_roles-before.result roles spares before after
-    (placed-given given a.members was.kept.placed None role slot to) did.moved did.failed (ap (λ (s : Shape). s.disks) c.shape_in-disks.ensures)
+    (placed-given given a.members was.kept.placed None role slot to) did.moved did.failed (ap (λ (s : Shape). s.disks) c.shape_in-disks.ensures ∙ sym (count-still a.members.newest was.kept.still))
     (λ r. c.vacant_roles-before.ensures r ∙ whole-vacant given a.members m was.kept.placed role slot to was.kept.free recovers did.moved c.shape_in-disks.result.disks r) c.newly_vacant-roles.ensures in
     let opens : IsCallOpen a.epoch.entries.items c.args.who = subst (λ p. IsCallOpen p.entries c.args.who) (sym c.self.view_is) c.requires.open in
     let some : 1 ≤ a.steps = subst (λ p. 1 ≤ p.steps) (sym c.self.view_is) c.requires.room in
@@ -143,11 +145,11 @@ returns-then-is_vacant-clause-entered g c =
     let slot = c.in-Some-recovering_slot.slot in
     let recovers : role_state (reading_of a.members) role ≡ Recovering slot = c.in-Some-recovering_slot.ensures.some in
     let left : AreStripesRebuilt a.work a.members role = subst (λ p. AreStripesRebuilt p.work p.members role) (sym c.self.view_is) c.requires.pending in
-    let below : role < (shape_of a.members.newest).disks = left.0.0 in
+    let below : role < (shape_of a.members.newest).disks = subst (λ (n : ℕ). role < n) (count-still a.members.newest was.kept.still) left.0.0 in
     let to = receiver-recovering given a.members was.kept.placed was.kept.unlost role slot below recovers in
     let V = with_whole role slot a.members in
     let since : AreLostSince V m roles spares before after = lost-since given V m c.shape_in-disks.result.disks c.vacant_roles-before.result roles spares before after
-    (placed-given given a.members was.kept.placed None role slot to) did.moved did.failed (ap (λ (s : Shape). s.disks) c.shape_in-disks.ensures)
+    (placed-given given a.members was.kept.placed None role slot to) did.moved did.failed (ap (λ (s : Shape). s.disks) c.shape_in-disks.ensures ∙ sym (count-still a.members.newest was.kept.still))
     (λ r. c.vacant_roles-before.ensures r ∙ whole-vacant given a.members m was.kept.placed role slot to was.kept.free recovers did.moved c.shape_in-disks.result.disks r) c.newly_vacant-roles.ensures in
     let opens : IsCallOpen a.epoch.entries.items c.args.who = subst (λ p. IsCallOpen p.entries c.args.who) (sym c.self.view_is) c.requires.open in
     let some : 1 ≤ a.steps = subst (λ p. 1 ≤ p.steps) (sym c.self.view_is) c.requires.room in
@@ -183,11 +185,11 @@ returns-then-is_vacant-clause-good g c =
     let slot = c.in-Some-recovering_slot.slot in
     let recovers : role_state (reading_of a.members) role ≡ Recovering slot = c.in-Some-recovering_slot.ensures.some in
     let left : AreStripesRebuilt a.work a.members role = subst (λ p. AreStripesRebuilt p.work p.members role) (sym c.self.view_is) c.requires.pending in
-    let below : role < (shape_of a.members.newest).disks = left.0.0 in
+    let below : role < (shape_of a.members.newest).disks = subst (λ (n : ℕ). role < n) (count-still a.members.newest was.kept.still) left.0.0 in
     let to = receiver-recovering given a.members was.kept.placed was.kept.unlost role slot below recovers in
     let V = with_whole role slot a.members in
     let since : AreLostSince V m roles spares before after = lost-since given V m c.shape_in-disks.result.disks c.vacant_roles-before.result roles spares before after
-    (placed-given given a.members was.kept.placed None role slot to) did.moved did.failed (ap (λ (s : Shape). s.disks) c.shape_in-disks.ensures)
+    (placed-given given a.members was.kept.placed None role slot to) did.moved did.failed (ap (λ (s : Shape). s.disks) c.shape_in-disks.ensures ∙ sym (count-still a.members.newest was.kept.still))
     (λ r. c.vacant_roles-before.ensures r ∙ whole-vacant given a.members m was.kept.placed role slot to was.kept.free recovers did.moved c.shape_in-disks.result.disks r) c.newly_vacant-roles.ensures in
     let synced : a.work.resync ≡ None = ap (λ p. p.work.resync) c.self.view_is ∙ c.requires.synced in
     rw (← c.self.view_is) (λ t does' fit. good-at m (g.B.Bank.tape c.flush_and_record-spares.new.bank) _ did.given synced ((invariant_of-self-then-is_vacant g c).kept.good t does' fit))
@@ -208,15 +210,15 @@ returns-then-is_vacant-clause-left g c =
     let slot = c.in-Some-recovering_slot.slot in
     let recovers : role_state (reading_of a.members) role ≡ Recovering slot = c.in-Some-recovering_slot.ensures.some in
     let left : AreStripesRebuilt a.work a.members role = subst (λ p. AreStripesRebuilt p.work p.members role) (sym c.self.view_is) c.requires.pending in
-    let below : role < (shape_of a.members.newest).disks = left.0.0 in
+    let below : role < (shape_of a.members.newest).disks = subst (λ (n : ℕ). role < n) (count-still a.members.newest was.kept.still) left.0.0 in
     let to = receiver-recovering given a.members was.kept.placed was.kept.unlost role slot below recovers in
     let V = with_whole role slot a.members in
     let since : AreLostSince V m roles spares before after = lost-since given V m c.shape_in-disks.result.disks c.vacant_roles-before.result roles spares before after
-    (placed-given given a.members was.kept.placed None role slot to) did.moved did.failed (ap (λ (s : Shape). s.disks) c.shape_in-disks.ensures)
+    (placed-given given a.members was.kept.placed None role slot to) did.moved did.failed (ap (λ (s : Shape). s.disks) c.shape_in-disks.ensures ∙ sym (count-still a.members.newest was.kept.still))
     (λ r. c.vacant_roles-before.ensures r ∙ whole-vacant given a.members m was.kept.placed role slot to was.kept.free recovers did.moved c.shape_in-disks.result.disks r) c.newly_vacant-roles.ensures in
     let n = was.kept.placed.roles in
     let not-spare = whole-spare given a.members was.kept.free role slot recovers in
-    rw (← c.self.view_is) (steps-fewer a.work _ c.args.who end [] did.moved since (left-whole a.work a.members role slot below (omega (arith, below, n)) recovers left.1 not-spare) (alone a.epoch.entries.items c.enter_lost.new.epoch.entries.items c.args.who end (losses_of roles spares) c.enter_lost.ensures.items))
+    rw (← c.self.view_is) (steps-fewer a.work _ c.args.who end [] did.moved since (left-whole a.work a.members role slot below (let count = count-still a.members.newest was.kept.still in omega (arith, below, n, count)) recovers left.1 not-spare) (alone a.epoch.entries.items c.enter_lost.new.epoch.entries.items c.args.who end (losses_of roles spares) c.enter_lost.ensures.items))
 
 pub returns-then-is_vacant-clause-caused : goal.returns-then-is_vacant-clause-caused
 returns-then-is_vacant-clause-caused g c =
@@ -238,11 +240,11 @@ returns-then-is_vacant-clause-failed g c =
     let slot = c.in-Some-recovering_slot.slot in
     let recovers : role_state (reading_of a.members) role ≡ Recovering slot = c.in-Some-recovering_slot.ensures.some in
     let left : AreStripesRebuilt a.work a.members role = subst (λ p. AreStripesRebuilt p.work p.members role) (sym c.self.view_is) c.requires.pending in
-    let below : role < (shape_of a.members.newest).disks = left.0.0 in
+    let below : role < (shape_of a.members.newest).disks = subst (λ (n : ℕ). role < n) (count-still a.members.newest was.kept.still) left.0.0 in
     let to = receiver-recovering given a.members was.kept.placed was.kept.unlost role slot below recovers in
     let V = with_whole role slot a.members in
     let since : AreLostSince V m roles spares before after = lost-since given V m c.shape_in-disks.result.disks c.vacant_roles-before.result roles spares before after
-    (placed-given given a.members was.kept.placed None role slot to) did.moved did.failed (ap (λ (s : Shape). s.disks) c.shape_in-disks.ensures)
+    (placed-given given a.members was.kept.placed None role slot to) did.moved did.failed (ap (λ (s : Shape). s.disks) c.shape_in-disks.ensures ∙ sym (count-still a.members.newest was.kept.still))
     (λ r. c.vacant_roles-before.ensures r ∙ whole-vacant given a.members m was.kept.placed role slot to was.kept.free recovers did.moved c.shape_in-disks.result.disks r) c.newly_vacant-roles.ensures in
     rw (← c.self.view_is) (failed-still given a.members m was.kept.placed role slot to was.kept.free recovers did.moved spares before after did.failed).roles
 
@@ -262,11 +264,11 @@ returns-then-is_vacant-clause-held g c =
     let slot = c.in-Some-recovering_slot.slot in
     let recovers : role_state (reading_of a.members) role ≡ Recovering slot = c.in-Some-recovering_slot.ensures.some in
     let left : AreStripesRebuilt a.work a.members role = subst (λ p. AreStripesRebuilt p.work p.members role) (sym c.self.view_is) c.requires.pending in
-    let below : role < (shape_of a.members.newest).disks = left.0.0 in
+    let below : role < (shape_of a.members.newest).disks = subst (λ (n : ℕ). role < n) (count-still a.members.newest was.kept.still) left.0.0 in
     let to = receiver-recovering given a.members was.kept.placed was.kept.unlost role slot below recovers in
     let V = with_whole role slot a.members in
     let since : AreLostSince V m roles spares before after = lost-since given V m c.shape_in-disks.result.disks c.vacant_roles-before.result roles spares before after
-    (placed-given given a.members was.kept.placed None role slot to) did.moved did.failed (ap (λ (s : Shape). s.disks) c.shape_in-disks.ensures)
+    (placed-given given a.members was.kept.placed None role slot to) did.moved did.failed (ap (λ (s : Shape). s.disks) c.shape_in-disks.ensures ∙ sym (count-still a.members.newest was.kept.still))
     (λ r. c.vacant_roles-before.ensures r ∙ whole-vacant given a.members m was.kept.placed role slot to was.kept.free recovers did.moved c.shape_in-disks.result.disks r) c.newly_vacant-roles.ensures in
     rw (← c.self.view_is) (record {
       roles = λ r s held. inl (holder-before given a.members m was.kept.placed role slot to was.kept.free recovers did.moved r s (did.moved.held r s held));
@@ -289,11 +291,11 @@ returns-then-is_vacant-clause-losses g c =
     let slot = c.in-Some-recovering_slot.slot in
     let recovers : role_state (reading_of a.members) role ≡ Recovering slot = c.in-Some-recovering_slot.ensures.some in
     let left : AreStripesRebuilt a.work a.members role = subst (λ p. AreStripesRebuilt p.work p.members role) (sym c.self.view_is) c.requires.pending in
-    let below : role < (shape_of a.members.newest).disks = left.0.0 in
+    let below : role < (shape_of a.members.newest).disks = subst (λ (n : ℕ). role < n) (count-still a.members.newest was.kept.still) left.0.0 in
     let to = receiver-recovering given a.members was.kept.placed was.kept.unlost role slot below recovers in
     let V = with_whole role slot a.members in
     let since : AreLostSince V m roles spares before after = lost-since given V m c.shape_in-disks.result.disks c.vacant_roles-before.result roles spares before after
-    (placed-given given a.members was.kept.placed None role slot to) did.moved did.failed (ap (λ (s : Shape). s.disks) c.shape_in-disks.ensures)
+    (placed-given given a.members was.kept.placed None role slot to) did.moved did.failed (ap (λ (s : Shape). s.disks) c.shape_in-disks.ensures ∙ sym (count-still a.members.newest was.kept.still))
     (λ r. c.vacant_roles-before.ensures r ∙ whole-vacant given a.members m was.kept.placed role slot to was.kept.free recovers did.moved c.shape_in-disks.result.disks r) c.newly_vacant-roles.ensures in
     rw (← c.self.view_is) (losses-tail (Held a.members) V m (λ r s held. holder-before given a.members m was.kept.placed role slot to was.kept.free recovers did.moved r s held) before after a.epoch.entries.items a.epoch.entries.items c.enter_lost.new.epoch.entries.items c.args.who end roles spares since refl
     [] (All-nil (λ e. IsLossBy (Held a.members) before after e.event)) (alone a.epoch.entries.items c.enter_lost.new.epoch.entries.items c.args.who end (losses_of roles spares) c.enter_lost.ensures.items))
@@ -315,11 +317,11 @@ returns-then-is_vacant-clause-ended g c =
     let slot = c.in-Some-recovering_slot.slot in
     let recovers : role_state (reading_of a.members) role ≡ Recovering slot = c.in-Some-recovering_slot.ensures.some in
     let left : AreStripesRebuilt a.work a.members role = subst (λ p. AreStripesRebuilt p.work p.members role) (sym c.self.view_is) c.requires.pending in
-    let below : role < (shape_of a.members.newest).disks = left.0.0 in
+    let below : role < (shape_of a.members.newest).disks = subst (λ (n : ℕ). role < n) (count-still a.members.newest was.kept.still) left.0.0 in
     let to = receiver-recovering given a.members was.kept.placed was.kept.unlost role slot below recovers in
     let V = with_whole role slot a.members in
     let since : AreLostSince V m roles spares before after = lost-since given V m c.shape_in-disks.result.disks c.vacant_roles-before.result roles spares before after
-    (placed-given given a.members was.kept.placed None role slot to) did.moved did.failed (ap (λ (s : Shape). s.disks) c.shape_in-disks.ensures)
+    (placed-given given a.members was.kept.placed None role slot to) did.moved did.failed (ap (λ (s : Shape). s.disks) c.shape_in-disks.ensures ∙ sym (count-still a.members.newest was.kept.still))
     (λ r. c.vacant_roles-before.ensures r ∙ whole-vacant given a.members m was.kept.placed role slot to was.kept.free recovers did.moved c.shape_in-disks.result.disks r) c.newly_vacant-roles.ensures in
     let opens : IsCallOpen a.epoch.entries.items c.args.who = subst (λ p. IsCallOpen p.entries c.args.who) (sym c.self.view_is) c.requires.open in
     let some : 1 ≤ a.steps = subst (λ p. 1 ≤ p.steps) (sym c.self.view_is) c.requires.room in
@@ -350,11 +352,11 @@ returns-then-is_vacant-clause-same g c =
     let slot = c.in-Some-recovering_slot.slot in
     let recovers : role_state (reading_of a.members) role ≡ Recovering slot = c.in-Some-recovering_slot.ensures.some in
     let left : AreStripesRebuilt a.work a.members role = subst (λ p. AreStripesRebuilt p.work p.members role) (sym c.self.view_is) c.requires.pending in
-    let below : role < (shape_of a.members.newest).disks = left.0.0 in
+    let below : role < (shape_of a.members.newest).disks = subst (λ (n : ℕ). role < n) (count-still a.members.newest was.kept.still) left.0.0 in
     let to = receiver-recovering given a.members was.kept.placed was.kept.unlost role slot below recovers in
     let V = with_whole role slot a.members in
     let since : AreLostSince V m roles spares before after = lost-since given V m c.shape_in-disks.result.disks c.vacant_roles-before.result roles spares before after
-    (placed-given given a.members was.kept.placed None role slot to) did.moved did.failed (ap (λ (s : Shape). s.disks) c.shape_in-disks.ensures)
+    (placed-given given a.members was.kept.placed None role slot to) did.moved did.failed (ap (λ (s : Shape). s.disks) c.shape_in-disks.ensures ∙ sym (count-still a.members.newest was.kept.still))
     (λ r. c.vacant_roles-before.ensures r ∙ whole-vacant given a.members m was.kept.placed role slot to was.kept.free recovers did.moved c.shape_in-disks.result.disks r) c.newly_vacant-roles.ensures in
     rw (← c.self.view_is) (record {
       uuid = c.enter_lost.ensures.uuid;
@@ -385,11 +387,11 @@ invariant_of-self-2 g c =
     let slot = c.in-Some-recovering_slot.slot in
     let recovers : role_state (reading_of a.members) role ≡ Recovering slot = c.in-Some-recovering_slot.ensures.some in
     let left : AreStripesRebuilt a.work a.members role = subst (λ p. AreStripesRebuilt p.work p.members role) (sym c.self.view_is) c.requires.pending in
-    let below : role < (shape_of a.members.newest).disks = left.0.0 in
+    let below : role < (shape_of a.members.newest).disks = subst (λ (n : ℕ). role < n) (count-still a.members.newest was.kept.still) left.0.0 in
     let to = receiver-recovering given a.members was.kept.placed was.kept.unlost role slot below recovers in
     let V = with_whole role slot a.members in
     let since : AreLostSince V m roles spares before after = lost-since given V m c.shape_in-disks.result.disks c.vacant_roles-before.result roles spares before after
-    (placed-given given a.members was.kept.placed None role slot to) did.moved did.failed (ap (λ (s : Shape). s.disks) c.shape_in-disks.ensures)
+    (placed-given given a.members was.kept.placed None role slot to) did.moved did.failed (ap (λ (s : Shape). s.disks) c.shape_in-disks.ensures ∙ sym (count-still a.members.newest was.kept.still))
     (λ r. c.vacant_roles-before.ensures r ∙ whole-vacant given a.members m was.kept.placed role slot to was.kept.free recovers did.moved c.shape_in-disks.result.disks r) c.newly_vacant-roles.ensures in
     let opens : IsCallOpen a.epoch.entries.items c.args.who = subst (λ p. IsCallOpen p.entries c.args.who) (sym c.self.view_is) c.requires.open in
     let some : 1 ≤ a.steps = subst (λ p. 1 ≤ p.steps) (sym c.self.view_is) c.requires.room in
@@ -418,11 +420,11 @@ returns-clause-entered g c =
     let slot = c.in-Some-recovering_slot.slot in
     let recovers : role_state (reading_of a.members) role ≡ Recovering slot = c.in-Some-recovering_slot.ensures.some in
     let left : AreStripesRebuilt a.work a.members role = subst (λ p. AreStripesRebuilt p.work p.members role) (sym c.self.view_is) c.requires.pending in
-    let below : role < (shape_of a.members.newest).disks = left.0.0 in
+    let below : role < (shape_of a.members.newest).disks = subst (λ (n : ℕ). role < n) (count-still a.members.newest was.kept.still) left.0.0 in
     let to = receiver-recovering given a.members was.kept.placed was.kept.unlost role slot below recovers in
     let V = with_whole role slot a.members in
     let since : AreLostSince V m roles spares before after = lost-since given V m c.shape_in-disks.result.disks c.vacant_roles-before.result roles spares before after
-    (placed-given given a.members was.kept.placed None role slot to) did.moved did.failed (ap (λ (s : Shape). s.disks) c.shape_in-disks.ensures)
+    (placed-given given a.members was.kept.placed None role slot to) did.moved did.failed (ap (λ (s : Shape). s.disks) c.shape_in-disks.ensures ∙ sym (count-still a.members.newest was.kept.still))
     (λ r. c.vacant_roles-before.ensures r ∙ whole-vacant given a.members m was.kept.placed role slot to was.kept.free recovers did.moved c.shape_in-disks.result.disks r) c.newly_vacant-roles.ensures in
     rw (← c.self.view_is) (inl (
       roles,
@@ -459,11 +461,11 @@ returns-clause-whole g c =
     let slot = c.in-Some-recovering_slot.slot in
     let recovers : role_state (reading_of a.members) role ≡ Recovering slot = c.in-Some-recovering_slot.ensures.some in
     let left : AreStripesRebuilt a.work a.members role = subst (λ p. AreStripesRebuilt p.work p.members role) (sym c.self.view_is) c.requires.pending in
-    let below : role < (shape_of a.members.newest).disks = left.0.0 in
+    let below : role < (shape_of a.members.newest).disks = subst (λ (n : ℕ). role < n) (count-still a.members.newest was.kept.still) left.0.0 in
     let to = receiver-recovering given a.members was.kept.placed was.kept.unlost role slot below recovers in
     let V = with_whole role slot a.members in
     let since : AreLostSince V m roles spares before after = lost-since given V m c.shape_in-disks.result.disks c.vacant_roles-before.result roles spares before after
-    (placed-given given a.members was.kept.placed None role slot to) did.moved did.failed (ap (λ (s : Shape). s.disks) c.shape_in-disks.ensures)
+    (placed-given given a.members was.kept.placed None role slot to) did.moved did.failed (ap (λ (s : Shape). s.disks) c.shape_in-disks.ensures ∙ sym (count-still a.members.newest was.kept.still))
     (λ r. c.vacant_roles-before.ensures r ∙ whole-vacant given a.members m was.kept.placed role slot to was.kept.free recovers did.moved c.shape_in-disks.result.disks r) c.newly_vacant-roles.ensures in
     rw (← c.self.view_is) (inl (slot, recovers, whole-after given a.members m was.kept.placed role slot to was.kept.free recovers did.moved (sym c.is_vacant.ensures ∙ c.if-is_vacant.false)))
 
@@ -483,11 +485,11 @@ returns-clause-good g c =
     let slot = c.in-Some-recovering_slot.slot in
     let recovers : role_state (reading_of a.members) role ≡ Recovering slot = c.in-Some-recovering_slot.ensures.some in
     let left : AreStripesRebuilt a.work a.members role = subst (λ p. AreStripesRebuilt p.work p.members role) (sym c.self.view_is) c.requires.pending in
-    let below : role < (shape_of a.members.newest).disks = left.0.0 in
+    let below : role < (shape_of a.members.newest).disks = subst (λ (n : ℕ). role < n) (count-still a.members.newest was.kept.still) left.0.0 in
     let to = receiver-recovering given a.members was.kept.placed was.kept.unlost role slot below recovers in
     let V = with_whole role slot a.members in
     let since : AreLostSince V m roles spares before after = lost-since given V m c.shape_in-disks.result.disks c.vacant_roles-before.result roles spares before after
-    (placed-given given a.members was.kept.placed None role slot to) did.moved did.failed (ap (λ (s : Shape). s.disks) c.shape_in-disks.ensures)
+    (placed-given given a.members was.kept.placed None role slot to) did.moved did.failed (ap (λ (s : Shape). s.disks) c.shape_in-disks.ensures ∙ sym (count-still a.members.newest was.kept.still))
     (λ r. c.vacant_roles-before.ensures r ∙ whole-vacant given a.members m was.kept.placed role slot to was.kept.free recovers did.moved c.shape_in-disks.result.disks r) c.newly_vacant-roles.ensures in
     let synced : a.work.resync ≡ None = ap (λ p. p.work.resync) c.self.view_is ∙ c.requires.synced in
     rw (← c.self.view_is) (λ t does' fit. good-at m (g.B.Bank.tape c.flush_and_record-spares.new.bank) _ did.given synced ((invariant_of-self-2 g c).kept.good t does' fit))
@@ -508,15 +510,15 @@ returns-clause-left g c =
     let slot = c.in-Some-recovering_slot.slot in
     let recovers : role_state (reading_of a.members) role ≡ Recovering slot = c.in-Some-recovering_slot.ensures.some in
     let left : AreStripesRebuilt a.work a.members role = subst (λ p. AreStripesRebuilt p.work p.members role) (sym c.self.view_is) c.requires.pending in
-    let below : role < (shape_of a.members.newest).disks = left.0.0 in
+    let below : role < (shape_of a.members.newest).disks = subst (λ (n : ℕ). role < n) (count-still a.members.newest was.kept.still) left.0.0 in
     let to = receiver-recovering given a.members was.kept.placed was.kept.unlost role slot below recovers in
     let V = with_whole role slot a.members in
     let since : AreLostSince V m roles spares before after = lost-since given V m c.shape_in-disks.result.disks c.vacant_roles-before.result roles spares before after
-    (placed-given given a.members was.kept.placed None role slot to) did.moved did.failed (ap (λ (s : Shape). s.disks) c.shape_in-disks.ensures)
+    (placed-given given a.members was.kept.placed None role slot to) did.moved did.failed (ap (λ (s : Shape). s.disks) c.shape_in-disks.ensures ∙ sym (count-still a.members.newest was.kept.still))
     (λ r. c.vacant_roles-before.ensures r ∙ whole-vacant given a.members m was.kept.placed role slot to was.kept.free recovers did.moved c.shape_in-disks.result.disks r) c.newly_vacant-roles.ensures in
     let n = was.kept.placed.roles in
     let not-spare = whole-spare given a.members was.kept.free role slot recovers in
-    rw (← c.self.view_is) (steps-fewer a.work _ c.args.who end (Step RebuildEnded c.steps_left-left.result ∷ Rebuilt role ∷ []) did.moved since (left-whole a.work a.members role slot below (omega (arith, below, n)) recovers left.1 not-spare) (both a.epoch.entries.items c.enter_behind.new.epoch.entries.items c.enter-2.new.epoch.entries.items c.args.who end (losses_of roles spares) (Step RebuildEnded c.steps_left-left.result) (Rebuilt role) c.enter_behind.ensures.items c.enter-2.ensures.items))
+    rw (← c.self.view_is) (steps-fewer a.work _ c.args.who end (Step RebuildEnded c.steps_left-left.result ∷ Rebuilt role ∷ []) did.moved since (left-whole a.work a.members role slot below (let count = count-still a.members.newest was.kept.still in omega (arith, below, n, count)) recovers left.1 not-spare) (both a.epoch.entries.items c.enter_behind.new.epoch.entries.items c.enter-2.new.epoch.entries.items c.args.who end (losses_of roles spares) (Step RebuildEnded c.steps_left-left.result) (Rebuilt role) c.enter_behind.ensures.items c.enter-2.ensures.items))
 
 pub returns-clause-caused : goal.returns-clause-caused
 returns-clause-caused g c =
@@ -538,11 +540,11 @@ returns-clause-failed g c =
     let slot = c.in-Some-recovering_slot.slot in
     let recovers : role_state (reading_of a.members) role ≡ Recovering slot = c.in-Some-recovering_slot.ensures.some in
     let left : AreStripesRebuilt a.work a.members role = subst (λ p. AreStripesRebuilt p.work p.members role) (sym c.self.view_is) c.requires.pending in
-    let below : role < (shape_of a.members.newest).disks = left.0.0 in
+    let below : role < (shape_of a.members.newest).disks = subst (λ (n : ℕ). role < n) (count-still a.members.newest was.kept.still) left.0.0 in
     let to = receiver-recovering given a.members was.kept.placed was.kept.unlost role slot below recovers in
     let V = with_whole role slot a.members in
     let since : AreLostSince V m roles spares before after = lost-since given V m c.shape_in-disks.result.disks c.vacant_roles-before.result roles spares before after
-    (placed-given given a.members was.kept.placed None role slot to) did.moved did.failed (ap (λ (s : Shape). s.disks) c.shape_in-disks.ensures)
+    (placed-given given a.members was.kept.placed None role slot to) did.moved did.failed (ap (λ (s : Shape). s.disks) c.shape_in-disks.ensures ∙ sym (count-still a.members.newest was.kept.still))
     (λ r. c.vacant_roles-before.ensures r ∙ whole-vacant given a.members m was.kept.placed role slot to was.kept.free recovers did.moved c.shape_in-disks.result.disks r) c.newly_vacant-roles.ensures in
     rw (← c.self.view_is) (failed-still given a.members m was.kept.placed role slot to was.kept.free recovers did.moved spares before after did.failed).roles
 
@@ -562,11 +564,11 @@ returns-clause-held g c =
     let slot = c.in-Some-recovering_slot.slot in
     let recovers : role_state (reading_of a.members) role ≡ Recovering slot = c.in-Some-recovering_slot.ensures.some in
     let left : AreStripesRebuilt a.work a.members role = subst (λ p. AreStripesRebuilt p.work p.members role) (sym c.self.view_is) c.requires.pending in
-    let below : role < (shape_of a.members.newest).disks = left.0.0 in
+    let below : role < (shape_of a.members.newest).disks = subst (λ (n : ℕ). role < n) (count-still a.members.newest was.kept.still) left.0.0 in
     let to = receiver-recovering given a.members was.kept.placed was.kept.unlost role slot below recovers in
     let V = with_whole role slot a.members in
     let since : AreLostSince V m roles spares before after = lost-since given V m c.shape_in-disks.result.disks c.vacant_roles-before.result roles spares before after
-    (placed-given given a.members was.kept.placed None role slot to) did.moved did.failed (ap (λ (s : Shape). s.disks) c.shape_in-disks.ensures)
+    (placed-given given a.members was.kept.placed None role slot to) did.moved did.failed (ap (λ (s : Shape). s.disks) c.shape_in-disks.ensures ∙ sym (count-still a.members.newest was.kept.still))
     (λ r. c.vacant_roles-before.ensures r ∙ whole-vacant given a.members m was.kept.placed role slot to was.kept.free recovers did.moved c.shape_in-disks.result.disks r) c.newly_vacant-roles.ensures in
     rw (← c.self.view_is) (record {
       roles = λ r s held. inl (holder-before given a.members m was.kept.placed role slot to was.kept.free recovers did.moved r s (did.moved.held r s held));
@@ -589,11 +591,11 @@ returns-clause-losses g c =
     let slot = c.in-Some-recovering_slot.slot in
     let recovers : role_state (reading_of a.members) role ≡ Recovering slot = c.in-Some-recovering_slot.ensures.some in
     let left : AreStripesRebuilt a.work a.members role = subst (λ p. AreStripesRebuilt p.work p.members role) (sym c.self.view_is) c.requires.pending in
-    let below : role < (shape_of a.members.newest).disks = left.0.0 in
+    let below : role < (shape_of a.members.newest).disks = subst (λ (n : ℕ). role < n) (count-still a.members.newest was.kept.still) left.0.0 in
     let to = receiver-recovering given a.members was.kept.placed was.kept.unlost role slot below recovers in
     let V = with_whole role slot a.members in
     let since : AreLostSince V m roles spares before after = lost-since given V m c.shape_in-disks.result.disks c.vacant_roles-before.result roles spares before after
-    (placed-given given a.members was.kept.placed None role slot to) did.moved did.failed (ap (λ (s : Shape). s.disks) c.shape_in-disks.ensures)
+    (placed-given given a.members was.kept.placed None role slot to) did.moved did.failed (ap (λ (s : Shape). s.disks) c.shape_in-disks.ensures ∙ sym (count-still a.members.newest was.kept.still))
     (λ r. c.vacant_roles-before.ensures r ∙ whole-vacant given a.members m was.kept.placed role slot to was.kept.free recovers did.moved c.shape_in-disks.result.disks r) c.newly_vacant-roles.ensures in
     let P = λ (e : Entry). IsLossBy (Held a.members) before after e.event in
     rw (← c.self.view_is) (losses-tail (Held a.members) V m (λ r s held. holder-before given a.members m was.kept.placed role slot to was.kept.free recovers did.moved r s held) before after a.epoch.entries.items a.epoch.entries.items c.enter-2.new.epoch.entries.items c.args.who end roles spares since refl
@@ -623,11 +625,11 @@ returns-clause-same g c =
     let slot = c.in-Some-recovering_slot.slot in
     let recovers : role_state (reading_of a.members) role ≡ Recovering slot = c.in-Some-recovering_slot.ensures.some in
     let left : AreStripesRebuilt a.work a.members role = subst (λ p. AreStripesRebuilt p.work p.members role) (sym c.self.view_is) c.requires.pending in
-    let below : role < (shape_of a.members.newest).disks = left.0.0 in
+    let below : role < (shape_of a.members.newest).disks = subst (λ (n : ℕ). role < n) (count-still a.members.newest was.kept.still) left.0.0 in
     let to = receiver-recovering given a.members was.kept.placed was.kept.unlost role slot below recovers in
     let V = with_whole role slot a.members in
     let since : AreLostSince V m roles spares before after = lost-since given V m c.shape_in-disks.result.disks c.vacant_roles-before.result roles spares before after
-    (placed-given given a.members was.kept.placed None role slot to) did.moved did.failed (ap (λ (s : Shape). s.disks) c.shape_in-disks.ensures)
+    (placed-given given a.members was.kept.placed None role slot to) did.moved did.failed (ap (λ (s : Shape). s.disks) c.shape_in-disks.ensures ∙ sym (count-still a.members.newest was.kept.still))
     (λ r. c.vacant_roles-before.ensures r ∙ whole-vacant given a.members m was.kept.placed role slot to was.kept.free recovers did.moved c.shape_in-disks.result.disks r) c.newly_vacant-roles.ensures in
     rw (← c.self.view_is) (record {
       uuid = (c.enter-2.ensures.uuid ∙ c.enter_behind.ensures.uuid);

@@ -1,4 +1,4 @@
-use Rattle.std.proofs.Common.{◌≡◌, ◌++◌, ◌∷◌, [], ◌≤◌, ℕ, false, List, Option, Some, None, refl, sym, ap, subst, arith}
+use Rattle.std.proofs.Common.{◌≡◌, ◌++◌, ◌∷◌, [], ◌≤◌, ℕ, false, List, Option, Some, None, refl, sym, ap, subst, arith, ◌∙◌}
 use Rattle.std.specs.Prelude.{MatchOption, ⊤}
 use Rattle.md_base.specs.declared.answers.Refusal.{Refusal}
 use Rattle.md_base.specs.declared.places.Shape.{Shape}
@@ -28,6 +28,7 @@ use Rattle.array_kept.proofs.DegradedLaws.{kept-refused, degraded-refused, too-m
 use Rattle.calls_kept.proofs.SettledLaws.{leaves-refused, leaves-settled}
 use Rattle.array_kept.proofs.StepsLeft.{left-ended, steps-fewer, steps-kept}
 use Rattle.calls_kept.proofs.EndLaws.{enough-mended, end-silent, degraded-ended}
+use Rattle.views.proofs.Still.{count-still}
 use Rattle.array.proofs.array.Array.end_resync.Goals as goal
 
 too-many-of : (m : Members) (o : Option Refusal) (refusal : Refusal) → o ≡ Some refusal → MatchOption o ⊤ (AreTooMany m) → AreTooMany m refusal
@@ -82,7 +83,7 @@ invariant_of-self-in-Some-refusal g c =
     let roles = c.newly_vacant-roles.result in
     let spares = c.settle-settled.result.spares in
     let end = c.ops-end-2.result in
-    let since = lost-since given a.members m c.shape_in-disks.result.disks c.vacant_roles-before.result roles spares before after was.kept.placed did.moved did.failed (ap (λ (s : Shape). s.disks) c.shape_in-disks.ensures)
+    let since = lost-since given a.members m c.shape_in-disks.result.disks c.vacant_roles-before.result roles spares before after was.kept.placed did.moved did.failed (ap (λ (s : Shape). s.disks) c.shape_in-disks.ensures ∙ sym (count-still a.members.newest was.kept.still))
     c.vacant_roles-before.ensures c.newly_vacant-roles.ensures in
     let refusal = c.in-Some-refusal.refusal in
     let many = too-many-of m c.settle-settled.result.refusal refusal c.in-Some-refusal.is did.refused in
@@ -112,7 +113,7 @@ returns-in-Some-refusal-clause-losses g c =
     let after = g.B.Bank.faults_of c.settle-settled.new.bank in
     let roles = c.newly_vacant-roles.result in
     let spares = c.settle-settled.result.spares in
-    let since = lost-since given a.members m c.shape_in-disks.result.disks c.vacant_roles-before.result roles spares before after was.kept.placed did.moved did.failed (ap (λ (s : Shape). s.disks) c.shape_in-disks.ensures)
+    let since = lost-since given a.members m c.shape_in-disks.result.disks c.vacant_roles-before.result roles spares before after was.kept.placed did.moved did.failed (ap (λ (s : Shape). s.disks) c.shape_in-disks.ensures ∙ sym (count-still a.members.newest was.kept.still))
     c.vacant_roles-before.ensures c.newly_vacant-roles.ensures in
     rw (← c.self.view_is) (losses-behind a.members m before after a.epoch.entries.items a.epoch.entries.items c.enter_behind.new.epoch.entries.items c.args.who c.ops-end-2.result roles spares
     (Refused c.in-Some-refusal.refusal) since tt refl c.enter_behind.ensures.items)
@@ -128,7 +129,7 @@ returns-in-Some-refusal-clause-stays g c =
     let after = g.B.Bank.faults_of c.settle-settled.new.bank in
     let roles = c.newly_vacant-roles.result in
     let spares = c.settle-settled.result.spares in
-    let since = lost-since given a.members m c.shape_in-disks.result.disks c.vacant_roles-before.result roles spares before after was.kept.placed did.moved did.failed (ap (λ (s : Shape). s.disks) c.shape_in-disks.ensures)
+    let since = lost-since given a.members m c.shape_in-disks.result.disks c.vacant_roles-before.result roles spares before after was.kept.placed did.moved did.failed (ap (λ (s : Shape). s.disks) c.shape_in-disks.ensures ∙ sym (count-still a.members.newest was.kept.still))
     c.vacant_roles-before.ensures c.newly_vacant-roles.ensures in
     rw (← c.self.view_is) (steps-kept a.work c.args.who c.ops-end-2.result (Refused c.in-Some-refusal.refusal ∷ []) did.moved since c.enter_behind.ensures.items)
 
@@ -173,7 +174,7 @@ invariant_of-self-2 g c =
     let roles = c.newly_vacant-roles.result in
     let spares = c.settle-settled.result.spares in
     let end = c.ops-end-2.result in
-    let since = lost-since given a.members m c.shape_in-disks.result.disks c.vacant_roles-before.result roles spares before after was.kept.placed did.moved did.failed (ap (λ (s : Shape). s.disks) c.shape_in-disks.ensures)
+    let since = lost-since given a.members m c.shape_in-disks.result.disks c.vacant_roles-before.result roles spares before after was.kept.placed did.moved did.failed (ap (λ (s : Shape). s.disks) c.shape_in-disks.ensures ∙ sym (count-still a.members.newest was.kept.still))
     c.vacant_roles-before.ensures c.newly_vacant-roles.ensures in
     ready (entries_of c.args.who end (losses_of roles spares ++ Step ResyncEnded c.steps_left-left.result ∷ []))
     (degraded-ended c.args.who end was.kept opens c.requires.caller c.ops-end-2.ensures.count did.moved did.grows roles spares before after since all c.steps_left-left.result c.steps_left-left.ensures did.others
@@ -209,7 +210,7 @@ returns-clause-left g c =
     let after = g.B.Bank.faults_of c.settle-settled.new.bank in
     let roles = c.newly_vacant-roles.result in
     let spares = c.settle-settled.result.spares in
-    let since = lost-since given a.members m c.shape_in-disks.result.disks c.vacant_roles-before.result roles spares before after was.kept.placed did.moved did.failed (ap (λ (s : Shape). s.disks) c.shape_in-disks.ensures)
+    let since = lost-since given a.members m c.shape_in-disks.result.disks c.vacant_roles-before.result roles spares before after was.kept.placed did.moved did.failed (ap (λ (s : Shape). s.disks) c.shape_in-disks.ensures ∙ sym (count-still a.members.newest was.kept.still))
     c.vacant_roles-before.ensures c.newly_vacant-roles.ensures in
     rw (← c.self.view_is) (steps-fewer (record a.work { resync = None }) (left_of a.work a.members) c.args.who c.ops-end-2.result (Step ResyncEnded c.steps_left-left.result ∷ []) did.moved since
     (left-ended a.work a.members all) c.enter_behind-2.ensures.items)
@@ -229,7 +230,7 @@ returns-clause-losses g c =
     let after = g.B.Bank.faults_of c.settle-settled.new.bank in
     let roles = c.newly_vacant-roles.result in
     let spares = c.settle-settled.result.spares in
-    let since = lost-since given a.members m c.shape_in-disks.result.disks c.vacant_roles-before.result roles spares before after was.kept.placed did.moved did.failed (ap (λ (s : Shape). s.disks) c.shape_in-disks.ensures)
+    let since = lost-since given a.members m c.shape_in-disks.result.disks c.vacant_roles-before.result roles spares before after was.kept.placed did.moved did.failed (ap (λ (s : Shape). s.disks) c.shape_in-disks.ensures ∙ sym (count-still a.members.newest was.kept.still))
     c.vacant_roles-before.ensures c.newly_vacant-roles.ensures in
     rw (← c.self.view_is) (losses-behind a.members m before after a.epoch.entries.items a.epoch.entries.items c.enter_behind-2.new.epoch.entries.items c.args.who c.ops-end-2.result roles spares
     (Step ResyncEnded c.steps_left-left.result) since tt refl c.enter_behind-2.ensures.items)

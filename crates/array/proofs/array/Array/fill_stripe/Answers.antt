@@ -15,7 +15,7 @@ use Rattle.flat_history.specs.Transfers.{last_end_from}
 use Rattle.views.specs.Whole.{list_size}
 use Rattle.views.specs.Placed.{places_of}
 use Rattle.call_entries.specs.Losing.{losses_of}
-use Rattle.views.specs.Lacking.{AreLostSince, AreTooMany, mended_rows}
+use Rattle.views.specs.Lacking.{AreLostSince, AreTooMany, mended_rows, LacksTooMany}
 use Rattle.views.specs.declared.work.Work.{Work}
 use Rattle.views.specs.Status.{rebuilt_of, left_of}
 use Rattle.array_kept.specs.Kept.{scope_in, IsKept}
@@ -32,6 +32,9 @@ use Rattle.calls_kept.proofs.RebuildFilled.{kept-unfilled, kept-filled, kept-los
 use Rattle.calls_kept.proofs.RebuildLaws.{losses-open, losses-end}
 use Rattle.call_entries.proofs.StepLaws.{losses-go_on, still-open}
 use Rattle.array_kept.proofs.StepsLeft.{left-filled, steps-fewer, steps-kept}
+use Rattle.views.proofs.Still.{count-still}
+use Rattle.views.proofs.Fit.{valid}
+use Rattle.calls_kept.proofs.TouchedLaws.{full-filled}
 use Rattle.array.proofs.array.Array.fill_stripe.Goals as goal
 
 -- losses alone
@@ -69,7 +72,7 @@ returns-in-Some-clause-ended g c =
 
 pub vacant_roles-before-requires-clause-few : goal.vacant_roles-before-requires-clause-few
 vacant_roles-before-requires-clause-few g c =
-    let most = (limited (shape_of c.self.inside.members.newest) c.self.invariant.kept.placed.valid).most in
+    let most = (limited (shape_of c.self.inside.members.newest) (valid (g.B.Bank.given c.self.inside.bank) c.self.inside.members c.self.invariant.kept.placed)).most in
     let disks = ap (λ (s : Shape). s.disks) c.shape_in-shape.ensures in
     omega (arith, most, disks)
 
@@ -86,19 +89,19 @@ invariant_of-self-in-Some-refusal g c =
     let spares = c.fill-filled.result.spares in
     let end = c.ops-end-2.result in
     let since : AreLostSince a.members m roles spares before after = lost-since given a.members m c.shape_in-shape.result.disks c.vacant_roles-before.result roles spares before after was.kept.placed did.moved did.failed
-    (ap (λ (s : Shape). s.disks) c.shape_in-shape.ensures) c.vacant_roles-before.ensures c.newly_vacant-roles.ensures in
+    (ap (λ (s : Shape). s.disks) c.shape_in-shape.ensures ∙ sym (count-still a.members.newest was.kept.still)) c.vacant_roles-before.ensures c.newly_vacant-roles.ensures in
     let opens : IsCallOpen a.epoch.entries.items c.args.who = subst (λ p. IsCallOpen p.entries c.args.who) (sym c.self.view_is) c.requires.open in
     let some : 1 ≤ a.steps = subst (λ p. 1 ≤ p.steps) (sym c.self.view_is) c.requires.room in
     let left : HasStripeUnbuilt a.work a.members c.args.role = subst (λ p. HasStripeUnbuilt p.work p.members c.args.role) (sym c.self.view_is) c.requires.pending in
     let synced : a.work.resync ≡ None = ap (λ p. p.work.resync) c.self.view_is ∙ c.requires.synced in
-    let below : c.args.role < (shape_of a.members.newest).disks = left.0.0 in
+    let below : c.args.role < (shape_of a.members.newest).disks = subst (λ (n : ℕ). c.args.role < n) (count-still a.members.newest c.self.invariant.kept.still) left.0.0 in
     let slot = c.in-Some-recovering_slot.slot in
     let does = does-without a.members c.in_default.ensures.1 in
     let refusal = c.in-Some-refusal.refusal in
     ready (entries_of c.args.who end (losses_of roles spares ++ Refused refusal ∷ []))
     (kept-unfilled c.args.who end was.kept opens c.requires.caller c.ops-end-2.ensures.count did.moved did.grows roles spares before after since c.args.role slot below c.in-Some-recovering_slot.ensures.some does
     c.shape_in-shape.result c.shape_in-shape.ensures did.rise did.clean did.safe did.others
-    refusal (some-of (AreTooMany m) c.fill-filled.result.refusal refusal c.in-Some-refusal.is did.refused))
+    refusal (some-of (LacksTooMany c.shape_in-shape.result m) c.fill-filled.result.refusal refusal c.in-Some-refusal.is did.refused))
     was.failed did.counts did.given (scope-same given a.backup did.given c.enter_behind.ensures.uuid c.enter_behind.ensures.given) c.enter_behind.ensures.first refl c.enter_behind.ensures.items
     (omega (arith, c.enter_behind.ensures.room, was.room_left, some)) (omega (arith, was.rows_fit, did.rows)) (rw did.buffer was.buffer_fits)
 
@@ -122,7 +125,7 @@ returns-in-Some-refusal-clause-stays g c =
     let spares = c.fill-filled.result.spares in
     let end = c.ops-end-2.result in
     let since : AreLostSince a.members m roles spares before after = lost-since given a.members m c.shape_in-shape.result.disks c.vacant_roles-before.result roles spares before after was.kept.placed did.moved did.failed
-    (ap (λ (s : Shape). s.disks) c.shape_in-shape.ensures) c.vacant_roles-before.ensures c.newly_vacant-roles.ensures in
+    (ap (λ (s : Shape). s.disks) c.shape_in-shape.ensures ∙ sym (count-still a.members.newest was.kept.still)) c.vacant_roles-before.ensures c.newly_vacant-roles.ensures in
     rw (← c.self.view_is) (steps-kept a.work c.args.who end (Refused c.in-Some-refusal.refusal ∷ []) did.moved since c.enter_behind.ensures.items)
 
 pub returns-in-Some-refusal-clause-held : goal.returns-in-Some-refusal-clause-held
@@ -142,7 +145,7 @@ returns-in-Some-refusal-clause-losses g c =
     let spares = c.fill-filled.result.spares in
     let end = c.ops-end-2.result in
     let since : AreLostSince a.members m roles spares before after = lost-since given a.members m c.shape_in-shape.result.disks c.vacant_roles-before.result roles spares before after was.kept.placed did.moved did.failed
-    (ap (λ (s : Shape). s.disks) c.shape_in-shape.ensures) c.vacant_roles-before.ensures c.newly_vacant-roles.ensures in
+    (ap (λ (s : Shape). s.disks) c.shape_in-shape.ensures ∙ sym (count-still a.members.newest was.kept.still)) c.vacant_roles-before.ensures c.newly_vacant-roles.ensures in
     rw (← c.self.view_is) (losses-before (Held a.members) a.members m (λ role slot held. held) before after a.epoch.entries.items a.epoch.entries.items c.enter_behind.new.epoch.entries.items c.args.who end roles spares since refl
     (Refused c.in-Some-refusal.refusal) tt c.enter_behind.ensures.items)
 
@@ -164,7 +167,7 @@ returns-in-Some-refusal-clause-same g c =
     let spares = c.fill-filled.result.spares in
     let end = c.ops-end-2.result in
     let since : AreLostSince a.members m roles spares before after = lost-since given a.members m c.shape_in-shape.result.disks c.vacant_roles-before.result roles spares before after was.kept.placed did.moved did.failed
-    (ap (λ (s : Shape). s.disks) c.shape_in-shape.ensures) c.vacant_roles-before.ensures c.newly_vacant-roles.ensures in
+    (ap (λ (s : Shape). s.disks) c.shape_in-shape.ensures ∙ sym (count-still a.members.newest was.kept.still)) c.vacant_roles-before.ensures c.newly_vacant-roles.ensures in
     rw (← c.self.view_is) (record {
       uuid = c.enter_behind.ensures.uuid;
       given = c.enter_behind.ensures.given;
@@ -191,20 +194,21 @@ invariant_of-self-then-is_vacant g c =
     let spares = c.fill-filled.result.spares in
     let end = c.ops-end-2.result in
     let since : AreLostSince a.members m roles spares before after = lost-since given a.members m c.shape_in-shape.result.disks c.vacant_roles-before.result roles spares before after was.kept.placed did.moved did.failed
-    (ap (λ (s : Shape). s.disks) c.shape_in-shape.ensures) c.vacant_roles-before.ensures c.newly_vacant-roles.ensures in
+    (ap (λ (s : Shape). s.disks) c.shape_in-shape.ensures ∙ sym (count-still a.members.newest was.kept.still)) c.vacant_roles-before.ensures c.newly_vacant-roles.ensures in
     let opens : IsCallOpen a.epoch.entries.items c.args.who = subst (λ p. IsCallOpen p.entries c.args.who) (sym c.self.view_is) c.requires.open in
     let some : 1 ≤ a.steps = subst (λ p. 1 ≤ p.steps) (sym c.self.view_is) c.requires.room in
     let left : HasStripeUnbuilt a.work a.members c.args.role = subst (λ p. HasStripeUnbuilt p.work p.members c.args.role) (sym c.self.view_is) c.requires.pending in
     let synced : a.work.resync ≡ None = ap (λ p. p.work.resync) c.self.view_is ∙ c.requires.synced in
-    let below : c.args.role < (shape_of a.members.newest).disks = left.0.0 in
+    let below : c.args.role < (shape_of a.members.newest).disks = subst (λ (n : ℕ). c.args.role < n) (count-still a.members.newest c.self.invariant.kept.still) left.0.0 in
     let slot = c.in-Some-recovering_slot.slot in
     let does = does-without a.members c.in_default.ensures.1 in
     ready (entries_of c.args.who end (losses_of roles spares))
     (subst (λ (w : Work). IsKept g.B.Bank.tells given (g.B.Bank.tape c.fill-filled.new.bank) (scope_in given a.epoch.uuid a.epoch.given a.backup) a.epoch.first (a.epoch.entries.items ++ entries_of c.args.who end (losses_of roles spares)) m w)
     (sym c.set_rebuilt.ensures.work) (kept-lost c.args.who end was.kept opens c.requires.caller c.ops-end-2.ensures.count did.moved did.grows roles spares before after since c.args.role slot below c.in-Some-recovering_slot.ensures.some does
     c.shape_in-shape.result c.shape_in-shape.ensures did.rise did.clean did.safe did.others
-    c.set_rebuilt.ensures.known (λ t fit recovers row of high. did.filled c.in_default-refusal.is recovers t _ (was.kept.holds t does (inr fit))
-    (λ other of lt. was.kept.good t does fit other (subst (λ (o : Option ℕ). other < mended_rows o a.members) (sym synced) lt) lt) row of high) (sym c.is_vacant.ensures ∙ c.if-is_vacant.true)))
+    c.set_rebuilt.ensures.known (λ t fit recovers row of high. full-filled given a.members m did.moved was.kept.placed c.shape_in-shape.result c.shape_in-shape.ensures (rebuilt_of a.work c.args.role)
+    (g.B.Bank.tape a.bank) (g.B.Bank.tape c.fill-filled.new.bank) c.args.role slot (did.filled c.in_default-refusal.is recovers) t _ (was.kept.holds t does (inr fit))
+    (λ other lt. was.kept.good t does fit other (subst (λ (o : Option ℕ). other < mended_rows o a.members) (sym synced) lt) lt) row of high) (sym c.is_vacant.ensures ∙ c.if-is_vacant.true)))
     was.failed did.counts did.given (scope-same given a.backup did.given c.enter_lost.ensures.uuid c.enter_lost.ensures.given) c.enter_lost.ensures.first refl c.enter_lost.ensures.items
     (omega (arith, c.enter_lost.ensures.room, was.room_left, some)) (omega (arith, was.rows_fit, did.rows)) (rw did.buffer was.buffer_fits)
 
@@ -221,18 +225,19 @@ returns-then-is_vacant-clause-entered g c =
     let spares = c.fill-filled.result.spares in
     let end = c.ops-end-2.result in
     let since : AreLostSince a.members m roles spares before after = lost-since given a.members m c.shape_in-shape.result.disks c.vacant_roles-before.result roles spares before after was.kept.placed did.moved did.failed
-    (ap (λ (s : Shape). s.disks) c.shape_in-shape.ensures) c.vacant_roles-before.ensures c.newly_vacant-roles.ensures in
+    (ap (λ (s : Shape). s.disks) c.shape_in-shape.ensures ∙ sym (count-still a.members.newest was.kept.still)) c.vacant_roles-before.ensures c.newly_vacant-roles.ensures in
     let opens : IsCallOpen a.epoch.entries.items c.args.who = subst (λ p. IsCallOpen p.entries c.args.who) (sym c.self.view_is) c.requires.open in
     let some : 1 ≤ a.steps = subst (λ p. 1 ≤ p.steps) (sym c.self.view_is) c.requires.room in
     let left : HasStripeUnbuilt a.work a.members c.args.role = subst (λ p. HasStripeUnbuilt p.work p.members c.args.role) (sym c.self.view_is) c.requires.pending in
     let synced : a.work.resync ≡ None = ap (λ p. p.work.resync) c.self.view_is ∙ c.requires.synced in
-    let below : c.args.role < (shape_of a.members.newest).disks = left.0.0 in
+    let below : c.args.role < (shape_of a.members.newest).disks = subst (λ (n : ℕ). c.args.role < n) (count-still a.members.newest c.self.invariant.kept.still) left.0.0 in
     let slot = c.in-Some-recovering_slot.slot in
     let does = does-without a.members c.in_default.ensures.1 in
     let told = among c.args.who end was.kept opens c.requires.caller c.ops-end-2.ensures.count did.moved did.grows roles spares before after since c.args.role slot below c.in-Some-recovering_slot.ensures.some does
     c.shape_in-shape.result c.shape_in-shape.ensures did.rise did.clean did.safe did.others
-    c.set_rebuilt.ensures.known (λ t fit recovers row of high. did.filled c.in_default-refusal.is recovers t _ (was.kept.holds t does (inr fit))
-    (λ other of lt. was.kept.good t does fit other (subst (λ (o : Option ℕ). other < mended_rows o a.members) (sym synced) lt) lt) row of high) (sym c.is_vacant.ensures ∙ c.if-is_vacant.true) in
+    c.set_rebuilt.ensures.known (λ t fit recovers row of high. full-filled given a.members m did.moved was.kept.placed c.shape_in-shape.result c.shape_in-shape.ensures (rebuilt_of a.work c.args.role)
+    (g.B.Bank.tape a.bank) (g.B.Bank.tape c.fill-filled.new.bank) c.args.role slot (did.filled c.in_default-refusal.is recovers) t _ (was.kept.holds t does (inr fit))
+    (λ other lt. was.kept.good t does fit other (subst (λ (o : Option ℕ). other < mended_rows o a.members) (sym synced) lt) lt) row of high) (sym c.is_vacant.ensures ∙ c.if-is_vacant.true) in
     rw (← c.self.view_is) (inr (record { roles = roles; spares = spares; end = end; is = c.enter_lost.ensures.items; among = told }, (sym c.is_vacant.ensures ∙ c.if-is_vacant.true)))
 
 pub returns-then-is_vacant-clause-open : goal.returns-then-is_vacant-clause-open
@@ -254,10 +259,10 @@ returns-then-is_vacant-clause-left g c =
     let spares = c.fill-filled.result.spares in
     let end = c.ops-end-2.result in
     let since : AreLostSince a.members m roles spares before after = lost-since given a.members m c.shape_in-shape.result.disks c.vacant_roles-before.result roles spares before after was.kept.placed did.moved did.failed
-    (ap (λ (s : Shape). s.disks) c.shape_in-shape.ensures) c.vacant_roles-before.ensures c.newly_vacant-roles.ensures in
+    (ap (λ (s : Shape). s.disks) c.shape_in-shape.ensures ∙ sym (count-still a.members.newest was.kept.still)) c.vacant_roles-before.ensures c.newly_vacant-roles.ensures in
     let left : HasStripeUnbuilt a.work a.members c.args.role = subst (λ p. HasStripeUnbuilt p.work p.members c.args.role) (sym c.self.view_is) c.requires.pending in
     let synced : a.work.resync ≡ None = ap (λ p. p.work.resync) c.self.view_is ∙ c.requires.synced in
-    let below : c.args.role < (shape_of a.members.newest).disks = left.0.0 in
+    let below : c.args.role < (shape_of a.members.newest).disks = subst (λ (n : ℕ). c.args.role < n) (count-still a.members.newest c.self.invariant.kept.still) left.0.0 in
     let slot = c.in-Some-recovering_slot.slot in
     let does = does-without a.members c.in_default.ensures.1 in
     rw (← c.self.view_is) (subst (λ (w : Work). AreStepsFewer a.epoch.entries.items c.enter_lost.new.epoch.entries.items (left_of a.work a.members) (left_of w m)) (sym c.set_rebuilt.ensures.work)
@@ -267,8 +272,8 @@ pub set_rebuilt-requires : goal.set_rebuilt-requires
 set_rebuilt-requires g c =
     let a = c.self.inside in
     let left : HasStripeUnbuilt a.work a.members c.args.role = subst (λ p. HasStripeUnbuilt p.work p.members c.args.role) (sym c.self.view_is) c.requires.pending in
-    let most = (limited (shape_of a.members.newest) c.self.invariant.kept.placed.valid).most in
-    let below = left.0.0 in
+    let most = (limited (shape_of a.members.newest) (valid (g.B.Bank.given a.bank) a.members c.self.invariant.kept.placed)).most in
+    let below = subst (λ (n : ℕ). c.args.role < n) (count-still a.members.newest c.self.invariant.kept.still) left.0.0 in
     omega (arith, most, below)
 
 pub returns-then-is_vacant-clause-work : goal.returns-then-is_vacant-clause-work
@@ -300,7 +305,7 @@ returns-then-is_vacant-clause-losses g c =
     let spares = c.fill-filled.result.spares in
     let end = c.ops-end-2.result in
     let since : AreLostSince a.members m roles spares before after = lost-since given a.members m c.shape_in-shape.result.disks c.vacant_roles-before.result roles spares before after was.kept.placed did.moved did.failed
-    (ap (λ (s : Shape). s.disks) c.shape_in-shape.ensures) c.vacant_roles-before.ensures c.newly_vacant-roles.ensures in
+    (ap (λ (s : Shape). s.disks) c.shape_in-shape.ensures ∙ sym (count-still a.members.newest was.kept.still)) c.vacant_roles-before.ensures c.newly_vacant-roles.ensures in
     rw (← c.self.view_is) (losses-tail (Held a.members) a.members m (λ role slot held. held) before after a.epoch.entries.items a.epoch.entries.items c.enter_lost.new.epoch.entries.items c.args.who end roles spares since refl
     [] (All-nil (λ e. IsLossBy (Held a.members) before after e.event)) (alone a.epoch.entries.items c.enter_lost.new.epoch.entries.items c.args.who end (losses_of roles spares) c.enter_lost.ensures.items))
 
@@ -318,18 +323,19 @@ returns-then-is_vacant-clause-ended g c =
     let spares = c.fill-filled.result.spares in
     let end = c.ops-end-2.result in
     let since : AreLostSince a.members m roles spares before after = lost-since given a.members m c.shape_in-shape.result.disks c.vacant_roles-before.result roles spares before after was.kept.placed did.moved did.failed
-    (ap (λ (s : Shape). s.disks) c.shape_in-shape.ensures) c.vacant_roles-before.ensures c.newly_vacant-roles.ensures in
+    (ap (λ (s : Shape). s.disks) c.shape_in-shape.ensures ∙ sym (count-still a.members.newest was.kept.still)) c.vacant_roles-before.ensures c.newly_vacant-roles.ensures in
     let opens : IsCallOpen a.epoch.entries.items c.args.who = subst (λ p. IsCallOpen p.entries c.args.who) (sym c.self.view_is) c.requires.open in
     let some : 1 ≤ a.steps = subst (λ p. 1 ≤ p.steps) (sym c.self.view_is) c.requires.room in
     let left : HasStripeUnbuilt a.work a.members c.args.role = subst (λ p. HasStripeUnbuilt p.work p.members c.args.role) (sym c.self.view_is) c.requires.pending in
     let synced : a.work.resync ≡ None = ap (λ p. p.work.resync) c.self.view_is ∙ c.requires.synced in
-    let below : c.args.role < (shape_of a.members.newest).disks = left.0.0 in
+    let below : c.args.role < (shape_of a.members.newest).disks = subst (λ (n : ℕ). c.args.role < n) (count-still a.members.newest c.self.invariant.kept.still) left.0.0 in
     let slot = c.in-Some-recovering_slot.slot in
     let does = does-without a.members c.in_default.ensures.1 in
     let told = among c.args.who end was.kept opens c.requires.caller c.ops-end-2.ensures.count did.moved did.grows roles spares before after since c.args.role slot below c.in-Some-recovering_slot.ensures.some does
     c.shape_in-shape.result c.shape_in-shape.ensures did.rise did.clean did.safe did.others
-    c.set_rebuilt.ensures.known (λ t fit recovers row of high. did.filled c.in_default-refusal.is recovers t _ (was.kept.holds t does (inr fit))
-    (λ other of lt. was.kept.good t does fit other (subst (λ (o : Option ℕ). other < mended_rows o a.members) (sym synced) lt) lt) row of high) (sym c.is_vacant.ensures ∙ c.if-is_vacant.true) in
+    c.set_rebuilt.ensures.known (λ t fit recovers row of high. full-filled given a.members m did.moved was.kept.placed c.shape_in-shape.result c.shape_in-shape.ensures (rebuilt_of a.work c.args.role)
+    (g.B.Bank.tape a.bank) (g.B.Bank.tape c.fill-filled.new.bank) c.args.role slot (did.filled c.in_default-refusal.is recovers) t _ (was.kept.holds t does (inr fit))
+    (λ other lt. was.kept.good t does fit other (subst (λ (o : Option ℕ). other < mended_rows o a.members) (sym synced) lt) lt) row of high) (sym c.is_vacant.ensures ∙ c.if-is_vacant.true) in
     let at : end ≡ length (g.B.Bank.tape c.fill-filled.new.bank) = c.ops-end-2.ensures.count t in
     subst (λ (l : List Entry). last_end_from c.enter_lost.new.epoch.first l ≡ length (g.B.Bank.tape c.fill-filled.new.bank)) (sym c.enter_lost.ensures.items)
     (losses-end c.enter_lost.new.epoch.first a.epoch.entries.items c.args.who end (losses_of roles spares) (Lost c.args.role Fault) told ∙ at)
@@ -351,7 +357,7 @@ returns-then-is_vacant-clause-same g c =
     let spares = c.fill-filled.result.spares in
     let end = c.ops-end-2.result in
     let since : AreLostSince a.members m roles spares before after = lost-since given a.members m c.shape_in-shape.result.disks c.vacant_roles-before.result roles spares before after was.kept.placed did.moved did.failed
-    (ap (λ (s : Shape). s.disks) c.shape_in-shape.ensures) c.vacant_roles-before.ensures c.newly_vacant-roles.ensures in
+    (ap (λ (s : Shape). s.disks) c.shape_in-shape.ensures ∙ sym (count-still a.members.newest was.kept.still)) c.vacant_roles-before.ensures c.newly_vacant-roles.ensures in
     rw (← c.self.view_is) (record {
       uuid = c.enter_lost.ensures.uuid;
       given = c.enter_lost.ensures.given;
@@ -378,20 +384,21 @@ invariant_of-self-2 g c =
     let spares = c.fill-filled.result.spares in
     let end = c.ops-end-2.result in
     let since : AreLostSince a.members m roles spares before after = lost-since given a.members m c.shape_in-shape.result.disks c.vacant_roles-before.result roles spares before after was.kept.placed did.moved did.failed
-    (ap (λ (s : Shape). s.disks) c.shape_in-shape.ensures) c.vacant_roles-before.ensures c.newly_vacant-roles.ensures in
+    (ap (λ (s : Shape). s.disks) c.shape_in-shape.ensures ∙ sym (count-still a.members.newest was.kept.still)) c.vacant_roles-before.ensures c.newly_vacant-roles.ensures in
     let opens : IsCallOpen a.epoch.entries.items c.args.who = subst (λ p. IsCallOpen p.entries c.args.who) (sym c.self.view_is) c.requires.open in
     let some : 1 ≤ a.steps = subst (λ p. 1 ≤ p.steps) (sym c.self.view_is) c.requires.room in
     let left : HasStripeUnbuilt a.work a.members c.args.role = subst (λ p. HasStripeUnbuilt p.work p.members c.args.role) (sym c.self.view_is) c.requires.pending in
     let synced : a.work.resync ≡ None = ap (λ p. p.work.resync) c.self.view_is ∙ c.requires.synced in
-    let below : c.args.role < (shape_of a.members.newest).disks = left.0.0 in
+    let below : c.args.role < (shape_of a.members.newest).disks = subst (λ (n : ℕ). c.args.role < n) (count-still a.members.newest c.self.invariant.kept.still) left.0.0 in
     let slot = c.in-Some-recovering_slot.slot in
     let does = does-without a.members c.in_default.ensures.1 in
     ready (entries_of c.args.who end (losses_of roles spares ++ Step RebuildStripe c.steps_left-left.result ∷ []))
     (subst (λ (w : Work). IsKept g.B.Bank.tells given (g.B.Bank.tape c.fill-filled.new.bank) (scope_in given a.epoch.uuid a.epoch.given a.backup) a.epoch.first (a.epoch.entries.items ++ entries_of c.args.who end (losses_of roles spares ++ Step RebuildStripe c.steps_left-left.result ∷ [])) m w)
     (sym c.set_rebuilt.ensures.work) (kept-filled c.args.who end was.kept opens c.requires.caller c.ops-end-2.ensures.count did.moved did.grows roles spares before after since c.args.role slot below c.in-Some-recovering_slot.ensures.some does
     c.shape_in-shape.result c.shape_in-shape.ensures did.rise did.clean did.safe did.others
-    c.set_rebuilt.ensures.known (λ t fit recovers row of high. did.filled c.in_default-refusal.is recovers t _ (was.kept.holds t does (inr fit))
-    (λ other of lt. was.kept.good t does fit other (subst (λ (o : Option ℕ). other < mended_rows o a.members) (sym synced) lt) lt) row of high)
+    c.set_rebuilt.ensures.known (λ t fit recovers row of high. full-filled given a.members m did.moved was.kept.placed c.shape_in-shape.result c.shape_in-shape.ensures (rebuilt_of a.work c.args.role)
+    (g.B.Bank.tape a.bank) (g.B.Bank.tape c.fill-filled.new.bank) c.args.role slot (did.filled c.in_default-refusal.is recovers) t _ (was.kept.holds t does (inr fit))
+    (λ other lt. was.kept.good t does fit other (subst (λ (o : Option ℕ). other < mended_rows o a.members) (sym synced) lt) lt) row of high)
     left.1 c.steps_left-left.result (c.steps_left-left.ensures ∙ ap (λ (w : Work). left_of w m) c.set_rebuilt.ensures.work)))
     was.failed did.counts did.given (scope-same given a.backup did.given c.enter_behind-2.ensures.uuid c.enter_behind-2.ensures.given) c.enter_behind-2.ensures.first refl c.enter_behind-2.ensures.items
     (omega (arith, c.enter_behind-2.ensures.room, was.room_left, some)) (omega (arith, was.rows_fit, did.rows)) (rw did.buffer was.buffer_fits)
@@ -416,10 +423,10 @@ returns-clause-left g c =
     let spares = c.fill-filled.result.spares in
     let end = c.ops-end-2.result in
     let since : AreLostSince a.members m roles spares before after = lost-since given a.members m c.shape_in-shape.result.disks c.vacant_roles-before.result roles spares before after was.kept.placed did.moved did.failed
-    (ap (λ (s : Shape). s.disks) c.shape_in-shape.ensures) c.vacant_roles-before.ensures c.newly_vacant-roles.ensures in
+    (ap (λ (s : Shape). s.disks) c.shape_in-shape.ensures ∙ sym (count-still a.members.newest was.kept.still)) c.vacant_roles-before.ensures c.newly_vacant-roles.ensures in
     let left : HasStripeUnbuilt a.work a.members c.args.role = subst (λ p. HasStripeUnbuilt p.work p.members c.args.role) (sym c.self.view_is) c.requires.pending in
     let synced : a.work.resync ≡ None = ap (λ p. p.work.resync) c.self.view_is ∙ c.requires.synced in
-    let below : c.args.role < (shape_of a.members.newest).disks = left.0.0 in
+    let below : c.args.role < (shape_of a.members.newest).disks = subst (λ (n : ℕ). c.args.role < n) (count-still a.members.newest c.self.invariant.kept.still) left.0.0 in
     let slot = c.in-Some-recovering_slot.slot in
     let does = does-without a.members c.in_default.ensures.1 in
     rw (← c.self.view_is) (subst (λ (w : Work). AreStepsFewer a.epoch.entries.items c.enter_behind-2.new.epoch.entries.items (left_of a.work a.members) (left_of w m)) (sym c.set_rebuilt.ensures.work)
@@ -454,7 +461,7 @@ returns-clause-losses g c =
     let spares = c.fill-filled.result.spares in
     let end = c.ops-end-2.result in
     let since : AreLostSince a.members m roles spares before after = lost-since given a.members m c.shape_in-shape.result.disks c.vacant_roles-before.result roles spares before after was.kept.placed did.moved did.failed
-    (ap (λ (s : Shape). s.disks) c.shape_in-shape.ensures) c.vacant_roles-before.ensures c.newly_vacant-roles.ensures in
+    (ap (λ (s : Shape). s.disks) c.shape_in-shape.ensures ∙ sym (count-still a.members.newest was.kept.still)) c.vacant_roles-before.ensures c.newly_vacant-roles.ensures in
     rw (← c.self.view_is) (losses-before (Held a.members) a.members m (λ role slot held. held) before after a.epoch.entries.items a.epoch.entries.items c.enter_behind-2.new.epoch.entries.items c.args.who end roles spares since refl
     (Step RebuildStripe c.steps_left-left.result) tt c.enter_behind-2.ensures.items)
 
@@ -480,7 +487,7 @@ returns-clause-same g c =
     let spares = c.fill-filled.result.spares in
     let end = c.ops-end-2.result in
     let since : AreLostSince a.members m roles spares before after = lost-since given a.members m c.shape_in-shape.result.disks c.vacant_roles-before.result roles spares before after was.kept.placed did.moved did.failed
-    (ap (λ (s : Shape). s.disks) c.shape_in-shape.ensures) c.vacant_roles-before.ensures c.newly_vacant-roles.ensures in
+    (ap (λ (s : Shape). s.disks) c.shape_in-shape.ensures ∙ sym (count-still a.members.newest was.kept.still)) c.vacant_roles-before.ensures c.newly_vacant-roles.ensures in
     rw (← c.self.view_is) (record {
       uuid = c.enter_behind-2.ensures.uuid;
       given = c.enter_behind-2.ensures.given;

@@ -157,7 +157,7 @@ invariant_of-self-then-contains g c =
     let given = g.B.Bank.given a.bank in
     let e = c.add_member-lost.ensures in
     let look = c.look_at.ensures in
-    let did = add-done look.given was.kept.slots was.kept.placed was.kept.unlost was.kept.free (slot-there given a.backup c.args.slot a.members was.kept.placed addable)
+    let did = add-done look.given was.kept.slots was.kept.placed was.kept.still was.kept.unlost was.kept.free (slot-there given a.backup c.args.slot a.members was.kept.placed addable)
     (λ role may. slot-free given a.backup c.args.slot a.members was.kept.placed addable (inr (role, may))) look.counts c.spare_for-sb.ensures.made e.own e.moved e.failed e.lost e.grows e.others e.clean e.rise e.counts in
     let since = since-added did c.shape_in-disks.result.disks c.vacant_roles-before.result c.newly_vacant-roles.result c.without-spares.result (ap (λ (s : Shape). s.disks) c.shape_in-disks.ensures)
     c.vacant_roles-before.ensures c.newly_vacant-roles.ensures
@@ -196,7 +196,7 @@ returns-then-contains-clause-caused g c =
     let given = g.B.Bank.given a.bank in
     let e = c.add_member-lost.ensures in
     let look = c.look_at.ensures in
-    let did = add-done look.given was.kept.slots was.kept.placed was.kept.unlost was.kept.free (slot-there given a.backup c.args.slot a.members was.kept.placed addable)
+    let did = add-done look.given was.kept.slots was.kept.placed was.kept.still was.kept.unlost was.kept.free (slot-there given a.backup c.args.slot a.members was.kept.placed addable)
     (λ role may. slot-free given a.backup c.args.slot a.members was.kept.placed addable (inr (role, may))) look.counts c.spare_for-sb.ensures.made e.own e.moved e.failed e.lost e.grows e.others e.clean e.rise e.counts in
     let since = since-added did c.shape_in-disks.result.disks c.vacant_roles-before.result c.newly_vacant-roles.result c.without-spares.result (ap (λ (s : Shape). s.disks) c.shape_in-disks.ensures)
     c.vacant_roles-before.ensures c.newly_vacant-roles.ensures
@@ -212,7 +212,7 @@ returns-then-contains-clause-spares g c =
     let given = g.B.Bank.given a.bank in
     let e = c.add_member-lost.ensures in
     let look = c.look_at.ensures in
-    let did = add-done look.given was.kept.slots was.kept.placed was.kept.unlost was.kept.free (slot-there given a.backup c.args.slot a.members was.kept.placed addable)
+    let did = add-done look.given was.kept.slots was.kept.placed was.kept.still was.kept.unlost was.kept.free (slot-there given a.backup c.args.slot a.members was.kept.placed addable)
     (λ role may. slot-free given a.backup c.args.slot a.members was.kept.placed addable (inr (role, may))) look.counts c.spare_for-sb.ensures.made e.own e.moved e.failed e.lost e.grows e.others e.clean e.rise e.counts in
     let since = since-added did c.shape_in-disks.result.disks c.vacant_roles-before.result c.newly_vacant-roles.result c.without-spares.result (ap (λ (s : Shape). s.disks) c.shape_in-disks.ensures)
     c.vacant_roles-before.ensures c.newly_vacant-roles.ensures
@@ -232,7 +232,7 @@ returns-then-contains-clause-others g c =
     let given = g.B.Bank.given a.bank in
     let e = c.add_member-lost.ensures in
     let look = c.look_at.ensures in
-    let did = add-done look.given was.kept.slots was.kept.placed was.kept.unlost was.kept.free (slot-there given a.backup c.args.slot a.members was.kept.placed addable)
+    let did = add-done look.given was.kept.slots was.kept.placed was.kept.still was.kept.unlost was.kept.free (slot-there given a.backup c.args.slot a.members was.kept.placed addable)
     (λ role may. slot-free given a.backup c.args.slot a.members was.kept.placed addable (inr (role, may))) look.counts c.spare_for-sb.ensures.made e.own e.moved e.failed e.lost e.grows e.others e.clean e.rise e.counts in
     let since = since-added did c.shape_in-disks.result.disks c.vacant_roles-before.result c.newly_vacant-roles.result c.without-spares.result (ap (λ (s : Shape). s.disks) c.shape_in-disks.ensures)
     c.vacant_roles-before.ensures c.newly_vacant-roles.ensures
@@ -247,7 +247,7 @@ returns-then-contains-clause-failed g c =
     let given = g.B.Bank.given a.bank in
     let e = c.add_member-lost.ensures in
     let look = c.look_at.ensures in
-    let did = add-done look.given was.kept.slots was.kept.placed was.kept.unlost was.kept.free (slot-there given a.backup c.args.slot a.members was.kept.placed addable)
+    let did = add-done look.given was.kept.slots was.kept.placed was.kept.still was.kept.unlost was.kept.free (slot-there given a.backup c.args.slot a.members was.kept.placed addable)
     (λ role may. slot-free given a.backup c.args.slot a.members was.kept.placed addable (inr (role, may))) look.counts c.spare_for-sb.ensures.made e.own e.moved e.failed e.lost e.grows e.others e.clean e.rise e.counts in
     let since = since-added did c.shape_in-disks.result.disks c.vacant_roles-before.result c.newly_vacant-roles.result c.without-spares.result (ap (λ (s : Shape). s.disks) c.shape_in-disks.ensures)
     c.vacant_roles-before.ensures c.newly_vacant-roles.ensures
@@ -266,7 +266,7 @@ returns-then-contains-clause-losses g c =
     let given = g.B.Bank.given a.bank in
     let e = c.add_member-lost.ensures in
     let look = c.look_at.ensures in
-    let did = add-done look.given was.kept.slots was.kept.placed was.kept.unlost was.kept.free (slot-there given a.backup c.args.slot a.members was.kept.placed addable)
+    let did = add-done look.given was.kept.slots was.kept.placed was.kept.still was.kept.unlost was.kept.free (slot-there given a.backup c.args.slot a.members was.kept.placed addable)
     (λ role may. slot-free given a.backup c.args.slot a.members was.kept.placed addable (inr (role, may))) look.counts c.spare_for-sb.ensures.made e.own e.moved e.failed e.lost e.grows e.others e.clean e.rise e.counts in
     let since = since-added did c.shape_in-disks.result.disks c.vacant_roles-before.result c.newly_vacant-roles.result c.without-spares.result (ap (λ (s : Shape). s.disks) c.shape_in-disks.ensures)
     c.vacant_roles-before.ensures c.newly_vacant-roles.ensures
@@ -296,7 +296,7 @@ returns-then-contains-clause-never_falls g c =
     let given = g.B.Bank.given a.bank in
     let e = c.add_member-lost.ensures in
     let look = c.look_at.ensures in
-    let did = add-done look.given was.kept.slots was.kept.placed was.kept.unlost was.kept.free (slot-there given a.backup c.args.slot a.members was.kept.placed addable)
+    let did = add-done look.given was.kept.slots was.kept.placed was.kept.still was.kept.unlost was.kept.free (slot-there given a.backup c.args.slot a.members was.kept.placed addable)
     (λ role may. slot-free given a.backup c.args.slot a.members was.kept.placed addable (inr (role, may))) look.counts c.spare_for-sb.ensures.made e.own e.moved e.failed e.lost e.grows e.others e.clean e.rise e.counts in
     let since = since-added did c.shape_in-disks.result.disks c.vacant_roles-before.result c.newly_vacant-roles.result c.without-spares.result (ap (λ (s : Shape). s.disks) c.shape_in-disks.ensures)
     c.vacant_roles-before.ensures c.newly_vacant-roles.ensures
@@ -331,7 +331,7 @@ invariant_of-self-2 g c =
     let given = g.B.Bank.given a.bank in
     let e = c.add_member-lost.ensures in
     let look = c.look_at.ensures in
-    let did = add-done look.given was.kept.slots was.kept.placed was.kept.unlost was.kept.free (slot-there given a.backup c.args.slot a.members was.kept.placed addable)
+    let did = add-done look.given was.kept.slots was.kept.placed was.kept.still was.kept.unlost was.kept.free (slot-there given a.backup c.args.slot a.members was.kept.placed addable)
     (λ role may. slot-free given a.backup c.args.slot a.members was.kept.placed addable (inr (role, may))) look.counts c.spare_for-sb.ensures.made e.own e.moved e.failed e.lost e.grows e.others e.clean e.rise e.counts in
     let since = since-added did c.shape_in-disks.result.disks c.vacant_roles-before.result c.newly_vacant-roles.result c.without-spares.result (ap (λ (s : Shape). s.disks) c.shape_in-disks.ensures)
     c.vacant_roles-before.ensures c.newly_vacant-roles.ensures
@@ -375,7 +375,7 @@ returns-clause-spares g c =
     let given = g.B.Bank.given a.bank in
     let e = c.add_member-lost.ensures in
     let look = c.look_at.ensures in
-    let did = add-done look.given was.kept.slots was.kept.placed was.kept.unlost was.kept.free (slot-there given a.backup c.args.slot a.members was.kept.placed addable)
+    let did = add-done look.given was.kept.slots was.kept.placed was.kept.still was.kept.unlost was.kept.free (slot-there given a.backup c.args.slot a.members was.kept.placed addable)
     (λ role may. slot-free given a.backup c.args.slot a.members was.kept.placed addable (inr (role, may))) look.counts c.spare_for-sb.ensures.made e.own e.moved e.failed e.lost e.grows e.others e.clean e.rise e.counts in
     let since = since-added did c.shape_in-disks.result.disks c.vacant_roles-before.result c.newly_vacant-roles.result c.without-spares.result (ap (λ (s : Shape). s.disks) c.shape_in-disks.ensures)
     c.vacant_roles-before.ensures c.newly_vacant-roles.ensures
@@ -395,7 +395,7 @@ returns-clause-others g c =
     let given = g.B.Bank.given a.bank in
     let e = c.add_member-lost.ensures in
     let look = c.look_at.ensures in
-    let did = add-done look.given was.kept.slots was.kept.placed was.kept.unlost was.kept.free (slot-there given a.backup c.args.slot a.members was.kept.placed addable)
+    let did = add-done look.given was.kept.slots was.kept.placed was.kept.still was.kept.unlost was.kept.free (slot-there given a.backup c.args.slot a.members was.kept.placed addable)
     (λ role may. slot-free given a.backup c.args.slot a.members was.kept.placed addable (inr (role, may))) look.counts c.spare_for-sb.ensures.made e.own e.moved e.failed e.lost e.grows e.others e.clean e.rise e.counts in
     let since = since-added did c.shape_in-disks.result.disks c.vacant_roles-before.result c.newly_vacant-roles.result c.without-spares.result (ap (λ (s : Shape). s.disks) c.shape_in-disks.ensures)
     c.vacant_roles-before.ensures c.newly_vacant-roles.ensures
@@ -410,7 +410,7 @@ returns-clause-failed g c =
     let given = g.B.Bank.given a.bank in
     let e = c.add_member-lost.ensures in
     let look = c.look_at.ensures in
-    let did = add-done look.given was.kept.slots was.kept.placed was.kept.unlost was.kept.free (slot-there given a.backup c.args.slot a.members was.kept.placed addable)
+    let did = add-done look.given was.kept.slots was.kept.placed was.kept.still was.kept.unlost was.kept.free (slot-there given a.backup c.args.slot a.members was.kept.placed addable)
     (λ role may. slot-free given a.backup c.args.slot a.members was.kept.placed addable (inr (role, may))) look.counts c.spare_for-sb.ensures.made e.own e.moved e.failed e.lost e.grows e.others e.clean e.rise e.counts in
     let since = since-added did c.shape_in-disks.result.disks c.vacant_roles-before.result c.newly_vacant-roles.result c.without-spares.result (ap (λ (s : Shape). s.disks) c.shape_in-disks.ensures)
     c.vacant_roles-before.ensures c.newly_vacant-roles.ensures
@@ -429,7 +429,7 @@ returns-clause-losses g c =
     let given = g.B.Bank.given a.bank in
     let e = c.add_member-lost.ensures in
     let look = c.look_at.ensures in
-    let did = add-done look.given was.kept.slots was.kept.placed was.kept.unlost was.kept.free (slot-there given a.backup c.args.slot a.members was.kept.placed addable)
+    let did = add-done look.given was.kept.slots was.kept.placed was.kept.still was.kept.unlost was.kept.free (slot-there given a.backup c.args.slot a.members was.kept.placed addable)
     (λ role may. slot-free given a.backup c.args.slot a.members was.kept.placed addable (inr (role, may))) look.counts c.spare_for-sb.ensures.made e.own e.moved e.failed e.lost e.grows e.others e.clean e.rise e.counts in
     let since = since-added did c.shape_in-disks.result.disks c.vacant_roles-before.result c.newly_vacant-roles.result c.without-spares.result (ap (λ (s : Shape). s.disks) c.shape_in-disks.ensures)
     c.vacant_roles-before.ensures c.newly_vacant-roles.ensures
@@ -459,7 +459,7 @@ returns-clause-never_falls g c =
     let given = g.B.Bank.given a.bank in
     let e = c.add_member-lost.ensures in
     let look = c.look_at.ensures in
-    let did = add-done look.given was.kept.slots was.kept.placed was.kept.unlost was.kept.free (slot-there given a.backup c.args.slot a.members was.kept.placed addable)
+    let did = add-done look.given was.kept.slots was.kept.placed was.kept.still was.kept.unlost was.kept.free (slot-there given a.backup c.args.slot a.members was.kept.placed addable)
     (λ role may. slot-free given a.backup c.args.slot a.members was.kept.placed addable (inr (role, may))) look.counts c.spare_for-sb.ensures.made e.own e.moved e.failed e.lost e.grows e.others e.clean e.rise e.counts in
     let since = since-added did c.shape_in-disks.result.disks c.vacant_roles-before.result c.newly_vacant-roles.result c.without-spares.result (ap (λ (s : Shape). s.disks) c.shape_in-disks.ensures)
     c.vacant_roles-before.ensures c.newly_vacant-roles.ensures

@@ -28,6 +28,8 @@ use Rattle.calls_kept.proofs.RebuildGiven.{receiver-spare, taken-vacant, taken-h
 use Rattle.calls_kept.proofs.RebuildTaken.{kept-taken}
 use Rattle.call_entries.proofs.StepLaws.{losses-go_on, still-open}
 use Rattle.array_kept.proofs.StepsLeft.{left-taken, steps-fewer}
+use Rattle.views.proofs.Still.{count-still}
+use Rattle.views.proofs.Fit.{valid}
 use Rattle.array.proofs.array.Array.take_role.Goals as goal
 
 -- ---- refused before anything is done
@@ -62,7 +64,7 @@ returns-in-Some-clause-ended g c =
 
 pub vacant_roles-requires-clause-few : goal.vacant_roles-requires-clause-few
 vacant_roles-requires-clause-few g c =
-    let most = (limited (shape_of c.self.inside.members.newest) c.self.invariant.kept.placed.valid).most in
+    let most = (limited (shape_of c.self.inside.members.newest) (valid (g.B.Bank.given c.self.inside.bank) c.self.inside.members c.self.invariant.kept.placed)).most in
     let disks = ap (λ (s : Shape). s.disks) c.shape_in-disks.ensures in
     omega (arith, most, disks)
 
@@ -70,7 +72,7 @@ pub set_rebuilt-requires : goal.set_rebuilt-requires
 set_rebuilt-requires g c =
     let a = c.self.inside in
     let below : c.args.role < (shape_of a.members.newest).disks = subst (λ p. c.args.role < (shape_of p.members.newest).disks) (sym c.self.view_is) c.requires.role in
-    let most = (limited (shape_of a.members.newest) c.self.invariant.kept.placed.valid).most in
+    let most = (limited (shape_of a.members.newest) (valid (g.B.Bank.given a.bank) a.members c.self.invariant.kept.placed)).most in
     omega (arith, most, below)
 
 pub invariant_of-self-2 : goal.invariant_of-self-2
@@ -89,12 +91,12 @@ invariant_of-self-2 g c =
     let vacant : is_vacant (reading_of a.members) c.args.role ≡ true = ap (λ p. is_vacant (reading_of p.members) c.args.role) c.self.view_is ∙ c.requires.vacant in
     let spare : has_spare a.members.spares c.args.slot ≡ true = ap (λ p. has_spare p.members.spares c.args.slot) c.self.view_is ∙ c.requires.spare in
     let to = receiver-spare given a.members was.kept.placed was.kept.free c.args.role c.args.slot below vacant spare in
-    let most = (limited (shape_of a.members.newest) was.kept.placed.valid).most in
+    let most = (limited (shape_of a.members.newest) (valid (g.B.Bank.given a.bank) a.members was.kept.placed)).most in
     let few : c.shape_in-disks.result.disks ≤ 32 = (let disks = ap (λ (s : Shape). s.disks) c.shape_in-disks.ensures in omega (arith, most, disks)) in
     let V = with_recovering c.args.role c.args.slot a.members in
     let since : AreLostSince V m roles spares before after = lost-since given V m c.shape_in-disks.result.disks c.without-before.result roles spares before after
     (placed-given given a.members was.kept.placed (Some 0) c.args.role c.args.slot to) did.moved did.failed
-    (ap (λ (s : Shape). s.disks) c.shape_in-disks.ensures)
+    (ap (λ (s : Shape). s.disks) c.shape_in-disks.ensures ∙ sym (count-still a.members.newest was.kept.still))
     (taken-vacant given a.members was.kept.placed c.args.role c.args.slot to c.shape_in-disks.result.disks c.vacant_roles.result c.with.result c.without-before.result few (omega arith)
     c.vacant_roles.ensures c.with.ensures c.without-before.ensures) c.newly_vacant-roles.ensures in
     let opens : IsCallOpen a.epoch.entries.items c.args.who = subst (λ p. IsCallOpen p.entries c.args.who) (sym c.self.view_is) c.requires.open in
@@ -131,12 +133,12 @@ returns-clause-taken g c =
     let vacant : is_vacant (reading_of a.members) c.args.role ≡ true = ap (λ p. is_vacant (reading_of p.members) c.args.role) c.self.view_is ∙ c.requires.vacant in
     let spare : has_spare a.members.spares c.args.slot ≡ true = ap (λ p. has_spare p.members.spares c.args.slot) c.self.view_is ∙ c.requires.spare in
     let to = receiver-spare given a.members was.kept.placed was.kept.free c.args.role c.args.slot below vacant spare in
-    let most = (limited (shape_of a.members.newest) was.kept.placed.valid).most in
+    let most = (limited (shape_of a.members.newest) (valid (g.B.Bank.given a.bank) a.members was.kept.placed)).most in
     let few : c.shape_in-disks.result.disks ≤ 32 = (let disks = ap (λ (s : Shape). s.disks) c.shape_in-disks.ensures in omega (arith, most, disks)) in
     let V = with_recovering c.args.role c.args.slot a.members in
     let since : AreLostSince V m roles spares before after = lost-since given V m c.shape_in-disks.result.disks c.without-before.result roles spares before after
     (placed-given given a.members was.kept.placed (Some 0) c.args.role c.args.slot to) did.moved did.failed
-    (ap (λ (s : Shape). s.disks) c.shape_in-disks.ensures)
+    (ap (λ (s : Shape). s.disks) c.shape_in-disks.ensures ∙ sym (count-still a.members.newest was.kept.still))
     (taken-vacant given a.members was.kept.placed c.args.role c.args.slot to c.shape_in-disks.result.disks c.vacant_roles.result c.with.result c.without-before.result few (omega arith)
     c.vacant_roles.ensures c.with.ensures c.without-before.ensures) c.newly_vacant-roles.ensures in
     taken-after given a.members was.kept.placed c.args.role c.args.slot to m did.moved
@@ -161,19 +163,19 @@ returns-clause-left g c =
     let vacant : is_vacant (reading_of a.members) c.args.role ≡ true = ap (λ p. is_vacant (reading_of p.members) c.args.role) c.self.view_is ∙ c.requires.vacant in
     let spare : has_spare a.members.spares c.args.slot ≡ true = ap (λ p. has_spare p.members.spares c.args.slot) c.self.view_is ∙ c.requires.spare in
     let to = receiver-spare given a.members was.kept.placed was.kept.free c.args.role c.args.slot below vacant spare in
-    let most = (limited (shape_of a.members.newest) was.kept.placed.valid).most in
+    let most = (limited (shape_of a.members.newest) (valid (g.B.Bank.given a.bank) a.members was.kept.placed)).most in
     let few : c.shape_in-disks.result.disks ≤ 32 = (let disks = ap (λ (s : Shape). s.disks) c.shape_in-disks.ensures in omega (arith, most, disks)) in
     let V = with_recovering c.args.role c.args.slot a.members in
     let since : AreLostSince V m roles spares before after = lost-since given V m c.shape_in-disks.result.disks c.without-before.result roles spares before after
     (placed-given given a.members was.kept.placed (Some 0) c.args.role c.args.slot to) did.moved did.failed
-    (ap (λ (s : Shape). s.disks) c.shape_in-disks.ensures)
+    (ap (λ (s : Shape). s.disks) c.shape_in-disks.ensures ∙ sym (count-still a.members.newest was.kept.still))
     (taken-vacant given a.members was.kept.placed c.args.role c.args.slot to c.shape_in-disks.result.disks c.vacant_roles.result c.with.result c.without-before.result few (omega arith)
     c.vacant_roles.ensures c.with.ensures c.without-before.ensures) c.newly_vacant-roles.ensures in
     let next = with_rebuilt c.args.role 0 a.work in
     let n = was.kept.placed.roles in
     rw (← c.self.view_is) (subst (λ (w : Work). AreStepsFewer a.epoch.entries.items c.enter_behind.new.epoch.entries.items (left_of a.work a.members) (left_of w m)) (sym c.set_rebuilt.ensures.work)
     (steps-fewer next (left_of a.work a.members) c.args.who end (Step RebuildTaken c.steps_left-left.result ∷ []) did.moved since
-    (left-taken a.work a.members c.args.role c.args.slot below (omega (arith, below, n)) c.set_rebuilt.ensures.known vacant spare to.room.small) c.enter_behind.ensures.items))
+    (left-taken a.work a.members c.args.role c.args.slot below (let count = count-still a.members.newest was.kept.still in omega (arith, below, n, count)) c.set_rebuilt.ensures.known vacant spare to.room.small) c.enter_behind.ensures.items))
 
 pub returns-clause-caused : goal.returns-clause-caused
 returns-clause-caused g c =
@@ -195,12 +197,12 @@ returns-clause-failed g c =
     let vacant : is_vacant (reading_of a.members) c.args.role ≡ true = ap (λ p. is_vacant (reading_of p.members) c.args.role) c.self.view_is ∙ c.requires.vacant in
     let spare : has_spare a.members.spares c.args.slot ≡ true = ap (λ p. has_spare p.members.spares c.args.slot) c.self.view_is ∙ c.requires.spare in
     let to = receiver-spare given a.members was.kept.placed was.kept.free c.args.role c.args.slot below vacant spare in
-    let most = (limited (shape_of a.members.newest) was.kept.placed.valid).most in
+    let most = (limited (shape_of a.members.newest) (valid (g.B.Bank.given a.bank) a.members was.kept.placed)).most in
     let few : c.shape_in-disks.result.disks ≤ 32 = (let disks = ap (λ (s : Shape). s.disks) c.shape_in-disks.ensures in omega (arith, most, disks)) in
     let V = with_recovering c.args.role c.args.slot a.members in
     let since : AreLostSince V m roles spares before after = lost-since given V m c.shape_in-disks.result.disks c.without-before.result roles spares before after
     (placed-given given a.members was.kept.placed (Some 0) c.args.role c.args.slot to) did.moved did.failed
-    (ap (λ (s : Shape). s.disks) c.shape_in-disks.ensures)
+    (ap (λ (s : Shape). s.disks) c.shape_in-disks.ensures ∙ sym (count-still a.members.newest was.kept.still))
     (taken-vacant given a.members was.kept.placed c.args.role c.args.slot to c.shape_in-disks.result.disks c.vacant_roles.result c.with.result c.without-before.result few (omega arith)
     c.vacant_roles.ensures c.with.ensures c.without-before.ensures) c.newly_vacant-roles.ensures in
     rw (← c.self.view_is) (λ r s held. did.failed.roles r s (taken-held given a.members was.kept.placed c.args.role c.args.slot to r s held))
@@ -221,12 +223,12 @@ returns-clause-held g c =
     let vacant : is_vacant (reading_of a.members) c.args.role ≡ true = ap (λ p. is_vacant (reading_of p.members) c.args.role) c.self.view_is ∙ c.requires.vacant in
     let spare : has_spare a.members.spares c.args.slot ≡ true = ap (λ p. has_spare p.members.spares c.args.slot) c.self.view_is ∙ c.requires.spare in
     let to = receiver-spare given a.members was.kept.placed was.kept.free c.args.role c.args.slot below vacant spare in
-    let most = (limited (shape_of a.members.newest) was.kept.placed.valid).most in
+    let most = (limited (shape_of a.members.newest) (valid (g.B.Bank.given a.bank) a.members was.kept.placed)).most in
     let few : c.shape_in-disks.result.disks ≤ 32 = (let disks = ap (λ (s : Shape). s.disks) c.shape_in-disks.ensures in omega (arith, most, disks)) in
     let V = with_recovering c.args.role c.args.slot a.members in
     let since : AreLostSince V m roles spares before after = lost-since given V m c.shape_in-disks.result.disks c.without-before.result roles spares before after
     (placed-given given a.members was.kept.placed (Some 0) c.args.role c.args.slot to) did.moved did.failed
-    (ap (λ (s : Shape). s.disks) c.shape_in-disks.ensures)
+    (ap (λ (s : Shape). s.disks) c.shape_in-disks.ensures ∙ sym (count-still a.members.newest was.kept.still))
     (taken-vacant given a.members was.kept.placed c.args.role c.args.slot to c.shape_in-disks.result.disks c.vacant_roles.result c.with.result c.without-before.result few (omega arith)
     c.vacant_roles.ensures c.with.ensures c.without-before.ensures) c.newly_vacant-roles.ensures in
     rw (← c.self.view_is) (record {
@@ -250,12 +252,12 @@ returns-clause-losses g c =
     let vacant : is_vacant (reading_of a.members) c.args.role ≡ true = ap (λ p. is_vacant (reading_of p.members) c.args.role) c.self.view_is ∙ c.requires.vacant in
     let spare : has_spare a.members.spares c.args.slot ≡ true = ap (λ p. has_spare p.members.spares c.args.slot) c.self.view_is ∙ c.requires.spare in
     let to = receiver-spare given a.members was.kept.placed was.kept.free c.args.role c.args.slot below vacant spare in
-    let most = (limited (shape_of a.members.newest) was.kept.placed.valid).most in
+    let most = (limited (shape_of a.members.newest) (valid (g.B.Bank.given a.bank) a.members was.kept.placed)).most in
     let few : c.shape_in-disks.result.disks ≤ 32 = (let disks = ap (λ (s : Shape). s.disks) c.shape_in-disks.ensures in omega (arith, most, disks)) in
     let V = with_recovering c.args.role c.args.slot a.members in
     let since : AreLostSince V m roles spares before after = lost-since given V m c.shape_in-disks.result.disks c.without-before.result roles spares before after
     (placed-given given a.members was.kept.placed (Some 0) c.args.role c.args.slot to) did.moved did.failed
-    (ap (λ (s : Shape). s.disks) c.shape_in-disks.ensures)
+    (ap (λ (s : Shape). s.disks) c.shape_in-disks.ensures ∙ sym (count-still a.members.newest was.kept.still))
     (taken-vacant given a.members was.kept.placed c.args.role c.args.slot to c.shape_in-disks.result.disks c.vacant_roles.result c.with.result c.without-before.result few (omega arith)
     c.vacant_roles.ensures c.with.ensures c.without-before.ensures) c.newly_vacant-roles.ensures in
     rw (← c.self.view_is) (losses-before (IsHeldOrGiven a.members c.args.role c.args.slot) V m (taken-by given a.members was.kept.placed c.args.role c.args.slot to) before after a.epoch.entries.items a.epoch.entries.items c.enter_behind.new.epoch.entries.items c.args.who end roles spares since refl
@@ -286,12 +288,12 @@ returns-clause-same g c =
     let vacant : is_vacant (reading_of a.members) c.args.role ≡ true = ap (λ p. is_vacant (reading_of p.members) c.args.role) c.self.view_is ∙ c.requires.vacant in
     let spare : has_spare a.members.spares c.args.slot ≡ true = ap (λ p. has_spare p.members.spares c.args.slot) c.self.view_is ∙ c.requires.spare in
     let to = receiver-spare given a.members was.kept.placed was.kept.free c.args.role c.args.slot below vacant spare in
-    let most = (limited (shape_of a.members.newest) was.kept.placed.valid).most in
+    let most = (limited (shape_of a.members.newest) (valid (g.B.Bank.given a.bank) a.members was.kept.placed)).most in
     let few : c.shape_in-disks.result.disks ≤ 32 = (let disks = ap (λ (s : Shape). s.disks) c.shape_in-disks.ensures in omega (arith, most, disks)) in
     let V = with_recovering c.args.role c.args.slot a.members in
     let since : AreLostSince V m roles spares before after = lost-since given V m c.shape_in-disks.result.disks c.without-before.result roles spares before after
     (placed-given given a.members was.kept.placed (Some 0) c.args.role c.args.slot to) did.moved did.failed
-    (ap (λ (s : Shape). s.disks) c.shape_in-disks.ensures)
+    (ap (λ (s : Shape). s.disks) c.shape_in-disks.ensures ∙ sym (count-still a.members.newest was.kept.still))
     (taken-vacant given a.members was.kept.placed c.args.role c.args.slot to c.shape_in-disks.result.disks c.vacant_roles.result c.with.result c.without-before.result few (omega arith)
     c.vacant_roles.ensures c.with.ensures c.without-before.ensures) c.newly_vacant-roles.ensures in
     rw (← c.self.view_is) (record {
