@@ -1,6 +1,11 @@
-use Rattle.std.proofs.Common.{List, [], ◌∷◌, ◌++◌, length, refl, sym, ◌∙◌, ap, subst, arith}
+use Rattle.std.proofs.Common.{◌≡◌, ℕ, List, [], ◌∷◌, ◌++◌, length, Option, Err, refl, sym, ◌∙◌, ap, subst, arith}
 use Rattle.std.specs.Vec.{vec_capacity}
+use denote.Builtin.{unit}
 use Rattle.md_base.specs.declared.answers.Refusal.{Refusal}
+use Rattle.md_base.specs.declared.answers.Refusal.TheVariants.{SlotFault}
+use Rattle.md_base.specs.declared.answers.Fault.TheVariants.{Refused as IsRefusedWith}
+use Rattle.bank.specs.Given.{Given}
+use Rattle.superblocks.specs.declared.members.Members.{Members}
 use Rattle.flat_history.specs.declared.events.Entry.{Entry}
 use Rattle.flat_history.specs.declared.events.Event.TheVariants.{Refused}
 use Rattle.flat_history.specs.Flat.{next_number}
@@ -9,12 +14,18 @@ use Rattle.flat_history.proofs.OneShapeGoing.{begins-open}
 use Rattle.views.specs.Whole.{list_size}
 use Rattle.views.specs.Placed.{places_of}
 use Rattle.array_kept.specs.Kept.{scope_in, IsReady}
-use Rattle.array_kept.specs.Calls.{IsUnaddable}
+use Rattle.array_kept.specs.Calls.{IsUnaddable, IsAddedFor}
 use Rattle.calls_kept.proofs.AddLaws.{slot-there, unadded_reply}
 use Rattle.calls_kept.proofs.AddedKept.{kept-unadded}
 use Rattle.array_kept.proofs.LossLaws.{ended-behind}
 use Rattle.array_kept.proofs.ReadyLaws.{ready, scope-same}
 use Rattle.array.proofs.array.Array.add.Goals as goal
+
+-- a refusal before the slot is touched
+unadded-for : (T : Type 0) (given : Given) (backup : Option ℕ) (slot : ℕ) (old new : Members) (before after : ℕ → ℕ) (refusal : Refusal) → IsUnaddable given backup slot old refusal → new ≡ old
+    → IsAddedFor {T = T} given backup slot old new before after (Err (IsRefusedWith refusal))
+unadded-for T given backup slot old new before after (SlotFault failed) why same = absurd why
+unadded-for T given backup slot old new before after refusal why same = (why, same)
 
 pub invariant_of-self : goal.invariant_of-self
 invariant_of-self g c =
@@ -61,3 +72,8 @@ is_held_up-requires g c =
     let a = c.self.inside in
     let addable = subst (λ v. (refusal : Refusal) → IsUnaddable (g.B.Bank.given v.bank) v.backup c.args.slot v.members refusal → ⊥) (sym c.self.view_is) c.in_default.ensures in
     rw (← c.self.view_is) (record { slot = slot-there (g.B.Bank.given a.bank) a.backup c.args.slot a.members c.self.invariant.kept.placed addable })
+
+pub returns-clause-caused : goal.returns-clause-caused
+returns-clause-caused g c =
+    unadded-for unit.Denot (g.B.Bank.given c.args.self.now.bank) c.args.self.now.backup c.args.slot c.args.self.now.members c.self.inside.members (g.B.Bank.faults_of c.args.self.now.bank) (g.B.Bank.faults_of c.self.inside.bank)
+    c.in-Some.refusal c.in-Some.ensures (ap (λ p. p.members) c.self.view_is)

@@ -1,4 +1,4 @@
-use Rattle.std.proofs.Common.{◌≡◌, ◌≤◌, ◌+◌, ◌∷◌, ◌++◌, [], false, Some, inl, refl, sym, ap, subst, arith, ◌∙◌}
+use Rattle.std.proofs.Common.{◌≡◌, ◌≤◌, ◌+◌, ◌∷◌, ◌++◌, [], false, Some, inl, refl, sym, ap, subst, arith, ◌∙◌, ◌<◌, ◌/◌}
 use Rattle.md_base.specs.declared.places.Shape.{Shape}
 use Rattle.flat_history.specs.declared.events.Event.TheVariants.{Refused, Step}
 use Rattle.flat_history.specs.declared.events.StepKind.TheVariants.{ResyncStripe}
@@ -57,6 +57,16 @@ returns-in-Some-clause-ended g c =
     ended-behind (g.B.Bank.tape c.self.inside.bank) c.enter.new.epoch.first c.self.inside.epoch.entries.items c.args.who c.ops-end.result [] (Refused c.in-Some.refusal) c.enter.ensures.items c.ops-end.ensures.count
 
 -- ---- the stripe
+
+pub mend-mended-requires-clause-shape : goal.mend-mended-requires-clause-shape
+mend-mended-requires-clause-shape g c = inl c.shape_in-shape.ensures
+
+pub mend-mended-requires-clause-stripe : goal.mend-mended-requires-clause-stripe
+mend-mended-requires-clause-stripe g c =
+    let a = c.self.inside in
+    let left : HasStripeLeft a.work.resync a.members = subst (λ p. HasStripeLeft p.work.resync p.members) (sym c.self.view_is) c.requires.pending in
+    subst (λ (s : Shape). c.unwrap_or-stripe.result < a.members.newest.size / s.chunk) (sym c.shape_in-shape.ensures)
+    (next-stripe a.work.resync a.members c.unwrap_or-stripe.result left c.unwrap_or-stripe.ensures).1
 
 pub mend-mended-requires-clause-dirty : goal.mend-mended-requires-clause-dirty
 mend-mended-requires-clause-dirty g c =

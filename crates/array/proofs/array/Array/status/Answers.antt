@@ -1,13 +1,32 @@
-use Rattle.std.proofs.Common.{◌≡◌, ◌∷◌, [], refl, sym, ◌∙◌, ap, arith}
+use Rattle.std.proofs.Common.{◌≡◌, ◌∷◌, ◌++◌, [], List, refl, sym, ◌∙◌, ap, ap₂, arith}
+use Rattle.md_base.specs.declared.status.Status.{Status}
 use Rattle.flat_history.specs.Flat.{next_number}
 use Rattle.flat_history.specs.Plain.{entries_of}
+use Rattle.flat_history.specs.declared.events.Entry.{Entry}
 use Rattle.flat_history.specs.declared.events.Event.TheVariants.{Shown}
 use Rattle.flat_history.proofs.OneShapeGoing.{begins-open}
-use Rattle.views.specs.Status.{left_of}
+use Rattle.views.specs.Parts.{Parts}
+use Rattle.views.specs.Status.{left_of, IsStatusFor}
 use Rattle.array_kept.proofs.LossLaws.{ended-behind}
 use Rattle.array_kept.proofs.ReadyLaws.{ready, scope-same}
 use Rattle.array_kept.proofs.DegradedLaws.{kept-shown}
 use Rattle.array.proofs.array.Array.status.Goals as goal
+
+-- two statuses that tell the same array are the same
+status-same : {B : Type 0} (array : Parts B) (one other : Status) → IsStatusFor array one → IsStatusFor array other → one ≡ other
+status-same array one other a b i = record {
+  shape = (a.shape ∙ sym b.shape) i;
+  target = (a.target ∙ sym b.target) i;
+  position = (a.position ∙ sym b.position) i;
+  size = (a.size ∙ sym b.size) i;
+  length = (a.length ∙ sym b.length) i;
+  visible = (a.visible ∙ sym b.visible) i;
+  clean = (a.clean ∙ sym b.clean) i;
+  events = (a.events ∙ sym b.events) i;
+  left = (a.left ∙ sym b.left) i;
+  roles = (a.roles ∙ sym b.roles) i;
+  spares = (a.spares ∙ sym b.spares) i;
+}
 
 pub invariant_of-self-2 : goal.invariant_of-self-2
 invariant_of-self-2 g c =
@@ -24,3 +43,12 @@ invariant_of-self-2 g c =
 pub returns-clause-ended : goal.returns-clause-ended
 returns-clause-ended g c =
     ended-behind (g.B.Bank.tape c.self.inside.bank) c.enter.new.epoch.first c.make_room.new.self.items c.args.who c.ops-end.result [] (Shown c.in-Ok.shown) c.enter.ensures.items c.ops-end.ensures.count
+
+pub returns-clause-entered : goal.returns-clause-entered
+returns-clause-entered g c =
+    let same : c.in-Ok.shown ≡ c.in-Ok-told.status = status-same c.args.self.now c.in-Ok.shown c.in-Ok-told.status c.in-Ok.ensures c.in-Ok-told.ensures in
+    rw (← c.self.view_is) (record {
+      end = c.ops-end.result;
+      at_end = c.ops-end.ensures.count;
+      is = c.enter.ensures.items ∙ ap₂ (λ (l : List Entry) (s : Status). l ++ entries_of c.args.who c.ops-end.result (Shown s ∷ [])) c.make_room.ensures.items same;
+    })

@@ -1,7 +1,11 @@
 use Rattle.std.proofs.Common.{◌∙◌, ap, arith}
 use Rattle.sb1.specs.declared.sb.Sb.{Sb}
 use Rattle.calls_kept.proofs.AddLaws.{spare-made}
+use Rattle.views.proofs.Fit.{few}
 use Rattle.array.proofs.array.adding.spare_for.Goals as goal
+
+pub first_offset-offset-requires-clause-few : goal.first_offset-offset-requires-clause-few
+first_offset-offset-requires-clause-few g c = few (g.B.Bank.given c.args.bank.now) c.args.members.now c.requires.placed
 
 pub first_offset-offset-requires-clause-small : goal.first_offset-offset-requires-clause-small
 first_offset-offset-requires-clause-small g c role slot held = (c.requires.placed.holders role slot held).small
