@@ -258,3 +258,20 @@ returns-clause-same g c =
       list = list-same (g.B.Bank.given a.bank) (scope_in (g.B.Bank.given a.bank) a.epoch.uuid a.epoch.given a.backup) a.epoch.first did.given
           (scope-same (g.B.Bank.given a.bank) a.backup did.given c.enter_behind-2.ensures.uuid c.enter_behind-2.ensures.given) c.enter_behind-2.ensures.first did.grows (λ t. (was.kept.recorded t).begun);
     })
+
+-- ---- the members and the bank
+
+pub returns-in-Some-refusal-clause-held : goal.returns-in-Some-refusal-clause-held
+returns-in-Some-refusal-clause-held g c = rw (← c.self.view_is) c.settle-settled.ensures.moved.held
+
+pub returns-in-Some-refusal-clause-never_falls : goal.returns-in-Some-refusal-clause-never_falls
+returns-in-Some-refusal-clause-never_falls g c = rw (← c.self.view_is) c.settle-settled.ensures.counts
+
+pub returns-clause-failed : goal.returns-clause-failed
+returns-clause-failed g c = rw (← c.self.view_is) c.settle-settled.ensures.failed.roles
+
+pub returns-clause-held : goal.returns-clause-held
+returns-clause-held g c = rw (← c.self.view_is) c.settle-settled.ensures.moved.held
+
+pub returns-clause-never_falls : goal.returns-clause-never_falls
+returns-clause-never_falls g c = rw (← c.self.view_is) c.settle-settled.ensures.counts

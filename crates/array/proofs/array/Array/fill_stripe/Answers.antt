@@ -498,3 +498,26 @@ returns-clause-same g c =
       list = list-same given (scope_in given a.epoch.uuid a.epoch.given a.backup) a.epoch.first did.given
           (scope-same given a.backup did.given c.enter_behind-2.ensures.uuid c.enter_behind-2.ensures.given) c.enter_behind-2.ensures.first did.grows (λ t. (was.kept.recorded t).begun);
     })
+
+-- ---- the rest
+
+pub bounds-self-inside-role : goal.bounds-self-inside-role
+bounds-self-inside-role g c =
+    let a = c.self.inside in
+    let left : HasStripeUnbuilt a.work a.members c.args.role = subst (λ p. HasStripeUnbuilt p.work p.members c.args.role) (sym c.self.view_is) c.requires.pending in
+    let most = (limited (shape_of a.members.newest) (valid (g.B.Bank.given a.bank) a.members c.self.invariant.kept.placed)).most in
+    let below = subst (λ (n : ℕ). c.args.role < n) (count-still a.members.newest c.self.invariant.kept.still) left.0.0 in
+    omega (arith, most, below)
+
+pub newly_vacant-roles-requires-clause-few : goal.newly_vacant-roles-requires-clause-few
+newly_vacant-roles-requires-clause-few g c =
+    let a = c.self.inside in
+    let most = (limited (shape_of a.members.newest) (valid (g.B.Bank.given a.bank) a.members c.self.invariant.kept.placed)).most in
+    let disks = ap (λ (s : Shape). s.disks) c.shape_in-shape.ensures in
+    omega (arith, most, disks)
+
+pub returns-in-Some-refusal-clause-failed : goal.returns-in-Some-refusal-clause-failed
+returns-in-Some-refusal-clause-failed g c = rw (← c.self.view_is) c.fill-filled.ensures.failed.roles
+
+pub returns-in-Some-refusal-clause-never_falls : goal.returns-in-Some-refusal-clause-never_falls
+returns-in-Some-refusal-clause-never_falls g c = rw (← c.self.view_is) c.fill-filled.ensures.counts

@@ -68,6 +68,13 @@ vacant_roles-requires-clause-few g c =
     let disks = ap (λ (s : Shape). s.disks) c.shape_in-disks.ensures in
     omega (arith, most, disks)
 
+pub with-requires : goal.with-requires
+with-requires g c =
+    let a = c.self.inside in
+    let below : c.args.role < (shape_of a.members.newest).disks = subst (λ p. c.args.role < (shape_of p.members.newest).disks) (sym c.self.view_is) c.requires.role in
+    let most = (limited (shape_of a.members.newest) (valid (g.B.Bank.given a.bank) a.members c.self.invariant.kept.placed)).most in
+    omega (arith, most, below)
+
 pub set_rebuilt-requires : goal.set_rebuilt-requires
 set_rebuilt-requires g c =
     let a = c.self.inside in
