@@ -21,7 +21,7 @@ use Rattle.parity.specs.Rows.{IsSector, sector_of}
 use Rattle.superblocks.specs.declared.members.Members.{Members}
 use Rattle.md_base.specs.declared.status.Role.{Role}
 use Rattle.md_base.specs.declared.status.Role.TheVariants.{Recovering}
-use Rattle.superblocks.specs.Reading.{Scope, shape_of, role_state, rows_held, holder, is_clean}
+use Rattle.superblocks.specs.Reading.{Scope, is_reshaping, shape_of, role_count, role_state, rows_held, holder, is_clean}
 use Rattle.row_io.specs.Rows.{reading_of, present, is_missing}
 use Rattle.flat_history.specs.declared.events.Entry.{Entry}
 use Rattle.flat_history.specs.declared.events.Event.{Event}
@@ -38,13 +38,17 @@ use Rattle.views.specs.Rebuilding.{AreRebuilt, HasNoRebuilt}
 use Rattle.views.specs.Whole.{list_size}
 use Rattle.views.specs.Placed.{places_of, is_vacant, IsPlaced}
 use Rattle.views.proofs.HeldRows.{missing-moved, missing-before, vacant-missing, without-before}
-use Rattle.views.proofs.LackingLaws.{since-missing}
+use Rattle.views.proofs.LackingLaws.{since-missing, too-many-still, never-both}
 use Rattle.call_entries.specs.Losing.{losses_of}
 use Rattle.views.specs.Moving.{Grows, IsMoved}
 use Rattle.shape_changes.specs.Marking.{AreOthersPresent}
 use Rattle.array_kept.specs.Kept.{world_in, AreTold, AreFillsRight, AreRebuildsRight, AreSectorsWhole, IsKept}
 use Rattle.views.specs.Status.{rebuilt_of, left_of}
-use Rattle.views.specs.Lacking.{AreLostSince, AreTooMany, IsUnread, IsUnwritten, DoesWithout, ListStands, RowsStandBelow, mended_rows, are_mended}
+use Rattle.shape_views.specs.Regions.{DoWithout}
+use Rattle.views.specs.Lacking.{AreLostSince, AreTooMany, IsUnread, IsUnwritten, lacking, ListStands, RowsStandAmong, RowsStandBelow, mended_rows, are_mended}
+use Rattle.views.proofs.Fit.{valid, multiple, force-disks, count-alike}
+use Rattle.views.proofs.Still.{count-still}
+use Rattle.superblocks.proofs.ValidFields.{few-roles}
 use Rattle.array_kept.specs.Calls.{IsRefusedHere, IsRefusedFor, HasRole}
 use Rattle.array_kept.proofs.KeptLaws.{StayPlaced, LeavesSafe, LeavesWork, NamesSafe, rebuilds-before, left-lost, mended-are, leaves-named as named-leaves, work-kept, kept-after, same-now, whole-still, seen-behind, held-behind, unsynced-behind}
 use Rattle.array_kept.proofs.StepsLeft.{left-moved}
@@ -83,37 +87,54 @@ risen-still m tape = record { left = λ live. live; events = λ t live. omega ar
 
 -- ---- what is told
 
+-- as many roles are counted
+pub count-moved : {given : Given} {old new : Members} → IsMoved given old new → role_count new.newest ≡ role_count old.newest
+count-moved {old = old} {new = new} moved = count-alike old.newest new.newest moved.reshape moved.shape moved.size
+
 -- behind the entries of a call's losses each missing role is told gone, where none is given back
-pub told-since : (given : Given) (old new : Members) (entries : List Entry) (who : Who) (end roles spares : ℕ) (tail : List Event) (before after : ℕ → ℕ) → (shape_of new.newest).disks ≤ 16
+pub told-since : (given : Given) (old new : Members) (entries : List Entry) (who : Who) (end roles spares : ℕ) (tail : List Event) (before after : ℕ → ℕ) → role_count new.newest ≤ 16
     → IsMoved given old new → AreTold old entries → AreLostSince old new roles spares before after → GivesNone (entries_of who end tail)
     → AreTold new (entries ++ entries_of who end (losses_of roles spares ++ tail))
 told-since given old new entries who end roles spares tail before after few moved told since none role lt missing = elim (since-missing moved since role lt missing) [
-  | inl was ↦ told-more old entries (entries_of who end (losses_of roles spares ++ tail)) (gives-losses who end (losses_of roles spares) tail (losses-are roles spares) none) told role (subst (λ (s : Shape). role < s.disks) moved.shape lt) was
+  | inl was ↦ told-more old entries (entries_of who end (losses_of roles spares ++ tail)) (gives-losses who end (losses_of roles spares) tail (losses-are roles spares) none) told role (subst (λ (n : ℕ). role < n) (count-moved moved) lt) was
   | inr has ↦ gone-lately role entries (entries_of who end (losses_of roles spares ++ tail)) (gives-losses who end (losses_of roles spares) tail (losses-are roles spares) none) (told-losses role roles spares who end tail (omega (arith, lt, few)) has)
 ]
 
 -- where no slot holds a role, there is no such role, or it is gone
-no-role-right : (world : World) (m : Members) (before : List Entry) (role : ℕ) → (opening_in world).disks ≡ (shape_of m.newest).disks → AreTold m before → (HasRole m role → ⊥) → IsNoRoleNow (opening_in world) before role
-no-role-right world m before role disks told none = elim (cases_lt role (shape_of m.newest).disks) [
+no-role-right : (world : World) (m : Members) (before : List Entry) (role : ℕ) → is_reshaping m.newest ≡ false → (opening_in world).disks ≡ (shape_of m.newest).disks → AreTold m before → (HasRole m role → ⊥) → IsNoRoleNow (opening_in world) before role
+no-role-right world m before role still disks told none = elim (cases_lt role (role_count m.newest)) [
   | inl below ↦ inr (told role below (vacant-missing (reading_of m) role (by (is_vacant (reading_of m) role) refl below)))
-  | inr above ↦ inl (omega (arith, disks, above))
+  | inr above ↦ inl (let same = count-still m.newest still in omega (arith, disks, same, above))
 ]
   where
-    by : (b : Bool) → is_vacant (reading_of m) role ≡ b → role < (shape_of m.newest).disks → is_vacant (reading_of m) role ≡ true
+    by : (b : Bool) → is_vacant (reading_of m) role ≡ b → role < role_count m.newest → is_vacant (reading_of m) role ≡ true
     by true is below = is
     by false is below = absurd (none (below, is))
 
--- a refusal is right by the entries before it
-pub refusal-right : (world : World) (size visible : ℕ) (resync : Option ℕ) (m : Members) (before : List Entry) (refusal : Refusal) → (shape_of m.newest).disks ≤ 16
+-- what a refusal tells to be missing, and to be tolerated
+abbrev missing-told : Refusal → ℕ
+missing-told (TooManyMissing count most) = count
+missing-told refusal = 0
+
+abbrev tolerated-told : Refusal → ℕ
+tolerated-told (TooManyMissing count most) = most
+tolerated-told refusal = 0
+
+-- a refusal is right by the entries before it, in an array of one shape
+pub refusal-right : (world : World) (size visible : ℕ) (resync : Option ℕ) (m : Members) (before : List Entry) (refusal : Refusal) → is_reshaping m.newest ≡ false → (shape_of m.newest).disks ≤ 16
     → (opening_in world).disks ≡ (shape_of m.newest).disks → (opening_in world).tolerance ≡ tolerance (shape_of m.newest) → is_unsynced world before ≡ is_some resync → visible ≡ visible_of (length (opening_list world)) before
     → AreTold m before → IsRefusedHere visible resync m refusal → IsOneShapeRefusal (opening_in world) before refusal
-refusal-right world size visible resync m before (PastEnd told) few disks tolerated dirty seen lost why = why ∙ seen
-refusal-right world size visible resync m before (TooManyMissing count most) few disks tolerated dirty seen lost why =
-    let many = too_many_missing (opening_in world) before (shape_of m.newest).disks (is_missing (reading_of m)) (omega (arith, few)) lost (let above = why.0 in let is = why.1 in let t = why.2 in omega (arith, above, is, t, tolerated)) in
-    record { above = why.0; lost = subst (λ (n : ℕ). n ≤ gone_count_now before) (sym why.1) many.lost; tolerated = why.2 ∙ sym tolerated }
-refusal-right world size visible resync m before (NotResynced role) few disks tolerated dirty seen lost why = (lost role why.1 why.2, dirty ∙ why.0)
-refusal-right world size visible resync m before (NoSuchRole role) few disks tolerated dirty seen lost why = no-role-right world m before role disks lost why
-refusal-right world size visible resync m before refusal few disks tolerated dirty seen lost why = absurd why
+refusal-right world size visible resync m before (PastEnd told) still few disks tolerated dirty seen lost why = why ∙ seen
+refusal-right world size visible resync m before (TooManyMissing count most) still few disks tolerated dirty seen lost why =
+    let lacks = too-many-still m (TooManyMissing count most) still why in
+    let is : count ≡ lacking (shape_of m.newest) m = ap missing-told lacks.told in
+    let t : most ≡ tolerance (shape_of m.newest) = ap tolerated-told lacks.told in
+    let many = too_many_missing (opening_in world) before (shape_of m.newest).disks (is_missing (reading_of m)) (omega (arith, few))
+    (λ role lt. lost role (let same = count-still m.newest still in omega (arith, lt, same))) (let above = lacks.above in omega (arith, above, tolerated)) in
+    record { above = let above = lacks.above in omega (arith, above, is, t); lost = subst (λ (n : ℕ). n ≤ gone_count_now before) (sym is) many.lost; tolerated = t ∙ sym tolerated }
+refusal-right world size visible resync m before (NotResynced role) still few disks tolerated dirty seen lost why = (lost role why.1 why.2, dirty ∙ why.0)
+refusal-right world size visible resync m before (NoSuchRole role) still few disks tolerated dirty seen lost why = no-role-right world m before role still disks lost why
+refusal-right world size visible resync m before refusal still few disks tolerated dirty seen lost why = absurd why
 
 -- ---- members that moved
 
@@ -157,7 +178,7 @@ rebuilt-moved work given old new before after list moved was others rebuilt role
 -- the members stay placed where they only moved
 pub stays-moved : {tells : Type 0} {given : Given} {tape : List Operation} {scope : Scope} {first : ℕ} {entries : List Entry} {members members' : Members} {work : Work}
     → IsKept tells given tape scope first entries members work → IsMoved given members members' → StayPlaced given members members'
-stays-moved was moved = record { placed = moved.placed; unlost = moved.unlost; free = moved.free was.free; spares = moved.spares was.spares; shape = moved.shape; size = moved.size }
+stays-moved was moved = record { placed = moved.placed; still = moved.reshape.reshaping ∙ was.still; unlost = moved.unlost; free = moved.free was.free; spares = moved.spares was.spares; shape = moved.shape; size = moved.size }
 
 module _ {tells : Type 0} {given : Given} {tape tape' : List Operation} {scope : Scope} {first : ℕ} {entries : List Entry} {members members' : Members} {work : Work}
     (who : Who) (end : ℕ) (was : IsKept tells given tape scope first entries members work)
@@ -166,8 +187,8 @@ module _ {tells : Type 0} {given : Given} {tape tape' : List Operation} {scope :
   stays : StayPlaced given members members'
   stays = stays-moved was moved
 
-  does-before : DoesWithout members' → DoesWithout members
-  does-before does = without-before given members members' was.placed moved does
+  does-before : DoWithout members' → DoWithout members
+  does-before does = without-before given members members' moved does
 
   -- a call that names the missing members, and leaves the mark and what is under way as they are
   pub leaves-named : (events : List Event) → AreSilent who end events → OnlyAdd (entries_of who end events) → IsRisen tells members members' tape tape' → AreTold members' (entries ++ entries_of who end events)
@@ -182,12 +203,12 @@ module _ {tells : Type 0} {given : Given} {tape tape' : List Operation} {scope :
       → AreTold members' (entries ++ entries_of who end (inner ++ event ∷ [])) → TellsOnly members members' entries (entries_of who end (inner ++ event ∷ []))
       → (tells → AreFillsRight (world_in given tape scope first) work'.resync members' (entries ++ entries_of who end (inner ++ event ∷ []))
       → IsOneShapeCall (opening_in (world_in given tape scope first)) entries who end (inner ++ event ∷ []))
-      → (tells → DoesWithout members' → AreRebuildsRight (world_in given tape scope first) (entries ++ entries_of who end (inner ++ event ∷ []))
+      → (tells → DoWithout members' → AreRebuildsRight (world_in given tape scope first) (entries ++ entries_of who end (inner ++ event ∷ []))
       → ListStands members' (present given tape') (now (opening_list (world_in given tape scope first)) (entries ++ entries_of who end (inner ++ event ∷ []))))
       → (tells → AreSectorsWhole (list_size (places_of members)) (now (opening_list (world_in given tape scope first)) (entries ++ entries_of who end (inner ++ event ∷ []))))
-      → (tells → DoesWithout members' → OpensFit (world_in given tape scope first)
+      → (tells → DoWithout members' → OpensFit (world_in given tape scope first)
       → RowsStandBelow (mended_rows work'.resync members') members' (present given tape') (now (opening_list (world_in given tape scope first)) (entries ++ entries_of who end (inner ++ event ∷ []))))
-      → (tells → DoesWithout members' → OpensFit (world_in given tape scope first)
+      → (tells → DoWithout members' → OpensFit (world_in given tape scope first)
       → AreRebuilt work' members' (present given tape') (now (opening_list (world_in given tape scope first)) (entries ++ entries_of who end (inner ++ event ∷ []))))
       → LeavesSafe tells given tape' scope first (entries ++ entries_of who end (inner ++ event ∷ [])) members' work'
       → IsKept tells given tape' scope first (entries ++ entries_of who end (inner ++ event ∷ [])) members' work'
@@ -202,19 +223,19 @@ module _ {tells : Type 0} {given : Given} {tape tape' : List Operation} {scope :
     same : now (opening_list (world_in given tape scope first)) (entries ++ entries_of who end events) ≡ now (opening_list (world_in given tape scope first)) entries
     same = same-now who end was opens caller at_end stays grows events still
 
-    pub holds-still : DoesWithout members' → AreRebuildsRight (world_in given tape scope first) (entries ++ entries_of who end events)
+    pub holds-still : DoWithout members' → AreRebuildsRight (world_in given tape scope first) (entries ++ entries_of who end events)
         → ListStands members' (present given tape') (now (opening_list (world_in given tape scope first)) (entries ++ entries_of who end events))
     holds-still does rebuilds = subst (λ (l : ℕ → Sector). ListStands members' (present given tape') l) (sym same)
         (list-moved given members members' (present given tape) (present given tape') list moved was.placed (others t)
         (was.holds t (does-before does) (rebuilds-before (world_in given tape scope first) entries (entries_of who end events) rebuilds)))
 
-    pub good-still : DoesWithout members' → OpensFit (world_in given tape scope first)
+    pub good-still : DoWithout members' → OpensFit (world_in given tape scope first)
         → RowsStandBelow (mended_rows work.resync members) members' (present given tape') (now (opening_list (world_in given tape scope first)) (entries ++ entries_of who end events))
     good-still does fit = subst (λ (l : ℕ → Sector). RowsStandBelow (mended_rows work.resync members) members' (present given tape') l) (sym same)
-        (among-moved (λ row. row < mended_rows work.resync members) given members members' (present given tape) (present given tape') list moved was.placed (others t)
-        (was.good t (does-before does) fit))
+        (among-moved (shape_of members'.newest) (λ row. row < mended_rows work.resync members) given members members' (present given tape) (present given tape') list moved was.placed (others t)
+        (subst (λ (s : Shape). RowsStandAmong s (λ row. row < mended_rows work.resync members) members (present given tape) list) (sym moved.shape) (was.good t (does-before does) fit)))
 
-    pub rebuilt-still : DoesWithout members' → OpensFit (world_in given tape scope first)
+    pub rebuilt-still : DoWithout members' → OpensFit (world_in given tape scope first)
         → AreRebuilt work members' (present given tape') (now (opening_list (world_in given tape scope first)) (entries ++ entries_of who end events))
     rebuilt-still does fit = subst (λ (l : ℕ → Sector). AreRebuilt work members' (present given tape') l) (sym same)
         (rebuilt-moved work given members members' (present given tape) (present given tape') list moved was.placed (others t) (was.rebuilt t (does-before does) fit))
@@ -236,7 +257,7 @@ module _ {tells : Type 0} {given : Given} {tape tape' : List Operation} {scope :
 
   module _ (roles spares : ℕ) (before after : ℕ → ℕ) (since : AreLostSince members members' roles spares before after) where
     pub told-behind : (tail : List Event) → GivesNone (entries_of who end tail) → AreTold members' (entries ++ entries_of who end (losses_of roles spares ++ tail))
-    told-behind tail none = told-since given members members' entries who end roles spares tail before after (limited (shape_of members'.newest) moved.placed.valid).most moved was.told since none
+    told-behind tail none = told-since given members members' entries who end roles spares tail before after (few-roles members'.newest moved.placed.fit.valid) moved was.told since none
 
     -- and what is told is missing, or a spare
     pub only-behind : (tail : List Event) → LosesNoRole (entries_of who end tail) → MakeSpares members'.spares (entries_of who end tail) → TellsOnly members members' entries (entries_of who end (losses_of roles spares ++ tail))
@@ -275,7 +296,7 @@ module _ {tells : Type 0} {given : Given} {tape tape' : List Operation} {scope :
         → IsOneShapeCall (opening_in (world_in given tape scope first)) entries who end (losses_of roles spares ++ Refused refusal ∷ [])
     call-refused refusal why t =
         call-faults (opening_in (world_in given tape scope first)) entries who end (losses_of roles spares) (Refused refusal ∷ []) (faults-are (losses_of roles spares) (losses-are roles spares)) (
-          refusal-right (world_in given tape scope first) 0 (list_size (places_of members)) work.resync members' (entries ++ entries_of who end (losses_of roles spares)) refusal (limited (shape_of members'.newest) moved.placed.valid).most
+          refusal-right (world_in given tape scope first) 0 (list_size (places_of members)) work.resync members' (entries ++ entries_of who end (losses_of roles spares)) refusal stays.still (limited (shape_of members'.newest) (valid given members' moved.placed)).most
               ((was.recorded t).disks ∙ ap (λ (s : Shape). s.disks) (sym moved.shape)) ((was.recorded t).tolerated ∙ ap (λ (s : Shape). tolerance s) (sym moved.shape)) (unsynced-behind who end was opens caller at_end stays grows roles spares t) (sym (all-seen t)) told-alone why,
           tt,
           tt,
@@ -405,12 +426,12 @@ module _ {tells : Type 0} {given : Given} {tape tape' : List Operation} {scope :
             ap (λ (l : List Sector). slice_index_or l 0 []) (values-losses who end (losses_of roles spares) (Torn at body ∷ Refused (TooManyMissing count most) ∷ []) (losses-are roles spares) x values)
             ∙ kept-newest (covers at body x) (sector_at at body x) values
 
-        too-many : DoesWithout members' → ⊥
-        too-many does = absurd (let above = why.0 in let is = why.1 in let n = why.2 in omega (arith, does, above, is, n))
+        too-many : DoWithout members' → ⊥
+        too-many does = never-both members' (TooManyMissing count most) does why
 
         refused : tells → AreTooManyLost (opening_in (world_in given tape scope first)) ((entries ++ entries_of who end (losses_of roles spares)) ++ one who end (Torn at body) ∷ []) count most
         refused t = refusal-right (world_in given tape scope first) 0 (visible_of (length (opening_list (world_in given tape scope first))) ((entries ++ entries_of who end (losses_of roles spares)) ++ one who end (Torn at body) ∷ [])) work.resync members'
-            ((entries ++ entries_of who end (losses_of roles spares)) ++ one who end (Torn at body) ∷ []) (TooManyMissing count most) (limited (shape_of members'.newest) moved.placed.valid).most
+            ((entries ++ entries_of who end (losses_of roles spares)) ++ one who end (Torn at body) ∷ []) (TooManyMissing count most) stays.still (limited (shape_of members'.newest) (valid given members' moved.placed)).most
             ((was.recorded t).disks ∙ ap (λ (s : Shape). s.disks) (sym moved.shape)) ((was.recorded t).tolerated ∙ ap (λ (s : Shape). tolerance s) (sym moved.shape)) (pending-more (was_dirty (world_in given tape scope first)) (entries ++ entries_of who end (losses_of roles spares)) (one who end (Torn at body) ∷ []) refl ∙ unsynced-behind who end was opens caller at_end stays grows roles spares t) refl
             (told-more members' (entries ++ entries_of who end (losses_of roles spares)) (one who end (Torn at body) ∷ []) (λ role. refl) told-alone) why
 
@@ -434,15 +455,15 @@ module _ {tells : Type 0} {given : Given} {tape tape' : List Operation} {scope :
         itself : (n : ℕ) (b : Bool) → n ≡ role → ((role == n) || b) ≡ true
         itself n b e = grind (arith, nat_tests, e)
 
-        told-members : (other : ℕ) → other < (shape_of members'.newest).disks → is_missing (reading_of members) other ≡ true
+        told-members : (other : ℕ) → other < role_count members'.newest → is_missing (reading_of members) other ≡ true
             → IsTrue (is_gone_now (entries ++ entries_of who end (Lost role Command ∷ (losses_of roles spares ++ Failed role ∷ []))) other)
-        told-members other lt former = told-more members entries (entries_of who end (Lost role Command ∷ (losses_of roles spares ++ Failed role ∷ []))) gives-failed was.told other (subst (λ (s : Shape). other < s.disks) moved.shape lt) former
+        told-members other lt former = told-more members entries (entries_of who end (Lost role Command ∷ (losses_of roles spares ++ Failed role ∷ []))) gives-failed was.told other (subst (λ (n : ℕ). other < n) (count-moved moved) lt) former
 
-        told-vacant : (other : ℕ) → other < (shape_of members'.newest).disks → (is_vacant (reading_of mid) other ≡ true) ⊎ (has_slot roles other ≡ true)
+        told-vacant : (other : ℕ) → other < role_count members'.newest → (is_vacant (reading_of mid) other ≡ true) ⊎ (has_slot roles other ≡ true)
             → IsTrue (is_gone_now (entries ++ entries_of who end (Lost role Command ∷ (losses_of roles spares ++ Failed role ∷ []))) other)
         told-vacant other lt (inr has) = gone-lately other entries (entries_of who end (Lost role Command ∷ (losses_of roles spares ++ Failed role ∷ []))) gives-failed
             (behind (loses_role other (Lost role Command)) (list_any (λ e. loses_role other e.event) (entries_of who end (losses_of roles spares ++ Failed role ∷ [])))
-            (told-losses other roles spares who end (Failed role ∷ []) (let few = (limited (shape_of members'.newest) moved.placed.valid).most in omega (arith, lt, few)) has))
+            (told-losses other roles spares who end (Failed role ∷ []) (let few = few-roles members'.newest moved.placed.fit.valid in omega (arith, lt, few)) has))
         told-vacant other lt (inl was_vacant) = elim (out other was_vacant) [
           | inl former ↦ told-members other lt (vacant-missing (reading_of members) other former)
           | inr own ↦ gone-lately other entries (entries_of who end (Lost role Command ∷ (losses_of roles spares ++ Failed role ∷ []))) gives-failed
@@ -540,7 +561,7 @@ module _ {tells : Type 0} {given : Given} {tape : List Operation} {scope : Scope
   kept-refused refusal why =
       kept-alone (Refused refusal) (record { length = λ n. refl; limit = refl }) (λ left is. is) refl (λ x values. refl) (λ x values v may. may) refl refl (λ role. refl) (λ role. refl) (λ slot spare is. inl is)
       (λ t fills. (
-        refusal-right (world_in given tape scope first) 0 (list_size (places_of members)) work.resync members entries refusal (limited (shape_of members.newest) was.placed.valid).most
+        refusal-right (world_in given tape scope first) 0 (list_size (places_of members)) work.resync members entries refusal was.still (limited (shape_of members.newest) (valid given members was.placed)).most
             (was.recorded t).disks (was.recorded t).tolerated (was.recorded t).dirty (sym (seen-before t)) was.told why,
         tt,
         tt,
@@ -560,19 +581,24 @@ module _ {tells : Type 0} {given : Given} {tape : List Operation} {scope : Scope
 -- ---- why calls are refused
 
 pub too-many-here : (visible : ℕ) (resync : Option ℕ) (m : Members) (refusal : Refusal) → AreTooMany m refusal → IsRefusedHere visible resync m refusal
-too-many-here visible resync m refusal many = subst (IsRefusedHere visible resync m) (sym many.told) (many.above, refl, refl)
+too-many-here visible resync m refusal (inl many) = subst (IsRefusedHere visible resync m) (sym many.told) (inl (record { above = many.above; told = refl }))
+too-many-here visible resync m refusal (inr many) = subst (IsRefusedHere visible resync m) (sym many.1.told) (inr (many.0, record { above = many.1.above; told = refl }))
+
+-- a role of the shape is one of the array's
+within-count : (given : Given) (m : Members) → IsPlaced given m → (role : ℕ) → role < (shape_of m.newest).disks → role < role_count m.newest
+within-count given m placed role below = let within = force-disks m.newest placed.fit (shape_of m.newest) (inl refl) in omega (arith, below, within)
 
 -- a sector that lies behind the mended rows
 pub unread-here : (given : Given) (visible at count mended : ℕ) (resync : Option ℕ) (m : Members) (refusal : Refusal) → IsPlaced given m → at + count ≤ list_size (places_of m) → (resync ≡ None → mended ≡ m.newest.size)
-    → IsUnread mended at count m refusal → IsRefusedHere visible resync m refusal
-unread-here given visible at count mended resync m refusal placed within all (inl many) = too-many-here visible resync m refusal many
+    → IsUnread (shape_of m.newest) mended at count m refusal → IsRefusedHere visible resync m refusal
+unread-here given visible at count mended resync m refusal placed within all (inl many) = too-many-here visible resync m refusal (inl many)
 unread-here given visible at count mended resync m refusal placed within all (inr found) = subst (IsRefusedHere visible resync m) (sym found.1)
-    (by resync all, subst (λ (r : ℕ). r < (shape_of m.newest).disks) found.3.3 (place-role_below (shape_of m.newest) placed.valid found.3.0), found.2)
+    (by resync all, within-count given m placed found.0 (subst (λ (r : ℕ). r < (shape_of m.newest).disks) found.3.3 (place-role_below (shape_of m.newest) (valid given m placed) found.3.0)), found.2)
   where
     by : (o : Option ℕ) → (o ≡ None → mended ≡ m.newest.size) → IsSome o
     by (Some n) all = refl
     by None all = absurd (
-        let below = place-row_below (shape_of m.newest) placed.valid found.3.0 m.newest.size placed.multiple (let high = found.3.2 in omega (arith, within, high)) in
+        let below = place-row_below (shape_of m.newest) (valid given m placed) found.3.0 m.newest.size (multiple given m placed) (let high = found.3.2 in omega (arith, within, high)) in
         let behind = found.3.4 in let same = all refl in omega (arith, below, behind, same))
 
 -- where the sectors of a call don't all lie in mended rows, a resync is pending
@@ -583,9 +609,9 @@ pending-of m None to within none = absurd (above to (list_size (places_of m)) wi
     above : (a b : ℕ) → a ≤ b → nat_le a b ≡ false → ⊥
     above a b le e = grind (arith, nat_tests, le, e)
 
-pub unwritten-here : (visible : ℕ) (resync : Option ℕ) (synced : Bool) (m : Members) (refusal : Refusal) → (synced ≡ false → IsSome resync) → IsUnwritten synced m refusal → IsRefusedHere visible resync m refusal
-unwritten-here visible resync synced m refusal pending (inl many) = too-many-here visible resync m refusal many
-unwritten-here visible resync synced m refusal pending (inr found) = subst (IsRefusedHere visible resync m) (sym found.1) (pending found.2, found.4.0, found.3)
+pub unwritten-here : (given : Given) (visible : ℕ) (resync : Option ℕ) (synced : Bool) (m : Members) (refusal : Refusal) → IsPlaced given m → (synced ≡ false → IsSome resync) → IsUnwritten (shape_of m.newest) synced m refusal → IsRefusedHere visible resync m refusal
+unwritten-here given visible resync synced m refusal placed pending (inl many) = too-many-here visible resync m refusal (inl many)
+unwritten-here given visible resync synced m refusal placed pending (inr found) = subst (IsRefusedHere visible resync m) (sym found.1) (pending found.2, within-count given m placed found.0 found.4.0, found.3)
 
 -- a call that is refused before anything is done
 pub refused-here : (visible to : ℕ) (resync : Option ℕ) (why : Members → Refusal → Type 0) (m : Members) (refusal : Refusal) → (to ≤ visible → why m refusal → IsRefusedHere visible resync m refusal)

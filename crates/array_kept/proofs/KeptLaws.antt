@@ -11,9 +11,8 @@ use Rattle.md_base.specs.declared.answers.Who.{Who}
 use Rattle.bank.specs.Given.{Given}
 use Rattle.bank.specs.declared.bank.Operation.{Operation}
 use Rattle.bank.specs.Tape.{IsIn, disk}
-use Rattle.layout.proofs.Limits.{limited}
 use Rattle.superblocks.specs.declared.members.Members.{Members}
-use Rattle.superblocks.specs.Reading.{Scope, shape_of, is_clean}
+use Rattle.superblocks.specs.Reading.{Scope, is_reshaping, shape_of, role_count, is_clean}
 use Rattle.row_io.specs.Rows.{present}
 use Rattle.flat_history.specs.declared.events.Entry.{Entry}
 use Rattle.flat_history.specs.declared.events.Event.{Event}
@@ -41,7 +40,8 @@ use Rattle.shape_changes.specs.Safety.{HasRoomLeft, IsRisen}
 use Rattle.shape_views.specs.Views.{Ledger}
 use Rattle.views.specs.Status.{stripes_of, left_of}
 use Rattle.views.specs.Rebuilding.{AreSparesFree, AreRebuilt, is_rebuilt, HasNoRebuilt}
-use Rattle.views.specs.Lacking.{DoesWithout, ListStands, RowsStandBelow, mended_rows}
+use Rattle.shape_views.specs.Regions.{DoWithout}
+use Rattle.views.specs.Lacking.{ListStands, RowsStandBelow, mended_rows}
 use Rattle.array_kept.specs.Kept.{world_in, ledger_now, AreTold, AreFillsRight, AreRebuildsRight, AreSectorsWhole, IsRecorded, IsKept, IsSafe}
 use Rattle.array_kept.proofs.MadeLaws.{opening-grown as list-grown}
 use Rattle.call_entries.proofs.LeftLaws.{TellLeft, left-behind, fold-left, left-more}
@@ -55,11 +55,12 @@ use Rattle.call_entries.proofs.StepLaws.{record-goes_on, used-more}
 use Rattle.array_kept.proofs.SafeLaws.{begun-of, room-before, alike-before, room-now, safe-called}
 use Rattle.array_kept.proofs.LedgerLaws.{told_by, CarriesMore, OnlyAdd, pending-more, unsettled-still, unsettled-by, none-lost-before, told-more as more-told, told-now, told-unclean, more-safe, newest-allowed}
 use Rattle.array_kept.proofs.OnlyLaws.{TellsOnly}
-use Rattle.views.proofs.Still.{gone-still}
+use Rattle.superblocks.proofs.ValidFields.{few-roles}
 
 -- The members are of the same array as before, and each has its place.
 pub record StayPlaced (given : Given) (old new : Members) : Type 0 where
   pub placed : IsPlaced given new
+  pub still : is_reshaping new.newest ≡ false
   pub unlost : AreUnlost new
   pub free : AreSparesFree given new
   pub spares : length new.spares ≤ 32
@@ -68,7 +69,7 @@ pub record StayPlaced (given : Given) (old new : Members) : Type 0 where
 
 -- What a call leaves: the array is marked by what the history tells, and by whether a resync is pending, and it is safe.
 pub record LeavesSafe (tells : Type 0) (given : Given) (tape : List Operation) (scope : Scope) (first : ℕ) (entries : List Entry) (members : Members) (work : Work) : Type 0 where
-  pub dirty : DoesWithout members → IsSome work.resync → is_clean members.newest ≡ false
+  pub dirty : DoWithout members → IsSome work.resync → is_clean members.newest ≡ false
   pub unclean : is_clean members.newest ≡ false → (is_some work.resync || is_unsettled entries) ≡ true
   pub safe : tells → FillsRight (world_in given tape scope first) entries → HasRoomForEvents (world_in given tape scope first) → OpensAlike (world_in given tape scope first)
       → IsSafe (world_in given tape scope first) given members work entries
@@ -218,8 +219,8 @@ module _ {tells : Type 0} {given : Given} {tape tape' : List Operation} {scope :
       by None = stays.size
       by (Some mended) = ap (λ (s : Shape). mended * s.chunk) stays.shape
 
-  pub few : (shape_of members'.newest).disks ≤ 16
-  few = (limited (shape_of members'.newest) stays.placed.valid).most
+  pub few : role_count members'.newest ≤ 16
+  few = few-roles members'.newest stays.placed.fit.valid
 
   -- ---- what is safe before it
 
@@ -235,7 +236,7 @@ module _ {tells : Type 0} {given : Given} {tape tape' : List Operation} {scope :
   fills-before added (inr fit) = inr fit
 
   -- the list stood before the call, where what it fills in is right
-  pub holds-before : (added : List Entry) (t : tells) → FillsRight (world_in given tape scope first) (entries ++ added) → DoesWithout members
+  pub holds-before : (added : List Entry) (t : tells) → FillsRight (world_in given tape scope first) (entries ++ added) → DoWithout members
       → ListStands members (present given tape) (now (opening_list (world_in given tape scope first)) entries)
   holds-before added t fills does = was.holds t does (rebuilds-by was (fills-before added fills))
 
@@ -310,7 +311,7 @@ module _ {tells : Type 0} {given : Given} {tape tape' : List Operation} {scope :
         (stretch t (subst (λ (l : List Event). FillsRight world (entries ++ entries_of who end l)) no_more fills) room began).next)) t)
 
     -- and leaves the mark and the resync as they are
-    pub leaves-alike : work'.resync ≡ work.resync → (DoesWithout members' → DoesWithout members) → is_clean members'.newest ≡ is_clean members.newest
+    pub leaves-alike : work'.resync ≡ work.resync → (DoWithout members' → DoWithout members) → is_clean members'.newest ≡ is_clean members.newest
         → LeavesSafe tells given tape' scope first (entries ++ entries_of who end events) members' work'
     leaves-alike resync without clean = record {
       dirty = λ does is. clean ∙ was.dirty (without does) (subst IsSome resync is);
@@ -323,7 +324,7 @@ module _ {tells : Type 0} {given : Given} {tape tape' : List Operation} {scope :
         by false b is still = still is
 
     -- or tells that a write may be unsettled, where no resync is pending
-    pub leaves-unsettled : (DoesWithout members' → IsSome work'.resync → is_clean members'.newest ≡ false) → (is_some work'.resync ≡ false → list_any (λ e. unsettles e.event) (entries_of who end events) ≡ true)
+    pub leaves-unsettled : (DoWithout members' → IsSome work'.resync → is_clean members'.newest ≡ false) → (is_some work'.resync ≡ false → list_any (λ e. unsettles e.event) (entries_of who end events) ≡ true)
         → LeavesSafe tells given tape' scope first (entries ++ entries_of who end events) members' work'
     leaves-unsettled dirty by_one = record {
       dirty = dirty;
@@ -337,12 +338,12 @@ module _ {tells : Type 0} {given : Given} {tape tape' : List Operation} {scope :
 
   -- a call that names the missing members, and leaves the mark and the resync as they are
   pub leaves-named : (work' : Work) → CarriesMore work work' → (events : List Event) → AreSilent who end events → OnlyAdd (entries_of who end events) → IsRisen tells members members' tape tape'
-      → AreTold members' (entries ++ entries_of who end events) → work'.resync ≡ work.resync → (DoesWithout members' → DoesWithout members) → is_clean members'.newest ≡ is_clean members.newest
+      → AreTold members' (entries ++ entries_of who end events) → work'.resync ≡ work.resync → (DoWithout members' → DoWithout members) → is_clean members'.newest ≡ is_clean members.newest
       → NamesSafe tells given members members' tape tape' → LeavesSafe tells given tape' scope first (entries ++ entries_of who end events) members' work'
   leaves-named work' carries events silent adds rise told resync without clean named =
       leaves-alike work' carries events silent adds rise
       (λ t fills room began. named t (world_in given tape scope first) (told_by (world_in given tape scope first) work' entries (entries_of who end events)) room
-      (gone-still (told_by (world_in given tape scope first) work' entries (entries_of who end events)) members' stays.placed.still told)
+      told
       (λ is. told-unclean (world_in given tape scope first) work work' carries entries (entries_of who end events) adds (is_some work.resync) (was.recorded t).dirty (was.unclean is)) began)
       resync without clean
 
@@ -374,12 +375,12 @@ module _ {tells : Type 0} {given : Given} {tape tape' : List Operation} {scope :
       → AreTold members' (entries ++ entries_of who end events) → TellsOnly members members' entries (entries_of who end events)
       → (tells → AreFillsRight (world_in given tape scope first) work'.resync members' (entries ++ entries_of who end events)
       → IsOneShapeCall (opening_in (world_in given tape scope first)) entries who end events)
-      → (tells → DoesWithout members' → AreRebuildsRight (world_in given tape scope first) (entries ++ entries_of who end events)
+      → (tells → DoWithout members' → AreRebuildsRight (world_in given tape scope first) (entries ++ entries_of who end events)
       → ListStands members' (present given tape') (now (opening_list (world_in given tape scope first)) (entries ++ entries_of who end events)))
       → (tells → AreSectorsWhole (list_size (places_of members)) (now (opening_list (world_in given tape scope first)) (entries ++ entries_of who end events)))
-      → (tells → DoesWithout members' → OpensFit (world_in given tape scope first)
+      → (tells → DoWithout members' → OpensFit (world_in given tape scope first)
       → RowsStandBelow (mended_rows work'.resync members') members' (present given tape') (now (opening_list (world_in given tape scope first)) (entries ++ entries_of who end events)))
-      → (tells → DoesWithout members' → OpensFit (world_in given tape scope first)
+      → (tells → DoWithout members' → OpensFit (world_in given tape scope first)
       → AreRebuilt work' members' (present given tape') (now (opening_list (world_in given tape scope first)) (entries ++ entries_of who end events)))
       → LeavesSafe tells given tape' scope first (entries ++ entries_of who end events) members' work'
       → IsKept tells given tape' scope first (entries ++ entries_of who end events) members' work'
@@ -387,6 +388,7 @@ module _ {tells : Type 0} {given : Given} {tape tape' : List Operation} {scope :
     slots = was.slots;
     spares = stays.spares;
     placed = stays.placed;
+    still = stays.still;
     unlost = stays.unlost;
     free = stays.free;
     told = told;

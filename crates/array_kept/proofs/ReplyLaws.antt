@@ -25,7 +25,9 @@ use Rattle.flat_history.specs.Fits.{AreTornOf, IsReadRefused}
 use Rattle.flat_history.specs.Plain.{entries_of}
 use Rattle.flat_history.specs.OneShape.{OneShapeAnswers}
 use Rattle.call_entries.specs.Losing.{losses_of, failure_events}
-use Rattle.views.specs.Lacking.{AreTooMany, IsUnread, IsUnwritten}
+use Rattle.md_base.specs.declared.places.Shape.{Shape}
+use Rattle.superblocks.specs.Reading.{shape_of, final_shape}
+use Rattle.views.specs.Lacking.{AreTooMany, LacksTooMany, IsUnread, IsUnwritten}
 use Rattle.array_kept.specs.Calls.{StandsInside, IsReplied, IsRefusedFor, IsSettled, IsCausedBy, IsAnswered}
 use Rattle.call_entries.proofs.PlainLaws.{one, begins}
 use Rattle.call_entries.proofs.LosingLaws.{entries-both}
@@ -111,16 +113,20 @@ replied size request who old new end inner event is number answers inside torn =
 abbrev pub IsOfMissing : Refusal → Type 0
 IsOfMissing refusal = IsReadRefused refusal × ¬ IsPastEnd refusal
 
+lacks-of : (shape : Shape) (m : Members) (refusal : Refusal) → LacksTooMany shape m refusal → IsOfMissing refusal
+lacks-of shape m refusal many = subst IsOfMissing (sym many.told) (tt, λ p. p)
+
 pub too-many-of : (m : Members) (refusal : Refusal) → AreTooMany m refusal → IsOfMissing refusal
-too-many-of m refusal many = subst IsOfMissing (sym many.told) (tt, λ p. p)
+too-many-of m refusal (inl many) = lacks-of (shape_of m.newest) m refusal many
+too-many-of m refusal (inr many) = lacks-of (final_shape m.newest) m refusal many.1
 
-pub unread-of : (mended at count : ℕ) (m : Members) (refusal : Refusal) → IsUnread mended at count m refusal → IsOfMissing refusal
-unread-of mended at count m refusal (inl many) = too-many-of m refusal many
-unread-of mended at count m refusal (inr found) = subst IsOfMissing (sym found.1) (tt, λ p. p)
+pub unread-of : (shape : Shape) (mended at count : ℕ) (m : Members) (refusal : Refusal) → IsUnread shape mended at count m refusal → IsOfMissing refusal
+unread-of shape mended at count m refusal (inl many) = lacks-of shape m refusal many
+unread-of shape mended at count m refusal (inr found) = subst IsOfMissing (sym found.1) (tt, λ p. p)
 
-pub unwritten-of : (synced : Bool) (m : Members) (refusal : Refusal) → IsUnwritten synced m refusal → IsOfMissing refusal
-unwritten-of synced m refusal (inl many) = too-many-of m refusal many
-unwritten-of synced m refusal (inr found) = subst IsOfMissing (sym found.1) (tt, λ p. p)
+pub unwritten-of : (shape : Shape) (synced : Bool) (m : Members) (refusal : Refusal) → IsUnwritten shape synced m refusal → IsOfMissing refusal
+unwritten-of shape synced m refusal (inl many) = lacks-of shape m refusal many
+unwritten-of shape synced m refusal (inr found) = subst IsOfMissing (sym found.1) (tt, λ p. p)
 
 -- a call within the visible size is refused for what its kind gives
 pub refused-for : (visible to : ℕ) (why : Members → Refusal → Type 0) (old new : Members) (refusal : Refusal) → IsOfMissing refusal → to ≤ visible → why new refusal → IsRefusedFor visible to why old new refusal
@@ -221,7 +227,11 @@ module _ (size : ℕ) (old : List Entry) (sized : length_of size old ≡ size) (
 
 flush-refused : (size visible : ℕ) (m m' : Members) (before : List Entry) (refusal : Refusal) → IsRefusedFor visible 0 AreTooMany m m' refusal → (call : List Entry) → OneShapeAnswers size before call AsksFlush (Refused refusal)
 flush-refused size visible m m' before (PastEnd told) why call = absurd (omega (arith, why.1))
-flush-refused size visible m m' before refusal why call = subst (λ (r : Refusal). OneShapeAnswers size before call AsksFlush (Refused r)) (sym why.1.told) tt
+flush-refused size visible m m' before refusal why call = of why.1
+  where
+    of : AreTooMany m' refusal → OneShapeAnswers size before call AsksFlush (Refused refusal)
+    of (inl many) = subst (λ (r : Refusal). OneShapeAnswers size before call AsksFlush (Refused r)) (sym many.told) tt
+    of (inr many) = subst (λ (r : Refusal). OneShapeAnswers size before call AsksFlush (Refused r)) (sym many.1.told) tt
 
 pub flush_answer : {T : Type 0} (size visible : ℕ) (who : Who) (old new : List Entry) (m m' : Members) (result : Result T AnyFault) → who.number ≡ next_number who.caller old → IsSettled who old new Flushed result
     → IsCausedBy visible 0 AreTooMany m m' result → IsAnswered size AsksFlush who old new Flushed result

@@ -16,6 +16,7 @@ use Rattle.md_base.specs.declared.status.Role.TheVariants.{Whole, Recovering, Mi
 use Rattle.layout.proofs.Limits.{limited}
 use Rattle.bank.specs.Given.{Given}
 use Rattle.superblocks.specs.declared.members.Members.{Members}
+use Rattle.views.proofs.Fit.{fit-valid, force-disks}
 use Rattle.superblocks.specs.Reading.{shape_of, role_state, holder}
 use Rattle.superblocks.specs.Reads.{has_spare}
 use Rattle.superblock_reads.proofs.SaidSlots.{has-slots_below}
@@ -214,10 +215,10 @@ no-spare p spares (suc n) slot told none lt there =
 
 module _ {given : Given} {old new : Members} (moved : IsMoved given old new) {roles spares : ℕ} {before after : ℕ → ℕ} (since : AreLostSince old new roles spares before after) where
   none-vacated : (p : Event → Bool) → ((r : ℕ) → p (Lost r Fault) ≡ true) → list_any p (losses_of roles spares) ≡ false → AreNoneVacated old new
-  none-vacated p told none role lt vacant = elim (since.vacant role lt vacant) [
+  none-vacated p told none role lt vacant = elim (since.vacant role (let within = force-disks new.newest moved.placed.fit (shape_of new.newest) (inl refl) in omega (arith, lt, within)) vacant) [
     | inl was ↦ was
     | inr lost ↦
-        let few = (limited (shape_of new.newest) moved.placed.valid).most in
+        let few = (limited (shape_of new.newest) (fit-valid new.newest moved.placed.fit)).most in
         absurd (no-role p roles 16 role told (no-both p (role_losses roles 16) (spare_losses spares 32) none).0 (omega (arith, lt, few)) lost)
   ]
 

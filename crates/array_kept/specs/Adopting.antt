@@ -15,7 +15,7 @@ use Rattle.md_base.specs.Search.{tabulate, any_below}
 use Rattle.sb1.specs.declared.sb.Sb.{Sb}
 use Rattle.superblocks.specs.Update.{own_in}
 use Rattle.superblocks.specs.Held.{MayRead}
-use Rattle.superblocks.specs.Reading.{Scope, Reading, reading, is_clean, shape_of, role_state, rows_held}
+use Rattle.superblocks.specs.Reading.{Scope, Reading, reading, is_reshaping, is_clean, shape_of, role_state, rows_held}
 use Rattle.row_io.specs.Rows.{reading_of, present, is_missing}
 use Rattle.flat_history.specs.declared.events.Event.{Event}
 use Rattle.flat_history.specs.declared.events.Event.TheVariants.{Lost}
@@ -84,12 +84,13 @@ found_work members = record {
 abbrev pub AreNumbersKept : Scope → List (Option Sb) → (ℕ → ℕ → List Sector) → Type 0
 AreNumbersKept scope own d = (slot : ℕ) (sb : Sb) → MayRead scope d slot (Some sb) → (kept : Sb) × (own_in own slot ≡ Some kept) × (kept.dev_number ≡ sb.dev_number)
 
--- What an array needs that begins here: the members are read from its slots; its list stands on them, and its rows where the opening
--- finds them good, over the whole sectors that every bank has; a stop leaves what is there, and the next update may start.
+-- What an array needs that begins here: the members are read from its slots, and no reshape is active in it yet; its list stands on them, and its rows
+-- where the opening finds them good, over the whole sectors that every bank has; a stop leaves what is there, and the next update may start.
 pub record IsAdoptable (tells : Type 0) (given : Given) (tape : List Operation) (scope : Scope) (members : Members) : Type 0 where
   pub slots : given.slots ≤ 32
   pub spares : length members.spares ≤ 32
   pub placed : IsPlaced given members
+  pub still : is_reshaping members.newest ≡ false
   pub unlost : AreUnlost members
   pub free : AreSparesFree given members
   pub sizes_are : scope.sizes ≡ sizes given

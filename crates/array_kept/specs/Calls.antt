@@ -1,7 +1,6 @@
 -- What a call of an array answers, why it is refused, and what it enters.
 use Rattle.std.specs.Prelude.{◌≡◌, ◌⊎◌, ℕ, ◌+◌, ◌<◌, ◌≤◌, ◌++◌, Bool, true, false, not, List, [], ◌∷◌, length, drop, slice_set, Option, option_map, Some, None, IsSome, IsTrue, MatchOption, Result, Ok, Err, ⊤, Contains}
 use Rattle.std.specs.List.{list_any, All}
-use Rattle.md_base.specs.Shapes.{tolerance}
 use Rattle.md_base.specs.declared.answers.Who.{Who}
 use Rattle.md_base.specs.declared.answers.Fault.{Fault}
 use Rattle.md_base.specs.declared.answers.Fault.TheVariants.{Refused as IsRefusedWith, NoMemory}
@@ -13,7 +12,7 @@ use Rattle.bank.specs.Tape.{disk}
 use Rattle.sb1.specs.declared.sb.Sb.{Sb}
 use Rattle.superblocks.specs.declared.members.Members.{Members}
 use Rattle.md_base.specs.declared.status.Role.TheVariants.{Whole, Recovering}
-use Rattle.superblocks.specs.Reading.{shape_of, is_backup, role_state, holder, data_offset_of}
+use Rattle.superblocks.specs.Reading.{shape_of, role_count, is_backup, role_state, holder, data_offset_of}
 use Rattle.superblocks.specs.Reads.{has_spare}
 use Rattle.row_io.specs.Rows.{reading_of, present, is_missing}
 use Rattle.flat_history.specs.declared.events.Entry.{Entry}
@@ -32,7 +31,8 @@ use Rattle.flat_history.specs.Plain.{entries_of}
 use Rattle.flat_history.specs.OneShape.{is_gone_now, EndsIdleSteps, OneShapeFits}
 use Rattle.views.specs.Placed.{is_vacant}
 use Rattle.call_entries.specs.Losing.{losses_of}
-use Rattle.views.specs.Lacking.{lacking, DoesWithout, AreTooMany}
+use Rattle.shape_views.specs.Regions.{DoWithout}
+use Rattle.views.specs.Lacking.{AreTooMany, IsNotResynced}
 use Rattle.views.specs.Parts.{Parts}
 use Rattle.views.specs.declared.work.Work.{Work}
 use Rattle.views.specs.Status.{stripes_of, rebuilt_of, left_of}
@@ -113,13 +113,13 @@ IsEndOf tells first entries tape = tells → last_end_from first entries ≡ len
 
 -- a slot holds this role of the array, whole or in part
 abbrev pub HasRole : Members → ℕ → Type 0
-HasRole members role = (role < (shape_of members.newest).disks) × (is_vacant (reading_of members) role ≡ false)
+HasRole members role = (role < role_count members.newest) × (is_vacant (reading_of members) role ≡ false)
 
 -- what stands behind a refusal
 abbrev pub IsRefusedHere : ℕ → Option ℕ → Members → Refusal → Type 0
 IsRefusedHere visible resync members (PastEnd told) = told ≡ visible
-IsRefusedHere visible resync members (TooManyMissing count most) = (most < count) × (count ≡ lacking members) × (most ≡ tolerance (shape_of members.newest))
-IsRefusedHere visible resync members (NotResynced role) = IsSome resync × (role < (shape_of members.newest).disks) × (is_missing (reading_of members) role ≡ true)
+IsRefusedHere visible resync members (TooManyMissing count most) = AreTooMany members (TooManyMissing count most)
+IsRefusedHere visible resync members (NotResynced role) = IsSome resync × (role < role_count members.newest) × (is_missing (reading_of members) role ≡ true)
 IsRefusedHere visible resync members (NoSuchRole role) = HasRole members role → ⊥
 IsRefusedHere visible resync members refusal = ⊥
 
@@ -127,6 +127,10 @@ IsRefusedHere visible resync members refusal = ⊥
 abbrev pub IsRefusedFor : ℕ → ℕ → (Members → Refusal → Type 0) → Members → Members → Refusal → Type 0
 IsRefusedFor visible to why old new (PastEnd told) = (told ≡ visible) × (visible < to) × (new ≡ old)
 IsRefusedFor visible to why old new refusal = (to ≤ visible) × why new refusal
+
+-- why a stripe of a resync isn't mended
+abbrev pub IsUnmendable : Members → Refusal → Type 0
+IsUnmendable members refusal = AreTooMany members refusal ⊎ IsNotResynced (shape_of members.newest) false members refusal
 
 -- nothing of the kind spoke against a call that is answered Ok
 abbrev pub IsCausedBy : {T : Type 0} → ℕ → ℕ → (Members → Refusal → Type 0) → Members → Members → Result T Fault → Type 0
@@ -159,7 +163,7 @@ OnNoMemory result fact = ⊤
 
 -- a slot recovers the role
 abbrev pub IsRecovered : Members → ℕ → Type 0
-IsRecovered members role = (role < (shape_of members.newest).disks) × (slot : ℕ) × (role_state (reading_of members) role ≡ Recovering slot)
+IsRecovered members role = (role < role_count members.newest) × (slot : ℕ) × (role_state (reading_of members) role ≡ Recovering slot)
 
 -- a resync is pending, and has a stripe to mend
 abbrev pub HasStripeLeft : Option ℕ → Members → Type 0
@@ -294,7 +298,7 @@ abbrev pub IsUnaddable : Given → Option ℕ → ℕ → Members → Refusal �
 IsUnaddable given backup slot members (NoSuchSlot asked) = (asked ≡ slot) × (given.slots ≤ slot)
 IsUnaddable given backup slot members (SlotTaken taken) = (taken ≡ slot) × (slot < given.slots) × IsTaken backup members slot
 IsUnaddable given backup slot members (TooManyMissing count most) = (slot < given.slots) × (IsTaken backup members slot → ⊥) × AreTooMany members (TooManyMissing count most)
-IsUnaddable given backup slot members (SlotTooSmall have want) = (slot < given.slots) × (IsTaken backup members slot → ⊥) × DoesWithout members
+IsUnaddable given backup slot members (SlotTooSmall have want) = (slot < given.slots) × (IsTaken backup members slot → ⊥) × DoWithout members
     × (have ≡ given.sectors slot) × (have < want) × (offset : ℕ) × IsFirstOffset members offset × (want ≡ offset + members.newest.size)
 IsUnaddable given backup slot members refusal = ⊥
 

@@ -6,7 +6,7 @@ use Rattle.parity.specs.Rows.{IsSector}
 use Rattle.bank.specs.declared.bank.Operation.{Operation}
 use Rattle.bank.specs.Given.{Given, sizes}
 use Rattle.superblocks.specs.declared.members.Members.{Members}
-use Rattle.superblocks.specs.Reading.{Scope, Reading, is_clean, shape_of}
+use Rattle.superblocks.specs.Reading.{Scope, Reading, is_reshaping, is_clean, shape_of, role_count}
 use Rattle.superblocks.specs.Reads.{has_spare}
 use Rattle.row_io.specs.Rows.{reading_of, present, is_missing}
 use Rattle.flat_history.specs.declared.events.Entry.{Entry}
@@ -28,7 +28,8 @@ use Rattle.views.specs.declared.work.Work.{Work}
 use Rattle.views.specs.Status.{stripes_of, left_of}
 use Rattle.views.specs.Numbers.{is_carried}
 use Rattle.views.specs.Rebuilding.{AreSparesFree, AreRebuilt, HasNoRebuilt, MayHold}
-use Rattle.views.specs.Lacking.{DoesWithout, ListStands, RowsStandBelow, mended_rows}
+use Rattle.shape_views.specs.Regions.{DoWithout}
+use Rattle.views.specs.Lacking.{ListStands, RowsStandBelow, mended_rows}
 
 -- these slots of a bank, looked at for an array
 abbrev pub scope_in : Given → List ℕ → ℕ → Option ℕ → Scope
@@ -40,7 +41,7 @@ world_in given tape scope first = record { start = given.start; tape = tape; sco
 
 -- each missing role is told gone
 abbrev pub AreTold : Members → List Entry → Type 0
-AreTold members entries = (role : ℕ) → role < (shape_of members.newest).disks → is_missing (reading_of members) role ≡ true
+AreTold members entries = (role : ℕ) → role < role_count members.newest → is_missing (reading_of members) role ≡ true
     → IsTrue (is_gone_now entries role)
 
 -- Each role that is told gone is missing, and each slot that is told to be a spare is one.
@@ -103,13 +104,14 @@ pub record IsSafe (world : World) (given : Given) (members : Members) (work : Wo
   pub now : IsSafeOver world given (ledger_now world work entries) members world.tape
   pub counted : HasLiveSlot members → IsCounted world members
 
--- The list stands on the members that are there, as long as they suffice, and what is missing or a spare is what was told so; what was rebuilt on recovering
--- slots is the list's.
+-- No reshape is active in the array yet. The list stands on the members that are there, as long as they suffice, and what is missing or a spare is what
+-- was told so; what was rebuilt on recovering slots is the list's.
 pub record IsKept (tells : Type 0) (given : Given) (tape : List Operation) (scope : Scope) (first : ℕ) (entries : List Entry)
     (members : Members) (work : Work) : Type 0 where
   pub slots : given.slots ≤ 32
   pub spares : length members.spares ≤ 32
   pub placed : IsPlaced given members
+  pub still : is_reshaping members.newest ≡ false
   pub unlost : AreUnlost members
   pub free : AreSparesFree given members
   pub told : AreTold members entries
@@ -121,12 +123,12 @@ pub record IsKept (tells : Type 0) (given : Given) (tape : List Operation) (scop
   pub unbuilt : IsSome work.resync → HasNoRebuilt entries
   pub built : LosesNoRole entries → HasNoRebuilt entries
   pub recorded : tells → IsRecorded (world_in given tape scope first) (list_size (places_of members)) work.resync members entries
-  pub holds : tells → DoesWithout members → AreRebuildsRight (world_in given tape scope first) entries → ListStands members (present given tape) (now (opening_list (world_in given tape scope first)) entries)
+  pub holds : tells → DoWithout members → AreRebuildsRight (world_in given tape scope first) entries → ListStands members (present given tape) (now (opening_list (world_in given tape scope first)) entries)
   pub whole : tells → AreSectorsWhole (list_size (places_of members)) (now (opening_list (world_in given tape scope first)) entries)
-  pub good : tells → DoesWithout members → OpensFit (world_in given tape scope first) → RowsStandBelow (mended_rows work.resync members) members (present given tape) (now (opening_list (world_in given tape scope first)) entries)
-  pub rebuilt : tells → DoesWithout members → OpensFit (world_in given tape scope first) → AreRebuilt work members (present given tape) (now (opening_list (world_in given tape scope first)) entries)
+  pub good : tells → DoWithout members → OpensFit (world_in given tape scope first) → RowsStandBelow (mended_rows work.resync members) members (present given tape) (now (opening_list (world_in given tape scope first)) entries)
+  pub rebuilt : tells → DoWithout members → OpensFit (world_in given tape scope first) → AreRebuilt work members (present given tape) (now (opening_list (world_in given tape scope first)) entries)
   pub sizes_are : scope.sizes ≡ sizes given
-  pub dirty : DoesWithout members → IsSome work.resync → is_clean members.newest ≡ false
+  pub dirty : DoWithout members → IsSome work.resync → is_clean members.newest ≡ false
   pub unclean : is_clean members.newest ≡ false → (is_some work.resync || is_unsettled entries) ≡ true
   pub safe : tells → FillsRight (world_in given tape scope first) entries → HasRoomForEvents (world_in given tape scope first) → OpensAlike (world_in given tape scope first)
       → IsSafe (world_in given tape scope first) given members work entries

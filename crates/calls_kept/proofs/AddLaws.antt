@@ -5,7 +5,7 @@ use Rattle.std.proofs.lemmas.Bool.{cases_lt}
 use Rattle.std.proofs.lemmas.Bool.Decides.{nat_tests}
 use Rattle.std.proofs.lemmas.Slice.Eq.{bytes_eq-Decides}
 use Rattle.sb1.specs.declared.sb.Sb.{Sb}
-use Rattle.md_base.specs.Shapes.{is_valid_shape, tolerance}
+use Rattle.md_base.specs.Shapes.{is_valid_shape}
 use Rattle.md_base.specs.Sectors.{Sector}
 use Rattle.md_base.specs.declared.answers.Who.{Who}
 use Rattle.superblocks.specs.Held.{IsSecondHalf}
@@ -20,7 +20,7 @@ use Rattle.superblocks.specs.Reading.{Scope, is_seen, is_backup, shape_of, role_
 use Rattle.row_io.specs.Rows.{reading_of}
 use Rattle.array_kept.specs.Calls.{IsTaken, IsFirstOffset, IsUnaddable, IsAddedAs, IsReplied, IsRefusedFor}
 use Rattle.views.specs.Rebuilding.{Held}
-use Rattle.views.specs.Lacking.{lacking, DoesWithout, AreTooMany, too_many}
+use Rattle.views.specs.Lacking.{AreTooMany}
 use Rattle.views.specs.Placed.{is_vacant, IsPlaced}
 use Rattle.views.specs.Numbers.{is_carried, free_number, spare_sb, IsSpareSb, IsOfScope, AreSecondEntries}
 use Rattle.array_kept.specs.Kept.{scope_in}
@@ -38,6 +38,9 @@ use Rattle.call_entries.proofs.CallLaws.{AreLossEvents, losses-are, torn-losses}
 use Rattle.array_kept.proofs.ReplyLaws.{inside-losses, none-inside, replied}
 use Rattle.views.proofs.LiveLeft.{some-held}
 use Rattle.views.proofs.Searching.{least-found, both-parts}
+use Rattle.shape_views.specs.Regions.{DoWithout}
+use Rattle.views.proofs.Fit.{valid}
+use Rattle.views.proofs.LackingLaws.{does-without, never-both}
 
 -- ---- the lowest role that a slot holds
 
@@ -64,8 +67,8 @@ lowest-below m (suc n) = by (lowest-below m n)
     by (inl none) = at none (holder (role_state (reading_of m) n)) refl
 
 -- an array that does without those that are missing has one
-pub lowest : (m : Members) → IsTrue (is_valid_shape (shape_of m.newest)) → DoesWithout m → IsLowest m
-lowest m valid does = by (some-held m valid does)
+pub lowest : (m : Members) → IsTrue (is_valid_shape (shape_of m.newest)) → DoWithout m → IsLowest m
+lowest m valid does = by (some-held m valid does.old)
   where
     by : (role : ℕ) × (slot : ℕ) × Held m role slot → IsLowest m
     by held = elim (lowest-below m (held.0 + 1)) [
@@ -79,19 +82,17 @@ pub many-of : (m : Members) (refusal : Refusal) → IsRefusedFor 0 0 AreTooMany 
 many-of m (PastEnd told) w = absurd (omega (arith, w.1))
 many-of m refusal w = w.1
 
-pub does-of : (m : Members) → ((refusal : Refusal) → AreTooMany m refusal → ⊥) → DoesWithout m
-does-of m none = elim (cases_lt (tolerance (shape_of m.newest)) (lacking m)) [
-  | inl above ↦ absurd (none (too_many m) (record { above = above; told = refl }))
-  | inr few ↦ few
-]
+pub does-of : (m : Members) → ((refusal : Refusal) → AreTooMany m refusal → ⊥) → DoWithout m
+does-of m none = does-without m none
 
 module _ (given : Given) (backup : Option ℕ) (slot : ℕ) (m : Members) (placed : IsPlaced given m) where
   pub unaddable-many : (refusal : Refusal) → slot < given.slots → (IsTaken backup m slot → ⊥) → AreTooMany m refusal → IsUnaddable given backup slot m refusal
-  unaddable-many refusal there free many = subst (λ (r : Refusal). AreTooMany m r → IsUnaddable given backup slot m r) (sym many.told) (λ w. (there, free, w)) many
+  unaddable-many refusal there free (inl many) = subst (λ (r : Refusal). AreTooMany m r → IsUnaddable given backup slot m r) (sym many.told) (λ w. (there, free, w)) (inl many)
+  unaddable-many refusal there free (inr many) = subst (λ (r : Refusal). AreTooMany m r → IsUnaddable given backup slot m r) (sym many.1.told) (λ w. (there, free, w)) (inr many)
 
   -- the offset of the lowest role's slot, behind which its rows lie
-  pub offset-of : DoesWithout m → (offset : ℕ) → IsFirstOffset m offset → (10 ≤ offset) × (offset + m.newest.size < 2 ^ 64)
-  offset-of does offset first = by (lowest m placed.valid does)
+  pub offset-of : DoWithout m → (offset : ℕ) → IsFirstOffset m offset → (10 ≤ offset) × (offset + m.newest.size < 2 ^ 64)
+  offset-of does offset first = by (lowest m (valid given m placed) does)
     where
       by : IsLowest m → (10 ≤ offset) × (offset + m.newest.size < 2 ^ 64)
       by low =
@@ -101,8 +102,8 @@ module _ (given : Given) (backup : Option ℕ) (slot : ℕ) (m : Members) (place
           (omega (arith, is, behind), omega (arith, is, room.within, room.short))
 
   -- which is there
-  pub offset-there : DoesWithout m → (offset : ℕ) × IsFirstOffset m offset
-  offset-there does = of (lowest m placed.valid does)
+  pub offset-there : DoWithout m → (offset : ℕ) × IsFirstOffset m offset
+  offset-there does = of (lowest m (valid given m placed) does)
     where
       vacant-none : (role s : ℕ) → Held m role s → is_vacant (reading_of m) role ≡ true → ⊥
       vacant-none role s held vacant = let e = sym (ap (λ (o : Option ℕ). not (is_some o)) held) ∙ vacant in cc
@@ -123,15 +124,15 @@ module _ (given : Given) (backup : Option ℕ) (slot : ℕ) (m : Members) (place
           ]
 
   -- there is one alone
-  pub offset-one : DoesWithout m → (a b : ℕ) → IsFirstOffset m a → IsFirstOffset m b → a ≡ b
-  offset-one does a b one two = let low = lowest m placed.valid does in one low.role low.slot low.held low.none ∙ sym (two low.role low.slot low.held low.none)
+  pub offset-one : DoWithout m → (a b : ℕ) → IsFirstOffset m a → IsFirstOffset m b → a ≡ b
+  offset-one does a b one two = let low = lowest m (valid given m placed) does in one low.role low.slot low.held low.none ∙ sym (two low.role low.slot low.held low.none)
 
   -- where nothing speaks against it
-  pub unaddable-none : slot < given.slots → (IsTaken backup m slot → ⊥) → DoesWithout m → (offset : ℕ) → IsFirstOffset m offset → offset + m.newest.size ≤ given.sectors slot
+  pub unaddable-none : slot < given.slots → (IsTaken backup m slot → ⊥) → DoWithout m → (offset : ℕ) → IsFirstOffset m offset → offset + m.newest.size ≤ given.sectors slot
       → (refusal : Refusal) → IsUnaddable given backup slot m refusal → ⊥
   unaddable-none there free does offset first fits (NoSuchSlot asked) w = absurd (let past = w.1 in omega (arith, past, there))
   unaddable-none there free does offset first fits (SlotTaken taken) w = free w.2
-  unaddable-none there free does offset first fits (TooManyMissing count most) w = absurd (let above = w.2.above in omega (arith, above, does))
+  unaddable-none there free does offset first fits (TooManyMissing count most) w = never-both m (TooManyMissing count most) does w.2
   unaddable-none there free does offset first fits (SlotTooSmall have want) w =
       let same = offset-one does w.5 offset w.6 first in
       let want_is = w.7 in
@@ -148,7 +149,7 @@ module _ (given : Given) (backup : Option ℕ) (slot : ℕ) (m : Members) (place
     pub slot-free : IsTaken backup m slot → ⊥
     slot-free taken = addable (SlotTaken slot) (refl, slot-there, taken)
 
-    pub slot-does : DoesWithout m
+    pub slot-does : DoWithout m
     slot-does = does-of m (λ refusal many. addable refusal (unaddable-many refusal slot-there slot-free many))
 
     pub slot-unspare : has_spare m.spares slot ≡ false
@@ -206,7 +207,7 @@ is-free newest work number is =
     at-most a b e = grind (arith, nat_tests)
 
 -- the superblock of the spare
-pub spare-made : (given : Given) (slot : ℕ) (m : Members) (placed : IsPlaced given m) → DoesWithout m → (uuid : List ℕ) (number offset sectors : ℕ) (second : List ℕ) (sb : Sb)
+pub spare-made : (given : Given) (slot : ℕ) (m : Members) (placed : IsPlaced given m) → DoWithout m → (uuid : List ℕ) (number offset sectors : ℕ) (second : List ℕ) (sb : Sb)
     → number < 128 → 0xfffe ≤ entry_of m.newest number → IsFirstOffset m offset → offset + m.newest.size ≤ given.sectors slot → sectors ≡ given.sectors slot → sectors < 2 ^ 64
     → length second ≡ 256 → ((k : ℕ) → slice_index second k < 65536) → sb ≡ spare_sb m.newest uuid number offset sectors second → IsSpareSb given m.newest slot sb
 spare-made given slot m placed does uuid number offset sectors second sb few free first fits sectors_are short long small is = record {

@@ -14,7 +14,7 @@ use Rattle.bank.specs.Tape.{IsIn, disk}
 use Rattle.bank.proofs.Marks.{each_mark-map}
 use Rattle.sb1.specs.declared.sb.Sb.{Sb}
 use Rattle.superblocks.specs.declared.members.Members.{Members}
-use Rattle.superblocks.specs.Reading.{Scope, role_state, holder, is_backup}
+use Rattle.superblocks.specs.Reading.{Scope, role_state, holder, is_backup, shape_of}
 use Rattle.superblocks.specs.Reads.{has_spare}
 use Rattle.superblocks.specs.Held.{IsSecondHalf}
 use Rattle.row_io.specs.Rows.{reading_of, present}
@@ -34,7 +34,7 @@ use Rattle.views.specs.Whole.{list_size}
 use Rattle.views.specs.Placed.{places_of}
 use Rattle.views.specs.Flushing.{OnlyFlushesAdded}
 use Rattle.call_entries.specs.Losing.{losses_of}
-use Rattle.views.specs.Lacking.{AreLostSince, ListStands, RowsStandBelow, mended_rows}
+use Rattle.views.specs.Lacking.{AreLostSince, ListStands, RowsStandBelow, mended_rows, RowsStandAmong}
 use Rattle.shape_changes.specs.Marking.{AreOthersPresent}
 use Rattle.views.specs.Moving.{Grows}
 use Rattle.shape_changes.specs.Safety.{HasLiveSlot, HasRoomLeft, IsRisen}
@@ -63,11 +63,12 @@ use Rattle.call_entries.proofs.StepLaws.{faults-are}
 use Rattle.shape_changes.proofs.Steady.{views-told}
 use Rattle.array_kept.proofs.OnlyLaws.{MakeSpares, gone-behind-losses, spares-behind-losses, added-makes, only-more, TellsOnly}
 use Rattle.views.proofs.HeldRows.{missing-moved, vacant-missing}
-use Rattle.views.proofs.Still.{gone-still}
 use Rattle.calls_kept.proofs.AddLaws.{lowest}
 use Rattle.call_entries.proofs.LosingLaws.{entries-both}
 use Rattle.std.proofs.lemmas.List.Folds.{list_any-append}
 use Rattle.std.specs.List.{list_any}
+use Rattle.views.proofs.Fit.{valid}
+use Rattle.md_base.specs.declared.places.Shape.{Shape}
 
 -- ---- the numbers that are known
 
@@ -171,7 +172,7 @@ module _ {tells : Type 0} {given : Given} {tape mid_tape tape' : List Operation}
         let flushed = flushed-safe (OpensFit world) scope given told_old members tape mid_tape (looked t) began in
         let longer = added-longer tape mid_tape (looked t) in
         let unclean : IsUncleanTold told_old members = λ dirty. told-unclean world work work (λ n is. is) entries added adds (is_some work.resync) (was.recorded t).dirty (was.unclean dirty) in
-        let done = safe t world told_old (λ some. let r = room some in omega (arith, r, longer)) (gone-still told_old members' stays.placed.still told) unclean of_scope unknown (second t) live flushed.next in
+        let done = safe t world told_old (λ some. let r = room some in omega (arith, r, longer)) told unclean of_scope unknown (second t) live flushed.next in
         safe-then (OpensFit world) scope given told_all members members' tape mid_tape tape'
         (stretch-told (OpensFit world) scope given told_old told_all members tape mid_tape
         (record { size = refl; values = λ x lt v may. may; gone = λ role is. is; unclean = λ is. is; reshaping = λ is. is; carried = carries-number sb.dev_number work }) flushed)
@@ -274,8 +275,9 @@ module _ {tells : Type 0} {given : Given} {tape mid_tape tape' : List Operation}
         (λ t does fit. subst (λ (n : ℕ). RowsStandBelow n members' (present given tape') (now (opening_list (world_in given tape scope first)) (entries ++ entries_of who end all)))
         (sym (mended-are who end was opens caller at_end stays grows))
         (subst (λ (l : ℕ → Sector). RowsStandBelow (mended_rows work.resync members) members' (present given tape') l) (sym same)
-        (among-moved (λ row. row < mended_rows work.resync members) given (with_spare slot sb members) members' (present given tape) (present given tape') list did.moved (with-placed did) (others t)
-        (among-with members slot sb unheld (λ row. row < mended_rows work.resync members) (present given tape) list (was.good t (does-added did does) fit)))))
+        (among-moved (shape_of members'.newest) (λ row. row < mended_rows work.resync members) given (with_spare slot sb members) members' (present given tape) (present given tape') list did.moved (with-placed did) (others t)
+        (among-with members slot sb unheld (shape_of members'.newest) (λ row. row < mended_rows work.resync members) (present given tape) list
+        (subst (λ (s : Shape). RowsStandAmong s (λ row. row < mended_rows work.resync members) members (present given tape) list) (sym did.moved.shape) (was.good t (does-added did does) fit))))))
         (λ t does fit. subst (λ (l : ℕ → Sector). AreRebuilt work' members' (present given tape') l) (sym same)
         (rebuilt-moved work given (with_spare slot sb members) members' (present given tape) (present given tape') list did.moved (with-placed did) (others t)
         (rebuilt-with members slot sb unheld work (present given tape) list (was.rebuilt t (does-added did does) fit))))
@@ -351,7 +353,7 @@ module _ {tells : Type 0} {given : Given} {tape : List Operation} {scope : Scope
 
   too-small-now : (have want : ℕ) → IsUnaddable given backup slot members (SlotTooSmall have want) → tells → IsTooSmallNow (opening_in (world_in given tape scope first)) entries have want
   too-small-now have want (there, free, does, have_is, short, offset, first_is, want_is) t =
-      let low = lowest members was.placed.valid does in
+      let low = lowest members (valid given members was.placed) does in
       let room = was.placed.holders low.role low.slot low.held in
       let at = first_is low.role low.slot low.held low.none in
       let long : want ≤ given.sectors low.slot = (let within = room.within in omega (arith, want_is, at, within)) in

@@ -4,14 +4,12 @@ use Rattle.std.specs.Prelude.{IfSome, fold}
 use Rattle.std.proofs.lemmas.Bool.{cases_lt}
 use Rattle.std.proofs.lemmas.Bool.Decides.{nat_tests}
 use Rattle.md_base.specs.Shapes.{has_slot}
-use Rattle.md_base.specs.declared.places.Shape.{Shape}
 use Rattle.md_base.specs.declared.answers.Who.{Who}
 use Rattle.bank.specs.declared.bank.Operation.{Operation}
 use Rattle.bank.specs.Given.{Given, NeverFalls, IsFaulted}
-use Rattle.layout.proofs.Limits.{limited}
 use Rattle.sb1.specs.declared.sb.Sb.{Sb}
 use Rattle.superblocks.specs.declared.members.Members.{Members}
-use Rattle.superblocks.specs.Reading.{shape_of, role_state, holder, is_clean}
+use Rattle.superblocks.specs.Reading.{shape_of, role_state, holder, is_clean, is_reshaping}
 use Rattle.superblocks.specs.Reads.{has_spare}
 use Rattle.superblocks.proofs.SlotSets.{none_there, none_above}
 use Rattle.row_io.specs.Rows.{reading_of, present, is_missing}
@@ -26,7 +24,7 @@ use Rattle.views.specs.declared.work.Work.{Work}
 use Rattle.views.specs.Placed.{IsPlaced}
 use Rattle.shape_changes.specs.Steady.{AreUnlost}
 use Rattle.call_entries.specs.Losing.{losses_of}
-use Rattle.views.specs.Lacking.{DoesWithout, HaveFailedSince, AreLostSince}
+use Rattle.views.specs.Lacking.{HaveFailedSince, AreLostSince}
 use Rattle.shape_changes.specs.Marking.{AreOthersPresent}
 use Rattle.views.specs.Moving.{Grows, IsMoved}
 use Rattle.shape_changes.specs.Safety.{IsRisen}
@@ -43,11 +41,16 @@ use Rattle.call_entries.proofs.LeftLaws.{fold-left}
 use Rattle.views.proofs.MarkLaws.{few-below}
 use Rattle.array_kept.proofs.RecordLaws.{told-more, gone-lately}
 use Rattle.array_kept.proofs.StepsLeft.{recovery-same, left-moved}
+use Rattle.shape_views.specs.Regions.{DoWithout}
+use Rattle.views.proofs.Still.{count-still}
+use Rattle.superblocks.proofs.ValidFields.{few-roles}
+use Rattle.array_kept.proofs.DegradedLaws.{count-moved}
 
 -- A slot was made a spare with this superblock, or it was lost in this, and others were lost meanwhile.
 pub record IsAddDone (tells : Type 0) (given : Given) (slot : ℕ) (sb : Sb) (old new : Members) (lost : ℕ) (tape tape' : List Operation) (before after : ℕ → ℕ) : Type 0 where
   pub slots : given.slots ≤ 32
   pub placed : IsPlaced given old
+  pub still : is_reshaping old.newest ≡ false
   pub unlost : AreUnlost old
   pub free : AreSparesFree given old
   pub there : slot < given.slots
@@ -80,16 +83,17 @@ failed-earlier {old = old} {new = new} {before = before} {mid = mid} {after = af
 
 -- by what was there before the slot was looked at
 pub add-done : {tells : Type 0} {given given' : Given} {slot : ℕ} {sb : Sb} {old new : Members} {lost : ℕ} {tape tape' : List Operation} {before mid after : ℕ → ℕ} → given' ≡ given
-    → given.slots ≤ 32 → IsPlaced given old → AreUnlost old → AreSparesFree given old → slot < given.slots → ((role : ℕ) → MayHold old role slot → ⊥) → NeverFalls before mid
+    → given.slots ≤ 32 → IsPlaced given old → is_reshaping old.newest ≡ false → AreUnlost old → AreSparesFree given old → slot < given.slots → ((role : ℕ) → MayHold old role slot → ⊥) → NeverFalls before mid
     → IsSpareSb given' old.newest slot sb → length old.own ≡ 32 → IsMoved given' (with_spare slot sb old) new → HaveFailedSince (with_spare slot sb old) new lost mid after
     → (has_slot lost slot ≡ true → has_spare new.spares slot ≡ false) → Grows tells tape tape' → (tells → AreOthersPresent (present given' tape) (present given' tape'))
     → is_clean new.newest ≡ is_clean old.newest → IsRisen tells (with_spare slot sb old) new tape tape' → NeverFalls mid after
     → IsAddDone tells given slot sb old new lost tape tape' before after
-add-done {tells = tells} {slot = slot} {sb = sb} {old = old} {new = new} {lost = lost} {tape = tape} {tape' = tape'} {before = before} {after = after} same slots placed unlost free there untaken rises made own moved failed
+add-done {tells = tells} {slot = slot} {sb = sb} {old = old} {new = new} {lost = lost} {tape = tape} {tape' = tape'} {before = before} {after = after} same slots placed still unlost free there untaken rises made own moved failed
     unspare grows others clean rise counts =
     record {
       slots = slots;
       placed = placed;
+      still = still;
       unlost = unlost;
       free = free;
       there = there;
@@ -132,6 +136,7 @@ module _ {tells : Type 0} {given : Given} {slot : ℕ} {sb : Sb} {old new : Memb
   pub stays-added : StayPlaced given old new
   stays-added = record {
     placed = did.moved.placed;
+    still = did.moved.reshape.reshaping ∙ did.still;
     unlost = did.moved.unlost;
     free = did.moved.free with-free;
     spares = did.moved.spares (few-below 32 (λ s. has_spare old.spares s || (slot == s)));
@@ -139,8 +144,8 @@ module _ {tells : Type 0} {given : Given} {slot : ℕ} {sb : Sb} {old new : Memb
     size = did.moved.size;
   }
 
-  pub does-added : DoesWithout new → DoesWithout old
-  does-added does = without-before given (with_spare slot sb old) new with-placed did.moved does
+  pub does-added : DoWithout new → DoWithout old
+  does-added does = let before = without-before given (with_spare slot sb old) new did.moved does in record { old = before.old; final = before.final }
 
   apart-from : (s : ℕ) → has_spare old.spares s ≡ true → s ≢ slot
   apart-from s was same = did.untaken 0 (inr (subst (λ (n : ℕ). has_spare old.spares n ≡ true) same was))
@@ -191,7 +196,7 @@ module _ {tells : Type 0} {given : Given} {slot : ℕ} {sb : Sb} {old new : Memb
 
   module _ (disks was roles spares : ℕ) (same : disks ≡ (shape_of old.newest).disks) (vacant : AreVacant old disks was) (newly : AreNewlyVacant new disks was roles) (without : AreOtherLost slot lost spares) where
     all-since : AreLostSince (with_spare slot sb old) new roles lost before after
-    all-since = lost-since given (with_spare slot sb old) new disks was roles lost before after with-placed did.moved did.failed same vacant newly
+    all-since = lost-since given (with_spare slot sb old) new disks was roles lost before after with-placed did.moved did.failed (same ∙ sym (count-still old.newest did.still)) vacant newly
 
     pub since-added : AreLostSince old new roles spares before after
     since-added = record { vacant = all-since.vacant; gone = all-since.gone; held = all-since.held; failed = told-lost spares without; told = told-spares spares without }
@@ -204,7 +209,7 @@ module _ {tells : Type 0} {given : Given} {slot : ℕ} {sb : Sb} {old new : Memb
       | inr vacant ↦ elim (since.vacant role lt vacant) [
         | inl was ↦ former (vacant-missing (reading_of old) role was)
         | inr has ↦ gone-lately role entries (entries_of who end (losses_of roles spares ++ tail)) gives
-            (told-losses role roles spares who end tail (let few = (limited (shape_of new.newest) did.moved.placed.valid).most in omega (arith, lt, few)) has)
+            (told-losses role roles spares who end tail (let few = few-roles new.newest did.moved.placed.fit.valid in omega (arith, lt, few)) has)
       ]
     ]
       where
@@ -212,7 +217,7 @@ module _ {tells : Type 0} {given : Given} {slot : ℕ} {sb : Sb} {old new : Memb
         gives = gives-losses who end (losses_of roles spares) tail (losses-are roles spares) none
 
         former : is_missing (reading_of old) role ≡ true → IsTrue (is_gone_now (entries ++ entries_of who end (losses_of roles spares ++ tail)) role)
-        former was = told-more old entries (entries_of who end (losses_of roles spares ++ tail)) gives told role (subst (λ (s : Shape). role < s.disks) did.moved.shape lt) was
+        former was = told-more old entries (entries_of who end (losses_of roles spares ++ tail)) gives told role (subst (λ (n : ℕ). role < n) (count-moved did.moved) lt) was
 
     -- Where it was lost itself, as many steps are left if no loss is told.
     abbrev lacks : Members
@@ -237,6 +242,7 @@ module _ {tells : Type 0} {given : Given} {slot : ℕ} {sb : Sb} {old new : Memb
       spares = λ few. stays-added.spares;
       fewer = λ s is. elim (spares-added s is) [ inl was ↦ was | inr same ↦ absurd (let e = sym (subst (λ (n : ℕ). has_spare new.spares n ≡ true) same is) ∙ none in cc) ];
       free = λ free. stays-added.free;
+      reshape = did.moved.reshape;
       shape = did.moved.shape;
       size = did.moved.size;
       offsets = did.moved.offsets;

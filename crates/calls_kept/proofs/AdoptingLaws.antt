@@ -54,9 +54,10 @@ use Rattle.array_kept.proofs.SafeLaws.{safe-last}
 use Rattle.shape_changes.proofs.Since.{since-none}
 use Rattle.views.proofs.SoundViews.{throughout-opening}
 use Rattle.shape_changes.proofs.Steady.{safe-is-seen}
-use Rattle.views.proofs.Still.{still-placed, length-still, open-still, gone-still}
+use Rattle.views.proofs.Still.{count-still, held-placed, backup-still, length-still, open-still, gone-still}
 use Rattle.calls_kept.proofs.AbsentLaws.{AreAbsent, absents-legal, absents-are, absents-length, absents-limit, absents-left, absents-values, absents-now, absents-end, absents-keep, absents-ended, absents-told, absents-missing, absents-spares, absents-rebuilt}
 use Rattle.call_entries.proofs.StepLaws.{used-more}
+use Rattle.views.proofs.Fit.{valid}
 
 -- ---- the resync of an array that opened dirty
 
@@ -173,20 +174,20 @@ module _ {tells : Type 0} {given : Given} {tape : List Operation} {scope : Scope
   found-right alike =
       flushed-right (OpensFit world) scope given (ledger_now world work entries) members (present given tape) (now list []) (disk given.start tape) (record {
         placed = two;
-        sized = length-still members is.placed.still
+        sized = length-still members is.still
             ∙ sym (absents-length opener (length tape) (length list) (found_losses (reading_of members)) (absents-are (reading_of members) (shape_of members.newest).disks) ∙ is.opened t);
         flushed = is.flushed t;
-        allowed = λ x lt. found-allowed x (subst (λ (n : ℕ). x < n) (length-still members is.placed.still) lt);
-        stands = (still-stands scope given members (present given tape) (now list []) two is.placed.still).0.1 (is.holds t);
-        rows = λ clean does fit. (still-stands scope given members (present given tape) (now list []) two is.placed.still).1.1 (is.good t (has t) (record { clean = is.dirty t ∙ ap not clean; sound = fit }));
-        plain = λ header may. open-still members.newest is.placed.still scope header;
-        missing = gone-still (ledger_now world work entries) members is.placed.still (λ role lt missing. absents-told (reading_of members) opener (length tape) (shape_of members.newest).disks role lt missing);
+        allowed = λ x lt. found-allowed x (subst (λ (n : ℕ). x < n) (length-still members is.still) lt);
+        stands = (still-stands scope given members (present given tape) (now list []) two is.still).0.1 (is.holds t);
+        rows = λ clean does fit. (still-stands scope given members (present given tape) (now list []) two is.still).1.1 (is.good t (has t) (record { clean = is.dirty t ∙ ap not clean; sound = fit }));
+        plain = λ header may. open-still members.newest is.still scope header;
+        missing = gone-still (ledger_now world work entries) members is.still (λ role lt missing. absents-told (reading_of members) opener (length tape) (shape_of members.newest).disks role lt missing);
         unclean = λ dirty. ap (λ (b : Bool). b || is_unsettled entries) (found-unsynced ∙ ap not dirty);
-        reshaping = λ active. absurd (let none : true ≡ false = sym active ∙ is.placed.still in cc);
+        reshaping = λ active. absurd (let none : true ≡ false = sym active ∙ is.still in cc);
       })
     where
       two : ArePlaced scope given members
-      two = still-placed scope given members (disk given.start tape) is.placed (is.next t alike)
+      two = held-placed scope given members (disk given.start tape) is.placed (backup-still scope members.newest is.still) (is.next t alike)
 
   found-safe : OpensAlike world → IsSafeOver world given (ledger_now world work entries) members tape
   found-safe alike = inl (record { former = members; since = since-none scope members (disk given.start tape) (is.next t alike); right = found-right alike; numbers = found-carried members long (is.numbers t) })
@@ -215,6 +216,7 @@ kept-adopted {tells = tells} {given = given} {tape = tape} {scope = scope} {memb
   slots = is.slots;
   spares = is.spares;
   placed = is.placed;
+  still = is.still;
   unlost = is.unlost;
   free = is.free;
   told = told;
@@ -247,7 +249,7 @@ kept-adopted {tells = tells} {given = given} {tape = tape} {scope = scope} {memb
       (λ clean.
       let fit = subst (λ (n : ℕ). OpensFit (world_in given tape scope n)) (first_is t) opens in
       is.good t (has t) (record { clean = is.dirty t ∙ ap not clean; sound = fit })));
-  rebuilt = λ t does opens. found-rebuilt members (present given tape) (now (opening_list (world_in given tape scope first)) (entries_of opener first losses)) (limited (shape_of members.newest) is.placed.valid).most;
+  rebuilt = λ t does opens. found-rebuilt members (present given tape) (now (opening_list (world_in given tape scope first)) (entries_of opener first losses)) (limited (shape_of members.newest) (valid given members is.placed)).most;
   sizes_are = is.sizes_are;
   dirty = λ does is. dirty-at (is_clean members.newest) is;
   unclean = λ dirty. unclean-at (is_clean members.newest) (is_unsettled (entries_of opener first losses)) dirty;
@@ -272,7 +274,7 @@ kept-adopted {tells = tells} {given = given} {tape = tape} {scope = scope} {memb
     unbuilt = absents-rebuilt opener first losses are
 
     told : AreTold members (entries_of opener first losses)
-    told role lt missing = absents-told (reading_of members) opener first disks role lt missing
+    told role lt missing = absents-told (reading_of members) opener first disks role (let same = count-still members.newest is.still in omega (arith, lt, same)) missing
 
     list : tells → now (opening_list (world_in given tape scope first)) (entries_of opener first losses) ≡ now (opening_list (world_in given tape scope (length tape))) []
     list t = absents-now (opening_list (world_in given tape scope first)) opener first losses are ∙ ap (λ (n : ℕ). now (opening_list (world_in given tape scope n)) []) (first_is t)

@@ -35,6 +35,7 @@ use Rattle.calls_kept.proofs.SteppedLaws.{call-stepping}
 use Rattle.array_kept.proofs.StepsLeft.{left-ended}
 use Rattle.array_kept.proofs.KeptLaws.{LeavesSafe, LeavesWork, built-still, whole-still}
 use Rattle.array_kept.proofs.DegradedLaws.{stays-moved, degraded-after, holds-still, good-still, rebuilt-still, told-behind, only-behind}
+use Rattle.views.proofs.Fit.{multiple}
 
 -- ---- every stripe is mended
 
@@ -43,8 +44,8 @@ whole_size n c h = grind (arith, nat_tests)
 
 -- the rows of all stripes are all rows
 pub all-mended : {given : Given} {resync : Option ℕ} {members : Members} → IsPlaced given members → resync ≡ Some (stripes_of members) → mended_rows resync members ≡ members.newest.size
-all-mended {members = members} placed all =
-    ap (λ (o : Option ℕ). mended_rows o members) all ∙ whole_size members.newest.size (shape_of members.newest).chunk placed.multiple
+all-mended {given = given} {members = members} placed all =
+    ap (λ (o : Option ℕ). mended_rows o members) all ∙ whole_size members.newest.size (shape_of members.newest).chunk (multiple given members placed)
 
 pub enough-mended : {given : Given} {resync : Option ℕ} {members : Members} → IsPlaced given members → resync ≡ Some (stripes_of members) → members.newest.size ≤ mended_rows resync members
 enough-mended placed all = let same = all-mended placed all in omega (arith, same)

@@ -2,6 +2,7 @@ pub mod ReadLaws
 pub mod WriteLaws
 pub mod SettledLaws
 pub mod FailedLaws
+pub mod TouchedLaws
 pub mod AbsentLaws
 pub mod AddLaws
 pub mod AddedKept

@@ -36,12 +36,11 @@ use Rattle.views.specs.Rebuilding.{AreRebuilt, HasNoRebuilt}
 use Rattle.views.specs.Status.{stripes_of, rebuilt_of, left_of}
 use Rattle.shape_views.specs.Views.{Ledger}
 use Rattle.shape_changes.specs.Steady.{IsSafeOver, KeepsSafe, AreGoneTold, AreWritesAllowed}
-use Rattle.views.specs.Lacking.{AreLostSince, DoesWithout, IsUnwritten, IsOfStripe, ListStands, mended_rows}
+use Rattle.views.specs.Lacking.{AreLostSince, IsUnwritten, IsOfStripe, ListStands, mended_rows}
 use Rattle.array_kept.specs.Kept.{world_in, AreRebuildsRight, AreSectorsWhole, IsKept}
 use Rattle.array_kept.specs.Calls.{HasStripeLeft, IsRefusedHere}
 use Rattle.call_entries.proofs.PlainLaws.{one}
 use Rattle.call_entries.proofs.CallLaws.{GivesNone, losses-are, builds-losses}
-use Rattle.views.proofs.Still.{gone-still}
 use Rattle.array_kept.proofs.LedgerLaws.{told_by, allowed-more, OnlyAdd, add-none, add-one, add-losses, pending-more, told-unclean}
 use Rattle.views.proofs.LackingWrites.{recovering-before}
 use Rattle.array_kept.proofs.RecordLaws.{AreSilent}
@@ -51,6 +50,8 @@ use Rattle.calls_kept.proofs.SteppedLaws.{call-stepping}
 use Rattle.array_kept.proofs.StepsLeft.{left-mended}
 use Rattle.array_kept.proofs.KeptLaws.{StayPlaced, LeavesSafe, LeavesWork, leaves-as, leaves-unsettled, unbuilt-still, built-still, stripes-are, mended-are, same-now, whole-still, newest-old}
 use Rattle.array_kept.proofs.DegradedLaws.{stays-moved, rows-same, degraded-after, work-behind, none-ended, told-behind, call-refused, unwritten-here, only-behind}
+use Rattle.shape_views.specs.Regions.{DoWithout}
+use Rattle.views.proofs.Fit.{valid, multiple}
 
 -- a resync that has a stripe to mend is pending
 pub is-pending : (resync : Option ℕ) (m : Members) → HasStripeLeft resync m → IsSome resync
@@ -64,19 +65,19 @@ next-stripe (Some mended) m stripe left is = (ap (λ (n : ℕ). Some n) (sym is)
 
 -- where each sector of the list is whole, those of a row are
 pub whole-in : (given : Given) (m : Members) → IsPlaced given m → (list : ℕ → Sector) → AreSectorsWhole (list_size (places_of m)) list → (row : ℕ) → row < m.newest.size → AreWholeIn (shape_of m.newest) list row
-whole-in given m placed list whole row lt x is = whole x (place-sector_below (shape_of m.newest) placed.valid x m.newest.size placed.multiple (omega (arith, lt, is)))
+whole-in given m placed list whole row lt x is = whole x (place-sector_below (shape_of m.newest) (valid given m placed) x m.newest.size (multiple given m placed) (omega (arith, lt, is)))
 
 module _ {tells : Type 0} {given : Given} {tape tape' : List Operation} {scope : Scope} {first : ℕ} {entries : List Entry} {members members' : Members} {work : Work}
     (who : Who) (end : ℕ) (was : IsKept tells given tape scope first entries members work)
     (opens : IsCallOpen entries who) (caller : who.caller ≢ 254) (at_end : tells → end ≡ length tape')
     (moved : IsMoved given members members') (grows : Grows tells tape tape')
     (roles spares : ℕ) (before after : ℕ → ℕ) (since : AreLostSince members members' roles spares before after)
-    (mended : ℕ) (pending : work.resync ≡ Some mended) (does : DoesWithout members) (dirty : is_clean members'.newest ≡ false) (rise : IsRisen tells members members' tape tape')
+    (mended : ℕ) (pending : work.resync ≡ Some mended) (does : DoWithout members) (dirty : is_clean members'.newest ≡ false) (rise : IsRisen tells members members' tape tape')
     (shape : Shape) (shape_is : shape ≡ shape_of members.newest)
-    (stands : DoesWithout members' → tells → (list : ℕ → Sector) → ListStands members (present given tape) list → ListStands members' (present given tape') list)
-    (kept : DoesWithout members' → tells → (list : ℕ → Sector) → ListStands members (present given tape) list → (row : ℕ) → row < members.newest.size
+    (stands : DoWithout members' → tells → (list : ℕ → Sector) → ListStands members (present given tape) list → ListStands members' (present given tape') list)
+    (kept : DoWithout members' → tells → (list : ℕ → Sector) → ListStands members (present given tape) list → (row : ℕ) → row < members.newest.size
     → RowStands (reading_of members) (present given tape) shape list row → RowStands (reading_of members') (present given tape') shape list row)
-    (rebuilds : DoesWithout members' → tells → (list : ℕ → Sector) → ListStands members (present given tape) list → (role slot row : ℕ) → role < shape.disks
+    (rebuilds : DoWithout members' → tells → (list : ℕ → Sector) → ListStands members (present given tape) list → (role slot row : ℕ) → role < shape.disks
     → role_state (reading_of members') role ≡ Recovering slot → row < members.newest.size
     → HasFull (reading_of members) (present given tape) shape list row role slot → HasFull (reading_of members') (present given tape') shape list row role slot)
     (safe : tells → (world : World) → (told : Ledger) → HasRoomLeft members tape tape' → AreGoneTold told members' → told.unclean ≡ true → (list : ℕ → Sector) → ListStands members (present given tape) list
@@ -128,23 +129,23 @@ module _ {tells : Type 0} {given : Given} {tape tape' : List Operation} {scope :
             let world = world_in given tape scope first in
             let added = entries_of who end events in
             safe t world (told_by world work entries added) room
-            (gone-still (told_by world work entries added) members' moved.placed.still (told-behind who end was opens caller at_end moved grows roles spares before after since (event ∷ []) gives))
+            (told-behind who end was opens caller at_end moved grows roles spares before after since (event ∷ []) gives)
             (told-unclean world work work (λ number is. is) entries added adds (is_some work.resync) (was.recorded t).dirty (ap (λ (o : Option ℕ). is_some o || is_unsettled entries) pending))
             list (held t)
-            (allowed-more (opening_list world) entries added members was.placed.still adds list (newest-old who end was opens caller at_end stays grows added t fills)) began
+            (allowed-more (opening_list world) entries added members was.still adds list (newest-old who end was opens caller at_end stays grows added t fills)) began
 
     -- the list stands, and so do the rows that stood, and what was rebuilt
-    holds-mending : tells → DoesWithout members' → AreRebuildsRight (world_in given tape scope first) (entries ++ entries_of who end events)
+    holds-mending : tells → DoWithout members' → AreRebuildsRight (world_in given tape scope first) (entries ++ entries_of who end events)
         → ListStands members' (present given tape') (now (opening_list (world_in given tape scope first)) (entries ++ entries_of who end events))
     holds-mending t does' right = subst (λ (l : ℕ → Sector). ListStands members' (present given tape') l) (sym same) (stands does' t list (held t))
 
-    row-kept : (t : tells) → DoesWithout members' → OpensFit (world_in given tape scope first) → (row : ℕ) → row < mended_rows work.resync members → row < members.newest.size
+    row-kept : (t : tells) → DoWithout members' → OpensFit (world_in given tape scope first) → (row : ℕ) → row < mended_rows work.resync members → row < members.newest.size
         → RowStands (reading_of members') (present given tape') (shape_of members'.newest) list row
     row-kept t does' fit row below lt =
         subst (λ (s : Shape). RowStands (reading_of members') (present given tape') s list row) (shape_is ∙ sym moved.shape)
         (kept does' t list (held t) row lt (subst (λ (s : Shape). RowStands (reading_of members) (present given tape) s list row) (sym shape_is) (was.good t does fit row below lt)))
 
-    rebuilt-mending : tells → DoesWithout members' → OpensFit (world_in given tape scope first)
+    rebuilt-mending : tells → DoWithout members' → OpensFit (world_in given tape scope first)
         → AreRebuilt work members' (present given tape') (now (opening_list (world_in given tape scope first)) (entries ++ entries_of who end events))
     rebuilt-mending t does' fit = subst (λ (l : ℕ → Sector). AreRebuilt work members' (present given tape') l) (sym same) (λ role slot row lt is beyond below within.
         let disks : role < (shape_of members.newest).disks = subst (λ (s : Shape). role < s.disks) moved.shape lt in
@@ -157,7 +158,7 @@ module _ {tells : Type 0} {given : Given} {tape tape' : List Operation} {scope :
 
   -- ---- a stripe that isn't mended
 
-  pub degraded-unmended : (refusal : Refusal) → IsUnwritten false members' refusal → IsKept tells given tape' scope first (entries ++ entries_of who end (losses_of roles spares ++ Refused refusal ∷ [])) members' work
+  pub degraded-unmended : (refusal : Refusal) → IsUnwritten shape false members' refusal → IsKept tells given tape' scope first (entries ++ entries_of who end (losses_of roles spares ++ Refused refusal ∷ [])) members' work
   degraded-unmended refusal why =
       degraded-after who end was opens caller at_end moved grows losses (Refused refusal) (silent-all (Refused refusal) quiet none refl refl (λ role. refl))
       (work-behind who end was opens caller at_end moved grows roles spares before after since (Refused refusal ∷ []) (λ steps left is. is) refl refl)
@@ -178,7 +179,7 @@ module _ {tells : Type 0} {given : Given} {tape tape' : List Operation} {scope :
       none x values = refl
 
       here : IsRefusedHere (list_size (places_of members)) work.resync members' refusal
-      here = unwritten-here (list_size (places_of members)) work.resync false members' refusal (λ no. is-resyncing) why
+      here = unwritten-here given (list_size (places_of members)) work.resync false members' refusal moved.placed (λ no. is-resyncing) (subst (λ (s : Shape). IsUnwritten s false members' refusal) (shape_is ∙ sym moved.shape) why)
 
   -- ---- a stripe that is mended
 
@@ -209,7 +210,7 @@ module _ {tells : Type 0} {given : Given} {tape tape' : List Operation} {scope :
     none-step x values = refl
 
     -- the rows of one more stripe stand
-    row-mended : (t : tells) → DoesWithout members' → OpensFit (world_in given tape scope first) → (row : ℕ) → row < (mended + 1) * (shape_of members.newest).chunk → row < members.newest.size
+    row-mended : (t : tells) → DoWithout members' → OpensFit (world_in given tape scope first) → (row : ℕ) → row < (mended + 1) * (shape_of members.newest).chunk → row < members.newest.size
         → RowStands (reading_of members') (present given tape') (shape_of members'.newest) list row
     row-mended t does' fit row high lt = elim (cases_lt row (mended * (shape_of members.newest).chunk)) [
       | inl low ↦ row-kept (Step ResyncStripe steps) quiet-step none-step refl refl (λ role. refl) t does' fit row (subst (λ (o : Option ℕ). row < mended_rows o members) (sym pending) low) lt

@@ -25,7 +25,7 @@ use Rattle.call_entries.specs.Losing.{losses_of}
 use Rattle.shape_changes.specs.Marking.{AreOthersPresent}
 use Rattle.views.specs.Moving.{Grows, IsMoved}
 use Rattle.shape_changes.specs.Safety.{IsRisen}
-use Rattle.views.specs.Lacking.{AreLostSince, IsUnread, DoesWithout, ListStands, RowsStandBelow, mended_rows}
+use Rattle.views.specs.Lacking.{AreLostSince, IsUnread, ListStands, RowsStandBelow, mended_rows}
 use Rattle.array_kept.specs.Kept.{world_in, AreFillsRight, IsKept}
 use Rattle.array_kept.proofs.NowLaws.{visible-is}
 use Rattle.views.proofs.MovedLaws.{size-moved}
@@ -33,6 +33,8 @@ use Rattle.views.proofs.LackingLists.{row-sector}
 use Rattle.array_kept.proofs.ReadyLaws.{read_is}
 use Rattle.array_kept.proofs.KeptLaws.{NamesSafe, rebuilds-of}
 use Rattle.array_kept.proofs.DegradedLaws.{unread-here, leaves-behind, degraded-refused, degraded-read}
+use Rattle.shape_views.specs.Regions.{DoWithout}
+use Rattle.md_base.specs.declared.places.Shape.{Shape}
 
 -- what stands behind an answer that was given
 pub some-of : (P : Refusal → Type 0) (answer : Option Refusal) (refusal : Refusal) → answer ≡ Some refusal → MatchOption answer ⊤ P → P refusal
@@ -57,7 +59,7 @@ filled {right = right} resync m m' c list fills stands = by resync fills stands
 
 -- what a read fetched is what the list holds
 pub fetched : {tells : Type 0} {given : Given} {tape : List Operation} {scope : Scope} {first : ℕ} {entries : List Entry} {members : Members} {work : Work}
-    (was : IsKept tells given tape scope first entries members work) (added : List Entry) (members' : Members) (at mended : ℕ) (bytes : List ℕ) → DoesWithout members → mended ≡ mended_rows work.resync members
+    (was : IsKept tells given tape scope first entries members work) (added : List Entry) (members' : Members) (at mended : ℕ) (bytes : List ℕ) → DoWithout members → mended ≡ mended_rows work.resync members
     → (tells → (list : ℕ → Sector) → ListStands members (present given tape) list → AreWhole members' ⊎ RowsStandBelow mended members (present given tape) list
     → (i : ℕ) → i < length bytes / 512 → sector_of bytes i ≡ list (at + i))
     → tells → AreFillsRight (world_in given tape scope first) work.resync members' (entries ++ added)
@@ -76,12 +78,13 @@ module _ {tells : Type 0} {given : Given} {tape tape' : List Operation} {scope :
     (rise : IsRisen tells members members' tape tape') (clean : is_clean members'.newest ≡ is_clean members.newest)
     (named : NamesSafe tells given members members' tape tape') where
   -- one that wasn't done
-  pub kept-unread : (at count mended : ℕ) (refusal : Refusal) → at + count ≤ list_size (places_of members) → mended ≡ mended_rows work.resync members → IsUnread mended at count members' refusal
+  pub kept-unread : (shape : Shape) → shape ≡ shape_of members.newest → (at count mended : ℕ) (refusal : Refusal) → at + count ≤ list_size (places_of members) → mended ≡ mended_rows work.resync members → IsUnread shape mended at count members' refusal
       → IsKept tells given tape' scope first (entries ++ entries_of who end (losses_of roles spares ++ Refused refusal ∷ [])) members' work
-  kept-unread at count mended refusal within same why =
+  kept-unread shape shape_is at count mended refusal within same why =
       degraded-refused who end was opens caller at_end moved grows roles spares before after since refusal
       (unread-here given (list_size (places_of members)) at count mended work.resync members' refusal moved.placed (subst (λ (n : ℕ). at + count ≤ n) (sym (size-moved given members members' moved)) within)
-      (λ none. same ∙ ap (λ (o : Option ℕ). mended_rows o members) none ∙ sym moved.size) why) others
+      (λ none. same ∙ ap (λ (o : Option ℕ). mended_rows o members) none ∙ sym moved.size)
+      (subst (λ (s : Shape). IsUnread s mended at count members' refusal) (shape_is ∙ sym moved.shape) why)) others
       (leaves-behind who end was opens caller at_end moved grows roles spares before after since (Refused refusal) (record { length = λ n. refl; limit = refl }) (λ x values v may. may) refl refl (λ role. refl) rise clean named)
 
   -- one that was done

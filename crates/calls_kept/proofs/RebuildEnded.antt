@@ -7,7 +7,6 @@ use Rattle.std.proofs.lemmas.Bool.Decides.{nat_tests}
 use Rattle.std.proofs.lemmas.List.Folds.{list_any-append}
 use Rattle.std.proofs.lemmas.Nat.{mul-le}
 use Rattle.md_base.specs.Sectors.{Sector}
-use Rattle.md_base.specs.declared.places.Shape.{Shape}
 use Rattle.bank.specs.Given.{Given}
 use Rattle.bank.specs.Tape.{Contents}
 use Rattle.superblocks.specs.declared.members.Members.{Members}
@@ -31,6 +30,8 @@ use Rattle.views.proofs.GivenMembers.{IsReceiver, W, state-here, state-other, ho
 use Rattle.views.proofs.HeldRows.{vacant-missing}
 use Rattle.calls_kept.proofs.RebuildGiven.{few-given, free-then}
 use Rattle.views.proofs.Stripes.{stripes-whole}
+use Rattle.views.proofs.Fit.{multiple}
+use Rattle.array_kept.proofs.DegradedLaws.{count-moved}
 
 -- ---- what the slot has of the role
 
@@ -48,7 +49,7 @@ rows-full given m work role slot c list placed below recovers all stands rebuilt
 
     under : row < rebuilt_of work role * (shape_of m.newest).chunk
     under =
-        let whole = stripes-whole m.newest.size (shape_of m.newest).chunk placed.multiple in
+        let whole = stripes-whole m.newest.size (shape_of m.newest).chunk (multiple given m placed) in
         let more = mul-le (stripes_of m) (shape_of m.newest).chunk (rebuilt_of work role) (shape_of m.newest).chunk all (omega arith) in
         omega (arith, lt, whole, more)
 
@@ -153,6 +154,7 @@ module _ (given : Given) (m new : Members) (placed : IsPlaced given m) (role slo
       spares = λ few. moved.spares (few-given given m placed None role slot to);
       fewer = λ s has. (spare-before given m placed None role slot to s (moved.fewer s has)).0;
       free = λ all. moved.free (free-then given m placed None role slot to all);
+      reshape = moved.reshape;
       shape = moved.shape;
       size = moved.size;
       offsets = λ s. moved.offsets s ∙ offset-same given m placed None role slot to s;
@@ -161,7 +163,7 @@ module _ (given : Given) (m new : Members) (placed : IsPlaced given m) (role slo
     }
       where
         never : AreWhole new → ⊥
-        never whole = let clash : true ≡ false = sym (vacant-missing (reading_of new) role vacant) ∙ whole role (subst (λ (s : Shape). role < s.disks) (sym moved.shape) (let n = placed.roles in let at = to.below in omega (arith, at, n))) in cc
+        never whole = let clash : true ≡ false = sym (vacant-missing (reading_of new) role vacant) ∙ whole role (subst (λ (n : ℕ). role < n) (sym (count-moved moved)) (let n = placed.roles in let at = to.below in omega (arith, at, n))) in cc
 
   -- the same roles have no slot
   pub whole-vacant : (disks r : ℕ) → (nat_lt r disks && is_vacant (reading_of m) r) ≡ (nat_lt r disks && is_vacant (reading_of V) r)

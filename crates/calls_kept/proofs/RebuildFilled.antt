@@ -1,6 +1,6 @@
 -- What an array keeps after a step that rebuilds the next stripe of a role on the slot that recovers it.
 use Rattle.std.proofs.Common.{◌≡◌, ◌≢◌, inl, inr, ℕ, ◌+◌, ◌*◌, ◌<◌, ◌≤◌, Bool, true, false, not, Option, is_some, List, [], ◌∷◌, ◌++◌, length, refl, sym, ◌∙◌, ap, subst, arith, append-nil}
-use Rattle.std.specs.Prelude.{IfSome, slice_index_or}
+use Rattle.std.specs.Prelude.{IfSome, slice_index_or, ⊤}
 use Rattle.std.specs.List.{Contains}
 use Rattle.std.proofs.lemmas.Bool.{cases_lt, cases_eq}
 use Rattle.std.proofs.lemmas.List.{get_or-set_same, get_or-set_other}
@@ -40,12 +40,12 @@ use Rattle.views.specs.Moving.{Grows, IsMoved}
 use Rattle.shape_changes.specs.Safety.{IsRisen}
 use Rattle.views.specs.Status.{stripes_of, rebuilt_of, left_of}
 use Rattle.views.specs.Rebuilding.{AreRebuilt, IsFilledAmong}
-use Rattle.views.specs.Lacking.{AreLostSince, AreTooMany, DoesWithout, RowsStandBelow, IsOfStripe, mended_rows}
+use Rattle.views.specs.Lacking.{AreLostSince, AreTooMany, RowsStandBelow, IsOfStripe, mended_rows, LacksTooMany, ListStands}
 use Rattle.array_kept.specs.Kept.{world_in, IsKept}
 use Rattle.array_kept.specs.Calls.{with_rebuilt}
 use Rattle.call_entries.proofs.CallLaws.{GivesNone, losses-are, last_end-behind}
-use Rattle.array_kept.proofs.DegradedLaws.{stays-moved, told-behind, work-behind, call-refused, too-many-here, rows-same, only-behind}
-use Rattle.views.proofs.FilledParts.{list-filled, row-filled, full-kept}
+use Rattle.array_kept.proofs.DegradedLaws.{stays-moved, told-behind, work-behind, call-refused, too-many-here, rows-same, only-behind, count-moved}
+use Rattle.views.proofs.FilledParts.{data-filled, row-filled, full-kept}
 use Rattle.array_kept.proofs.KeptLaws.{StayPlaced, LeavesSafe, NamesSafe, rebuilds-before, left-lost, mended-are, leaves-named, work-kept}
 use Rattle.views.proofs.LackingWrites.{recovering-before}
 use Rattle.array_kept.proofs.LedgerLaws.{add-none, add-one}
@@ -55,6 +55,11 @@ use Rattle.calls_kept.proofs.SteppedLaws.{call-stepping}
 use Rattle.array_kept.proofs.StepsLeft.{left-filled}
 use Rattle.array_kept.proofs.ToldLosses.{role-told}
 use Rattle.array_kept.proofs.OnlyLaws.{MakeSpares}
+use Rattle.shape_views.specs.Regions.{DoWithout}
+use Rattle.list_io.specs.Full.{DataStands, RowStands}
+use Rattle.views.proofs.Still.{count-still}
+use Rattle.views.proofs.Fit.{valid}
+use Rattle.views.proofs.LackingLaws.{never-both}
 
 -- ---- how many stripes are rebuilt
 
@@ -72,7 +77,14 @@ module _ {given : Given} {old new : Members} (work : Work) (moved : IsMoved give
   -- the rows stand that stood
   pub good-filled : (mended : ℕ) → RowsStandBelow mended old before list → RowsStandBelow mended new after list
   good-filled mended stands row below within =
-      row-filled moved placed role slot recovers (IsOfStripe shape (rebuilt_of work role)) before after filled list row (stands row below (subst (λ (n : ℕ). row < n) moved.size within))
+      row-filled moved placed role slot recovers (IsOfStripe shape (rebuilt_of work role)) before after filled (shape_of new.newest) list row
+      (subst (λ (s : Shape). RowStands (reading_of old) before s list row) (sym moved.shape) (stands row below (subst (λ (n : ℕ). row < n) moved.size within)))
+
+  -- and so does the list
+  pub list-filled : ListStands old before list → ListStands new after list
+  list-filled stands row within =
+      data-filled moved placed role slot recovers (IsOfStripe shape (rebuilt_of work role)) before after filled (shape_of new.newest) (λ r. ⊤) list
+      (λ r has lt. subst (λ (s : Shape). DataStands (reading_of old) before s list r) (sym moved.shape) (stands r lt)) row tt within
 
   -- and what was rebuilt is, with a stripe more of the role
   pub rebuilt-filled : role < length work.rebuilt → (role_state (reading_of new) role ≡ Recovering slot → (row : ℕ) → IsOfStripe shape (rebuilt_of work role) row → rows_held (reading_of old) (Recovering slot) ≤ row
@@ -117,7 +129,7 @@ module _ {tells : Type 0} {given : Given} {tape tape' : List Operation} {scope :
     (moved : IsMoved given members members') (grows : Grows tells tape tape')
     (roles spares : ℕ) (before after : ℕ → ℕ) (since : AreLostSince members members' roles spares before after)
     (role slot : ℕ) (below : role < (shape_of members.newest).disks) (recovers : role_state (reading_of members) role ≡ Recovering slot)
-    (does : DoesWithout members) (shape : Shape) (shape_is : shape ≡ shape_of members.newest)
+    (does : DoWithout members) (shape : Shape) (shape_is : shape ≡ shape_of members.newest)
     (rise : IsRisen tells members members' tape tape') (clean : is_clean members'.newest ≡ is_clean members.newest) (safe : NamesSafe tells given members members' tape tape')
     (others : tells → IsFilledAmong members role slot (IsOfStripe shape (rebuilt_of work role)) (present given tape) (present given tape')) where
   abbrev W : World
@@ -148,8 +160,8 @@ module _ {tells : Type 0} {given : Given} {tape tape' : List Operation} {scope :
 
   -- ---- where it is refused
 
-  pub kept-unfilled : (refusal : Refusal) → AreTooMany members' refusal → IsKept tells given tape' scope first (entries ++ entries_of who end (losses ++ Refused refusal ∷ [])) members' work
-  kept-unfilled refusal many =
+  pub kept-unfilled : (refusal : Refusal) → LacksTooMany shape members' refusal → IsKept tells given tape' scope first (entries ++ entries_of who end (losses ++ Refused refusal ∷ [])) members' work
+  kept-unfilled refusal lacks =
       kept-listed who end was opens caller at_end stays grows {work' = work} (losses ++ Refused refusal ∷ []) quiet.silent quiet.values
       (work-behind who end was opens caller at_end moved grows roles spares before after since (Refused refusal ∷ []) (λ steps left is. is) refl refl)
       (last_end-behind first entries who end losses (Refused refusal)) (λ whole none. moved.whole whole)
@@ -162,8 +174,11 @@ module _ {tells : Type 0} {given : Given} {tape tape' : List Operation} {scope :
       quiet : AreQuiet who end (losses ++ Refused refusal ∷ [])
       quiet = quiet-one (Refused refusal) (record { silent = record { length = λ n. refl; limit = refl }; values = λ x values. refl; adds = add-one (one who end (Refused refusal)) [] (λ x values v may. may) refl refl (λ r. refl) add-none; unbuilt = refl; ends = refl })
 
-      never : DoesWithout members' → ⊥
-      never does' = let above = many.above in omega (arith, above, does')
+      many : AreTooMany members' refusal
+      many = inl (subst (λ (s : Shape). LacksTooMany s members' refusal) (shape_is ∙ sym moved.shape) lacks)
+
+      never : DoWithout members' → ⊥
+      never does' = never-both members' refusal does' many
 
   -- ---- where it is done
 
@@ -182,7 +197,7 @@ module _ {tells : Type 0} {given : Given} {tape tape' : List Operation} {scope :
         (told-behind who end was opens caller at_end moved grows roles spares before after since tail gives)
         (only-behind who end was opens caller at_end moved grows roles spares before after since tail loses makes)
         (λ t fills. call t)
-        (λ t does' rebuilds. list-filled moved was.placed role slot recovers (IsOfStripe shape (rebuilt_of work role)) (present given tape) (present given tape') (others t) L
+        (λ t does' rebuilds. list-filled work moved was.placed role slot recovers shape shape_is (present given tape) (present given tape') L (others t)
         (was.holds t does (rebuilds-before W entries (entries_of who end (losses ++ tail)) rebuilds)))
         (λ t does' fit. subst (λ (n : ℕ). RowsStandBelow n members' (present given tape') L) (sym (mended-are who end was opens caller at_end stays grows))
         (good-filled work moved was.placed role slot recovers shape shape_is (present given tape) (present given tape') L (others t) (mended_rows work.resync members) (was.good t does fit)))
@@ -201,13 +216,13 @@ module _ {tells : Type 0} {given : Given} {tape tape' : List Operation} {scope :
     -- where the slot was lost, its role's loss is told
     module _ (vacant : is_vacant (reading_of members') role ≡ true) where
       pub lost-in : has_slot roles role ≡ true
-      lost-in = elim (since.vacant role (subst (λ (s : Shape). role < s.disks) (sym moved.shape) below) vacant) [
+      lost-in = elim (since.vacant role (subst (λ (n : ℕ). role < n) (sym (count-moved moved)) (let same = count-still members.newest was.still in omega (arith, below, same))) vacant) [
         | inl former ↦ not-vacant members role slot recovers former
         | inr has ↦ has
       ]
 
       pub among : Contains losses (Lost role Fault)
-      among = role-told roles spares role (let most = (limited (shape_of members.newest) was.placed.valid).most in omega (arith, below, most)) lost-in
+      among = role-told roles spares role (let most = (limited (shape_of members.newest) (valid given members was.placed)).most in omega (arith, below, most)) lost-in
 
       pub kept-lost : IsKept tells given tape' scope first (entries ++ entries_of who end losses) members' next
       kept-lost = subst (λ (l : List Event). IsKept tells given tape' scope first (entries ++ entries_of who end l) members' next) (append-nil losses)

@@ -29,6 +29,7 @@ use Rattle.views.specs.Moving.{IsMoved}
 use Rattle.array_kept.specs.Calls.{IsHeldOrGiven, IsRecoveredOrLost}
 use Rattle.md_base.specs.Shapes.{has_slot}
 use Rattle.superblocks.proofs.SlotSets.{none_there, none_above}
+use Rattle.views.proofs.Fit.{disks-within}
 
 -- ---- slots that may get the role
 
@@ -46,7 +47,7 @@ receiver-spare given m placed all role slot lt vacant spare =
       only = λ r is. absurd (free.none r is);
       others = λ s is. absurd (let e : false ≡ true = sym (none (holder (role_state (reading_of m) role)) s is) ∙ vacant in cc);
       unlost = free.unlost;
-      below = let n = placed.roles in omega (arith, lt, n);
+      below = let n = disks-within given m placed (shape_of m.newest) (inl refl) in omega (arith, lt, n);
     }
   where
     or_true : (b : Bool) → (b || true) ≡ true
@@ -69,7 +70,7 @@ receiver-recovering given m placed unlost role slot lt recovers =
       only = λ r is. placed.apart r role slot is held;
       others = λ s is. (let e : ◌≡◌ {A = Option ℕ} (Some s) (Some slot) = sym is ∙ held in cc);
       unlost = unlost role slot held;
-      below = let n = placed.roles in omega (arith, lt, n);
+      below = let n = disks-within given m placed (shape_of m.newest) (inl refl) in omega (arith, lt, n);
     }
 
 module _ (given : Given) (m : Members) (placed : IsPlaced given m) (recovery : Option ℕ) (role slot : ℕ) (to : IsReceiver given m role slot) where
@@ -135,7 +136,7 @@ module _ (given : Given) (m : Members) (placed : IsPlaced given m) (recovery : O
     pub list-given : ListStands m c list → ListStands V c list
     list-given stands row lt r s below plain held = sector-then r s row lt held (λ before. stands row lt r s below plain before)
 
-    pub among-given : (among : ℕ → Type 0) → RowsStandAmong among m c list → RowsStandAmong among V c list
+    pub among-given : (among : ℕ → Type 0) → RowsStandAmong (shape_of m.newest) among m c list → RowsStandAmong (shape_of m.newest) among V c list
     among-given among stands row has lt =
         let was = stands row has lt in
         record {

@@ -27,7 +27,7 @@ use Rattle.views.specs.declared.work.Work.{Work}
 use Rattle.views.specs.Placed.{AreWhole}
 use Rattle.views.specs.Moving.{Grows}
 use Rattle.views.specs.Rebuilding.{HasNoRebuilt, AreRebuilt}
-use Rattle.views.specs.Lacking.{DoesWithout, ListStands, RowsStandBelow, mended_rows}
+use Rattle.views.specs.Lacking.{ListStands, RowsStandBelow, mended_rows}
 use Rattle.array_kept.specs.Kept.{world_in, AreTold, AreFillsRight, AreRebuildsRight, IsKept}
 use Rattle.call_entries.proofs.CallLaws.{AreLossEvents, length-losses, limit-losses, values-losses, builds-losses, ends-losses}
 use Rattle.array_kept.proofs.LedgerLaws.{OnlyAdd, add-losses}
@@ -36,6 +36,7 @@ use Rattle.array_kept.proofs.ReadyLaws.{AreStill}
 use Rattle.call_entries.proofs.StepLaws.{GoOnBehind, faults-are}
 use Rattle.array_kept.proofs.KeptLaws.{StayPlaced, LeavesSafe, LeavesWork, kept-after, same-now, whole-still}
 use Rattle.array_kept.proofs.OnlyLaws.{TellsOnly}
+use Rattle.shape_views.specs.Regions.{DoWithout}
 
 -- ---- events behind the losses of a call
 
@@ -114,9 +115,9 @@ module _ {tells : Type 0} {given : Given} {tape tape' : List Operation} {scope :
       → (AreWhole members' → HasNoRebuilt (entries ++ entries_of who end events) → AreWhole members)
       → AreTold members' (entries ++ entries_of who end events) → TellsOnly members members' entries (entries_of who end events)
       → (tells → AreFillsRight world work'.resync members' (entries ++ entries_of who end events) → IsOneShapeCall (opening_in world) entries who end events)
-      → (tells → DoesWithout members' → AreRebuildsRight world (entries ++ entries_of who end events) → ListStands members' (present given tape') list)
-      → (tells → DoesWithout members' → OpensFit world → RowsStandBelow (mended_rows work'.resync members') members' (present given tape') list)
-      → (tells → DoesWithout members' → OpensFit world → AreRebuilt work' members' (present given tape') list)
+      → (tells → DoWithout members' → AreRebuildsRight world (entries ++ entries_of who end events) → ListStands members' (present given tape') list)
+      → (tells → DoWithout members' → OpensFit world → RowsStandBelow (mended_rows work'.resync members') members' (present given tape') list)
+      → (tells → DoWithout members' → OpensFit world → AreRebuilt work' members' (present given tape') list)
       → LeavesSafe tells given tape' scope first (entries ++ entries_of who end events) members' work'
       → IsKept tells given tape' scope first (entries ++ entries_of who end events) members' work'
   kept-listed {work' = work'} events silent values leaves ended smaller told only call holds good rebuilt safe =

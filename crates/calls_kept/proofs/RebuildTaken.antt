@@ -8,7 +8,7 @@ use Rattle.md_base.specs.declared.status.Role.{Role}
 use Rattle.bank.specs.Given.{Given}
 use Rattle.bank.specs.declared.bank.Operation.{Operation}
 use Rattle.superblocks.specs.declared.members.Members.{Members}
-use Rattle.superblocks.specs.Reading.{Scope, shape_of, is_whole, is_clean, holder, role_state}
+use Rattle.superblocks.specs.Reading.{Scope, shape_of, is_whole, is_clean, holder, role_state, role_count}
 use Rattle.superblocks.specs.Reads.{has_spare}
 use Rattle.row_io.specs.Rows.{reading_of, present, is_missing}
 use Rattle.flat_history.specs.declared.events.Entry.{Entry}
@@ -28,16 +28,15 @@ use Rattle.views.specs.Moving.{Grows, IsMoved}
 use Rattle.shape_changes.specs.Safety.{HasRoomLeft, IsRisen}
 use Rattle.views.specs.Status.{left_of}
 use Rattle.views.specs.Rebuilding.{with_recovering, MayHold}
-use Rattle.views.specs.Lacking.{AreLostSince, DoesWithout, RowsStandBelow, mended_rows}
+use Rattle.views.specs.Lacking.{AreLostSince, RowsStandBelow, mended_rows, RowsStandAmong}
 use Rattle.array_kept.specs.Kept.{world_in, AreTold, IsKept}
 use Rattle.shape_views.specs.Views.{Ledger}
 use Rattle.shape_changes.specs.Steady.{IsSafeOver, KeepsSafe, AreGoneTold, IsUncleanTold}
 use Rattle.array_kept.specs.Calls.{with_rebuilt}
 use Rattle.call_entries.proofs.CallLaws.{losses-are, last_end-behind, told-losses}
-use Rattle.array_kept.proofs.DegradedLaws.{rebuilt-moved}
+use Rattle.array_kept.proofs.DegradedLaws.{rebuilt-moved, count-moved}
 use Rattle.views.proofs.GivenMembers.{IsReceiver, state-here, placed-given, state-other, spare-before}
 use Rattle.views.proofs.HeldRows.{vacant-missing, missing-moved}
-use Rattle.views.proofs.Still.{gone-still}
 use Rattle.array_kept.proofs.KeptLaws.{StayPlaced, rebuilds-before, mended-are, few, leaves-alike, work-kept}
 use Rattle.views.proofs.LackingLaws.{since-missing}
 use Rattle.views.proofs.LackingLists.{list-moved, among-moved}
@@ -51,6 +50,7 @@ use Rattle.call_entries.proofs.StepLaws.{left-stepped}
 use Rattle.array_kept.proofs.StepsLeft.{left-taken}
 use Rattle.array_kept.proofs.OnlyLaws.{gone-behind-losses, taken-spares, TellsOnly}
 use Rattle.std.proofs.lemmas.Bool.{cases_eq}
+use Rattle.shape_views.specs.Regions.{DoWithout}
 
 module _ {tells : Type 0} {given : Given} {tape tape' : List Operation} {scope : Scope} {first : ℕ} {entries : List Entry} {members members' : Members} {work : Work}
     (who : Who) (end : ℕ) (was : IsKept tells given tape scope first entries members work)
@@ -58,7 +58,7 @@ module _ {tells : Type 0} {given : Given} {tape tape' : List Operation} {scope :
     (role slot : ℕ) (below : role < (shape_of members.newest).disks) (vacant : is_vacant (reading_of members) role ≡ true) (spare : has_spare members.spares slot ≡ true)
     (moved : IsMoved given (with_recovering role slot members) members') (grows : Grows tells tape tape')
     (roles spares : ℕ) (before after : ℕ → ℕ) (since : AreLostSince (with_recovering role slot members) members' roles spares before after)
-    (does : DoesWithout members) (others : tells → AreOthersPresent (present given tape) (present given tape'))
+    (does : DoWithout members) (others : tells → AreOthersPresent (present given tape) (present given tape'))
     (rise : IsRisen tells members members' tape tape') (clean : is_clean members'.newest ≡ is_clean members.newest)
     (safe : tells → (world : World) (told : Ledger) → HasRoomLeft members tape tape' → AreGoneTold told members' → told.gone role ≡ true → IsUncleanTold told members
     → IsSafeOver world given told members tape → KeepsSafe world given told members' tape tape')
@@ -84,6 +84,9 @@ module _ {tells : Type 0} {given : Given} {tape tape' : List Operation} {scope :
   pub to : IsReceiver given members role slot
   to = receiver-spare given members was.placed was.free role slot below vacant spare
 
+  counted : role < role_count members.newest
+  counted = let n = was.placed.roles in let at = to.below in omega (arith, at, n)
+
   abbrev V : Members
   V = with_recovering role slot members
 
@@ -93,6 +96,7 @@ module _ {tells : Type 0} {given : Given} {tape tape' : List Operation} {scope :
   pub stays : StayPlaced given members members'
   stays = record {
     placed = moved.placed;
+    still = moved.reshape.reshaping ∙ was.still;
     unlost = moved.unlost;
     free = moved.free (free-then given members was.placed (Some 0) role slot to was.free);
     spares = moved.spares (few-given given members was.placed (Some 0) role slot to);
@@ -116,7 +120,7 @@ module _ {tells : Type 0} {given : Given} {tape tape' : List Operation} {scope :
   -- what is missing is told
   told : AreTold members' (entries ++ added)
   told r lt missing = elim (since-missing moved since r lt missing) [
-    | inl in_V ↦ told-more members entries added quiet.adds.gives was.told r (subst (λ (s : Shape). r < s.disks) moved.shape lt) (missing-given given members was.placed (Some 0) role slot to gone r in_V)
+    | inl in_V ↦ told-more members entries added quiet.adds.gives was.told r (subst (λ (n : ℕ). r < n) (count-moved moved) lt) (missing-given given members was.placed (Some 0) role slot to gone r in_V)
     | inr has ↦ gone-lately r entries added quiet.adds.gives
         (told-losses r roles spares who end (Step RebuildTaken steps ∷ []) (let most = few who end was opens caller at_end stays grows in omega (arith, lt, most)) has)
   ]
@@ -160,23 +164,24 @@ module _ {tells : Type 0} {given : Given} {tape tape' : List Operation} {scope :
       (subst (λ (o : Option ℕ). IfSome o (λ n. n ≡ left_of next members')) (sym (left-stepped entries who end losses RebuildTaken steps)) steps_are) quiet.ends quiet.unbuilt)
       (last_end-behind first entries who end losses (Step RebuildTaken steps))
       (λ whole none. absurd (
-      let here : true ≡ false = sym (ap (λ (s : Role). not (is_whole s)) (state-here given members was.placed (Some 0) role slot to)) ∙ moved.whole whole role below in cc))
+      let here : true ≡ false = sym (ap (λ (s : Role). not (is_whole s)) (state-here given members was.placed (Some 0) role slot to)) ∙ moved.whole whole role counted in cc))
       told only
       (λ t fills. call-stepping (opening_in W) next (left_of work members) entries who end RebuildTaken steps moved since
-      (left-taken work members role slot below (let n = was.placed.roles in omega (arith, below, n)) known vacant spare to.room.small) was.left tt steps_are)
+      (left-taken work members role slot below to.below known vacant spare to.room.small) was.left tt steps_are)
       (λ t does' rebuilds. list-moved given V members' (present given tape) (present given tape') L moved taker-placed (others t)
       (list-given given members was.placed (Some 0) role slot to (present given tape) L (λ s row lt held. absurd (none-recovered given members was.placed role slot to s row held))
       (was.holds t does (rebuilds-before W entries added rebuilds))))
       (λ t does' fit. subst (λ (n : ℕ). RowsStandBelow n members' (present given tape') L) (sym (mended-are who end was opens caller at_end stays grows))
-      (among-moved (λ row. row < mended_rows work.resync members) given V members' (present given tape) (present given tape') L moved taker-placed (others t)
+      (subst (λ (s : Shape). RowsStandAmong s (λ row. row < mended_rows work.resync members) members' (present given tape') L) (sym moved.shape)
+      (among-moved (shape_of members.newest) (λ row. row < mended_rows work.resync members) given V members' (present given tape) (present given tape') L moved taker-placed (others t)
       (among-given given members was.placed (Some 0) role slot to (present given tape) L (λ s row lt held. absurd (none-recovered given members was.placed role slot to s row held))
-      (λ row. row < mended_rows work.resync members) (was.good t does fit))))
+      (λ row. row < mended_rows work.resync members) (was.good t does fit)))))
       (λ t does' fit. rebuilt-moved next given V members' (present given tape) (present given tape') L moved taker-placed (others t)
       (rebuilt-given given members was.placed (Some 0) role slot to work next (present given tape) L (λ other apart. rebuilt-other work role 0 other apart)
       (λ s row is under. absurd (let none : row < 0 * (shape_of members.newest).chunk = subst (λ (n : ℕ). row < n * (shape_of members.newest).chunk) (rebuilt-here work role 0 known) under in omega (arith, none)))
       (was.rebuilt t does fit)))
       (leaves-alike who end was opens caller at_end stays grows next (λ number is. is) events quiet.silent quiet.adds rise
-      (λ t fills room began. safe t W (told_by W next entries added) room (gone-still (told_by W next entries added) members' moved.placed.still told)
-      (told-more members entries added quiet.adds.gives was.told role below gone)
+      (λ t fills room began. safe t W (told_by W next entries added) room told
+      (told-more members entries added quiet.adds.gives was.told role counted gone)
       (λ is. told-unclean W work next (λ number is. is) entries added quiet.adds (is_some work.resync) (was.recorded t).dirty (was.unclean is)) began)
       refl (λ d. does) clean)

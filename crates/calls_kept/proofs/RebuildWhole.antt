@@ -13,7 +13,7 @@ use Rattle.bank.specs.Given.{Given}
 use Rattle.bank.specs.declared.bank.Operation.{Operation}
 use Rattle.bank.specs.Tape.{IsIn, disk}
 use Rattle.superblocks.specs.declared.members.Members.{Members}
-use Rattle.superblocks.specs.Reading.{Scope, shape_of, role_state, holder, is_whole, is_clean}
+use Rattle.superblocks.specs.Reading.{Scope, shape_of, role_state, holder, is_whole, is_clean, role_count}
 use Rattle.row_io.specs.Rows.{reading_of, present, is_missing}
 use Rattle.flat_history.specs.declared.events.Entry.{Entry}
 use Rattle.flat_history.specs.declared.events.Event.{Event}
@@ -37,12 +37,12 @@ use Rattle.views.specs.Moving.{Grows, IsMoved}
 use Rattle.shape_changes.specs.Safety.{HasRoomLeft, IsRisen}
 use Rattle.views.specs.Status.{stripes_of, rebuilt_of, left_of}
 use Rattle.views.specs.Rebuilding.{AreRowsFull, HasNoRebuilt, is_rebuilt, with_whole, MayHold}
-use Rattle.views.specs.Lacking.{AreLostSince, DoesWithout, RowsStand, RowsStandBelow, mended_rows}
+use Rattle.views.specs.Lacking.{AreLostSince, RowsStand, RowsStandBelow, mended_rows, RowsStandAmong}
 use Rattle.array_kept.specs.Kept.{world_in, ledger_now, AreTold, AreRebuildsRight, IsKept, AreOnlyTold}
 use Rattle.shape_views.specs.Views.{Ledger}
 use Rattle.shape_changes.specs.Steady.{IsSafeOver, KeepsSafe, IsMoreTold, AreGoneTold, IsUncleanTold, AreWritesAllowed, given_back}
 use Rattle.call_entries.proofs.CallLaws.{losses-are, last_end-behind, length-losses, limit-losses, values-losses, ends-losses, told-losses}
-use Rattle.array_kept.proofs.DegradedLaws.{rebuilt-moved, told-behind, work-behind, only-behind}
+use Rattle.array_kept.proofs.DegradedLaws.{rebuilt-moved, told-behind, work-behind, only-behind, count-moved}
 use Rattle.views.proofs.GivenMembers.{IsReceiver, state-here, placed-given, state-other, spare-before}
 use Rattle.array_kept.proofs.KeptLaws.{StayPlaced, LeavesSafe, LeavesWork, rebuilds-before, mended-are, few, newest-old, safe-by, leaves-alike}
 use Rattle.views.proofs.LackingLaws.{since-missing}
@@ -63,7 +63,7 @@ use Rattle.array_kept.proofs.ToldLosses.{role-told}
 use Rattle.array_kept.proofs.OnlyLaws.{lost-among, gone-or, spare-both, spares-behind-losses, TellsOnly}
 use Rattle.std.proofs.lemmas.List.Sums.{fold-append}
 use Rattle.views.proofs.HeldRows.{missing-moved, vacant-missing}
-use Rattle.views.proofs.Still.{gone-still as gone-two}
+use Rattle.shape_views.specs.Regions.{DoWithout}
 
 module _ {tells : Type 0} {given : Given} {tape tape' : List Operation} {scope : Scope} {first : ℕ} {entries : List Entry} {members members' : Members} {work : Work}
     (who : Who) (end : ℕ) (was : IsKept tells given tape scope first entries members work)
@@ -71,9 +71,9 @@ module _ {tells : Type 0} {given : Given} {tape tape' : List Operation} {scope :
     (role slot : ℕ) (below : role < (shape_of members.newest).disks) (recovers : role_state (reading_of members) role ≡ Recovering slot) (all : stripes_of members ≤ rebuilt_of work role) (synced : work.resync ≡ None)
     (moved : IsMoved given (with_whole role slot members) members') (grows : Grows tells tape tape')
     (roles spares : ℕ) (before after : ℕ → ℕ) (since : AreLostSince (with_whole role slot members) members' roles spares before after)
-    (does : DoesWithout members) (others : tells → AreOthersPresent (present given tape) (present given tape'))
+    (does : DoWithout members) (others : tells → AreOthersPresent (present given tape) (present given tape'))
     (rise : IsRisen tells members members' tape tape') (clean : is_clean members'.newest ≡ is_clean members.newest)
-    (safe : tells → (world : World) (told : Ledger) → HasRoomLeft members tape tape' → AreGoneTold told members' → told.gone role ≡ true → IsUncleanTold told members → OpensFit world → DoesWithout members
+    (safe : tells → (world : World) (told : Ledger) → HasRoomLeft members tape tape' → AreGoneTold told members' → told.gone role ≡ true → IsUncleanTold told members → OpensFit world → DoWithout members
     → (list : ℕ → Sector) → RowsStand members (present given tape) list → AreWritesAllowed members told.values list → AreRowsFull members role slot list (present given tape)
     → IsSafeOver world given told members tape → KeepsSafe world given told members' tape tape') where
   abbrev W : World
@@ -97,6 +97,7 @@ module _ {tells : Type 0} {given : Given} {tape tape' : List Operation} {scope :
   pub stays : StayPlaced given members members'
   stays = record {
     placed = moved.placed;
+    still = moved.reshape.reshaping ∙ was.still;
     unlost = moved.unlost;
     free = moved.free (free-then given members was.placed None role slot to was.free);
     spares = moved.spares (few-given given members was.placed None role slot to);
@@ -104,12 +105,15 @@ module _ {tells : Type 0} {given : Given} {tape tape' : List Operation} {scope :
     size = moved.size;
   }
 
+  counted : role < role_count members.newest
+  counted = let n = was.placed.roles in let at = to.below in omega (arith, at, n)
+
   -- the role is told gone
   missing : is_missing (reading_of members) role ≡ true
   missing = ap (λ (s : Role). not (is_whole s)) recovers
 
   gone : IsTrue (is_gone_now entries role)
-  gone = was.told role below missing
+  gone = was.told role counted missing
 
   -- the slot has every row of it
   rows : tells → OpensFit W → RowsStand members (present given tape) L
@@ -125,7 +129,7 @@ module _ {tells : Type 0} {given : Given} {tape tape' : List Operation} {scope :
   -- what is missing is told behind the losses
   told-behind-losses : (tail : List Event) → AreQuiet who end (losses ++ tail) → AreTold members' (entries ++ entries_of who end (losses ++ tail))
   told-behind-losses tail quiet r lt out = elim (since-missing moved since r lt out) [
-    | inl in_V ↦ told-more members entries (entries_of who end (losses ++ tail)) quiet.adds.gives was.told r (subst (λ (s : Shape). r < s.disks) moved.shape lt)
+    | inl in_V ↦ told-more members entries (entries_of who end (losses ++ tail)) quiet.adds.gives was.told r (subst (λ (n : ℕ). r < n) (count-moved moved) lt)
         (missing-given given members was.placed None role slot to missing r in_V)
     | inr has ↦ gone-lately r entries (entries_of who end (losses ++ tail)) quiet.adds.gives
         (told-losses r roles spares who end tail (let most = few who end was opens caller at_end stays grows in omega (arith, lt, most)) has)
@@ -136,18 +140,18 @@ module _ {tells : Type 0} {given : Given} {tape tape' : List Operation} {scope :
     Told = told_by W work entries (entries_of who end early)
 
     gone-told : Told.gone role ≡ true
-    gone-told = told-more members entries (entries_of who end early) quiet.adds.gives was.told role below missing
+    gone-told = told-more members entries (entries_of who end early) quiet.adds.gives was.told role counted missing
 
     unclean-told : tells → IsUncleanTold Told members
     unclean-told t is = told-unclean W work work (λ number is. is) entries (entries_of who end early) quiet.adds (is_some work.resync) (was.recorded t).dirty (was.unclean is)
 
     allowed : (added : List Entry) (t : tells) → FillsRight W (entries ++ added) → AreWritesAllowed members Told.values L
-    allowed added t fills = allowed-more (opening_list W) entries (entries_of who end early) members was.placed.still quiet.adds L (newest-old who end was opens caller at_end stays grows added t fills)
+    allowed added t fills = allowed-more (opening_list W) entries (entries_of who end early) members was.still quiet.adds L (newest-old who end was opens caller at_end stays grows added t fills)
 
     stretch : (added : List Entry) (t : tells) → FillsRight W (entries ++ added) → HasRoomLeft members tape tape' → IsSafeOver W given Told members tape → KeepsSafe W given Told members' tape tape'
     stretch added t fills room began =
         let fit = fit-of added fills in
-        safe t W Told room (gone-two Told members' moved.placed.still told) gone-told (unclean-told t) fit does L (rows t fit) (allowed added t fills) (full t fit) began
+        safe t W Told room told gone-told (unclean-told t) fit does L (rows t fit) (allowed added t fills) (full t fit) began
 
   -- ---- the slot was lost
 
@@ -175,9 +179,9 @@ module _ {tells : Type 0} {given : Given} {tape tape' : List Operation} {scope :
             )
 
     pub ended-among : Contains losses (Lost role Fault)
-    ended-among = elim (since-lost.vacant role (subst (λ (s : Shape). role < s.disks) (sym moved.shape) below) vacant) [
+    ended-among = elim (since-lost.vacant role (subst (λ (n : ℕ). role < n) (sym (count-moved moved)) counted) vacant) [
       | inl former ↦ not-vacant members role slot recovers former
-      | inr has ↦ role-told roles spares role (let most = few who end was opens caller at_end stays grows in let same = moved.shape in omega (arith, below, most, ap (λ (s : Shape). s.disks) same)) has
+      | inr has ↦ role-told roles spares role (let most = few who end was opens caller at_end stays grows in let same = count-moved moved in omega (arith, counted, most, same)) has
     ]
 
     quiet-lost : AreQuiet who end (losses ++ [])
@@ -196,7 +200,8 @@ module _ {tells : Type 0} {given : Given} {tape tape' : List Operation} {scope :
         (λ t does' rebuilds. list-moved given members members' (present given tape) (present given tape') L moved-lost was.placed (others t)
         (was.holds t does (rebuilds-before W entries (entries_of who end (losses ++ [])) rebuilds)))
         (λ t does' fit. subst (λ (n : ℕ). RowsStandBelow n members' (present given tape') L) (sym (mended-are who end was opens caller at_end stays grows))
-        (among-moved (λ row. row < mended_rows work.resync members) given members members' (present given tape) (present given tape') L moved-lost was.placed (others t) (was.good t does fit)))
+        (subst (λ (s : Shape). RowsStandAmong s (λ row. row < mended_rows work.resync members) members' (present given tape') L) (sym moved.shape)
+        (among-moved (shape_of members.newest) (λ row. row < mended_rows work.resync members) given members members' (present given tape) (present given tape') L moved-lost was.placed (others t) (was.good t does fit))))
         (λ t does' fit. rebuilt-moved work given members members' (present given tape) (present given tape') L moved-lost was.placed (others t) (was.rebuilt t does fit))
         (leaves-alike who end was opens caller at_end stays grows work (λ number is. is) (losses ++ []) quiet-lost.silent quiet-lost.adds rise
         (stretch (losses ++ []) quiet-lost (told-behind-losses [] quiet-lost) (entries_of who end (losses ++ []))) refl (λ d. does) clean))
@@ -204,7 +209,7 @@ module _ {tells : Type 0} {given : Given} {tape tape' : List Operation} {scope :
   -- ---- the role is whole
 
   module _ (steps : ℕ) (steps_are : steps ≡ left_of work members') (whole_is : role_state (reading_of members') role ≡ Whole slot)
-      (back : tells → (world : World) (told : Ledger) → HasRoomLeft members tape tape' → AreGoneTold told members' → told.gone role ≡ true → IsUncleanTold told members → OpensFit world → DoesWithout members
+      (back : tells → (world : World) (told : Ledger) → HasRoomLeft members tape tape' → AreGoneTold told members' → told.gone role ≡ true → IsUncleanTold told members → OpensFit world → DoWithout members
       → (list : ℕ → Sector) → RowsStand members (present given tape) list → AreWritesAllowed members told.values list → AreRowsFull members role slot list (present given tape)
       → IsSafeOver world given told members tape → IsSafeOver world given (given_back role told) members' tape') where
     abbrev early : List Event
@@ -341,7 +346,7 @@ module _ {tells : Type 0} {given : Given} {tape tape' : List Operation} {scope :
         (call-stepped_on (opening_in W) entries who end losses RebuildEnded steps late (losses-are roles spares) tt
         (subst (λ (n : ℕ). IfSome (told_left (entries ++ entries_of who end losses)) (λ told. told ≡ n)) (ap (λ (n : ℕ). n + 1) (sym steps_are))
         (told-stepped work (left_of work members) entries who end moved since
-        (left-whole work members role slot below (let n = was.placed.roles in omega (arith, below, n)) recovers all (whole-spare given members was.free role slot recovers)) was.left))
+        (left-whole work members role slot below to.below recovers all (whole-spare given members was.free role slot recovers)) was.left))
         (tt, tt, tt))
 
     -- more is told by the whole call, but for the role itself
@@ -382,7 +387,7 @@ module _ {tells : Type 0} {given : Given} {tape tape' : List Operation} {scope :
           (λ t fills room began.
           let fit = fit-of (entries_of who end (early ++ late)) fills in
           more-safe (OpensFit W) scope given (given_back role (told_by W work entries (entries_of who end early))) (ledger_now W work (entries ++ entries_of who end (early ++ late))) members' (disk given.start tape') more
-          (back t W (told_by W work entries (entries_of who end early)) room (gone-two (told_by W work entries (entries_of who end early)) members' moved.placed.still told-early) (gone-told early quiet-early told-early) (unclean-told early quiet-early told-early t) fit does L (rows t fit)
+          (back t W (told_by W work entries (entries_of who end early)) room told-early (gone-told early quiet-early told-early) (unclean-told early quiet-early told-early t) fit does L (rows t fit)
           (allowed early quiet-early told-early (entries_of who end (early ++ late)) t fills) (full t fit) began));
     }
       where
@@ -399,9 +404,10 @@ module _ {tells : Type 0} {given : Given} {tape tape' : List Operation} {scope :
         list-moved given V members' (present given tape) (present given tape') L moved whole-placed (others t)
         (list-given given members was.placed None role slot to (present given tape) L (whole-here given members was.placed role slot to (present given tape) L (full t fit)) (was.holds t does (inr fit))))
         (λ t does' fit. subst (λ (n : ℕ). RowsStandBelow n members' (present given tape') L) (sym (mended-are who end was opens caller at_end stays grows))
-        (among-moved (λ row. row < mended_rows work.resync members) given V members' (present given tape) (present given tape') L moved whole-placed (others t)
+        (subst (λ (s : Shape). RowsStandAmong s (λ row. row < mended_rows work.resync members) members' (present given tape') L) (sym moved.shape)
+        (among-moved (shape_of members.newest) (λ row. row < mended_rows work.resync members) given V members' (present given tape) (present given tape') L moved whole-placed (others t)
         (among-given given members was.placed None role slot to (present given tape) L (whole-here given members was.placed role slot to (present given tape) L (full t fit))
-        (λ row. row < mended_rows work.resync members) (was.good t does fit))))
+        (λ row. row < mended_rows work.resync members) (was.good t does fit)))))
         (λ t does' fit. rebuilt-moved work given V members' (present given tape) (present given tape') L moved whole-placed (others t)
         (rebuilt-given given members was.placed None role slot to work work (present given tape) L (λ other apart. refl)
         (λ s row is under. absurd (let clash : Whole slot ≡ Recovering s = sym (state-here given members was.placed None role slot to) ∙ is in cc))

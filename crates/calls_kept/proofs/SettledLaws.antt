@@ -3,7 +3,6 @@ use Rattle.std.proofs.Common.{◌≡◌, ◌≢◌, inl, inr, ℕ, ◌<◌, ◌�
 use Rattle.std.proofs.lemmas.Bool.{cases_lt}
 use Rattle.std.proofs.lemmas.List.{get_or_past}
 use Rattle.md_base.specs.Sectors.{Sector}
-use Rattle.md_base.specs.declared.places.Shape.{Shape}
 use Rattle.md_base.specs.declared.status.Role.{Role}
 use Rattle.md_base.specs.declared.status.Role.TheVariants.{Whole, Recovering, Missing}
 use Rattle.md_base.specs.declared.answers.Refusal.{Refusal}
@@ -11,7 +10,7 @@ use Rattle.md_base.specs.declared.answers.Who.{Who}
 use Rattle.bank.specs.Given.{Given}
 use Rattle.bank.specs.declared.bank.Operation.{Operation}
 use Rattle.superblocks.specs.declared.members.Members.{Members}
-use Rattle.superblocks.specs.Reading.{Scope, shape_of, is_clean, role_state, holder, is_whole}
+use Rattle.superblocks.specs.Reading.{Scope, is_clean, role_state, holder, is_whole, role_count}
 use Rattle.row_io.specs.Rows.{reading_of, present}
 use Rattle.flat_history.specs.declared.events.Entry.{Entry}
 use Rattle.flat_history.specs.declared.events.Event.{Event}
@@ -33,7 +32,7 @@ use Rattle.views.specs.Moving.{Grows, IsMoved}
 use Rattle.shape_changes.specs.Safety.{HasRoomLeft, IsRisen}
 use Rattle.shape_views.specs.Views.{Ledger}
 use Rattle.shape_changes.specs.Steady.{IsSafeOver, KeepsSafe, AreGoneTold, IsUncleanTold, AreWritesAllowed, settled_ledger}
-use Rattle.views.specs.Lacking.{AreTooMany, DoesWithout, ListStands, RowsStand, AreLostSince, AreHoldersFlushed, mended_rows}
+use Rattle.views.specs.Lacking.{AreTooMany, ListStands, RowsStand, AreLostSince, AreHoldersFlushed, mended_rows}
 use Rattle.array_kept.specs.Kept.{world_in, ledger_now, AreTold, IsKept}
 use Rattle.array_kept.specs.Calls.{AreLeftFlushed}
 use Rattle.array_kept.proofs.NowLaws.{values-more, length-more}
@@ -44,9 +43,10 @@ use Rattle.call_entries.proofs.PlainLaws.{one}
 use Rattle.array_kept.proofs.RecordLaws.{AreSilent}
 use Rattle.array_kept.proofs.ReadyLaws.{Settles, KeepsNewest, silent-behind}
 use Rattle.array_kept.proofs.KeptLaws.{StayPlaced, LeavesSafe, holds-before, newest-old, safe-by, leaves-unsettled}
-use Rattle.array_kept.proofs.DegradedLaws.{stays-moved, told-behind, told-alone, none-ended}
+use Rattle.array_kept.proofs.DegradedLaws.{stays-moved, told-behind, told-alone, none-ended, count-moved}
 use Rattle.views.proofs.HeldRows.{without-before}
-use Rattle.views.proofs.Still.{gone-still}
+use Rattle.shape_views.specs.Regions.{DoWithout}
+use Rattle.views.proofs.LackingLaws.{never-both}
 
 -- ---- what was told
 
@@ -55,8 +55,8 @@ pub left-flushed : (given : Given) (old new : Members) (entries : List Entry) (t
     → AreLeftFlushed old entries given tape
 left-flushed given old new entries tape was moved told flushed role slot k held kept other = flushed role slot k (at (role_state (reading_of new) role) refl) other
   where
-    below : role < (shape_of old.newest).disks
-    below = elim (cases_lt role (shape_of old.newest).disks) [
+    below : role < role_count old.newest
+    below = elim (cases_lt role (role_count old.newest)) [
       | inl lt ↦ lt
       | inr above ↦ absurd (let past : get_or old.roles role Missing ≡ Missing = get_or_past old.roles role Missing (let n = was.roles in omega (arith, above, n)) in
           let no : ◌≡◌ {A = Option ℕ} None (Some slot) = sym (ap holder past) ∙ held in cc)
@@ -65,12 +65,17 @@ left-flushed given old new entries tape was moved told flushed role slot k held 
     at : (state : Role) → role_state (reading_of new) role ≡ state → holder (role_state (reading_of new) role) ≡ Some slot
     at (Whole s) is = ap holder (moved.states role s (ap holder is)) ∙ held
     at (Recovering s) is = ap holder (moved.states role s (ap holder is)) ∙ held
-    at Missing is = absurd (let e = sym (told role (subst (λ (s : Shape). role < s.disks) (sym moved.shape) below) (ap (λ (s : Role). not (is_whole s)) is)) ∙ kept in cc)
+    at Missing is = absurd (let e = sym (told role (subst (λ (n : ℕ). role < n) (sym (count-moved moved)) below) (ap (λ (s : Role). not (is_whole s)) is)) ∙ kept in cc)
 
 -- where no resync is pending, every row is mended
 pub all-mended : (m : Members) (resync : Option ℕ) (unsynced : Bool) → unsynced ≡ is_some resync → unsynced ≡ false → m.newest.size ≤ mended_rows resync m
 all-mended m None unsynced same synced = omega arith
 all-mended m (Some mended) unsynced same synced = absurd (let no = sym same ∙ synced in cc)
+
+-- a refusal since too many are missing leaves a write unsettled
+unsettled-many : (who : Who) (end : ℕ) (m : Members) (refusal : Refusal) → AreTooMany m refusal → list_any (λ e. unsettles e.event) (entries_of who end (Refused refusal ∷ [])) ≡ true
+unsettled-many who end m refusal (inl many) = subst (λ (r : Refusal). list_any (λ e. unsettles e.event) (entries_of who end (Refused r ∷ [])) ≡ true) (sym many.told) refl
+unsettled-many who end m refusal (inr many) = subst (λ (r : Refusal). list_any (λ e. unsettles e.event) (entries_of who end (Refused r ∷ [])) ≡ true) (sym many.1.told) refl
 
 -- ---- a call
 
@@ -85,13 +90,13 @@ module _ {tells : Type 0} {given : Given} {tape tape' : List Operation} {scope :
     (roles spares : ℕ) (before after : ℕ → ℕ) (since : AreLostSince members members' roles spares before after)
     (rise : IsRisen tells members members' tape tape') (unsynced : Bool) (all : unsynced ≡ false → members.newest.size ≤ mended_rows work.resync members)
     (safe : tells → (world : World) → (told : Ledger) → HasRoomLeft members tape tape' → AreGoneTold told members' → IsUncleanTold told members → (list : ℕ → Sector)
-    → (DoesWithout members → ListStands members (present given tape) list) → (unsynced ≡ false → DoesWithout members → OpensFit world → RowsStand members (present given tape) list)
+    → (DoWithout members → ListStands members (present given tape) list) → (unsynced ≡ false → DoWithout members → OpensFit world → RowsStand members (present given tape) list)
     → AreWritesAllowed members told.values list → IsSafeOver world given told members tape → KeepsSafe world given told members' tape tape') where
   abbrev losses : List Event
   losses = losses_of roles spares
 
   -- the rows stand as the list, where all of them are mended and the epoch opened fit
-  rows-old : (t : tells) → unsynced ≡ false → DoesWithout members → OpensFit (world_in given tape scope first) → RowsStand members (present given tape) (now (opening_list (world_in given tape scope first)) entries)
+  rows-old : (t : tells) → unsynced ≡ false → DoWithout members → OpensFit (world_in given tape scope first) → RowsStand members (present given tape) (now (opening_list (world_in given tape scope first)) entries)
   rows-old t synced does fit row below = was.good t does fit row (let most = all synced in omega (arith, below, most)) below
 
   stays : StayPlaced given members members'
@@ -101,7 +106,7 @@ module _ {tells : Type 0} {given : Given} {tape tape' : List Operation} {scope :
   newest-told : (work' : Work) → CarriesMore work work' → (events : List Event) (added : List Entry) → OnlyAdd (entries_of who end events) → (t : tells) → FillsRight (world_in given tape scope first) (entries ++ added)
       → AreWritesAllowed members (values_of (opening_list (world_in given tape scope first)) (entries ++ entries_of who end events)) (now (opening_list (world_in given tape scope first)) entries)
   newest-told work' carries events added adds t fills =
-      allowed-more (opening_list (world_in given tape scope first)) entries (entries_of who end events) members was.placed.still adds (now (opening_list (world_in given tape scope first)) entries)
+      allowed-more (opening_list (world_in given tape scope first)) entries (entries_of who end events) members was.still adds (now (opening_list (world_in given tape scope first)) entries)
       (newest-old who end was opens caller at_end stays grows added t fills)
 
   -- the list keeps its length
@@ -120,11 +125,10 @@ module _ {tells : Type 0} {given : Given} {tape tape' : List Operation} {scope :
       leaves-unsettled who end was opens caller at_end stays grows work (λ number is. is) (losses ++ Refused refusal ∷ [])
       (silent-behind who end losses (Refused refusal) (losses-are roles spares) (record { length = λ n. refl; limit = refl })) adds rise
       (λ t fills room began. safe t (world_in given tape scope first) (told_by (world_in given tape scope first) work entries (entries_of who end (losses ++ Refused refusal ∷ []))) room
-      (gone-still (told_by (world_in given tape scope first) work entries (entries_of who end (losses ++ Refused refusal ∷ []))) members' moved.placed.still
-      (told-behind who end was opens caller at_end moved grows roles spares before after since (Refused refusal ∷ []) (λ role. refl))) (unclean-told work (λ number is. is) (losses ++ Refused refusal ∷ []) adds t)
+      (told-behind who end was opens caller at_end moved grows roles spares before after since (Refused refusal ∷ []) (λ role. refl)) (unclean-told work (λ number is. is) (losses ++ Refused refusal ∷ []) adds t)
       (now (opening_list (world_in given tape scope first)) entries) (holds-before who end was opens caller at_end stays grows (entries_of who end (losses ++ Refused refusal ∷ [])) t fills) (rows-old t)
       (newest-told work (λ number is. is) (losses ++ Refused refusal ∷ []) (entries_of who end (losses ++ Refused refusal ∷ [])) adds t fills) began)
-      (λ does. absurd (let above = many.above in omega (arith, does, above))) (λ synced. unsettles-behind who end losses (Refused refusal ∷ []) (subst (λ (r : Refusal). list_any (λ e. unsettles e.event) (entries_of who end (Refused r ∷ [])) ≡ true) (sym many.told) refl))
+      (λ does. absurd (never-both members' refusal does many)) (λ synced. unsettles-behind who end losses (Refused refusal ∷ []) (unsettled-many who end members' refusal many))
     where
       adds : OnlyAdd (entries_of who end (losses ++ Refused refusal ∷ []))
       adds = add-losses who end losses (Refused refusal ∷ []) (losses-are roles spares) (add-one (one who end (Refused refusal)) [] (λ x values v may. may) refl refl (λ role. refl) add-none)
@@ -141,17 +145,17 @@ module _ {tells : Type 0} {given : Given} {tape tape' : List Operation} {scope :
       → (tells → is_unsynced (world_in given tape scope first) (entries ++ entries_of who end (losses_of roles spares ++ event ∷ [])) ≡ unsynced)
       → (unsynced ≡ true → IsSome work.resync) → (unsynced ≡ true → is_clean members'.newest ≡ is_clean members.newest) → (unsynced ≡ false → is_clean members'.newest ≡ true)
       → (tells → (world : World) → (told : Ledger) → HasRoomLeft members tape tape' → AreGoneTold told members' → IsUncleanTold told members
-      → (DoesWithout members → unsynced ≡ true → is_clean members.newest ≡ false) → (list : ℕ → Sector)
-      → (DoesWithout members → ListStands members (present given tape) list) → (unsynced ≡ false → DoesWithout members → OpensFit world → RowsStand members (present given tape) list)
+      → (DoWithout members → unsynced ≡ true → is_clean members.newest ≡ false) → (list : ℕ → Sector)
+      → (DoWithout members → ListStands members (present given tape) list) → (unsynced ≡ false → DoWithout members → OpensFit world → RowsStand members (present given tape) list)
       → AreWritesAllowed members told.values list → IsSafeOver world given told members tape
       → IsSafeOver world given (settled_ledger unsynced list told) members' tape')
       → LeavesSafe tells given tape' scope first (entries ++ entries_of who end (losses_of roles spares ++ event ∷ [])) members' work'
   leaves-settled work' carries pends event silent keep none newest unsynced_is pending alike clean settled = record {
-    dirty = λ does is. alike (pends ∙ is) ∙ was.dirty (without-before given members members' was.placed moved does) (pending (pends ∙ is));
+    dirty = λ does is. alike (pends ∙ is) ∙ was.dirty (without-before given members members' moved does) (pending (pends ∙ is));
     unclean = λ is. ap (λ (b : Bool). b || is_unsettled (entries ++ entries_of who end (losses ++ event ∷ []))) (sym pends) ∙ by unsynced clean is;
     safe = safe-by who end was opens caller at_end stays grows work' carries losses (event ∷ [])
         silent-losses silent-all adds (keep-losses who end losses (event ∷ []) (losses-are roles spares) keep) rise
-        (λ t fills room began. safe t (world_in given tape scope first) (told_by (world_in given tape scope first) work' entries (entries_of who end losses)) room (gone-still (told_by (world_in given tape scope first) work' entries (entries_of who end losses)) members' moved.placed.still gone) (unclean-told work' carries losses adds t)
+        (λ t fills room began. safe t (world_in given tape scope first) (told_by (world_in given tape scope first) work' entries (entries_of who end losses)) room gone (unclean-told work' carries losses adds t)
         (now (opening_list (world_in given tape scope first)) entries) (holds-before who end was opens caller at_end stays grows (entries_of who end (losses ++ event ∷ [])) t fills) (rows-old t)
         (newest-told work' carries losses (entries_of who end (losses ++ event ∷ [])) adds t fills) began)
         (λ t fills room began.
@@ -166,7 +170,7 @@ module _ {tells : Type 0} {given : Given} {tape tape' : List Operation} {scope :
         (sized-by t losses silent-losses) (subst (λ (l : List Entry). length_of (length (opening_list world)) (entries ++ l) ≡ size) (entries-both who end losses (event ∷ [])) (sized-by t (losses ++ event ∷ []) silent-all))
         (λ x lt. subst (λ (l : List Entry). IsIn (values_of (opening_list world) (entries ++ l) x) (list x)) (entries-both who end losses (event ∷ []))
         (newest-stays x (newest-old who end was opens caller at_end stays grows (entries_of who end (losses ++ event ∷ [])) t fills x lt))) none)
-        (settled t world told room (gone-still told members' moved.placed.still gone) (unclean-told work' carries losses adds t) (λ does is. was.dirty does (pending is)) list
+        (settled t world told room gone (unclean-told work' carries losses adds t) (λ does is. was.dirty does (pending is)) list
         (holds-before who end was opens caller at_end stays grows (entries_of who end (losses ++ event ∷ [])) t fills) (rows-old t)
         (newest-told work' carries losses (entries_of who end (losses ++ event ∷ [])) adds t fills) began)));
   }
@@ -197,8 +201,8 @@ module _ {tells : Type 0} {given : Given} {tape tape' : List Operation} {scope :
   -- a flush or a stop, which leaves the resync as it is
   pub leaves-flushed : (event : Event) → Settles event → unsynced ≡ is_some work.resync → (unsynced ≡ true → is_clean members'.newest ≡ is_clean members.newest) → (unsynced ≡ false → is_clean members'.newest ≡ true)
       → (tells → (world : World) → (told : Ledger) → HasRoomLeft members tape tape' → AreGoneTold told members' → IsUncleanTold told members
-      → (DoesWithout members → unsynced ≡ true → is_clean members.newest ≡ false) → (list : ℕ → Sector)
-      → (DoesWithout members → ListStands members (present given tape) list) → (unsynced ≡ false → DoesWithout members → OpensFit world → RowsStand members (present given tape) list)
+      → (DoWithout members → unsynced ≡ true → is_clean members.newest ≡ false) → (list : ℕ → Sector)
+      → (DoWithout members → ListStands members (present given tape) list) → (unsynced ≡ false → DoWithout members → OpensFit world → RowsStand members (present given tape) list)
       → AreWritesAllowed members told.values list → IsSafeOver world given told members tape
       → IsSafeOver world given (settled_ledger unsynced list told) members' tape')
       → LeavesSafe tells given tape' scope first (entries ++ entries_of who end (losses_of roles spares ++ event ∷ [])) members' work

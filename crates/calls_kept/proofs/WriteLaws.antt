@@ -40,7 +40,7 @@ use Rattle.views.specs.Moving.{Grows, IsMoved}
 use Rattle.shape_changes.specs.Safety.{HasRoomLeft, IsRisen}
 use Rattle.shape_views.specs.Views.{Ledger}
 use Rattle.shape_changes.specs.Steady.{IsSafeOver, KeepsSafe, AreGoneTold, AreWritesAllowed}
-use Rattle.views.specs.Lacking.{AreLostSince, AreTooMany, AreBytes, IsUnwritten, DoesWithout, ListStands, RowsStandAmong, RowsStandBelow, are_mended, mended_rows, lacking, too_many}
+use Rattle.views.specs.Lacking.{AreLostSince, LacksTooMany, AreBytes, IsUnwritten, ListStands, RowsStandAmong, RowsStandBelow, are_mended, mended_rows, lacking, too_many}
 use Rattle.array_kept.specs.Kept.{world_in, AreTold, IsKept}
 use Rattle.array_kept.specs.Calls.{IsRefusedHere}
 use Rattle.call_entries.proofs.CallLaws.{losses-are, length-losses, limit-losses, values-losses}
@@ -55,14 +55,16 @@ use Rattle.array_kept.proofs.KeptLaws.{LeavesSafe, newest-old, holds-before, men
 use Rattle.array_kept.proofs.DegradedLaws.{stays-moved, rows-same, too-many-here, pending-of, unwritten-here, told-behind, degraded-refused, degraded-torn, degraded-wrote}
 use Rattle.views.proofs.Stripes.{stripes-multiple}
 use Rattle.views.proofs.HeldRows.{without-before}
-use Rattle.views.proofs.Still.{gone-still, length-still}
+use Rattle.views.proofs.Still.{length-still}
+use Rattle.shape_views.specs.Regions.{DoWithout}
+use Rattle.views.proofs.Fit.{valid, multiple}
 
 -- ---- rows whose parity is to be relied on
 
 -- they are those of whole stripes
 mended-multiple : (given : Given) (m : Members) → IsPlaced given m → (resync : Option ℕ) → is_multiple (mended_rows resync m) (shape_of m.newest).chunk ≡ true
-mended-multiple given m placed None = placed.multiple
-mended-multiple given m placed (Some mended) = stripes-multiple mended (shape_of m.newest).chunk (chunk_some (shape_of m.newest) placed.valid)
+mended-multiple given m placed None = multiple given m placed
+mended-multiple given m placed (Some mended) = stripes-multiple mended (shape_of m.newest).chunk (chunk_some (shape_of m.newest) (valid given m placed))
 
 -- sectors that end within those of the mended rows touch no other row
 touched-mended : (given : Given) (m : Members) → IsPlaced given m → (resync : Option ℕ) (shape : Shape) → shape ≡ shape_of m.newest → (at count row : ℕ)
@@ -71,12 +73,13 @@ touched-mended given m placed resync shape same at count row mended touched =
     let here = subst (λ (s : Shape). IsTouched s at count row) same touched in
     let all : at + count ≤ data_disks (shape_of m.newest) * mended_rows resync m = grind (arith, nat_tests, mended) in
     let below : here.0 < data_disks (shape_of m.newest) * mended_rows resync m = let last = here.2 in omega (arith, all, last) in
-    subst (λ (r : ℕ). r < mended_rows resync m) here.3 (place-row_below (shape_of m.newest) placed.valid here.0 (mended_rows resync m) (mended-multiple given m placed resync) below)
+    subst (λ (r : ℕ). r < mended_rows resync m) here.3 (place-row_below (shape_of m.newest) (valid given m placed) here.0 (mended_rows resync m) (mended-multiple given m placed resync) below)
 
 -- the rows that are touched stand, where the mended rows do
 touched-stand : (given : Given) (m : Members) → IsPlaced given m → (resync : Option ℕ) (shape : Shape) → shape ≡ shape_of m.newest → (at count : ℕ) (c : Contents) (list : ℕ → Sector)
-    → are_mended (shape_of m.newest) (mended_rows resync m) (at + count) ≡ true → RowsStandBelow (mended_rows resync m) m c list → RowsStandAmong (IsTouched shape at count) m c list
-touched-stand given m placed resync shape same at count c list mended below row touched low = below row (touched-mended given m placed resync shape same at count row mended touched) low
+    → are_mended (shape_of m.newest) (mended_rows resync m) (at + count) ≡ true → RowsStandBelow (mended_rows resync m) m c list → RowsStandAmong shape (IsTouched shape at count) m c list
+touched-stand given m placed resync shape same at count c list mended below row touched low =
+    subst (λ (s : Shape). RowStands (reading_of m) c s list row) (sym same) (below row (touched-mended given m placed resync shape same at count row mended touched) low)
 
 -- ---- a write
 
@@ -84,11 +87,11 @@ module _ {tells : Type 0} {given : Given} {tape tape' : List Operation} {scope :
     (who : Who) (end : ℕ) (was : IsKept tells given tape scope first entries members work) (opens : IsCallOpen entries who) (caller : who.caller ≢ 254) (at_end : tells → end ≡ length tape')
     (moved : IsMoved given members members') (grows : Grows tells tape tape')
     (roles spares : ℕ) (before after : ℕ → ℕ) (since : AreLostSince members members' roles spares before after)
-    (shape : Shape) (same : shape ≡ shape_of members.newest) (at : ℕ) (from : List ℕ) (within : at + length from / 512 ≤ list_size (places_of members)) (does : DoesWithout members) (begun : Bool)
+    (shape : Shape) (same : shape ≡ shape_of members.newest) (at : ℕ) (from : List ℕ) (within : at + length from / 512 ≤ list_size (places_of members)) (does : DoWithout members) (begun : Bool)
     (synced : Bool) (asked : synced ≡ are_mended (shape_of members.newest) (mended_rows work.resync members) (at + length from / 512))
     (rise : IsRisen tells members members' tape tape') (stays : is_clean members.newest ≡ false → is_clean members'.newest ≡ false)
     (safe : tells → (world : World) → (told : Ledger) → HasRoomLeft members tape tape' → AreGoneTold told members' → told.unclean ≡ true → (list list' : ℕ → Sector) → IsWritten list list' at from
-    → ListStands members (present given tape) list → (synced ≡ true → AreWhole members' ⊎ RowsStandAmong (IsTouched shape at (length from / 512)) members (present given tape) list)
+    → ListStands members (present given tape) list → (synced ≡ true → AreWhole members' ⊎ RowsStandAmong shape (IsTouched shape at (length from / 512)) members (present given tape) list)
     → (begun ≡ true → AreWritesAllowed members told.values list') → IsSafeOver world given told members tape → KeepsSafe world given told members' tape tape') where
   all-within : at + length (sectors_of from) ≤ list_size (places_of members)
   all-within = let n : length (sectors_of from) ≡ length from / 512 = length-sectors_of from in omega (arith, within, n)
@@ -100,7 +103,7 @@ module _ {tells : Type 0} {given : Given} {tape tape' : List Operation} {scope :
       → IsIn (fold (λ values e. values_after x values e.event) values (entries_of who end events)) (sector_at at (sectors_of from) x))
       → LeavesSafe tells given tape' scope first (entries ++ entries_of who end events) members' work
   leaves-written events silent adds told unsettled allows =
-      leaves-unsettled who end was opens caller at_end (stays-moved was moved) grows work (λ number is. is) events silent adds rise stretch (λ left pending. stays (was.dirty (without-before given members members' was.placed moved left) pending)) unsettled
+      leaves-unsettled who end was opens caller at_end (stays-moved was moved) grows work (λ number is. is) events silent adds rise stretch (λ left pending. stays (was.dirty (without-before given members members' moved left) pending)) unsettled
     where
       list : ℕ → Sector
       list = now (opening_list (world_in given tape scope first)) entries
@@ -111,9 +114,9 @@ module _ {tells : Type 0} {given : Given} {tape tape' : List Operation} {scope :
           let opened = opening_list (world_in given tape scope first) in
           let newest = newest-old who end was opens caller at_end (stays-moved was moved) grows (entries_of who end events) t fills in
           written-allowed (list_length members.newest) at from list (list-with list at from) (values_of opened (entries ++ entries_of who end events)) (list-with-is list at from)
-          (allowed-more opened entries (entries_of who end events) members was.placed.still adds list newest)
+          (allowed-more opened entries (entries_of who end events) members was.still adds list newest)
           (λ x lt covered. subst (λ (l : List Sector). IsIn l (sector_at at (sectors_of from) x)) (sym (values-more opened entries (entries_of who end events) x))
-          (allows is x (values_of opened entries x) (newest x (subst (λ (n : ℕ). x < n) (length-still members was.placed.still) lt)) covered))
+          (allows is x (values_of opened entries x) (newest x (subst (λ (n : ℕ). x < n) (length-still members was.still) lt)) covered))
 
       unclean : (t : tells) → (told_by (world_in given tape scope first) work entries (entries_of who end events)).unclean ≡ true
       unclean t = by (is_some work.resync) (is_unsynced (world_in given tape scope first) entries) (is_unsettled entries) (was.recorded t).dirty unsettled
@@ -127,7 +130,7 @@ module _ {tells : Type 0} {given : Given} {tape tape' : List Operation} {scope :
               last false = refl
 
       rows : (t : tells) → FillsRight (world_in given tape scope first) (entries ++ entries_of who end events) → synced ≡ true
-          → AreWhole members' ⊎ RowsStandAmong (IsTouched shape at (length from / 512)) members (present given tape) list
+          → AreWhole members' ⊎ RowsStandAmong shape (IsTouched shape at (length from / 512)) members (present given tape) list
       rows t (inl none) mended = inl (whole-told members' (entries ++ entries_of who end events) told none)
       rows t (inr fit) mended = inr (touched-stand given members was.placed work.resync shape same at (length from / 512) (present given tape) list (sym asked ∙ mended) (was.good t does fit))
 
@@ -136,7 +139,7 @@ module _ {tells : Type 0} {given : Given} {tape tape' : List Operation} {scope :
           → KeepsSafe (world_in given tape scope first) given (told_by (world_in given tape scope first) work entries (entries_of who end events)) members' tape tape'
       stretch t fills room began =
           safe t (world_in given tape scope first) (told_by (world_in given tape scope first) work entries (entries_of who end events)) room
-          (gone-still (told_by (world_in given tape scope first) work entries (entries_of who end events)) members' moved.placed.still told) (unclean t)
+          told (unclean t)
           list (list-with list at from) (list-with-is list at from)
           (holds-before who end was opens caller at_end (stays-moved was moved) grows (entries_of who end events) t fills does) (rows t fills) (allowed t fills) began
 
@@ -145,40 +148,49 @@ module _ {tells : Type 0} {given : Given} {tape tape' : List Operation} {scope :
   pending is = pending-of members work.resync (at + length from / 512) within (sym asked ∙ is)
 
   -- a write that tore rows
-  kept-torn : IsRefusedHere (list_size (places_of members)) work.resync members' (too_many members')
-      → IsKept tells given tape' scope first (entries ++ entries_of who end ((losses_of roles spares ++ Torn at (sectors_of from) ∷ []) ++ Refused (too_many members') ∷ [])) members' work
+  kept-torn : IsRefusedHere (list_size (places_of members)) work.resync members' (too_many (shape_of members'.newest) members')
+      → IsKept tells given tape' scope first (entries ++ entries_of who end ((losses_of roles spares ++ Torn at (sectors_of from) ∷ []) ++ Refused (too_many (shape_of members'.newest) members') ∷ [])) members' work
   kept-torn here =
-      degraded-torn who end was opens caller at_end moved grows roles spares before after since at (sectors_of from) (lacking members') (tolerance (shape_of members'.newest)) all-within here
-      (subst (λ (l : List Event). LeavesSafe tells given tape' scope first (entries ++ entries_of who end l) members' work) (sym (append_assoc (losses_of roles spares) (Torn at (sectors_of from) ∷ []) (Refused (too_many members') ∷ [])))
+      degraded-torn who end was opens caller at_end moved grows roles spares before after since at (sectors_of from) (lacking (shape_of members'.newest) members') (tolerance (shape_of members'.newest)) all-within here
+      (subst (λ (l : List Event). LeavesSafe tells given tape' scope first (entries ++ entries_of who end l) members' work) (sym (append_assoc (losses_of roles spares) (Torn at (sectors_of from) ∷ []) (Refused (too_many (shape_of members'.newest) members') ∷ [])))
       (leaves-written (losses_of roles spares ++ tail)
       (record {
         length = λ n. length-losses who end (losses_of roles spares) tail (losses-are roles spares) n;
         limit = limit-losses who end (losses_of roles spares) tail (losses-are roles spares) None;
       })
       (add-losses who end (losses_of roles spares) tail (losses-are roles spares)
-      (add-one (one who end (Torn at (sectors_of from))) (one who end (Refused (too_many members')) ∷ []) (torn-adds at (sectors_of from)) refl refl (λ role. refl)
-      (add-one (one who end (Refused (too_many members'))) [] (λ x values v may. may) refl refl (λ role. refl) add-none)))
+      (add-one (one who end (Torn at (sectors_of from))) (one who end (Refused (too_many (shape_of members'.newest) members')) ∷ []) (torn-adds at (sectors_of from)) refl refl (λ role. refl)
+      (add-one (one who end (Refused (too_many (shape_of members'.newest) members'))) [] (λ x values v may. may) refl refl (λ role. refl) add-none)))
       (told-behind who end was opens caller at_end moved grows roles spares before after since tail (λ role. refl))
       (λ none. unsettles-behind who end (losses_of roles spares) tail refl)
       (λ is x values newest covered. subst (λ (l : List Sector). IsIn l (sector_at at (sectors_of from) x)) (sym (values-losses who end (losses_of roles spares) tail (losses-are roles spares) x values))
       (torn-in at (sectors_of from) x values newest covered))))
     where
       tail : List Event
-      tail = Torn at (sectors_of from) ∷ Refused (too_many members') ∷ []
+      tail = Torn at (sectors_of from) ∷ Refused (too_many (shape_of members'.newest) members') ∷ []
 
   -- one that wasn't done
-  pub kept-unwritten : (refusal : Refusal) → IsUnwritten synced members' refusal → (begun ≡ true → AreTooMany members' refusal) → (begun ≡ false → tells → AreOthersPresent (present given tape) (present given tape'))
+  pub kept-unwritten : (refusal : Refusal) → IsUnwritten shape synced members' refusal → (begun ≡ true → LacksTooMany shape members' refusal) → (begun ≡ false → tells → AreOthersPresent (present given tape) (present given tape'))
       → IsKept tells given tape' scope first (entries ++ entries_of who end (failure_events roles spares begun at (sectors_of from) refusal)) members' work
-  kept-unwritten refusal why many others = by begun refl
+  kept-unwritten refusal why_not lacks others = by begun refl
     where
+      is_shape : shape ≡ shape_of members'.newest
+      is_shape = same ∙ sym moved.shape
+
+      why : IsUnwritten (shape_of members'.newest) synced members' refusal
+      why = subst (λ (s : Shape). IsUnwritten s synced members' refusal) is_shape why_not
+
+      many : begun ≡ true → LacksTooMany (shape_of members'.newest) members' refusal
+      many is = subst (λ (s : Shape). LacksTooMany s members' refusal) is_shape (lacks is)
+
       by : (b : Bool) → begun ≡ b → IsKept tells given tape' scope first (entries ++ entries_of who end (failure_events roles spares b at (sectors_of from) refusal)) members' work
       by true is =
           let told = (many is).told in
           subst (λ (r : Refusal). IsKept tells given tape' scope first (entries ++ entries_of who end (failure_events roles spares true at (sectors_of from) r)) members' work) (sym told)
-          (kept-torn (subst (IsRefusedHere (list_size (places_of members)) work.resync members') told (too-many-here (list_size (places_of members)) work.resync members' refusal (many is))))
+          (kept-torn (subst (IsRefusedHere (list_size (places_of members)) work.resync members') told (too-many-here (list_size (places_of members)) work.resync members' refusal (inl (many is)))))
       by false is =
           degraded-refused who end was opens caller at_end moved grows roles spares before after since refusal
-          (unwritten-here (list_size (places_of members)) work.resync synced members' refusal pending why) (others is)
+          (unwritten-here given (list_size (places_of members)) work.resync synced members' refusal moved.placed pending why) (others is)
           (leaves-written (losses_of roles spares ++ Refused refusal ∷ [])
           (silent-behind who end (losses_of roles spares) (Refused refusal) (losses-are roles spares) (record { length = λ n. refl; limit = refl }))
           (add-losses who end (losses_of roles spares) (Refused refusal ∷ []) (losses-are roles spares) (add-one (one who end (Refused refusal)) [] (λ x values v may. may) refl refl (λ role. refl) add-none))
@@ -186,7 +198,7 @@ module _ {tells : Type 0} {given : Given} {tape tape' : List Operation} {scope :
           (λ none. unsettles-behind who end (losses_of roles spares) (Refused refusal ∷ []) (gave-up why none))
           (λ now_begun. absurd (let no = sym is ∙ now_begun in cc)))
         where
-          gave-up : IsUnwritten synced members' refusal → is_some work.resync ≡ false → list_any (λ e. unsettles e.event) (entries_of who end (Refused refusal ∷ [])) ≡ true
+          gave-up : IsUnwritten (shape_of members'.newest) synced members' refusal → is_some work.resync ≡ false → list_any (λ e. unsettles e.event) (entries_of who end (Refused refusal ∷ [])) ≡ true
           gave-up (inl too) none = subst (λ (r : Refusal). list_any (λ e. unsettles e.event) (entries_of who end (Refused r ∷ [])) ≡ true) (sym too.told) refl
           gave-up (inr found) none = absurd (let no = sym none ∙ pending found.2 in cc)
 
@@ -194,12 +206,12 @@ module _ {tells : Type 0} {given : Given} {tape tape' : List Operation} {scope :
   pub kept-wrote : IsWhole from → AreBytes from
       → (tells → (list list' : ℕ → Sector) → IsWritten list list' at from → ListStands members (present given tape) list → ListStands members' (present given tape') list')
       → (tells → (list list' : ℕ → Sector) → IsWritten list list' at from → ListStands members (present given tape) list
-      → (synced ≡ true → AreWhole members' ⊎ RowsStandAmong (IsTouched shape at (length from / 512)) members (present given tape) list)
+      → (synced ≡ true → AreWhole members' ⊎ RowsStandAmong shape (IsTouched shape at (length from / 512)) members (present given tape) list)
       → (row : ℕ) → row < members.newest.size → AreWholeIn shape list row
       → IsTouched shape at (length from / 512) row ⊎ RowStands (reading_of members) (present given tape) shape list row
       → RowStands (reading_of members') (present given tape') shape list' row)
       → (tells → (list list' : ℕ → Sector) → IsWritten list list' at from → ListStands members (present given tape) list
-      → (synced ≡ true → AreWhole members' ⊎ RowsStandAmong (IsTouched shape at (length from / 512)) members (present given tape) list)
+      → (synced ≡ true → AreWhole members' ⊎ RowsStandAmong shape (IsTouched shape at (length from / 512)) members (present given tape) list)
       → (role slot row : ℕ) → role < shape.disks → role_state (reading_of members') role ≡ Recovering slot → row < members.newest.size
       → HasFull (reading_of members) (present given tape) shape list row role slot → HasFull (reading_of members') (present given tape') shape list' row role slot)
       → IsKept tells given tape' scope first (entries ++ entries_of who end (losses_of roles spares ++ Wrote at (sectors_of from) ∷ [])) members' work

@@ -5,8 +5,8 @@ use Rattle.superblocks.specs.declared.members.Members.{Members}
 use Rattle.flat_history.specs.declared.events.StepKind.{StepKind}
 use Rattle.flat_history.specs.declared.events.StepKind.TheVariants.{ResyncStripe, ResyncEnded}
 use Rattle.views.specs.Status.{stripes_of}
-use Rattle.views.specs.Lacking.{AreTooMany, IsUnwritten}
-use Rattle.array_kept.specs.Calls.{one_more}
+use Rattle.views.specs.Lacking.{AreTooMany}
+use Rattle.array_kept.specs.Calls.{one_more, IsUnmendable}
 
 -- a resync is pending, and has mended every stripe: its next step is its last
 abbrev pub is_at_end : Option ℕ → Members → Bool
@@ -24,4 +24,4 @@ after_step resync members = if is_at_end resync members then None else one_more 
 -- why the next step isn't done, by whether it is the last
 abbrev pub IsUnmended : Bool → Members → Refusal → Type 0
 IsUnmended true members refusal = AreTooMany members refusal
-IsUnmended false members refusal = IsUnwritten false members refusal
+IsUnmended false members refusal = IsUnmendable members refusal

@@ -224,7 +224,11 @@ asked_stop {old = old} {new = new} size place who script was at_end =
 -- a stop is refused where too many roles are missing
 fits_refused : (visible : ℕ) (old new : Members) (refusal : Refusal) → IsRefusedFor visible 0 AreTooMany old new refusal → FitsStop (Refused refusal)
 fits_refused visible old new (PastEnd told) (same, past, kept) = absurd (omega (arith, past))
-fits_refused visible old new refusal is = subst (λ (r : Refusal). FitsStop (Refused r)) (sym is.1.told) tt
+fits_refused visible old new refusal is = by is.1
+  where
+    by : AreTooMany new refusal → FitsStop (Refused refusal)
+    by (inl many) = subst (λ (r : Refusal). FitsStop (Refused r)) (sym many.told) tt
+    by (inr many) = subst (λ (r : Refusal). FitsStop (Refused r)) (sym many.1.told) tt
 
 pub asked_unstopped : {old new : List Entry} (size place visible : ℕ) (before after : Members) (who : Who) (refusal : Refusal) → who ≡ script_who old → IsBehind who old new (Refused refusal) → IsRefusedFor visible 0 AreTooMany before after refusal → place + 1 ≡ length new → (asked : IsAskedAt size Stop old new place) × (asked.event ≡ Refused refusal)
 asked_unstopped {old = old} {new = new} size place visible before after who refusal script was why at_end =

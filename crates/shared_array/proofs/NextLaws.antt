@@ -17,8 +17,8 @@ use Rattle.flat_history.specs.declared.events.StepKind.TheVariants.{RebuildTaken
 use Rattle.views.specs.declared.work.Work.{Work}
 use Rattle.views.specs.Placed.{is_vacant}
 use Rattle.views.specs.Status.{stripes_of, rebuilt_of, vacant_count, spare_count, resync_left, role_left, recovery_left, left_of}
-use Rattle.views.specs.Lacking.{AreTooMany, IsUnwritten}
-use Rattle.array_kept.specs.Calls.{IsRefusedFor}
+use Rattle.views.specs.Lacking.{AreTooMany}
+use Rattle.array_kept.specs.Calls.{IsRefusedFor, IsUnmendable}
 use Rattle.views.specs.Rebuilding.{Held, MayHold}
 use Rattle.resync.specs.Steps.{is_at_end, IsUnmended}
 use Rattle.resync.specs.Steps as resync
@@ -152,19 +152,19 @@ undone-rebuild work old members refusal synced left why = at (left_of work old) 
     at n lt why = subst (λ (b : Bool). MatchBool b (refusal ≡ Nothing) (AreTooMany members refusal)) (some n lt) why
 
 -- of either
-pub undone-unwritten : (work : Work) (old members : Members) (refusal : Refusal) → 0 < left_of work old → IsUndone work old members refusal → IsUnwritten false members refusal
+pub undone-unwritten : (work : Work) (old members : Members) (refusal : Refusal) → 0 < left_of work old → IsUndone work old members refusal → IsUnmendable members refusal
 undone-unwritten work old members refusal left why = by work.resync refl why
   where
-    mending : (b : Bool) → IsUnmended b members refusal → IsUnwritten false members refusal
+    mending : (b : Bool) → IsUnmended b members refusal → IsUnmendable members refusal
     mending true many = inl many
     mending false unwritten = unwritten
 
     by : (o : Option ℕ) → work.resync ≡ o → MatchOption o (MatchBool (left_of work old == 0) (refusal ≡ Nothing) (AreTooMany members refusal)) (λ mended. IsUnmended (is_at_end o old) members refusal)
-        → IsUnwritten false members refusal
+        → IsUnmendable members refusal
     by None is why = inl (undone-rebuild work old members refusal is left (subst (λ (o : Option ℕ). MatchOption o (MatchBool (left_of work old == 0) (refusal ≡ Nothing) (AreTooMany members refusal)) (λ mended. IsUnmended (is_at_end o old) members refusal)) (sym is) why))
     by (Some mended) is why = mending (is_at_end (Some mended) old) why
 
 -- by the cause of a refusal
-pub refused-unwritten : (visible : ℕ) (work : Work) (old members : Members) (refusal : Refusal) → 0 < left_of work old → IsRefusedFor visible 0 (IsUndone work old) old members refusal → IsUnwritten false members refusal
+pub refused-unwritten : (visible : ℕ) (work : Work) (old members : Members) (refusal : Refusal) → 0 < left_of work old → IsRefusedFor visible 0 (IsUndone work old) old members refusal → IsUnmendable members refusal
 refused-unwritten visible work old members (PastEnd told) left why = absurd (omega (arith, why.1))
 refused-unwritten visible work old members refusal left why = undone-unwritten work old members refusal left why.1

@@ -27,9 +27,8 @@ use Rattle.flat_history.specs.Legal.{call_before}
 use Rattle.flat_history.specs.Fits.{IsTornOf, AreTornOf, is_step_event, is_lost_event}
 use Rattle.flat_history.specs.Plain.{entries_of}
 use Rattle.flat_history.specs.OneShape.{GoesOnBehind, IsOfCall, EndsIdleSteps, DidOneShapeSteps}
-use Rattle.views.specs.Lacking.{IsUnwritten}
 use Rattle.views.specs.Parts.{Parts}
-use Rattle.array_kept.specs.Calls.{StandsInside, IsEntered, IsReplied, IsAnswered, TellNoRoleLoss}
+use Rattle.array_kept.specs.Calls.{StandsInside, IsEntered, IsReplied, IsAnswered, TellNoRoleLoss, IsUnmendable}
 use Rattle.call_entries.proofs.PlainLaws.{one}
 use Rattle.call_entries.proofs.LosingLaws.{entries-both}
 use Rattle.call_entries.proofs.CallLaws.{torn-reverse}
@@ -116,11 +115,12 @@ answered-nothing {who = who} {old = old} size most same number was = record {
 -- ---- some steps were done, or one was refused
 
 -- what speaks against a step may end a request for steps
-ends : (members : Members) (refusal : Refusal) → IsUnwritten false members refusal → EndsIdleSteps refusal
-ends members refusal (inl many) = subst EndsIdleSteps (sym many.told) tt
+ends : (members : Members) (refusal : Refusal) → IsUnmendable members refusal → EndsIdleSteps refusal
+ends members refusal (inl (inl many)) = subst EndsIdleSteps (sym many.told) tt
+ends members refusal (inl (inr many)) = subst EndsIdleSteps (sym many.1.told) tt
 ends members refusal (inr (role, is, synced, missing, holds)) = subst EndsIdleSteps (sym is) tt
 
-all-ended : (members : Members) (ended : Option Refusal) → IfSome ended (IsUnwritten false members) → IfSome ended EndsIdleSteps
+all-ended : (members : Members) (ended : Option Refusal) → IfSome ended (IsUnmendable members) → IfSome ended EndsIdleSteps
 all-ended members None was = tt
 all-ended members (Some refusal) was = ends members refusal was
 
@@ -174,7 +174,7 @@ did call most start left count done (Some refusal) are fewer counted not_more = 
 
 pub answered-stepped : {tells : Type 0} {tape : List Operation} {who : Who} {old begun mid new : List Entry} {done left : ℕ} {ended : Option Refusal} (size most start count : ℕ) (members : Members)
     → begun ≡ old → who.number ≡ next_number who.caller old → AreStepsOf who begun mid done ended → IsEntered tells tape who mid new (Stepped done left ended ∷ [])
-    → AreDone most start left count done ended → (TellNoRoleLoss begun mid → left + done ≤ start) → IfSome ended (IsUnwritten false members) → IsAnsweredBy size (AsksSteps most) who old new (Stepped done left ended)
+    → AreDone most start left count done ended → (TellNoRoleLoss begun mid → left + done ≤ start) → IfSome ended (IsUnmendable members) → IsAnsweredBy size (AsksSteps most) who old new (Stepped done left ended)
 answered-stepped {who = who} {old = old} {begun = begun} {mid = mid} {done = done} {left = left} {ended = ended} size most start count members same number so was are fewer caused = record {
   inner = so.inner;
   end = was.end;

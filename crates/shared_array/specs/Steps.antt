@@ -23,8 +23,8 @@ use Rattle.views.specs.declared.work.Work.{Work}
 use Rattle.views.specs.Status.{left_of}
 use Rattle.views.specs.Parts.{Parts}
 use Rattle.views.specs.Moving.{Grows}
-use Rattle.views.specs.Lacking.{HaveRolesFailed, AreTooMany, IsUnwritten}
-use Rattle.array_kept.specs.Calls.{StandsInside, AreHeldOrSpare, AreLossesBy, AreValuesKept, TellNoLoss, IsSettled, IsRebuildStepped, IsSameArray, world_for}
+use Rattle.views.specs.Lacking.{HaveRolesFailed, AreTooMany}
+use Rattle.array_kept.specs.Calls.{StandsInside, AreHeldOrSpare, AreLossesBy, AreValuesKept, TellNoLoss, IsSettled, IsRebuildStepped, IsSameArray, world_for, IsUnmendable}
 use Rattle.views.specs.Rebuilding.{Held, MayHold}
 use Rattle.resync.specs.Steps.{is_at_end, IsUnmended}
 use Rattle.resync.specs.Steps as resync
@@ -115,5 +115,5 @@ IsStepCount old new before after event = ⊥
 
 -- what refused a step speaks against one of these members
 abbrev pub IsEndedFor : Members → Event → Type 0
-IsEndedFor members (Stepped done left ended) = IfSome ended (IsUnwritten false members)
+IsEndedFor members (Stepped done left ended) = IfSome ended (IsUnmendable members)
 IsEndedFor members event = ⊤

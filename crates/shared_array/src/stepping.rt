@@ -14,9 +14,9 @@ ghost use Rattle.views.specs.Whole.{list_size};
 ghost use Rattle.views.specs.Placed.{places_of};
 ghost use Rattle.views.specs.Moving.{Grows};
 ghost use Rattle.views.specs.Status.{left_of};
-ghost use Rattle.views.specs.Lacking.{HaveRolesFailed, AreHoldersFlushed, RowsStand, IsUnwritten};
+ghost use Rattle.views.specs.Lacking.{HaveRolesFailed, AreHoldersFlushed, RowsStand};
 ghost use Rattle.shape_views.specs.Regions.{DoWithout};
-ghost use Rattle.array_kept.specs.Calls.{world_for, AreHeldOrSpare, IsWholeOrLost, by_answer, OnNoMemory, TellNoLoss, TellNoRoleLoss, AreStepsFewer, AreStepsKept, AreValuesKept, IsCausedBy, IsSameArray, AreLossesBy, IsEndOf};
+ghost use Rattle.array_kept.specs.Calls.{world_for, AreHeldOrSpare, IsWholeOrLost, by_answer, OnNoMemory, TellNoLoss, TellNoRoleLoss, AreStepsFewer, AreStepsKept, AreValuesKept, IsCausedBy, IsSameArray, AreLossesBy, IsEndOf, IsUnmendable};
 ghost use Rattle.views.specs.Rebuilding.{MayHold};
 ghost use Rattle.flat_history.specs.declared.events.StepKind.TheVariants.{RebuildTaken as TakesRole, RebuildEnded as EndsRebuild};
 ghost use Rattle.resync.specs.Steps.{is_at_end};
@@ -130,7 +130,7 @@ fn take_steps<B: Bank>(array: &mut Array<B>, who: Who, count: u64) -> Batch
     ensures done { result.done ≤ count }
     ensures all { MatchOption result.ended ((result.done ≡ count) ⊎ (left_of array.new.work array.new.members ≡ 0)) (λ refusal. result.done < count) }
     ensures some { result.done ≡ 0 → MatchOption result.ended ((count ≡ 0) ⊎ (left_of array.old.work array.old.members ≡ 0)) (λ refusal. ⊤) }
-    ensures caused { IfSome result.ended (IsUnwritten false array.new.members) }
+    ensures caused { IfSome result.ended (IsUnmendable array.new.members) }
     ensures left { TellNoLoss array.old.entries array.new.entries → left_of array.new.work array.new.members + result.done ≡ left_of array.old.work array.old.members }
     ensures fewer { TellNoRoleLoss array.old.entries array.new.entries → left_of array.new.work array.new.members + result.done ≤ left_of array.old.work array.old.members }
     ensures room { 1 ≤ array.new.steps }

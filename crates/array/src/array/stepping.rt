@@ -16,10 +16,10 @@ ghost use Rattle.views.specs.Whole.{list_size};
 ghost use Rattle.views.specs.Placed.{places_of, AreStillHeld};
 ghost use Rattle.views.specs.Moving.{Grows};
 ghost use Rattle.views.specs.Status.{left_of};
-ghost use Rattle.views.specs.Lacking.{HaveRolesFailed, AreHoldersFlushed, AreTooMany, IsUnwritten, RowsStand};
+ghost use Rattle.views.specs.Lacking.{HaveRolesFailed, AreHoldersFlushed, AreTooMany, RowsStand};
 ghost use Rattle.shape_views.specs.Regions.{DoWithout};
 ghost use Rattle.safe_updates.specs.First.{write_refusal, IsFirstRefused};
-ghost use Rattle.array_kept.specs.Calls.{world_for, AreSparesFewer, HasStripeLeft, IsAllMended, one_more, AreStepsFewer, AreStepsKept, IsStepsReply, by_answer, IsSettled, IsEntered, IsCausedBy, IsSameArray, AreLossesOf, IsEndOf};
+ghost use Rattle.array_kept.specs.Calls.{world_for, AreSparesFewer, HasStripeLeft, IsAllMended, one_more, AreStepsFewer, AreStepsKept, IsStepsReply, by_answer, IsSettled, IsEntered, IsCausedBy, IsSameArray, AreLossesOf, IsEndOf, IsUnmendable};
 
 use crate::array::asking::steps_left;
 use crate::array::{Array, refusal_of};
@@ -56,7 +56,7 @@ impl<B: Bank> Array<B> {
     // Why the next stripe isn't mended, before it is read.
     fn unmended(&self) -> Option<Refusal>
         ensures first { result ≡ write_refusal (shape_of self.now.members.newest) false self.now.members }
-        ensures why { MatchOption result ((refusal : Refusal) → IsUnwritten (shape_of self.now.members.newest) false self.now.members refusal → ⊥) (IsUnwritten (shape_of self.now.members.newest) false self.now.members) }
+        ensures why { MatchOption result ((refusal : Refusal) → IsUnmendable self.now.members refusal → ⊥) (IsUnmendable self.now.members) }
     {
         unwritten(&self.members, &shape_in(&self.members), false)
     }
@@ -75,7 +75,7 @@ impl<B: Bank> Array<B> {
         ensures work { self.new.work ≡ record self.old.work { resync = by_answer result (one_more self.old.work.resync) self.old.work.resync } }
         ensures left { OnOk result (AreStepsFewer self.old.entries self.new.entries (left_of self.old.work self.old.members) (left_of self.new.work self.new.members)) }
         ensures stays { OnErr result (AreStepsKept self.old.entries self.new.entries (left_of self.old.work self.old.members) (left_of self.new.work self.new.members)) }
-        ensures caused { IsCausedBy (list_size (places_of self.old.members)) 0 (IsUnwritten (shape_of self.old.members.newest) false) self.old.members self.new.members result }
+        ensures caused { IsCausedBy (list_size (places_of self.old.members)) 0 IsUnmendable self.old.members self.new.members result }
         ensures first { IsFirstRefused (write_refusal (shape_of self.old.members.newest) false) self.old.members self.new.members result }
         ensures dirty { OnOk result (is_clean self.new.members.newest ≡ false) }
         ensures grows { Grows B.tells (B.tape self.old.bank) (B.tape self.new.bank) }
