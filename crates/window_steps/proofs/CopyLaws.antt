@@ -1,6 +1,7 @@
 -- What a part of a stripe's copy leaves: the rows that stand by the new shape, those that are kept, and an array that is as safe as before.
 use Rattle.std.proofs.Common.{◌≡◌, ◌⊎◌, inl, inr, ℕ, ◌+◌, ◌*◌, ◌<◌, ◌≤◌, true, false, List, [], ◌∷◌, cond, length, take, take_all, le_refl, Option, Some, None, refl, sym, ◌∙◌, ap, subst, arith}
-use Rattle.std.specs.Prelude.{⊤}
+use Rattle.std.specs.Prelude.{⊤, MatchOption}
+use Rattle.std.proofs.lemmas.Bool.{cases_lt}
 use Rattle.md_base.specs.Sectors.{Sector}
 use Rattle.md_base.specs.declared.places.Shape.{Shape}
 use Rattle.md_base.specs.declared.places.Span.{Span}
@@ -8,7 +9,13 @@ use Rattle.bank.specs.declared.bank.Operation.{Operation}
 use Rattle.bank.specs.Given.{Given}
 use Rattle.bank.specs.Tape.{Contents, EachMark, IsIn, Kept, disk}
 use Rattle.sb1.specs.declared.sb.Sb.{Sb}
-use Rattle.geometry.specs.Geometry.{window, is_critical}
+use Rattle.geometry.specs.Geometry.{window, is_critical, IsIn as IsIn_span}
+use Rattle.md_base.specs.Shapes.{data_disks}
+use Rattle.md_base.specs.declared.answers.Refusal.{Refusal}
+use Rattle.shape_views.specs.Regions.{DoWithout}
+use Rattle.views.specs.Lacking.{AreTooMany}
+use Rattle.views.proofs.Fit.{list-alike}
+use Rattle.window_rows.specs.Copies.{tail_of, IsCopied}
 use Rattle.superblocks.specs.declared.members.Members.{Members}
 use Rattle.superblocks.specs.Reading.{Scope, is_reshaping, is_backward, shape_of, final_shape, next_window, role_state, holder, data_offset_of}
 use Rattle.row_io.specs.Rows.{reading_of, held_slot, members_without}
@@ -43,6 +50,16 @@ row-later given old new moved shape list row before after kept stands = record {
     there : (role slot : ℕ) → held_slot (reading_of new) role row ≡ Some slot → after slot (data_offset_of (reading_of new) slot + row) ≡ before slot (data_offset_of (reading_of old) slot + row)
     there role slot held = kept role slot (holder-of (reading_of new) role row slot held) ∙ ap (λ (n : ℕ). before slot (n + row)) (moved.offsets slot)
 
+-- a row that isn't among these is before them or behind
+pub out-of : (first from to row : ℕ) → ((first + from ≤ row) × (row < first + to) → ⊥) → (row < first + from) ⊎ (first + to ≤ row)
+out-of first from to row out = elim (cases_lt row (first + from)) [
+  | inl less ↦ inl less
+  | inr more ↦ elim (cases_lt row (first + to)) [
+    | inl within ↦ absurd (out (more, within))
+    | inr past ↦ inr past
+  ]
+]
+
 -- rows that aren't of both parts are kept by both
 pub others-join : (given : Given) (shape : Shape) (stripe a b c : ℕ) → a ≤ b → b ≤ c → (mid new : Members) (before between after : Contents) → IsMoved given mid new
     → AreOtherRowsKept (IsOfStripeFrom shape stripe a b) (reading_of mid) before between → AreOtherRowsKept (IsOfStripeFrom shape stripe b c) (reading_of new) between after
@@ -65,6 +82,22 @@ module _ (old new : Sb) (reshape : HaveSameReshape old new) (shape : shape_of ne
 
   pub critical-alike : (span : Span) → is_critical (shape_of new) (final_shape new) new.size (is_backward new) span ≡ is_critical (shape_of old) (final_shape old) old.size (is_backward old) span
   critical-alike span = λ i. is_critical (shape i) (reshape.final i) (size i) (reshape.backward i) span
+
+-- and so is what a list has that is copied
+pub tail-alike : (old new : Sb) → HaveSameReshape old new → shape_of new ≡ shape_of old → new.size ≡ old.size → (span : Span) (buffer : List ℕ) (list : ℕ → Sector)
+    → IsCopied span buffer (tail_of old) list → IsCopied span buffer (tail_of new) list
+tail-alike old new reshape shape size span buffer list copied = record {
+  window = copied.window;
+  zeros = λ x at. copied.zeros x (subst (λ (t : Span). IsIn_span x t) same at);
+}
+  where
+    same : tail_of new ≡ tail_of old
+    same = λ i. record { lo = list-alike old new reshape shape size i; hi = data_disks (reshape.final i) * size i }
+
+-- what refused a part refuses the stripe
+pub refused-of : (m : Members) (o : Option Refusal) → MatchOption o (DoWithout m) (AreTooMany m) → MatchOption o ⊤ (AreTooMany m)
+refused-of m None is = tt
+refused-of m (Some refusal) is = is
 
 -- it may be copied on, where a stop leaves no other header
 pub copyable-later : (scope : Scope) (old new : Members) → HaveSameReshape old.newest new.newest → shape_of new.newest ≡ shape_of old.newest → new.newest.size ≡ old.newest.size → (span : Span) (d e : Disk)
