@@ -54,7 +54,7 @@ use Rattle.shape_changes.proofs.Kept.{give_of-same}
 use Rattle.views.proofs.Planned.{apart, small}
 use Rattle.views.proofs.Ready.{gone-lost}
 use Rattle.shape_changes.proofs.Without.{any-without, from-without, without-twice}
-use Rattle.views.proofs.PlacedLaws.{same-count}
+use Rattle.superblocks.proofs.ValidFields.{few-roles as valid-few}
 use Rattle.shape_changes.proofs.UpdateViews.{said-recovering}
 use Rattle.safe_updates.proofs.SaidReads.{IsSaidOf}
 
@@ -65,6 +65,9 @@ Disk = ℕ → ℕ → List Sector
 
 apart-from : (a b : ℕ) → b ≢ a → (a == b) ≡ false
 apart-from a b other = grind (arith, nat_tests)
+
+same-slot : (a b : ℕ) → (a == b) ≡ true → b ≡ a
+same-slot a b e = grind (arith, nat_tests, e)
 
 self : (a : ℕ) → (a == a) ≡ true
 self a = grind (arith, nat_tests)
@@ -230,7 +233,7 @@ module _ (scope : Scope) (given : Given) (former : Members) (missed slot : ℕ) 
       number = ap (λ (y : Sb). y.dev_number) new-is
 
   few-roles : role_count m.newest ≤ 16
-  few-roles = same-count m.newest placed.still (limited (shape_of m.newest) placed.valid).most
+  few-roles = valid-few m.newest placed.fit.valid
 
   role-same : (role : ℕ) → role < role_count m.newest → (s : ℕ) → held_in m.newest role (0 + s) (get_or (known_of scope held.known m.own) s None) ≡ held_in m.newest role (0 + s) (get_or (known_of scope Wider Kept) s None)
   role-same role lt s =
@@ -425,7 +428,7 @@ module _ (scope : Scope) (given : Given) (former : Members) (missed slot : ℕ) 
       where
         at : (p q : Bool) → (slot == s) ≡ q → p ≡ false → (p || q) ≡ true → s ≡ slot
         at true q e isnt or = absurd (cc)
-        at false true e isnt or = grind (arith, nat_tests, e)
+        at false true e isnt or = same-slot slot s e
         at false false e isnt or = absurd (cc)
 
         fresh : own_in Kept slot ≡ Some x → is_recovering x ≡ false
