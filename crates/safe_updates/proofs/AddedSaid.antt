@@ -13,14 +13,13 @@ use Rattle.md_base.specs.Shapes.{has_slot}
 use Rattle.md_base.specs.declared.status.Role.{Role}
 use Rattle.md_base.specs.declared.status.Role.TheVariants.{Whole, Recovering, Missing}
 use Rattle.md_base.proofs.Tabulated.{length-tabulate, get_or-tabulate}
-use Rattle.layout.proofs.Limits.{limited}
 use Rattle.sb1.specs.declared.sb.Sb.{Sb}
 use Rattle.bank.specs.Given.{Given}
 use Rattle.bank.specs.Tape.{IsIn}
 use Rattle.superblocks.specs.declared.change.Give.{Give}
 use Rattle.superblocks.specs.declared.change.Give.TheVariants.{Same}
 use Rattle.superblocks.specs.declared.members.Members.{Members}
-use Rattle.superblocks.specs.Reading.{Scope, is_reshaping, is_recovering, is_fresh, shape_of, role_count, role_state, rows_held, entry_of, state_of, holder, holder_from, own_of}
+use Rattle.superblocks.specs.Reading.{Scope, is_reshaping, is_recovering, is_fresh, role_count, role_state, rows_held, entry_of, state_of, holder, holder_from, own_of}
 use Rattle.superblocks.specs.Update.{planned, give_of, own_in, is_held_by, planned_role, is_planned_spare, slot_entry, entry_for, with_entries, faulty_role, with_roles}
 use Rattle.superblocks.specs.Updating.{planned_newest, IsLater, AreNamed}
 use Rattle.superblocks.specs.Outcome.{is_in_update, is_same, live_set, planned_spares, with_added}

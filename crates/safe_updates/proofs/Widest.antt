@@ -1,5 +1,5 @@
 -- The shape in force that has every role of the array, and what the loss of slots leaves by it.
-use Rattle.std.proofs.Common.{◌≡◌, inl, inr, ℕ, ◌<◌, ◌≤◌, max, Bool, true, false, nat_lt, cond, refl, sym, ◌∙◌, ap, subst, arith}
+use Rattle.std.proofs.Common.{◌≡◌, inl, inr, ℕ, max, Bool, true, false, nat_lt, cond, refl, sym, subst, arith}
 use Rattle.std.proofs.lemmas.Bool.Decides.{nat_tests}
 use Rattle.md_base.specs.declared.places.Shape.{Shape}
 use Rattle.sb1.specs.declared.sb.Sb.{Sb}
