@@ -11,7 +11,8 @@ ghost use Rattle.flat_history.specs.World.{World};
 ghost use Rattle.shape_views.specs.Regions.{DoWithout};
 ghost use Rattle.shape_views.specs.Views.{Ledger};
 ghost use Rattle.shape_views.specs.Windows.{IsSomewhere, IsCopyable};
-ghost use Rattle.shape_changes.specs.Safety.{HasRoomLeft, IsRisen};
+ghost use Rattle.shape_changes.specs.Safety.{HasLiveSlot, HasRoomLeft, IsRisen};
+ghost use Rattle.safe_updates.specs.Named.{AreNamedMissing};
 ghost use Rattle.shape_changes.specs.Steady.{AreUnlost, IsSafeOver, KeepsSafe, AreGoneTold, IsUncleanTold};
 ghost use Rattle.views.specs.Placed.{IsPlaced};
 ghost use Rattle.views.specs.Moving.{Grows, IsMoved};
@@ -132,6 +133,7 @@ fn copy_part<B: Bank>(
         → RowStands (reading_of members.new) (present (B.given bank.old) (B.tape bank.new)) shape.now list row }
     ensures others { B.tells → AreOtherRowsKept (IsOfStripeFrom shape.now stripe done result.done) (reading_of members.new)
         (present (B.given bank.old) (B.tape bank.old)) (present (B.given bank.old) (B.tape bank.new)) }
+    ensures named { HasLiveSlot members.new → AreNamedMissing members.new }
     ensures rise { IsRisen B.tells members.old members.new (B.tape bank.old) (B.tape bank.new) }
     ensures safe { B.tells → (world : World) → (told : Ledger) → HasRoomLeft members.old (B.tape bank.old) (B.tape bank.new)
         → AreGoneTold told members.new → IsUncleanTold told members.old
@@ -186,6 +188,7 @@ pub fn copy<B: Bank>(
         → RowStands (reading_of members.new) (present (B.given bank.old) (B.tape bank.new)) shape.now list row }
     ensures others { B.tells → AreOtherRowsKept (IsOfStripe shape.now stripe) (reading_of members.new)
         (present (B.given bank.old) (B.tape bank.old)) (present (B.given bank.old) (B.tape bank.new)) }
+    ensures named { result.refusal ≡ None → HasLiveSlot members.new → AreNamedMissing members.new }
     ensures rise { IsRisen B.tells members.old members.new (B.tape bank.old) (B.tape bank.new) }
     ensures safe { B.tells → (world : World) → (told : Ledger) → HasRoomLeft members.old (B.tape bank.old) (B.tape bank.new)
         → AreGoneTold told members.new → IsUncleanTold told members.old

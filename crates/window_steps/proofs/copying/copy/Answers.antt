@@ -1,5 +1,6 @@
 use Rattle.std.proofs.Common.{◌≡◌, inl, inr, ◌+◌, ◌*◌, ◌≤◌, refl, sym, ◌∙◌, subst, arith}
 use Rattle.std.proofs.lemmas.Bool.{cases_lt}
+use Rattle.layout.proofs.Places.{chunk_some}
 use Rattle.bank.specs.Given.{Given}
 use Rattle.bank.specs.Tape.{disk}
 use Rattle.superblocks.specs.Reading.{next_window}
@@ -11,6 +12,7 @@ use Rattle.shape_changes.proofs.Risen.{risen-none, risen-then, room-then}
 use Rattle.views.specs.Moving.{IsMoved}
 use Rattle.views.specs.Rebuilding.{AreSparesFree}
 use Rattle.views.specs.Lacking.{AreOtherRowsKept}
+use Rattle.views.proofs.Fit.{force-valid}
 use Rattle.views.proofs.MovedLaws.{moved-then, moved-same, grows-none, grows-then, moved-from}
 use Rattle.views.proofs.LackingLaws.{since-same, since-then, in-either}
 use Rattle.views.proofs.LackingLists.{none-of}
@@ -32,6 +34,7 @@ loop-done-init g c =
       grows = grows-none (λ told. refl);
       clean = refl;
       within = omega arith;
+      named = λ some. absurd (omega (arith, some));
       stands = λ told list copied row at. absurd (let low = at.0 in let high = at.1 in omega (arith, low, high));
       others = λ told row out role slot held. refl;
       rise = risen-none m tape0 tape0 (λ told. omega arith);
@@ -149,6 +152,7 @@ loop-done-preserved g c =
           was.counts did.counts was.failed did.failed (in-either c.loop-done.spares c.copy_part-part.result.spares);
       grows = grows-then was.grows did.grows;
       clean = did.clean ∙ was.clean;
+      named = λ some. did.named;
       within = let w = did.within in let same = c.from-chunk.ensures in omega (arith, w, same);
       stands = λ told list copied row at. elim (cases_lt row (c.args.stripe * c.args.shape.now.chunk + c.loop-done.done)) [
         | inl early ↦ row-later given n new moved c.args.shape.now list row (present given tape1) (present given tape2)
@@ -184,3 +188,10 @@ returns-clause-others g c = λ told row out.
     let within = was.within in
     let same = c.from-chunk.ensures in
     was.others told row (λ at. out ((let low = at.0 in omega (arith, low)), (let high = at.1 in omega (arith, high, within, same))))
+
+pub returns-clause-named : goal.returns-clause-named
+returns-clause-named g c = λ none.
+    let end = c.loop-done-test.false in
+    let same = c.from-chunk.ensures in
+    let some = chunk_some c.args.shape.now (force-valid c.args.members.now.newest c.requires.placed.fit c.args.shape.now (inr c.requires.shape)) in
+    c.loop-done.invariant.named (omega (arith, end, same, some))

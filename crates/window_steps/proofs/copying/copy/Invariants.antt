@@ -1,4 +1,4 @@
-use Rattle.std.proofs.Common.{◌≡◌, ◌-◌, ◌≤◌, ℕ}
+use Rattle.std.proofs.Common.{◌≡◌, ◌-◌, ◌<◌, ◌≤◌, ℕ}
 use Rattle.bank.specs.Given.{NeverFalls}
 use Rattle.bank.specs.Tape.{disk}
 use Rattle.md_base.specs.Sectors.{Sector}
@@ -8,7 +8,8 @@ use Rattle.list_io.specs.Full.{RowStands}
 use Rattle.flat_history.specs.World.{World}
 use Rattle.shape_views.specs.Views.{Ledger}
 use Rattle.shape_views.specs.Windows.{IsCopyable}
-use Rattle.shape_changes.specs.Safety.{HasRoomLeft, IsRisen}
+use Rattle.shape_changes.specs.Safety.{HasLiveSlot, HasRoomLeft, IsRisen}
+use Rattle.safe_updates.specs.Named.{AreNamedMissing}
 use Rattle.shape_changes.specs.Steady.{IsSafeOver, KeepsSafe, AreGoneTold, IsUncleanTold}
 use Rattle.views.specs.Moving.{Grows, IsMoved}
 use Rattle.views.specs.Lacking.{HaveFailedSince, AreOtherRowsKept}
@@ -26,6 +27,7 @@ invariant-loop-done g l = record {
   grows : Grows g.B.Bank.tells (g.B.Bank.tape l.fn.bank) (g.B.Bank.tape l.bank);
   clean : is_clean l.members.newest ≡ is_clean l.fn.members.newest;
   within : l.done ≤ l.chunk;
+  named : 0 < l.done → HasLiveSlot l.members → AreNamedMissing l.members;
   stands : g.B.Bank.tells → (list : ℕ → Sector) → IsCopied l.span l.buffer (tail_of l.fn.members.newest) list → (row : ℕ) → IsOfStripeFrom l.shape l.stripe 0 l.done row
       → RowStands (reading_of l.members) (present (g.B.Bank.given l.fn.bank) (g.B.Bank.tape l.bank)) l.shape list row;
   others : g.B.Bank.tells → AreOtherRowsKept (IsOfStripeFrom l.shape l.stripe 0 l.done) (reading_of l.members) (present (g.B.Bank.given l.fn.bank) (g.B.Bank.tape l.fn.bank)) (present (g.B.Bank.given l.fn.bank) (g.B.Bank.tape l.bank));
