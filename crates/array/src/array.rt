@@ -1,6 +1,6 @@
 //! An array that is read and written, and keeps its history.
 
-ghost use Rattle.std.specs.Prelude.{◌≡◌, ◌^◌, ◌<◌, ◌≤◌, ℕ, length, Option, Some, None};
+ghost use Rattle.std.specs.Prelude.{◌≡◌, ◌^◌, ◌<◌, ℕ, length, Option, Some, None};
 ghost use Rattle.superblocks.specs.Reading.{role_count};
 ghost use Rattle.superblocks.specs.Verdict.{AreValidShapes};
 ghost use Rattle.flat_history.specs.Flat.{next_number};

@@ -1,6 +1,4 @@
-use Rattle.std.proofs.Common.{◌≡◌, ◌≤◌, ◌<◌, ◌^◌, arith}
-use Rattle.views.specs.Whole.{list_size}
-use Rattle.views.specs.Placed.{places_of}
+use Rattle.std.proofs.Common.{arith}
 use Rattle.views.proofs.MemberLaws.{list-few}
 use Rattle.array.proofs.array.Array.visible.Goals as goal
 
