@@ -2,6 +2,7 @@
 use Rattle.std.proofs.Common.{◌≡◌, inl, inr, ℕ, ◌<◌, ◌≤◌, Bool, true, false, nat_lt, if◌then◌else◌, Option, Some, None, sym, ◌∙◌, ap, arith}
 use Rattle.std.specs.Prelude.{MatchOption}
 use Rattle.std.proofs.lemmas.Bool.Decides.{nat_tests}
+use Rattle.md_base.specs.declared.places.Shape.{Shape}
 use Rattle.md_base.specs.declared.answers.Refusal.{Refusal}
 use Rattle.md_base.specs.declared.answers.Refusal.TheVariants.{PastEnd}
 use Rattle.superblocks.specs.declared.members.Members.{Members}
@@ -30,26 +31,26 @@ pub past-is : (visible size to : ℕ) (why : Option Refusal) → visible ≡ siz
 past-is visible size to why same past = ap (λ (n : ℕ). Some (PastEnd n)) same ∙ sym (call-past size to why (let e = same in omega (arith, e, past)))
 
 -- nothing is told against a call that nothing refuses
-read-never : (mended first count : ℕ) (m : Members) → read_refusal mended first count m ≡ None → (refusal : Refusal) → IsUnread mended first count m refusal → ⊥
-read-never mended first count m none refusal (inl many) = absurd (let few = (read-none mended first count m none).0 in let above = many.above in omega (arith, few, above))
-read-never mended first count m none refusal (inr found) = absurd (let e = sym ((read-none mended first count m none).1 found.0 found.3) ∙ found.2 in cc)
+read-never : (shape : Shape) (mended first count : ℕ) (m : Members) → read_refusal shape mended first count m ≡ None → (refusal : Refusal) → IsUnread shape mended first count m refusal → ⊥
+read-never shape mended first count m none refusal (inl many) = absurd (let few = (read-none shape mended first count m none).0 in let above = many.above in omega (arith, few, above))
+read-never shape mended first count m none refusal (inr found) = absurd (let e = sym ((read-none shape mended first count m none).1 found.0 found.3) ∙ found.2 in cc)
 
-write-never : (synced : Bool) (m : Members) → write_refusal synced m ≡ None → (refusal : Refusal) → IsUnwritten synced m refusal → ⊥
-write-never synced m none refusal (inl many) = absurd (let few = (write-none synced m none).0 in let above = many.above in omega (arith, few, above))
-write-never synced m none refusal (inr found) = absurd (let e = sym ((write-none synced m none).1 found.2 found.0 found.4.0 found.3) ∙ found.4.1 in cc)
+write-never : (shape : Shape) (synced : Bool) (m : Members) → write_refusal shape synced m ≡ None → (refusal : Refusal) → IsUnwritten shape synced m refusal → ⊥
+write-never shape synced m none refusal (inl many) = absurd (let few = (write-none shape synced m none).0 in let above = many.above in omega (arith, few, above))
+write-never shape synced m none refusal (inr found) = absurd (let e = sym ((write-none shape synced m none).1 found.2 found.0 found.4.0 found.3) ∙ found.4.1 in cc)
 
-pub read-judged : (visible to mended first count : ℕ) (m : Members) (found : Option Refusal) → to ≤ visible → found ≡ read_refusal mended first count m → IsRefusalOf visible to (IsUnread mended first count) m found
-read-judged visible to mended first count m None within is = (within, read-never mended first count m (sym is))
-read-judged visible to mended first count m (Some refusal) within is =
-    let why = read-cause mended first count m refusal (sym is) in
-    refused-for visible to (IsUnread mended first count) m m refusal (unread-of mended first count m refusal why) within why
+pub read-judged : (shape : Shape) (visible to mended first count : ℕ) (m : Members) (found : Option Refusal) → to ≤ visible → found ≡ read_refusal shape mended first count m → IsRefusalOf visible to (IsUnread shape mended first count) m found
+read-judged shape visible to mended first count m None within is = (within, read-never shape mended first count m (sym is))
+read-judged shape visible to mended first count m (Some refusal) within is =
+    let why = read-cause shape mended first count m refusal (sym is) in
+    refused-for visible to (IsUnread shape mended first count) m m refusal (unread-of shape mended first count m refusal why) within why
 
-pub write-judged : (visible to : ℕ) (synced : Bool) (m : Members) (found : Option Refusal) → to ≤ visible → found ≡ write_refusal synced m → IsRefusalOf visible to (IsUnwritten synced) m found
-write-judged visible to synced m None within is = (within, write-never synced m (sym is))
-write-judged visible to synced m (Some refusal) within is =
-    let why = write-cause synced m refusal (sym is) in
-    refused-for visible to (IsUnwritten synced) m m refusal (unwritten-of synced m refusal why) within why
+pub write-judged : (shape : Shape) (visible to : ℕ) (synced : Bool) (m : Members) (found : Option Refusal) → to ≤ visible → found ≡ write_refusal shape synced m → IsRefusalOf visible to (IsUnwritten shape synced) m found
+write-judged shape visible to synced m None within is = (within, write-never shape synced m (sym is))
+write-judged shape visible to synced m (Some refusal) within is =
+    let why = write-cause shape synced m refusal (sym is) in
+    refused-for visible to (IsUnwritten shape synced) m m refusal (unwritten-of shape synced m refusal why) within why
 
-pub write-told : (synced : Bool) (m : Members) (found : Option Refusal) → found ≡ write_refusal synced m → MatchOption found ((refusal : Refusal) → IsUnwritten synced m refusal → ⊥) (IsUnwritten synced m)
-write-told synced m None is = write-never synced m (sym is)
-write-told synced m (Some refusal) is = write-cause synced m refusal (sym is)
+pub write-told : (shape : Shape) (synced : Bool) (m : Members) (found : Option Refusal) → found ≡ write_refusal shape synced m → MatchOption found ((refusal : Refusal) → IsUnwritten shape synced m refusal → ⊥) (IsUnwritten shape synced m)
+write-told shape synced m None is = write-never shape synced m (sym is)
+write-told shape synced m (Some refusal) is = write-cause shape synced m refusal (sym is)

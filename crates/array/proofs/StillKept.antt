@@ -1,6 +1,5 @@
 -- What an array keeps over a bank of which only counts of faults have risen.
-use Rattle.std.proofs.Common.{◌≡◌, ℕ, ◌≤◌, ◌<◌, false, List, Option, length, sym, ap, subst, arith}
-use Rattle.md_base.specs.Shapes.{has_slot}
+use Rattle.std.proofs.Common.{◌≡◌, ℕ, ◌≤◌, List, Option, sym, ap, subst, arith}
 use Rattle.bank.specs.Given.{Given}
 use Rattle.bank.specs.declared.bank.Operation.{Operation}
 use Rattle.superblocks.specs.declared.members.Members.{Members}
@@ -14,7 +13,8 @@ use Rattle.row_io.specs.Rows.{present}
 use Rattle.views.specs.Whole.{list_size}
 use Rattle.views.specs.Placed.{places_of}
 use Rattle.views.specs.declared.work.Work.{Work}
-use Rattle.views.specs.Lacking.{DoesWithout, ListStands, RowsStandBelow, mended_rows}
+use Rattle.shape_views.specs.Regions.{DoWithout}
+use Rattle.views.specs.Lacking.{ListStands, RowsStandBelow, mended_rows}
 use Rattle.views.specs.Rebuilding.{AreRebuilt}
 use Rattle.array_kept.specs.Kept.{scope_in, world_in, AreRebuildsRight, AreSectorsWhole, IsRecorded, IsSafe, IsKept, IsReady}
 
@@ -25,6 +25,7 @@ kept-still {given = given} {scope = scope} {first = first} {entries = entries} {
   slots = was.slots;
   spares = was.spares;
   placed = was.placed;
+  still = was.still;
   unlost = was.unlost;
   free = was.free;
   told = was.told;
@@ -39,10 +40,10 @@ kept-still {given = given} {scope = scope} {first = first} {entries = entries} {
   dirty = was.dirty;
   unclean = was.unclean;
   recorded = λ t. subst (λ (l : List Operation). IsRecorded (world_in given l scope first) (list_size (places_of members)) work.resync members entries) (sym (same t)) (was.recorded t);
-  holds = λ t. subst (λ (l : List Operation). DoesWithout members → AreRebuildsRight (world_in given l scope first) entries → ListStands members (present given l) (now (opening_list (world_in given l scope first)) entries)) (sym (same t)) (was.holds t);
+  holds = λ t. subst (λ (l : List Operation). DoWithout members → AreRebuildsRight (world_in given l scope first) entries → ListStands members (present given l) (now (opening_list (world_in given l scope first)) entries)) (sym (same t)) (was.holds t);
   whole = λ t. subst (λ (l : List Operation). AreSectorsWhole (list_size (places_of members)) (now (opening_list (world_in given l scope first)) entries)) (sym (same t)) (was.whole t);
-  good = λ t. subst (λ (l : List Operation). DoesWithout members → OpensFit (world_in given l scope first) → RowsStandBelow (mended_rows work.resync members) members (present given l) (now (opening_list (world_in given l scope first)) entries)) (sym (same t)) (was.good t);
-  rebuilt = λ t. subst (λ (l : List Operation). DoesWithout members → OpensFit (world_in given l scope first) → AreRebuilt work members (present given l) (now (opening_list (world_in given l scope first)) entries)) (sym (same t)) (was.rebuilt t);
+  good = λ t. subst (λ (l : List Operation). DoWithout members → OpensFit (world_in given l scope first) → RowsStandBelow (mended_rows work.resync members) members (present given l) (now (opening_list (world_in given l scope first)) entries)) (sym (same t)) (was.good t);
+  rebuilt = λ t. subst (λ (l : List Operation). DoWithout members → OpensFit (world_in given l scope first) → AreRebuilt work members (present given l) (now (opening_list (world_in given l scope first)) entries)) (sym (same t)) (was.rebuilt t);
   safe = λ t. subst (λ (l : List Operation). FillsRight (world_in given l scope first) entries → HasRoomForEvents (world_in given l scope first) → OpensAlike (world_in given l scope first)
       → IsSafe (world_in given l scope first) given members work entries) (sym (same t)) (was.safe t);
 }

@@ -1,8 +1,8 @@
 //! An array that is read and written, and keeps its history.
 
-ghost use Rattle.std.specs.Prelude.{◌≡◌, ◌^◌, ◌<◌, ◌≤◌, ℕ, length, Option, Some, None, IsTrue};
-ghost use Rattle.md_base.specs.Shapes.{is_valid_shape};
-ghost use Rattle.superblocks.specs.Reading.{shape_of};
+ghost use Rattle.std.specs.Prelude.{◌≡◌, ◌^◌, ◌<◌, ℕ, length, Option, Some, None};
+ghost use Rattle.superblocks.specs.Reading.{role_count};
+ghost use Rattle.superblocks.specs.Verdict.{AreValidShapes};
 ghost use Rattle.flat_history.specs.Flat.{next_number};
 ghost use Rattle.views.specs.Whole.{list_size};
 ghost use Rattle.views.specs.Placed.{places_of};
@@ -73,8 +73,8 @@ impl<B: Bank> Model for Array<B> {
 
 // The refusal of a call that ends at `to`, by the visible size and how many roles are missing.
 fn refusal_of(members: &Members, visible: u64, to: u64) -> Option<Refusal>
-    requires shape { IsTrue (is_valid_shape (shape_of members.now.newest)) }
-    requires roles { (shape_of members.now.newest).disks ≤ length members.now.roles }
+    requires shapes { AreValidShapes members.now.newest }
+    requires roles { length members.now.roles ≡ role_count members.now.newest }
     ensures { IsRefusalOf visible to AreTooMany members.now result }
 {
     if visible < to {

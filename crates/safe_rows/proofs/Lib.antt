@@ -1,2 +1,3 @@
 pub mod ReadParts
 pub mod FillingLaws
+pub mod MendedStripes

@@ -11,15 +11,15 @@ use Rattle.layout.specs.Layout.{place}
 use Rattle.layout.proofs.Places.{place-role_below, place-row_below}
 use Rattle.parity.specs.Rows.{sector_of}
 use Rattle.superblocks.specs.declared.members.Members.{Members}
-use Rattle.superblocks.specs.Reading.{shape_of}
+use Rattle.superblocks.specs.Reading.{role_count}
 use Rattle.row_io.specs.Rows.{reading_of, is_held, members_without}
 use Rattle.row_io.proofs.Lacks.{lacking-missing}
 use Rattle.list_io.specs.Calls.{IsListed}
 use Rattle.list_io.specs.Full.{DataStands, RowStands}
 use Rattle.list_io.proofs.ListLaws.{listed_since, lacks_by}
-use Rattle.views.specs.Lacking.{ListStands, RowsStandBelow}
-use Rattle.views.specs.Placed.{places_of, AreWhole, IsPlaced}
-use Rattle.views.specs.Whole.{list_size}
+use Rattle.views.specs.Lacking.{DataStandsAmong, RowsStandAmong}
+use Rattle.views.specs.Placed.{AreWhole, IsPlaced, IsInForce}
+use Rattle.views.proofs.Fit.{force-valid, force-multiple, force-disks}
 
 -- ---- the bytes
 
@@ -40,37 +40,39 @@ sector-back front back n i len =
 -- ---- what was read
 
 module _ (given : Given) (shape : Shape) (old mid new : Members) (lost lost' : ℕ) (between : mid ≡ members_without lost old) (after : new ≡ members_without lost' mid) (was : IsPlaced given old)
-    (shape_is : shape ≡ shape_of old.newest) (c c' : Contents) (still : c' ≡ c) (list : ℕ → Sector) (stands : ListStands old c list) (x : ℕ) (within : x < list_size (places_of old)) (v : Sector) where
+    (force : IsInForce old.newest shape) (c c' : Contents) (still : c' ≡ c) (among : ℕ → Type 0) (list : ℕ → Sector) (stands : DataStandsAmong shape among old c list)
+    (x : ℕ) (has : among (place shape x).row) (within : x < data_disks shape * old.newest.size) (v : Sector) where
   valid : is_valid_shape shape ≡ true
-  valid = subst (λ (s : Shape). is_valid_shape s ≡ true) (sym shape_is) was.valid
+  valid = force-valid old.newest was.fit shape force
 
   row-within : (size : ℕ) → is_multiple size shape.chunk ≡ true → x < data_disks shape * size → (place shape x).row < size
   row-within size multiple lt = place-row_below shape valid x size multiple lt
 
   below : (place shape x).row < old.newest.size
-  below = subst (λ (s : Shape). is_multiple old.newest.size s.chunk ≡ true → x < data_disks s * old.newest.size → (place shape x).row < old.newest.size) shape_is (row-within old.newest.size) was.multiple within
+  below = row-within old.newest.size (force-multiple old.newest was.fit shape force) within
 
   data_there : DataStands (reading_of old) c shape list (place shape x).row
-  data_there = subst (λ (s : Shape). DataStands (reading_of old) c s list (place shape x).row) (sym shape_is) (stands (place shape x).row below)
+  data_there = stands (place shape x).row has below
 
   -- where no role is missing in the end, each sector is held
   held-in_whole : AreWhole new → is_held (reading_of mid) (place shape x).role (place shape x).row ≡ false → ⊥
   held-in_whole whole lacks =
       let newest = ap (λ (m : Members). m.newest) after ∙ ap (λ (m : Members). m.newest) between in
-      let shape_new : shape ≡ shape_of new.newest = shape_is ∙ ap (λ n. shape_of n) (sym newest) in
+      let role_lt = place-role_below shape valid x in
+      let within = force-disks old.newest was.fit shape force in
       let missing = lacking-missing (reading_of new) (place shape x).role (place shape x).row (subst (λ (n : ℕ). (place shape x).row < n) (ap (λ n. n.size) (sym newest)) below)
       (lacks_by (place shape x).role (place shape x).row mid lost' new after lacks) in
-      let there = whole (place shape x).role (subst (λ (s : Shape). (place shape x).role < s.disks) shape_new (place-role_below shape valid x)) in
+      let there = whole (place shape x).role (subst (λ (n : ℕ). (place shape x).role < n) (ap (λ n. role_count n) (sym newest)) (omega (arith, role_lt, within))) in
       absurd (let both = sym there ∙ missing in cc)
 
   -- one of the mended rows
-  pub listed-mended : (mended : ℕ) → is_multiple mended shape.chunk ≡ true → x < data_disks shape * mended → AreWhole new ⊎ RowsStandBelow mended old c list
+  pub listed-mended : (mended : ℕ) → is_multiple mended shape.chunk ≡ true → x < data_disks shape * mended → AreWhole new ⊎ RowsStandAmong shape (λ row. among row × (row < mended)) old c list
       → IsListed shape true (reading_of old) (reading_of mid) c x v → v ≡ list x
   listed-mended mended multiple lt fills listed = listed list data_there (λ on lacks. by fills lacks)
     where
-      by : AreWhole new ⊎ RowsStandBelow mended old c list → is_held (reading_of mid) (place shape x).role (place shape x).row ≡ false → RowStands (reading_of old) c shape list (place shape x).row
+      by : AreWhole new ⊎ RowsStandAmong shape (λ row. among row × (row < mended)) old c list → is_held (reading_of mid) (place shape x).role (place shape x).row ≡ false → RowStands (reading_of old) c shape list (place shape x).row
       by (inl whole) lacks = absurd (held-in_whole whole lacks)
-      by (inr rows) lacks = subst (λ (s : Shape). RowStands (reading_of old) c s list (place shape x).row) (sym shape_is) (rows (place shape x).row (row-within mended multiple lt) below)
+      by (inr rows) lacks = rows (place shape x).row (has, row-within mended multiple lt) below
 
   -- one behind them, of which nothing was filled in
   pub listed-beyond : IsListed shape false (reading_of mid) (reading_of new) c' x v → v ≡ list x

@@ -61,8 +61,8 @@ pub struct Mended {
     pub refusal: Option<Refusal>,
 }
 
-/// Makes the parity of a stripe of this shape fit its data: its rows are read and rewritten, a part of them at a time, and those that are
-/// missing are named. It ends where more are missing than the array can do without, or one that has data.
+/// Makes the parity of a stripe of this shape fit its data: its rows are read and rewritten, a part of them at a time, and those
+/// that are missing are named. It ends where more roles of the shape are missing than it tolerates, or one that has data.
 pub fn mend<B: Bank>(
     members: &mut Members,
     bank: &mut B,

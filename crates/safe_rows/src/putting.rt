@@ -293,9 +293,9 @@ pub struct Outcome {
 }
 
 /// Puts the sectors of `from` into the list from `first` on, where so many sectors, which are placed by this shape, have their
-/// places in the rows that are written: these rows are read, the array is marked dirty where it is clean, those that are missing are named, and the
-/// rows are written with their parity. It ends where more are missing than the array can do without, or, where the parity
-/// of the rows isn't to be relied on, one that has data.
+/// places in the rows that are written: these rows are read, the array is marked dirty where it is clean, those that are
+/// missing are named, and the rows are written with their parity. It ends where more roles of the shape are missing than it
+/// tolerates, or, where the parity of the rows isn't to be relied on, one that has data.
 pub fn put<B: Bank>(
     members: &mut Members,
     bank: &mut B,

@@ -13,14 +13,13 @@ use Rattle.md_base.specs.Shapes.{has_slot}
 use Rattle.md_base.specs.declared.status.Role.{Role}
 use Rattle.md_base.specs.declared.status.Role.TheVariants.{Whole, Recovering, Missing}
 use Rattle.md_base.proofs.Tabulated.{length-tabulate, get_or-tabulate}
-use Rattle.layout.proofs.Limits.{limited}
 use Rattle.sb1.specs.declared.sb.Sb.{Sb}
 use Rattle.bank.specs.Given.{Given}
 use Rattle.bank.specs.Tape.{IsIn}
 use Rattle.superblocks.specs.declared.change.Give.{Give}
 use Rattle.superblocks.specs.declared.change.Give.TheVariants.{Same}
 use Rattle.superblocks.specs.declared.members.Members.{Members}
-use Rattle.superblocks.specs.Reading.{Scope, is_reshaping, is_recovering, is_fresh, shape_of, role_count, role_state, rows_held, entry_of, state_of, holder, holder_from, own_of}
+use Rattle.superblocks.specs.Reading.{Scope, is_reshaping, is_recovering, is_fresh, role_count, role_state, rows_held, entry_of, state_of, holder, holder_from, own_of}
 use Rattle.superblocks.specs.Update.{planned, give_of, own_in, is_held_by, planned_role, is_planned_spare, slot_entry, entry_for, with_entries, faulty_role, with_roles}
 use Rattle.superblocks.specs.Updating.{planned_newest, IsLater, AreNamed}
 use Rattle.superblocks.specs.Outcome.{is_in_update, is_same, live_set, planned_spares, with_added}
@@ -54,7 +53,7 @@ use Rattle.shape_changes.proofs.Kept.{give_of-same}
 use Rattle.views.proofs.Planned.{apart, small}
 use Rattle.views.proofs.Ready.{gone-lost}
 use Rattle.shape_changes.proofs.Without.{any-without, from-without, without-twice}
-use Rattle.views.proofs.PlacedLaws.{same-count}
+use Rattle.superblocks.proofs.ValidFields.{few-roles as valid-few}
 use Rattle.shape_changes.proofs.UpdateViews.{said-recovering}
 use Rattle.safe_updates.proofs.SaidReads.{IsSaidOf}
 
@@ -65,6 +64,9 @@ Disk = ℕ → ℕ → List Sector
 
 apart-from : (a b : ℕ) → b ≢ a → (a == b) ≡ false
 apart-from a b other = grind (arith, nat_tests)
+
+same-slot : (a b : ℕ) → (a == b) ≡ true → b ≡ a
+same-slot a b e = grind (arith, nat_tests, e)
 
 self : (a : ℕ) → (a == a) ≡ true
 self a = grind (arith, nat_tests)
@@ -230,7 +232,7 @@ module _ (scope : Scope) (given : Given) (former : Members) (missed slot : ℕ) 
       number = ap (λ (y : Sb). y.dev_number) new-is
 
   few-roles : role_count m.newest ≤ 16
-  few-roles = same-count m.newest placed.still (limited (shape_of m.newest) placed.valid).most
+  few-roles = valid-few m.newest placed.fit.valid
 
   role-same : (role : ℕ) → role < role_count m.newest → (s : ℕ) → held_in m.newest role (0 + s) (get_or (known_of scope held.known m.own) s None) ≡ held_in m.newest role (0 + s) (get_or (known_of scope Wider Kept) s None)
   role-same role lt s =
@@ -425,7 +427,7 @@ module _ (scope : Scope) (given : Given) (former : Members) (missed slot : ℕ) 
       where
         at : (p q : Bool) → (slot == s) ≡ q → p ≡ false → (p || q) ≡ true → s ≡ slot
         at true q e isnt or = absurd (cc)
-        at false true e isnt or = grind (arith, nat_tests, e)
+        at false true e isnt or = same-slot slot s e
         at false false e isnt or = absurd (cc)
 
         fresh : own_in Kept slot ≡ Some x → is_recovering x ≡ false

@@ -1,10 +1,9 @@
 -- What an update that makes a slot a spare leaves of the members.
-use Rattle.std.proofs.Common.{◌≡◌, ◌⊎◌, inl, inr, ⊎_elim, ℕ, ◌<◌, ◌≤◌, ◌==◌, ◌&&◌, ◌||◌, Bool, true, false, not, cond, nat_lt, max, List, length, Option, Some, None, replicate, unwrap_or, refl, sym, ◌∙◌, ap, subst, arith}
+use Rattle.std.proofs.Common.{◌≡◌, ◌⊎◌, inl, inr, ⊎_elim, ℕ, ◌<◌, ◌≤◌, ◌==◌, ◌&&◌, ◌||◌, Bool, true, false, not, cond, nat_lt, List, length, Option, Some, None, replicate, refl, sym, ◌∙◌, ap, subst, arith}
 use Rattle.std.specs.Prelude.{pos, ◌-ℤ◌, MatchOption, ⊤}
 use Rattle.std.specs.Option.{option_map_or}
 use Rattle.std.proofs.lemmas.Bool.Decides.{nat_tests}
 use Rattle.md_base.specs.Shapes.{has_slot}
-use Rattle.md_base.specs.declared.places.Shape.{Shape}
 use Rattle.sb1.specs.declared.sb.Sb.{Sb}
 use Rattle.sb1.specs.Superblock.{checksum}
 use Rattle.bank.specs.declared.bank.Operation.{Operation}
@@ -13,7 +12,7 @@ use Rattle.bank.specs.Tape.{EachMark, disk}
 use Rattle.superblocks.specs.declared.change.Give.{Give}
 use Rattle.superblocks.specs.declared.change.Give.TheVariants.{Same}
 use Rattle.superblocks.specs.declared.members.Members.{Members}
-use Rattle.superblocks.specs.Reading.{count_of, is_reshaping, shape_of, role_count}
+use Rattle.superblocks.specs.Reading.{count_of, is_reshaping, shape_of, final_shape, is_backward, role_count}
 use Rattle.superblocks.specs.Reads.{SaysSame, has_spare}
 use Rattle.superblocks.specs.Update.{planned, give_of, own_in, is_planned_spare}
 use Rattle.superblocks.specs.Updating.{IsUpdate, IsWrittenBy, AreLosses, AreNamed, IsLater, IsSomeLeft, RisesByOperations, planned_newest}
@@ -22,7 +21,7 @@ use Rattle.superblocks.specs.Rounds.{round_at, IsInRounds, ArePast}
 use Rattle.superblocks.proofs.PlannedSb.{planned-of}
 use Rattle.superblocks.proofs.SlotSets.{slots-same}
 use Rattle.row_io.specs.Rows.{reading_of}
-use Rattle.views.specs.Placed.{IsPlaced, AreLess}
+use Rattle.views.specs.Placed.{IsPlaced, AreLess, HaveSameReshape}
 use Rattle.shape_changes.specs.Steady.{AreUnlost}
 use Rattle.views.specs.Flushing.{AreHolders}
 use Rattle.views.specs.Lacking.{HaveFailedSince}
@@ -40,6 +39,7 @@ use Rattle.views.proofs.MarkedSafe.{told-marks}
 use Rattle.views.proofs.MovedLaws.{moved-less}
 use Rattle.views.proofs.PlacedLaws.{placed-less, less-unlost}
 use Rattle.safe_updates.proofs.SparesLaws.{spare-left, spare-stays, free-told}
+use Rattle.views.proofs.Fit.{reshape-said}
 
 is-below : (a b : ℕ) → a < b → nat_lt a b ≡ true
 is-below a b lt = grind (arith, nat_tests)
@@ -85,6 +85,17 @@ module _ {tells : Type 0} {given : Given} {slot : ℕ} {sb : Sb} {old new : Memb
   says : SaysSame old.newest (planned old.newest Same old.newest)
   says = (planned-of old.newest old.newest Same).array
 
+  same-reshape : HaveSameReshape old.newest new.newest
+  same-reshape =
+      let same = did.newest.same in
+      let r = reshape-said old.newest (planned old.newest Same old.newest) says in
+      record {
+        reshaping = ap is_reshaping same ∙ r.reshaping;
+        final = ap final_shape same ∙ r.final;
+        position = ap (λ (x : Sb). x.reshape_position) same ∙ r.position;
+        backward = ap is_backward same ∙ r.backward;
+      }
+
   reshaping-same : is_reshaping new.newest ≡ is_reshaping old.newest
   reshaping-same = ap is_reshaping did.newest.same ∙ sym says.reshaping
 
@@ -111,23 +122,13 @@ module _ {tells : Type 0} {given : Given} {slot : ℕ} {sb : Sb} {old new : Memb
           (subst (λ (g : Give). IsPlannedOwn new.newest g (own_in (with_spare slot sb old).own s) (own_in new.own s)) (give_of-same 32 s) (did.own.written s is))
       by false is = ap (λ (o : Option Sb). option_map_or f o 0) (did.own.others s is)
 
-  -- without a reshape there are as many roles as disks
-  count-is : is_reshaping old.newest ≡ false → role_count old.newest ≡ (shape_of old.newest).disks
-  count-is still =
-      ap (λ (t : Option Shape). max (shape_of old.newest).disks (unwrap_or t (shape_of old.newest)).disks)
-      (ap (λ (b : Bool). cond b (Some (record { level = old.newest.new_level; layout = old.newest.new_layout; chunk = old.newest.new_chunk; disks = old.newest.raid_disks })) None) still)
-      ∙ max-same (shape_of old.newest).disks
-    where
-      max-same : (n : ℕ) → max n n ≡ n
-      max-same n = grind (arith, nat_tests)
-
   pub added-less : IsPlaced given old → AreLess new.lost (with_spare slot sb old) new
   added-less placed = record {
-    still = reshaping-same;
+    reshape = same-reshape;
     shape = same-shape;
     size = ap (λ (x : Sb). x.size) did.newest.same;
     roles = did.roles
-        ∙ roles-kept old.roles new.lost placed.apart (λ role s is. (placed.holders role s is).small) (role_count old.newest) (count-is placed.still ∙ sym placed.roles);
+        ∙ roles-kept old.roles new.lost placed.apart (λ role s is. (placed.holders role s is).small) (role_count old.newest) (sym placed.roles);
     offsets = own-kept (λ x. x.data_offset) (λ x csum. refl);
     rows = rows-same (reading_of new) (reading_of (with_spare slot sb old)) reshaping-same (ap (λ (x : Sb). x.size) did.newest.same) (own-kept (λ x. x.recovery_offset) (λ x csum. refl));
   }

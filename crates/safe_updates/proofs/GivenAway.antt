@@ -2,16 +2,16 @@
 use Rattle.std.proofs.Common.{◌≡◌, ◌≢◌, ℕ, ◌<◌, ◌≤◌, ◌==◌, ◌&&◌, true, false, not, nat_lt, length, Option, Some, refl, sym, ◌∙◌, ap, subst, arith}
 use Rattle.std.proofs.lemmas.Bool.Decides.{nat_tests}
 use Rattle.md_base.specs.Shapes.{has_slot}
-use Rattle.md_base.specs.declared.places.Shape.{Shape}
 use Rattle.md_base.specs.declared.status.Role.{Role}
 use Rattle.md_base.specs.declared.status.Role.TheVariants.{Whole, Recovering, Missing}
 use Rattle.bank.specs.Given.{Given}
 use Rattle.superblocks.specs.declared.members.Members.{Members}
-use Rattle.superblocks.specs.Reading.{shape_of, role_state, rows_held, holder}
+use Rattle.superblocks.specs.Reading.{role_count, role_state, rows_held, holder}
 use Rattle.superblocks.specs.Reads.{has_spare}
 use Rattle.row_io.specs.Rows.{reading_of, is_missing}
 use Rattle.views.specs.Placed.{IsPlaced}
 use Rattle.views.specs.Moving.{IsMoved}
+use Rattle.views.proofs.Fit.{count-alike}
 use Rattle.views.proofs.GivenMembers.{IsReceiver, W, state-other, offset-same, rows-other, spare-then}
 
 -- no role is held by the slot, which is no spare either, and its role is missing
@@ -44,11 +44,12 @@ moved-away given m new placed recovery role slot to moved out = record {
         none = λ r is. free.none r (ap holder (state-other given m placed recovery role slot to r (other r s is)) ∙ moved.held r s is);
         unlost = (out.spares s has).2;
       };
+  reshape = moved.reshape;
   shape = moved.shape;
   size = moved.size;
   offsets = λ s. moved.offsets s ∙ sym (offset-same given m placed recovery role slot to s);
-  whole = λ whole. absurd (let none = whole role below-disks in let clash = sym out.missing ∙ none in cc);
-  same = λ whole. absurd (let none = whole role below-disks in let clash = sym out.missing ∙ none in cc);
+  whole = λ whole. absurd (let none = whole role below-roles in let clash = sym out.missing ∙ none in cc);
+  same = λ whole. absurd (let none = whole role below-roles in let clash = sym out.missing ∙ none in cc);
 }
   where
     below : (a b : ℕ) → a < b → nat_lt a b ≡ true
@@ -57,8 +58,8 @@ moved-away given m new placed recovery role slot to moved out = record {
     differ : (a b : ℕ) → a ≢ b → (a == b) ≡ false
     differ a b apart = grind (arith, nat_tests, apart)
 
-    below-disks : role < (shape_of new.newest).disks
-    below-disks = subst (λ (s : Shape). role < s.disks) (sym moved.shape) (subst (λ (n : ℕ). role < n) placed.roles to.below)
+    below-roles : role < role_count new.newest
+    below-roles = subst (λ (n : ℕ). role < n) (placed.roles ∙ sym (count-alike m.newest new.newest moved.reshape moved.shape moved.size)) to.below
 
     fewer : (s : ℕ) → has_spare new.spares s ≡ true → has_spare (W given m placed recovery role slot to).spares s ≡ true
     fewer s has =

@@ -14,7 +14,7 @@ use Rattle.superblocks.specs.declared.change.Give.{Give}
 use Rattle.superblocks.specs.declared.change.Give.TheVariants.{Same}
 use Rattle.superblocks.specs.declared.change.Give.TheVariants as give
 use Rattle.superblocks.specs.declared.members.Members.{Members}
-use Rattle.superblocks.specs.Reading.{count_of, is_reshaping, shape_of, role_count, role_state, holder, is_whole, data_offset_of}
+use Rattle.superblocks.specs.Reading.{count_of, is_reshaping, shape_of, final_shape, is_backward, role_count, role_state, holder, is_whole, data_offset_of}
 use Rattle.superblocks.specs.Reads.{SaysSame, has_spare}
 use Rattle.superblocks.specs.Update.{own_in, planned, give_of, is_planned_spare}
 use Rattle.superblocks.specs.Updating.{IsLater, AreLosses, planned_newest}
@@ -24,7 +24,7 @@ use Rattle.superblocks.proofs.PlannedSb.{planned-of}
 use Rattle.superblock_reads.proofs.SaidSlots.{has-slots_below}
 use Rattle.row_io.specs.Rows.{reading_of, is_missing, role_without}
 use Rattle.views.specs.Flushing.{AreHolders}
-use Rattle.views.specs.Placed.{IsPlaced, AreLess}
+use Rattle.views.specs.Placed.{IsPlaced, AreLess, HaveSameReshape}
 use Rattle.shape_changes.specs.Steady.{AreUnlost}
 use Rattle.shape_changes.specs.Marking.{giving}
 use Rattle.views.specs.Moving.{IsMoved}
@@ -33,7 +33,6 @@ use Rattle.views.specs.Rebuilding.{AreSparesFree}
 use Rattle.views.proofs.HeldRows.{recovered_of, rows-same}
 use Rattle.views.proofs.LackingLaws.{holder-without}
 use Rattle.views.proofs.MarkLaws.{few-planned}
-use Rattle.views.proofs.MarkEnds.{count-is}
 use Rattle.views.proofs.MovedLaws.{moved-less}
 use Rattle.views.proofs.PlacedLaws.{placed-less, less-unlost}
 use Rattle.shape_changes.proofs.Without.{state-without, live-is}
@@ -41,6 +40,7 @@ use Rattle.safe_updates.proofs.SparesLaws.{free-told}
 use Rattle.views.proofs.Gives.{holder-given, gives_of, give-here, give-other, roles-given, given-lost}
 use Rattle.safe_updates.proofs.GivenAway.{moved-away}
 use Rattle.views.proofs.GivenMembers.{offset_given, recovery-is, IsReceiver, W, givable, state-here, state-other, holder-then, offset-same, recovered-here, recovered-other, spare-then, spare-before, placed-given, unlost-given}
+use Rattle.views.proofs.Fit.{reshape-said}
 
 -- by its newest superblock, the superblocks that are kept, the roles and the spares
 pub record IsGiven (given : Given) (recovery : Option ℕ) (role slot : ℕ) (old new : Members) : Type 0 where
@@ -61,6 +61,17 @@ module _ (given : Given) (recovery : Option ℕ) (role slot : ℕ) (old new : Me
 
   says : SaysSame old.newest (planned old.newest Same old.newest)
   says = (planned-of old.newest old.newest Same).array
+
+  same-reshape : HaveSameReshape old.newest new.newest
+  same-reshape =
+      let same = did.later.same in
+      let r = reshape-said old.newest (planned old.newest Same old.newest) says in
+      record {
+        reshaping = ap is_reshaping same ∙ r.reshaping;
+        final = ap final_shape same ∙ r.final;
+        position = ap (λ (x : Sb). x.reshape_position) same ∙ r.position;
+        backward = ap is_backward same ∙ r.backward;
+      }
 
   pub reshaping-same : is_reshaping new.newest ≡ is_reshaping old.newest
   reshaping-same = ap is_reshaping did.later.same ∙ sym says.reshaping
@@ -119,7 +130,7 @@ module _ (given : Given) (recovery : Option ℕ) (role slot : ℕ) (old new : Me
 
   pub roles-are : new.roles ≡ map (role_without new.lost) (W given old placed recovery role slot to).roles
   roles-are = did.roles ∙ roles-given old.roles new.lost placed.apart (λ r s is. (placed.holders r s is).small) role slot recovery small (givable given old placed recovery role slot to new.lost)
-      (role_count old.newest) (count-is old placed.still ∙ sym placed.roles) to.below
+      (role_count old.newest) (sym placed.roles) to.below
 
   pub state-is : (r : ℕ) → role_state (reading_of new) r ≡ role_without new.lost (role_state (reading_of (W given old placed recovery role slot to)) r)
   state-is r = ap (λ (l : List Role). get_or l r Missing) roles-are ∙ state-without new.lost (W given old placed recovery role slot to).roles r
@@ -127,7 +138,7 @@ module _ (given : Given) (recovery : Option ℕ) (role slot : ℕ) (old new : Me
   -- where the slot isn't lost
   pub less-kept : has_slot new.lost slot ≡ false → AreLess new.lost (W given old placed recovery role slot to) new
   less-kept kept = record {
-    still = reshaping-same;
+    reshape = same-reshape;
     shape = same-shape;
     size = size-same;
     roles = roles-are;
@@ -151,7 +162,7 @@ module _ (given : Given) (recovery : Option ℕ) (role slot : ℕ) (old new : Me
   -- where it is
   pub less-lost : has_slot new.lost slot ≡ true → AreLess new.lost old new
   less-lost gone = record {
-    still = reshaping-same;
+    reshape = same-reshape;
     shape = same-shape;
     size = size-same;
     roles = roles-are ∙ given-lost new.lost old.roles role slot recovery gone (none-held gone);

@@ -18,3 +18,4 @@ pub mod GivenMoved
 pub mod GivingDone
 pub mod MadeWhole
 pub mod WholeFlushed
+pub mod Widest

@@ -16,7 +16,7 @@ use Rattle.bank.specs.Tape.{Contents, IsIn, IsDrawn, disk, value_after}
 use Rattle.bank.proofs.Laws.{choices-present}
 use Rattle.superblocks.specs.declared.change.Change.{Change}
 use Rattle.superblocks.specs.declared.members.Members.{Members}
-use Rattle.superblocks.specs.Reading.{Scope, is_whole, shape_of, role_count, role_state, rows_held, holder, data_offset_of}
+use Rattle.superblocks.specs.Reading.{Scope, is_reshaping, is_whole, shape_of, role_count, role_state, rows_held, holder, data_offset_of}
 use Rattle.superblocks.specs.Reads.{has_spare}
 use Rattle.superblocks.specs.Update.{own_in, is_held_by}
 use Rattle.superblocks.specs.Crash.{IsWithin}
@@ -30,14 +30,14 @@ use Rattle.list_io.proofs.FullLaws.{places-are-full, standing-is-full}
 use Rattle.views.specs.Placed.{IsPlaced}
 use Rattle.shape_changes.specs.Steady.{AreUnlost, IsSteady, AreGoneTold, AreWritesAllowed, given_back}
 use Rattle.shape_changes.specs.Held.{IsHeldBy}
-use Rattle.views.specs.Lacking.{DoesWithout, RowsStand}
+use Rattle.views.specs.Lacking.{RowsStand}
 use Rattle.shape_changes.specs.Marking.{giving}
 use Rattle.views.specs.Rebuilding.{IsFlushedFull}
-use Rattle.shape_views.specs.Regions.{ArePlaced}
+use Rattle.shape_views.specs.Regions.{ArePlaced, DoWithout}
 use Rattle.shape_views.specs.Views.{Ledger, IsSettled, IsViewRight}
-use Rattle.views.proofs.Still.{count-still, length-still, without-still, settled-still, still-settled}
+use Rattle.views.proofs.Still.{length-still, settled-still, still-settled}
 use Rattle.views.specs.Flushing.{AreHolders}
-use Rattle.views.proofs.MarkEnds.{count-is}
+use Rattle.views.proofs.Fit.{valid, disks-within}
 use Rattle.views.proofs.MarkLaws.{roles-kept, role_from-found, held-holder, holder-held}
 use Rattle.shape_changes.proofs.Kept.{give_of-same, still-missing, kept-less}
 use Rattle.shape_changes.proofs.Without.{state-without, any-held}
@@ -55,6 +55,10 @@ use Rattle.shape_changes.proofs.UpdateViews.{said-recovering}
 use Rattle.safe_updates.proofs.MissingLaws.{missing-more}
 use Rattle.safe_updates.proofs.StillHeld.{AreRowsAllowed, held-still, still-held}
 
+-- a role of the shape is one of the array's
+pub role-within : (given : Given) (m : Members) → IsPlaced given m → (role : ℕ) → role < (shape_of m.newest).disks → role < length m.roles
+role-within given m placed role below = let within = disks-within given m placed (shape_of m.newest) (inl refl) in omega (arith, below, within)
+
 -- the slot that recovers a role may become its holder
 pub holder-receives : (given : Given) (m : Members) (role slot : ℕ) → IsPlaced given m → AreUnlost m → role < (shape_of m.newest).disks → role_state (reading_of m) role ≡ Recovering slot → IsReceiver given m role slot
 holder-receives given m role slot placed unlost below is = record {
@@ -65,7 +69,7 @@ holder-receives given m role slot placed unlost below is = record {
   only = λ r holds. placed.apart r role slot holds held;
   others = λ s holds. let same : ◌≡◌ {A = Option ℕ} (Some slot) (Some s) = sym held ∙ holds in (let it : s ≡ slot = cc in it);
   unlost = unlost role slot held;
-  below = let same = placed.roles in omega (arith, below, same);
+  below = role-within given m placed role below;
 }
   where
     held : holder (role_state (reading_of m) role) ≡ Some slot
@@ -88,7 +92,7 @@ present-drawn given tape s k = of (disk given.start tape s k) first
     of [] e = absurd (cc)
     of (v ∷ values) e = inl (let same : v ≡ present given tape s k = cc in sym same)
 
-module _ (given : Given) (m : Members) (placed : IsPlaced given m) (role slot : ℕ) (to : IsReceiver given m role slot) (recovers : role_state (reading_of m) role ≡ Recovering slot) where
+module _ (given : Given) (m : Members) (placed : IsPlaced given m) (still : is_reshaping m.newest ≡ false) (role slot : ℕ) (to : IsReceiver given m role slot) (recovers : role_state (reading_of m) role ≡ Recovering slot) where
   abbrev Whole_ : Members
   Whole_ = W given m placed None role slot to
 
@@ -130,7 +134,7 @@ module _ (given : Given) (m : Members) (placed : IsPlaced given m) (role slot : 
   whole-placed : (scope : Scope) → ArePlaced scope given m → ArePlaced scope given (W given m placed None role slot to)
   whole-placed scope right = record {
     fit = right.fit;
-    roles = new.roles ∙ sym (count-still m.newest placed.still);
+    roles = new.roles;
     holders = new.holders;
     behind = new.behind;
     members_own = λ r s held. ⊎_elim
@@ -143,7 +147,7 @@ module _ (given : Given) (m : Members) (placed : IsPlaced given m) (role slot : 
       new : IsPlaced given (W given m placed None role slot to)
       new = placed-given given m placed None role slot to
 
-  module _ (sound : Type 0) (scope : Scope) (told : Ledger) (tape : List Operation) (list : ℕ → Sector) (premise : sound) (does : DoesWithout m) (below : role < (shape_of m.newest).disks)
+  module _ (sound : Type 0) (scope : Scope) (told : Ledger) (tape : List Operation) (list : ℕ → Sector) (premise : sound) (does : DoWithout m) (below : role < (shape_of m.newest).disks)
       (stands : RowsStand m (present given tape) list) (allowed : AreWritesAllowed m told.values list) (full : IsFlushedFull m role slot list (disk given.start tape)) where
     -- each row stands as the list, whatever is drawn
     abbrev AreRowsSettled : Members → (ℕ → Sector) → Type 0
@@ -152,8 +156,8 @@ module _ (given : Given) (m : Members) (placed : IsPlaced given m) (role slot : 
     -- two lists as which the rows stand have the same full rows
     full-alike : (list' : ℕ → Sector) → AreRowsSettled m list' → (row : ℕ) → row < m.newest.size → full_sector (shape_of m.newest) list row role ≡ full_sector (shape_of m.newest) list' row role
     full-alike list' settled row lt =
-        sym (standing-is-full (reading_of m) (present given tape) (shape_of m.newest) list row placed.valid lt does (stands row lt) role below)
-        ∙ standing-is-full (reading_of m) (present given tape) (shape_of m.newest) list' row placed.valid lt does (settled (present given tape) (present-drawn given tape) row lt) role below
+        sym (standing-is-full (reading_of m) (present given tape) (shape_of m.newest) list row (valid given m placed) lt does.old (stands row lt) role below)
+        ∙ standing-is-full (reading_of m) (present given tape) (shape_of m.newest) list' row (valid given m placed) lt does.old (settled (present given tape) (present-drawn given tape) row lt) role below
 
     -- what the slot has of the role is allowed
     rows-allowed : AreRowsAllowed (reading_of m) told.values (disk given.start tape) → AreRowsAllowed (reading_of Whole_) told.values (disk given.start tape)
@@ -162,7 +166,7 @@ module _ (given : Given) (m : Members) (placed : IsPlaced given m) (role slot : 
         alone-is (disk given.start tape) list full (place (shape_of m.newest) x).row here.2 v
         (subst (λ (t : ℕ). IsIn (disk given.start tape t (data_offset_of (reading_of Whole_) t + (place (shape_of m.newest) x).row)) v) here.1 may)
         ∙ ap (λ (r : ℕ). full_sector (shape_of m.newest) list (place (shape_of m.newest) x).row r) (sym here.0)
-        ∙ places-are-full (shape_of m.newest) list x placed.valid)) (allowed x (subst (λ (n : ℕ). x < n) (sym (length-still m placed.still)) lt)))
+        ∙ places-are-full (shape_of m.newest) list x (valid given m placed))) (allowed x (subst (λ (n : ℕ). x < n) (sym (length-still m still)) lt)))
         (λ was. held x s lt was v
         (subst (λ (n : ℕ). IsIn (disk given.start tape s (n + (place (shape_of m.newest) x).row)) v) (offset-same given m placed None role slot to s) may))
         (held-then (place (shape_of m.newest) x).role (place (shape_of m.newest) x).row s holds)
@@ -187,9 +191,9 @@ module _ (given : Given) (m : Members) (placed : IsPlaced given m) (role slot : 
             ∙ ap (full_sector (shape_of m.newest) list' row) (sym it)
 
     made-settled : IsSettled scope m told.values (disk given.start tape) → IsSettled scope (W given m placed None role slot to) told.values (disk given.start tape)
-    made-settled s = settled-still scope given (W given m placed None role slot to) told.values (disk given.start tape) s.list (placed-given given m placed None role slot to)
-        (λ x lt. s.allowed x (subst (λ (n : ℕ). x < n) (sym (length-still m placed.still)) lt))
-        (rows-settled s.list (still-settled scope given m told.values (disk given.start tape) placed s))
+    made-settled s = settled-still scope given (W given m placed None role slot to) told.values (disk given.start tape) s.list (placed-given given m placed None role slot to) still
+        (λ x lt. s.allowed x (subst (λ (n : ℕ). x < n) (sym (length-still m still)) lt))
+        (rows-settled s.list (still-settled scope given m told.values (disk given.start tape) placed still s))
 
     pub made-right : IsViewRight sound scope given told m (disk given.start tape) → AreGoneTold told (W given m placed None role slot to) → IsViewRight sound scope given told (W given m placed None role slot to) (disk given.start tape)
     made-right right gone = record {
@@ -198,10 +202,10 @@ module _ (given : Given) (m : Members) (placed : IsPlaced given m) (role slot : 
       gone = gone;
       unclean = right.unclean;
       reshaping = right.reshaping;
-      held = λ header may. held-still scope Whole_ told.values (disk given.start tape) placed.still
-          (rows-allowed (still-held scope m told.values (disk given.start tape) placed.still header may right.held)) header may;
+      held = λ header may. held-still scope Whole_ told.values (disk given.start tape) still
+          (rows-allowed (still-held scope m told.values (disk given.start tape) still header may right.held)) header may;
       sections = right.sections;
-      settled = λ clean few sure. made-settled (right.settled clean (without-still m placed.still does) sure);
+      settled = λ clean few sure. made-settled (right.settled clean does sure);
     }
 
 -- ---- the change
@@ -270,8 +274,8 @@ back-given sound scope given told role slot new gone whole = record {
 -- ---- what the update owes
 
 module _ (sound : Type 0) (scope : Scope) (given : Given) (told : Ledger) (role slot : ℕ) (old new : Members) (before after : List Operation)
-    (m : IsChanged ⊤ given (giving old slot role None) old new before after) (placed : IsPlaced given old) (to : IsReceiver given old role slot) (below : role < (shape_of old.newest).disks)
-    (recovers : role_state (reading_of old) role ≡ Recovering slot) (premise : sound) (does : DoesWithout old) (list : ℕ → Sector) (stands : RowsStand old (present given before) list)
+    (m : IsChanged ⊤ given (giving old slot role None) old new before after) (placed : IsPlaced given old) (still : is_reshaping old.newest ≡ false) (to : IsReceiver given old role slot) (below : role < (shape_of old.newest).disks)
+    (recovers : role_state (reading_of old) role ≡ Recovering slot) (premise : sound) (does : DoWithout old) (list : ℕ → Sector) (stands : RowsStand old (present given before) list)
     (allowed : AreWritesAllowed old told.values list) (full : IsFlushedFull old role slot list (disk given.start before)) (gone : AreGoneTold told new) (here : told.gone role ≡ true)
     (steady : IsSteady sound scope given told old (disk given.start before)) where
   abbrev Gives : Change
@@ -308,10 +312,10 @@ module _ (sound : Type 0) (scope : Scope) (given : Given) (told : Ledger) (role 
   old-right = steady-right sound scope given told old (disk given.start before) steady told-old
 
   with-right : IsViewRight sound scope given told With (disk given.start before)
-  with-right = made-right given old placed role slot to recovers sound scope told before list premise does below stands allowed full old-right told-with
+  with-right = made-right given old placed still role slot to recovers sound scope told before list premise does below stands allowed full old-right told-with
 
   count-old : length old.roles ≡ role_count old.newest
-  count-old = placed.roles ∙ sym (count-is old placed.still)
+  count-old = placed.roles
 
   still-state : (lost r : ℕ) → role_state (reading_of (planned_view old Still lost)) r ≡ role_without lost (role_state (reading_of old) r)
   still-state lost r = ap (λ (l : List Role). get_or l r Missing) (roles-kept old.roles lost placed.apart (λ t s is. (placed.holders t s is).small) (role_count old.newest) (sym count-old)) ∙ state-without lost old.roles r

@@ -5,12 +5,12 @@ use Rattle.md_base.specs.Shapes.{has_slot}
 use Rattle.md_base.specs.declared.status.Role.{Role}
 use Rattle.md_base.specs.declared.status.Role.TheVariants.{Missing}
 use Rattle.bank.specs.Given.{Given}
-use Rattle.layout.proofs.Limits.{limited}
+use Rattle.superblocks.proofs.ValidFields.{few-roles}
 use Rattle.sb1.specs.declared.sb.Sb.{Sb}
 use Rattle.superblocks.specs.declared.change.Give.{Give}
 use Rattle.superblocks.specs.declared.change.Give.TheVariants.{Same}
 use Rattle.superblocks.specs.declared.members.Members.{Members}
-use Rattle.superblocks.specs.Reading.{entry_of, shape_of, holder}
+use Rattle.superblocks.specs.Reading.{entry_of, role_count, holder}
 use Rattle.superblocks.specs.Update.{give_of, planned_role, is_planned_spare, entry_for, with_roles}
 use Rattle.superblocks.specs.Updating.{AreNamed}
 use Rattle.superblock_reads.proofs.PlanFits.{length-any, roles-at, entry-is}
@@ -19,6 +19,7 @@ use Rattle.row_io.specs.Rows.{role_without}
 use Rattle.safe_updates.specs.Named.{AreNamedMissing}
 use Rattle.shape_changes.specs.Marking.{marking}
 use Rattle.views.specs.Placed.{IsPlaced, AreLess}
+use Rattle.views.proofs.Fit.{count-alike}
 use Rattle.shape_changes.proofs.Kept.{give_of-same}
 use Rattle.shape_changes.proofs.Without.{state-without}
 
@@ -37,10 +38,10 @@ still-held lost state slot held here =
 
 module _ (given : Given) (clean : Bool) (old new : Members) (placed : IsPlaced given old) (less : AreLess new.lost old new) (long : length new.newest.dev_roles ≡ 384)
     (named : AreNamed old (marking old clean) old.lost new.lost new.newest) where
-  few : (role : ℕ) → role < (shape_of new.newest).disks → role < 16
+  few : (role : ℕ) → role < role_count new.newest → role < 16
   few role lt =
-      let most = (limited (shape_of old.newest) placed.valid).most in
-      let same = ap (λ shape. shape.disks) less.shape in
+      let most = few-roles old.newest placed.fit.valid in
+      let same = count-alike old.newest new.newest less.reshape less.shape less.size in
       omega (arith, lt, most, same)
 
   -- the slot that has the role's entry holds the role

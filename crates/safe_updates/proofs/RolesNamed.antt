@@ -11,7 +11,7 @@ use Rattle.md_base.specs.declared.status.Role.TheVariants.{Missing}
 use Rattle.sb1.specs.declared.sb.Sb.{Sb}
 use Rattle.bank.specs.Given.{Given}
 use Rattle.superblocks.specs.declared.members.Members.{Members}
-use Rattle.superblocks.specs.Reading.{Scope, is_fresh, entry_of, shape_of, holder, holder_from, role_count, state_of}
+use Rattle.superblocks.specs.Reading.{Scope, is_fresh, entry_of, holder, holder_from, role_count, state_of}
 use Rattle.superblocks.specs.Reads.{held_in}
 use Rattle.superblocks.specs.Update.{own_in}
 use Rattle.superblocks.specs.Held.{known_of, IsKnown}
@@ -61,7 +61,7 @@ module _ (scope : Scope) (given : Given) (former : Members) (gone : ℕ) (d : �
   still-there : (role slot : ℕ) → holder (get_or former.roles role Missing) ≡ Some slot → has_slot gone slot ≡ false
   still-there role slot holds = by (has_slot gone slot) refl
     where
-      below : role < (shape_of former.newest).disks
+      below : role < role_count former.newest
       below =
           let long = below-length former.roles role slot holds in
           let same : length (map (role_without gone) former.roles) ≡ length former.roles = length-map former.roles (role_without gone) in

@@ -7,12 +7,14 @@ use Rattle.bank.specs.Tape.{IsIn, disk}
 use Rattle.layout.specs.Layout.{place}
 use Rattle.layout.proofs.Places.{place-role_below, place-row_below}
 use Rattle.superblocks.specs.declared.members.Members.{Members}
-use Rattle.superblocks.specs.Reading.{Scope, Reading, is_clean, shape_of, data_offset_of}
+use Rattle.superblocks.specs.Reading.{Scope, Reading, is_clean, is_reshaping, shape_of, final_shape, data_offset_of}
 use Rattle.row_io.specs.Rows.{reading_of, present, IsTolerated}
 use Rattle.row_io.proofs.Losses.{holder-of}
 use Rattle.list_io.proofs.FullLaws.{data_here, full-data}
 use Rattle.views.specs.Placed.{IsPlaced}
-use Rattle.views.specs.Lacking.{DoesWithout, AreHoldersFlushed, ListStands, RowsStand}
+use Rattle.shape_views.specs.Regions.{DoWithout}
+use Rattle.views.proofs.Fit.{valid, multiple}
+use Rattle.views.specs.Lacking.{AreHoldersFlushed, ListStands, RowsStand}
 use Rattle.shape_views.specs.Views.{Ledger, AreHeldAllowed, AreSectionsAllowed, IsSettled}
 use Rattle.shape_changes.specs.Steady.{IsSafeNow, IsNamedNow, settled_ledger}
 use Rattle.views.proofs.Still.{flushed-is-settled}
@@ -25,12 +27,12 @@ holds-alone given m tape list placed flushed stands x slot lt holds v may =
     let shape = shape_of m.newest in
     let role = (place shape x).role in
     let row = (place shape x).row in
-    let below : row < m.newest.size = place-row_below shape placed.valid x m.newest.size placed.multiple lt in
+    let below : row < m.newest.size = place-row_below shape (valid given m placed) x m.newest.size (multiple given m placed) lt in
     let own = holder-of (reading_of m) role row slot holds in
     inl (only (present given tape slot (data_offset_of (reading_of m) slot + row)) (subst (λ (values : List Sector). IsIn values v)
     (flushed role slot (data_offset_of (reading_of m) slot + row) own (λ e. absurd (let far = placed.behind role slot own in omega (arith, e, far)))) may)
-    ∙ stands row below role slot (place-role_below shape placed.valid x) (data_here shape role row x placed.valid refl) holds
-    ∙ full-data shape list role row x placed.valid refl)
+    ∙ stands row below role slot (place-role_below shape (valid given m placed) x) (data_here shape role row x (valid given m placed) refl) holds
+    ∙ full-data shape list role row x (valid given m placed) refl)
   where
     only : (w : Sector) → (v ≡ w) ⊎ ⊥ → v ≡ w
     only w (inl same) = same
@@ -38,9 +40,9 @@ holds-alone given m tape list placed flushed stands x slot lt holds v may =
 
 -- ---- the law
 
-module _ (sound : Type 0) (scope : Scope) (given : Given) (told : Ledger) (unsynced : Bool) (m : Members) (tape : List Operation) (list : ℕ → Sector) (placed : IsPlaced given m)
+module _ (sound : Type 0) (scope : Scope) (given : Given) (told : Ledger) (unsynced : Bool) (m : Members) (tape : List Operation) (list : ℕ → Sector) (placed : IsPlaced given m) (still : is_reshaping m.newest ≡ false)
     (flushed : AreHoldersFlushed (reading_of m) given tape) (stands : ListStands m (present given tape) list) (dirty : is_clean m.newest ≡ false → unsynced ≡ true)
-    (rows : is_clean m.newest ≡ true → DoesWithout m → sound → RowsStand m (present given tape) list) (named : IsNamedNow sound scope given told m (disk given.start tape)) where
+    (rows : is_clean m.newest ≡ true → DoWithout m → sound → RowsStand m (present given tape) list) (named : IsNamedNow sound scope given told m (disk given.start tape)) where
   abbrev Former : Members
   Former = named.steady.former
 
@@ -68,10 +70,7 @@ module _ (sound : Type 0) (scope : Scope) (given : Given) (told : Ledger) (unsyn
 
   placed-here : IsPlaced given Here
   placed-here = record {
-    still = placed.still;
-    valid = placed.valid;
-    multiple = placed.multiple;
-    short = placed.short;
+    fit = placed.fit;
     roles = placed.roles;
     holders = placed.holders;
     behind = placed.behind;
@@ -79,10 +78,16 @@ module _ (sound : Type 0) (scope : Scope) (given : Given) (told : Ledger) (unsyn
     live = placed.live;
   }
 
-  settled-here : is_clean Former.newest ≡ true → DoesWithout Former → sound → IsSettled scope Here (λ x. list x ∷ []) (disk given.start tape)
+  without-here : DoWithout Former → DoWithout m
+  without-here does = record {
+    old = subst (λ (r : Reading). IsTolerated r (shape_of r.newest)) same does.old;
+    final = subst (λ (r : Reading). IsTolerated r (final_shape r.newest)) same does.final;
+  }
+
+  settled-here : is_clean Former.newest ≡ true → DoWithout Former → sound → IsSettled scope Here (λ x. list x ∷ []) (disk given.start tape)
   settled-here clean does premise =
-      flushed-is-settled scope given Here tape (λ x. list x ∷ []) list placed-here flushed
-      (rows (ap (λ (r : Reading). is_clean r.newest) (sym same) ∙ clean) (subst (λ (r : Reading). IsTolerated r (shape_of r.newest)) same does) premise) (λ x lt. inl refl)
+      flushed-is-settled scope given Here tape (λ x. list x ∷ []) list placed-here still flushed
+      (rows (ap (λ (r : Reading). is_clean r.newest) (sym same) ∙ clean) (without-here does) premise) (λ x lt. inl refl)
 
   pub settled-safe : IsSafeNow sound scope given (settled_ledger unsynced list told) m (disk given.start tape)
   settled-safe = inl (record {
@@ -95,10 +100,10 @@ module _ (sound : Type 0) (scope : Scope) (given : Given) (told : Ledger) (unsyn
       unclean = λ is. dirty (ap (λ (r : Reading). is_clean r.newest) (sym same) ∙ is);
       reshaping = named.steady.right.reshaping;
       held = subst (λ (n : Members). AreHeldAllowed scope n (λ x. list x ∷ []) (disk given.start tape)) (sym former-is)
-          (held-still scope Here (λ x. list x ∷ []) (disk given.start tape) placed.still (holds-alone given m tape list placed flushed stands));
+          (held-still scope Here (λ x. list x ∷ []) (disk given.start tape) still (holds-alone given m tape list placed flushed stands));
       sections = subst (λ (n : Members). AreSectionsAllowed scope n (λ x. list x ∷ []) (disk given.start tape)) (sym former-is)
-          (sections-still scope Here (λ x. list x ∷ []) (disk given.start tape) placed.still);
-      settled = λ clean does premise. subst (λ (n : Members). IsSettled scope n (λ x. list x ∷ []) (disk given.start tape)) (sym former-is) (settled-here clean does.old premise);
+          (sections-still scope Here (λ x. list x ∷ []) (disk given.start tape) still);
+      settled = λ clean does premise. subst (λ (n : Members). IsSettled scope n (λ x. list x ∷ []) (disk given.start tape)) (sym former-is) (settled-here clean does premise);
     };
     numbers = named.steady.numbers;
   })

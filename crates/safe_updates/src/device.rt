@@ -1,6 +1,6 @@
 //! The superblock of a device that is new to an array.
 
-ghost use Rattle.std.specs.Prelude.{◌≡◌, ◌≤◌, ◌++◌, ◌^◌, ◌<◌, ◌-◌, ℕ, take, drop, length, bit_and, OnOk, IfSome};
+ghost use Rattle.std.specs.Prelude.{◌≡◌, ◌≤◌, ◌++◌, ◌<◌, ◌-◌, take, drop, length, IfSome};
 ghost use Rattle.views.specs.Numbers.{device_uuid, spare_sb, free_number};
 
 use sb1::{Features, Sb};

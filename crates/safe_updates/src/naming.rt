@@ -1,18 +1,17 @@
 //! Marks of the superblocks, which name the roles that no slot holds.
 
-ghost use Rattle.std.specs.Prelude.{◌≡◌, ◌≢◌, ◌<◌, ◌≤◌, ◌^◌, ◌&&◌, ℕ, List, true, false, nat_lt, not, length};
+ghost use Rattle.std.specs.Prelude.{◌≡◌, ◌<◌, ◌≤◌, ◌^◌, ◌&&◌, ℕ, true, false, nat_lt, not, length};
 ghost use Rattle.bank.specs.Given.{NeverFalls};
-ghost use Rattle.md_base.specs.Sectors.{Sector};
 ghost use Rattle.md_base.specs.Shapes.{has_slot};
-ghost use Rattle.superblocks.specs.Reading.{Scope, role_count, is_clean};
+ghost use Rattle.superblocks.specs.Reading.{role_count, is_clean};
 ghost use Rattle.row_io.specs.Rows.{reading_of, present};
-ghost use Rattle.views.specs.Placed.{places_of, is_vacant, AreWhole, IsPlaced};
+ghost use Rattle.views.specs.Placed.{is_vacant, AreWhole, IsPlaced};
 ghost use Rattle.shape_changes.specs.Steady.{AreUnlost, IsSafeOver, IsNamedOver, KeepsSafe, AreGoneTold, IsUncleanTold};
 ghost use Rattle.views.specs.Rebuilding.{AreSparesFree};
 ghost use Rattle.shape_changes.specs.Marking.{AreOthersPresent};
 ghost use Rattle.safe_updates.specs.Named.{AreNamedMissing, AreDataKept};
 ghost use Rattle.views.specs.Moving.{Grows, IsMoved};
-ghost use Rattle.shape_changes.specs.Safety.{HasMarkRoom, HasLiveSlot, HasRoomLeft, IsRisen};
+ghost use Rattle.shape_changes.specs.Safety.{HasLiveSlot, HasRoomLeft, IsRisen};
 ghost use Rattle.views.specs.Lacking.{HaveFailedSince, AreHoldersFlushed, IsNamed, AreUnnamed};
 ghost use Rattle.bank.specs.Tape.{EachMark, disk};
 ghost use Rattle.flat_history.specs.World.{World};

@@ -36,7 +36,10 @@ pub fn too_many(members: &Members) -> Option<Refusal>
     requires roles { length members.now.roles ≡ role_count members.now.newest }
     ensures { MatchOption result (DoWithout members.now) (AreTooMany members.now) }
 {
-    too_many_of(members, &shape_in(members)).or(too_many_of(members, &final_in(members)))
+    match too_many_of(members, &shape_in(members)) {
+        Some(refusal) => Some(refusal),
+        None => too_many_of(members, &final_in(members)),
+    }
 }
 
 /// The refusal for sectors that can't be had, in rows of this shape.

@@ -25,7 +25,10 @@ pub fn final_in(members: &Members) -> Shape
     requires { IsTrue (is_valid_shape (shape_of members.now.newest)) }
     ensures { result ≡ final_shape members.now.newest }
 {
-    target_of(&members.newest).unwrap_or(shape_in(members))
+    match target_of(&members.newest) {
+        Some(target) => target,
+        None => shape_in(members),
+    }
 }
 
 /// The sectors of the flat list over so many rows of each data disk.

@@ -1,17 +1,16 @@
 //! A flush of the members, and the clean mark behind it.
 
-ghost use Rattle.std.specs.Prelude.{◌≡◌, ◌<◌, ◌≤◌, ℕ, List, length, true, false, Some, None, MatchOption, IsTrue, ⊤};
+ghost use Rattle.std.specs.Prelude.{◌≡◌, ◌<◌, ◌≤◌, ℕ, List, length, true, false, Some, None, MatchOption, ⊤};
 ghost use Rattle.bank.specs.Given.{NeverFalls};
 ghost use Rattle.md_base.specs.Sectors.{Sector};
-ghost use Rattle.superblocks.specs.Reading.{Scope, is_clean, is_reshaping, role_count, role_state, holder};
+ghost use Rattle.superblocks.specs.Reading.{is_clean, is_reshaping, role_count, role_state, holder};
 ghost use Rattle.row_io.specs.Rows.{reading_of, present};
-ghost use Rattle.views.specs.Placed.{places_of, AreWhole, IsPlaced};
+ghost use Rattle.views.specs.Placed.{AreWhole, IsPlaced};
 ghost use Rattle.shape_changes.specs.Steady.{AreUnlost, IsSafeOver, IsNamedOver, KeepsSafe, AreGoneTold, IsUncleanTold, AreWritesAllowed, settled_ledger};
 ghost use Rattle.views.specs.Rebuilding.{AreSparesFree};
 ghost use Rattle.shape_changes.specs.Marking.{AreOthersPresent};
-ghost use Rattle.views.specs.Flushing.{OnlyFlushesAdded};
 ghost use Rattle.views.specs.Moving.{Grows, IsMoved};
-ghost use Rattle.shape_changes.specs.Safety.{HasMarkRoom, HasLiveSlot, HasRoomLeft, IsRisen};
+ghost use Rattle.shape_changes.specs.Safety.{HasLiveSlot, HasRoomLeft, IsRisen};
 ghost use Rattle.views.specs.Lacking.{HaveFailedSince, AreHoldersFlushed, AreTooMany, ListStands, RowsStand};
 ghost use Rattle.flat_history.specs.World.{World};
 ghost use Rattle.flat_history.specs.Sound.{OpensFit};

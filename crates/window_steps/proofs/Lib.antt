@@ -1,3 +1,4 @@
 pub mod SteadyLaws
 pub mod EnterLaws
 pub mod RecordLaws
+pub mod CopyLaws

@@ -1,3 +1,4 @@
 pub mod Laws
 pub mod Entering
 pub mod Recording
+pub mod Copying

@@ -1,12 +1,17 @@
-use Rattle.std.proofs.Common.{◌≡◌, ◌/◌, ◌<◌, ◌≤◌, ℕ, List, length, false, inl, inr, refl, sym, ◌∙◌, ap, subst, arith}
-use Rattle.md_base.specs.declared.places.Shape.{Shape}
+use Rattle.std.proofs.Common.{◌≡◌, ◌/◌, ◌^◌, ◌≤◌, List, length, inl, inr, refl, sym, ◌∙◌, subst, arith}
 use Rattle.bank.specs.declared.bank.Operation.{Operation}
 use Rattle.bank.specs.Given.{Given}
 use Rattle.superblocks.specs.declared.members.Members.{Members}
-use Rattle.superblocks.specs.Reading.{shape_of}
 use Rattle.views.specs.Placed.{AreWhole, IsPlaced, AreLost}
 use Rattle.views.specs.Rebuilding.{AreSparesFree}
-use Rattle.views.proofs.MovedLaws.{moved-lost, moved-then, lost-none, moved-from}
+use Rattle.views.proofs.MovedLaws.{moved-lost, moved-then, lost-none, moved-from, grows-none, grows-then}
+use Rattle.views.proofs.Fit.{force-valid, short}
+use Rattle.layout.proofs.Limits.{limited}
+use Rattle.md_base.specs.Shapes.{data_disks}
+use Rattle.std.proofs.lemmas.Nat.{mul-le}
+use Rattle.row_io.specs.Rows.{present}
+use Rattle.shape_changes.specs.Marking.{AreOthersPresent}
+use Rattle.views.specs.Moving.{Grows}
 use Rattle.views.proofs.LackingLaws.{since-lost, since-then, in-second}
 use Rattle.views.proofs.LackingWrites.{lost-of}
 use Rattle.safe_updates.proofs.RefusingLaws.{read-cause, read-told, told-first, told-why, not-err}
@@ -37,7 +42,7 @@ returns-then-is_err-clause-kept g c = λ whole.
     let r = c.read_parts-read.result.lost in
     let shape = c.args.shape.now in
     let lost : AreLost given shape m n r f0 f1 = lost-of given shape m n r f0 f1 c.requires.placed c.read_parts-read.ensures.lost in
-    lost.kept (lost-none given shape m n r f0 f1 lost c.requires.shape (ap (λ (x : Members). shape_of x.newest) lost.members) whole)
+    lost.kept (lost-none given shape m n r f0 f1 lost c.requires.shape whole)
 
 pub name_missing-spares-requires-clause-placed : goal.name_missing-spares-requires-clause-placed
 name_missing-spares-requires-clause-placed g c =
@@ -105,14 +110,14 @@ returns-then-is_err-clause-first g c = told-first c.unread-refusal.result c.unre
 
 pub returns-then-is_err-clause-refused : goal.returns-then-is_err-clause-refused
 returns-then-is_err-clause-refused g c =
-    told-why c.unread-refusal.result (read-cause c.args.mended c.args.first (length c.args.into.now / 512) c.read_parts-read.new.members) (told-first c.unread-refusal.result c.unread-refusal.ensures)
+    told-why c.unread-refusal.result (read-cause c.args.shape.now c.args.mended c.args.first (length c.args.into.now / 512) c.read_parts-read.new.members) (told-first c.unread-refusal.result c.unread-refusal.ensures)
 
 pub returns-then-is_err-clause-holds : goal.returns-then-is_err-clause-holds
 returns-then-is_err-clause-holds g c = λ none.
     let n = c.read_parts-read.new.members in
     let did = c.read_parts-read.ensures in
     absurd (read-told n c.args.shape.now c.args.mended c.args.first (length c.args.into.now / 512) c.read_parts-read.result.answer
-    (c.requires.shape ∙ ap (λ (x : Members). shape_of x.newest) (sym did.lost.members)) (sym c.is_err.ensures.value ∙ c.if-is_err.true) did.answer (sym c.unread-refusal.ensures ∙ none))
+    (sym c.is_err.ensures.value ∙ c.if-is_err.true) did.answer (sym c.unread-refusal.ensures ∙ none))
 
 pub returns-clause-holds : goal.returns-clause-holds
 returns-clause-holds g c = λ ok told list stands fills.
@@ -131,7 +136,7 @@ returns-clause-kept g c = λ whole.
     let shape = c.args.shape.now in
     let lost : AreLost given shape m n r f0 f1 = lost-of given shape m n r f0 f1 c.requires.placed c.read_parts-read.ensures.lost in
     let mid : AreWhole n = c.name_missing-spares.ensures.moved.whole whole in
-    c.name_missing-spares.ensures.kept mid ∙ lost.kept (lost-none given shape m n r f0 f1 lost c.requires.shape (ap (λ (x : Members). shape_of x.newest) lost.members) mid)
+    c.name_missing-spares.ensures.kept mid ∙ lost.kept (lost-none given shape m n r f0 f1 lost c.requires.shape mid)
 
 -- the reads make no operation
 still-long : (before after : List Operation) → after ≡ before → length before ≤ length after
@@ -174,3 +179,40 @@ returns-clause-safe g c = λ tell world told room gone unclean now.
     (c.name_missing-spares.ensures.safe tell world told
     (room-then tape2 tell room (risen-lost m n c.read_parts-read.result.lost tape0 tape1 did.lost.members (λ t. still-long tape0 tape1 (did.tape t)))) gone
     (subst (λ (x : Members). IsUncleanTold told x) (sym did.lost.members) unclean) (over-at world given given1 told n tape1 did.given read.next)))
+
+pub unread-refusal-requires-clause-short : goal.unread-refusal-requires-clause-short
+unread-refusal-requires-clause-short g c =
+    let m = c.args.members.now in
+    let given = g.B.Bank.given c.args.bank.now in
+    let shape = c.args.shape.now in
+    let most = (limited shape (force-valid m.newest c.requires.placed.fit shape c.requires.shape)).most in
+    let few : data_disks shape ≤ 16 = omega (arith, most) in
+    let all = mul-le (data_disks shape) m.newest.size 16 (2 ^ 48) few (short given m c.requires.placed) in
+    omega (arith, all, c.requires.within)
+
+pub returns-then-is_err-clause-failed : goal.returns-then-is_err-clause-failed
+returns-then-is_err-clause-failed g c =
+    let m = c.args.members.now in
+    let n = c.read_parts-read.new.members in
+    let given = g.B.Bank.given c.args.bank.now in
+    let f0 = g.B.Bank.faults_of c.args.bank.now in
+    let f1 = g.B.Bank.faults_of c.read_parts-read.new.bank in
+    let r = c.read_parts-read.result.lost in
+    let shape = c.args.shape.now in
+    since-lost given shape m n r f0 f1 (lost-of given shape m n r f0 f1 c.requires.placed c.read_parts-read.ensures.lost)
+
+pub returns-then-is_err-clause-grows : goal.returns-then-is_err-clause-grows
+returns-then-is_err-clause-grows g c = grows-none c.read_parts-read.ensures.tape
+
+pub returns-clause-grows : goal.returns-clause-grows
+returns-clause-grows g c =
+    let early : Grows g.B.Bank.tells (g.B.Bank.tape c.args.bank.now) (g.B.Bank.tape c.read_parts-read.new.bank) = grows-none c.read_parts-read.ensures.tape in
+    grows-then early c.name_missing-spares.ensures.grows
+
+pub returns-clause-others : goal.returns-clause-others
+returns-clause-others g c = λ told.
+    let given = g.B.Bank.given c.args.bank.now in
+    let tape1 = g.B.Bank.tape c.read_parts-read.new.bank in
+    let tape2 = g.B.Bank.tape c.name_missing-spares.new.bank in
+    subst (λ (l : List Operation). AreOthersPresent (present given l) (present given tape2)) (c.read_parts-read.ensures.tape told)
+    (subst (λ (b : Given). AreOthersPresent (present b tape1) (present b tape2)) c.read_parts-read.ensures.given (c.name_missing-spares.ensures.others told))

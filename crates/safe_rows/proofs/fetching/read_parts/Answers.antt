@@ -1,10 +1,8 @@
-use Rattle.std.proofs.Common.{◌≡◌, inl, inr, ℕ, ◌+◌, ◌-◌, ◌*◌, ◌/◌, ◌<◌, ◌++◌, true, false, length, sym, ◌∙◌, ap, subst, arith}
+use Rattle.std.proofs.Common.{◌≡◌, inl, inr, ℕ, ◌+◌, ◌-◌, ◌*◌, ◌/◌, ◌<◌, ◌++◌, false, length, refl, sym, ◌∙◌, ap, subst, arith}
 use Rattle.std.proofs.lemmas.Bool.{cases_lt}
 use Rattle.std.proofs.lemmas.Bool.Decides.{nat_tests}
 use Rattle.std.specs.Prelude.{OnOk, Result, Ok, Err}
 use Rattle.std.specs.Result.{is_err}
-use Rattle.md_base.specs.declared.places.Shape.{Shape}
-use Rattle.md_base.specs.Shapes.{is_valid_shape}
 use Rattle.parity.specs.Rows.{sector_of}
 use Rattle.row_io.specs.Rows.{reading_of, present}
 use Rattle.list_io.specs.declared.outcome.Unavailable.{Unavailable}
@@ -12,12 +10,16 @@ use Rattle.list_io.specs.Calls.{IsAsked, IsListed}
 use Rattle.list_io.proofs.LossLaws.{lost_then, rows_by}
 use Rattle.list_io.proofs.ListLaws.{asked_more, followed, present_same}
 use Rattle.views.specs.Lacking.{IsAskedBeyond}
-use Rattle.views.specs.Placed.{places_of}
-use Rattle.views.specs.Whole.{list_size}
-use Rattle.views.proofs.LackingWrites.{has-rows}
+use Rattle.list_io.specs.Buffers.{IsTouched}
+use Rattle.layout.specs.Layout.{place}
+use Rattle.md_base.specs.Shapes.{data_disks}
+use Rattle.views.proofs.Fit.{has-rows, force-valid}
 use Rattle.views.proofs.Stripes.{row-beyond}
 use Rattle.safe_rows.proofs.ReadParts.{sector-front, sector-back, listed-mended, listed-beyond}
 use Rattle.safe_rows.proofs.fetching.read_parts.Goals as goal
+
+pub read_list-read-requires-clause-rows : goal.read_list-read-requires-clause-rows
+read_list-read-requires-clause-rows g c = has-rows (g.B.Bank.given c.args.bank.now) c.args.members.now c.requires.placed c.args.shape.now c.requires.shape
 
 pub read_list-rest-requires-clause-rows : goal.read_list-rest-requires-clause-rows
 read_list-rest-requires-clause-rows g c =
@@ -41,7 +43,7 @@ returns-clause-answer g c =
       omega (arith, asked.1),
       grind (arith, nat_tests, asked.2, cut.back_len, size),
       asked.3,
-      row-beyond shape (subst (λ (s : Shape). is_valid_shape s ≡ true) (sym c.requires.shape) c.requires.placed.valid) asked.0 c.args.mended c.requires.stripes
+      row-beyond shape (force-valid c.args.members.now.newest c.requires.placed.fit shape c.requires.shape) asked.0 c.args.mended c.requires.stripes
           (grind (arith, nat_tests, asked.1, asked.2, cut.back_len, size, reach, all)),
     )) c.read_list-rest.ensures.answer
 
@@ -70,12 +72,14 @@ returns-clause-sectors g c =
     let front = c.read_list-read.new.into in
     let back = c.read_list-rest.new.into in
     let front_len : length front ≡ 512 * split = c.read_list-read.auto.into ∙ cut.front_len in
-    let within : c.args.first + i < list_size (places_of m) = omega (arith, lt, c.requires.within) in
+    let within : c.args.first + i < data_disks shape * m.newest.size = omega (arith, lt, c.requires.within) in
+    let among = IsTouched shape c.args.first (length c.args.into.now / 512) in
+    let has : among (place shape (c.args.first + i)).row = (c.args.first + i, omega arith, omega (arith, lt), refl) in
     elim (cases_lt i split) [
       | inl early ↦
           sector-front front back split i front_len early
           ∙ listed-mended given shape m mid new c.read_list-read.result.lost c.read_list-rest.result.lost one.lost.members two.lost.members c.requires.placed c.requires.shape c0 c1
-          (present_same one.given (one.tape told)) list stands (c.args.first + i) within (sector_of front i) c.args.mended c.requires.stripes
+          (present_same one.given (one.tape told)) among list stands (c.args.first + i) has within (sector_of front i) c.args.mended c.requires.stripes
           (grind (arith, nat_tests, early, size, reach, all)) fills
           (at-done c.read_list-read.result.answer (sym c.is_err.ensures.value ∙ c.if-is_err.false) one.sectors told i (omega (arith, early, cut.front_len)))
       | inr late ↦
@@ -83,6 +87,6 @@ returns-clause-sectors g c =
           let there : c.args.first + split + (i - split) ≡ c.args.first + i = omega (arith, late) in
           ap (λ (k : ℕ). sector_of (front ++ back) k) (sym here) ∙ sector-back front back split (i - split) front_len
           ∙ listed-beyond given shape m mid new c.read_list-read.result.lost c.read_list-rest.result.lost one.lost.members two.lost.members c.requires.placed c.requires.shape c0 c1
-          (present_same one.given (one.tape told)) list stands (c.args.first + i) within (sector_of back (i - split))
+          (present_same one.given (one.tape told)) among list stands (c.args.first + i) has within (sector_of back (i - split))
           (subst (λ (k : ℕ). IsListed shape false (reading_of mid) (reading_of new) c1 k (sector_of back (i - split))) there (beyond told (i - split) (omega (arith, late, lt, cut.back_len))))
     ]) c.read_list-rest.ensures.answer c.read_list-rest.ensures.sectors

@@ -1,4 +1,6 @@
-use Rattle.std.proofs.Common.{◌≡◌, inl, inr, ℕ, ◌+◌, ◌*◌, ◌<◌, ◌≤◌, refl, sym, ◌∙◌, ap, subst, arith}
+use Rattle.std.proofs.Common.{◌≡◌, inl, inr, ℕ, ◌+◌, ◌*◌, ◌/◌, ◌<◌, ◌≤◌, refl, sym, ◌∙◌, ap, subst, arith}
+use Rattle.md_base.specs.Shapes.{data_disks}
+use Rattle.md_base.specs.declared.places.Shape.{Shape}
 use Rattle.md_base.specs.declared.status.Role.TheVariants.{Recovering}
 use Rattle.bank.specs.Given.{Given}
 use Rattle.superblocks.specs.Reading.{role_state, rows_held, data_offset_of, holder}
@@ -7,16 +9,16 @@ use Rattle.list_io.specs.Buffers.{IsTouched}
 use Rattle.list_io.specs.Writing.{HasFull}
 use Rattle.flat_history.specs.Sound.{OpensFit}
 use Rattle.views.specs.Moving.{IsMoved}
-use Rattle.views.specs.Lacking.{IsOfStripe, ListStands, RowsStandAmong}
+use Rattle.views.specs.Lacking.{IsOfStripe, DataStandsAmong, RowsStandAmong}
 use Rattle.views.specs.Rebuilding.{AreSparesFree, IsFilledAmong}
-use Rattle.views.proofs.MovedLaws.{moved-then, moved-same, grows-none, grows-then, moved-from, size-moved}
+use Rattle.views.proofs.MovedLaws.{moved-then, moved-same, grows-none, grows-then, moved-from}
 use Rattle.views.proofs.LackingLaws.{since-same, since-then, in-either}
 use Rattle.views.proofs.LackingLists.{none-of}
 use Rattle.shape_changes.proofs.Risen.{risen-none, risen-then}
 use Rattle.views.proofs.SafeStretch.{safe-none}
 use Rattle.views.proofs.MendedParts.{IsInParts, valid-in, part-within, part-touches, safe-part}
 use Rattle.safe_rows.proofs.FillingLaws.{filled-none, filled-then}
-use Rattle.views.proofs.FilledParts.{touched-in_parts, touched-late, parts-longer, parts-of_stripe, stripe-in_parts, found-in, none-found, recovered-alone, recovered-rows, filled-before, list-filled, row-filled, full-kept}
+use Rattle.views.proofs.FilledParts.{touched-in_parts, touched-late, parts-longer, parts-of_stripe, stripe-in_parts, found-in, none-found, recovered-alone, recovered-rows, filled-before, data-filled, row-filled, full-kept}
 use Rattle.safe_rows.proofs.filling.fill.Goals as goal
 
 pub target_of-target-requires-clause-few : goal.target_of-target-requires-clause-few
@@ -25,7 +27,7 @@ target_of-target-requires-clause-few g c =
 
 pub overflow_mul-first : goal.overflow_mul-first
 overflow_mul-first g c =
-    let fits = part-within (g.B.Bank.given c.args.bank.now) c.args.members.now c.requires.placed c.args.shape.now c.requires.shape c.args.stripe c.requires.stripe c.list_length.result c.list_length.ensures 0 0
+    let fits = part-within (g.B.Bank.given c.args.bank.now) c.args.members.now c.requires.placed c.args.shape.now (inl c.requires.shape) c.args.stripe (subst (λ (s : Shape). c.args.stripe < c.args.members.now.newest.size / s.chunk) (sym c.requires.shape) c.requires.stripe) c.list_length.result c.list_length.ensures 0 0
     (omega arith) in
     omega (arith, fits.0, fits.1)
 
@@ -53,7 +55,7 @@ loop-done-init g c =
 
 pub overflow_add-first : goal.overflow_add-first
 overflow_add-first g c =
-    let fits = part-within (g.B.Bank.given c.args.bank.now) c.args.members.now c.requires.placed c.args.shape.now c.requires.shape c.args.stripe c.requires.stripe c.list_length.result c.list_length.ensures c.loop-done.done 0
+    let fits = part-within (g.B.Bank.given c.args.bank.now) c.args.members.now c.requires.placed c.args.shape.now (inl c.requires.shape) c.args.stripe (subst (λ (s : Shape). c.args.stripe < c.args.members.now.newest.size / s.chunk) (sym c.requires.shape) c.requires.stripe) c.list_length.result c.list_length.ensures c.loop-done.done 0
     (let within = c.loop-done.invariant.within in omega (arith, within)) in
     omega (arith, fits.0, fits.1)
 
@@ -119,14 +121,14 @@ fill_part-part-requires-clause-held g c =
 
 pub fill_part-part-requires-clause-within : goal.fill_part-part-requires-clause-within
 fill_part-part-requires-clause-within g c =
-    let fits = part-within (g.B.Bank.given c.args.bank.now) c.args.members.now c.requires.placed c.args.shape.now c.requires.shape c.args.stripe c.requires.stripe c.list_length.result c.list_length.ensures c.loop-done.done c.min-count.result
+    let fits = part-within (g.B.Bank.given c.args.bank.now) c.args.members.now c.requires.placed c.args.shape.now (inl c.requires.shape) c.args.stripe (subst (λ (s : Shape). c.args.stripe < c.args.members.now.newest.size / s.chunk) (sym c.requires.shape) c.requires.stripe) c.list_length.result c.list_length.ensures c.loop-done.done c.min-count.result
     (let count = c.min-count.ensures in let within = c.loop-done.invariant.within in omega (arith, count, within)) in
-    let size = size-moved (g.B.Bank.given c.args.bank.now) c.args.members.now c.loop-done.members c.loop-done.invariant.moved in
+    let size = ap (λ (k : ℕ). data_disks c.args.shape.now * k) c.loop-done.invariant.moved.size in
     omega (arith, fits.0, size)
 
 pub fill_part-part-requires-clause-short : goal.fill_part-part-requires-clause-short
 fill_part-part-requires-clause-short g c =
-    let fits = part-within (g.B.Bank.given c.args.bank.now) c.args.members.now c.requires.placed c.args.shape.now c.requires.shape c.args.stripe c.requires.stripe c.list_length.result c.list_length.ensures c.loop-done.done c.min-count.result
+    let fits = part-within (g.B.Bank.given c.args.bank.now) c.args.members.now c.requires.placed c.args.shape.now (inl c.requires.shape) c.args.stripe (subst (λ (s : Shape). c.args.stripe < c.args.members.now.newest.size / s.chunk) (sym c.requires.shape) c.requires.stripe) c.list_length.result c.list_length.ensures c.loop-done.done c.min-count.result
     (let count = c.min-count.ensures in let within = c.loop-done.invariant.within in omega (arith, count, within)) in
     omega (arith, fits.0, fits.1)
 
@@ -196,7 +198,7 @@ returns-then-is_some-2-clause-others g c =
     let stripe = c.args.stripe in
     let done = c.loop-done.done in
     let count = c.min-count.result in
-    let valid = valid-in given m c.requires.placed shape c.requires.shape in
+    let valid = valid-in given m c.requires.placed shape (inl c.requires.shape) in
     let part : done + count ≤ shape.chunk = (let low = c.min-count.ensures in let within = was.within in omega (arith, low, within)) in
     let touched = IsTouched shape (stripe * c.list_length.result + done) count in
     let here = touched-in_parts shape valid stripe c.list_length.result c.list_length.ensures done count part in
@@ -266,7 +268,7 @@ loop-done-preserved g c =
     let stripe = c.args.stripe in
     let done = c.loop-done.done in
     let count = c.min-count.result in
-    let valid = valid-in given m c.requires.placed shape c.requires.shape in
+    let valid = valid-in given m c.requires.placed shape (inl c.requires.shape) in
     let part : done + count ≤ shape.chunk = (let low = c.min-count.ensures in let within = was.within in omega (arith, low, within)) in
     let touched = IsTouched shape (stripe * c.list_length.result + done) count in
     let here = touched-in_parts shape valid stripe c.list_length.result c.list_length.ensures done count part in
@@ -291,13 +293,14 @@ loop-done-preserved g c =
                 (λ same touch. touched-late shape valid stripe c.list_length.result c.list_length.ensures done count part row early touch) (was.full told list stands among recovers row early high)
             | inr late ↦
                 let none = none-of c.fill_part-part.result.refusal (sym c.is_some-in-loop-done.ensures ∙ c.if-is_some-2.false) in
-                let list1 : ListStands n c1 list = list-filled was.moved c.requires.placed role slot c.requires.recovering (IsInParts shape stripe done) (present given tape0) c1 (was.others told) list stands in
-                let rows1 : RowsStandAmong touched n c1 list = λ other touch below. row-filled was.moved c.requires.placed role slot c.requires.recovering (IsInParts shape stripe done) (present given tape0) c1 (was.others told) list other
+                let list1 : DataStandsAmong shape touched n c1 list = λ other touch below. data-filled was.moved c.requires.placed role slot c.requires.recovering (IsInParts shape stripe done) (present given tape0) c1 (was.others told)
+                shape (IsOfStripe shape stripe) list stands other (parts-of_stripe shape stripe (done + count) other part (here other touch)) below in
+                let rows1 : RowsStandAmong shape touched n c1 list = λ other touch below. row-filled was.moved c.requires.placed role slot c.requires.recovering (IsInParts shape stripe done) (present given tape0) c1 (was.others told) shape list other
                 (among other (parts-of_stripe shape stripe (done + count) other part (here other touch)) (subst (λ (k : ℕ). other < k) was.moved.size below)) in
                 let then_t : role_state (reading_of new) t.role ≡ Recovering t.slot = ap (role_state (reading_of new)) same_role ∙ then ∙ ap (λ (s : ℕ). Recovering s) (sym same_slot) in
                 let high_t : t.held ≤ row = subst (λ (k : ℕ). k ≤ row) (sym c.target_of-target.ensures.held) high in
                 let done_t : HasFull (reading_of new) (present given1 tape2) shape list row t.role t.slot = did.filled none then_t told list
-                (subst (λ (b : Given). ListStands n (present b tape1) list) (sym was.given) list1) (subst (λ (b : Given). RowsStandAmong touched n (present b tape1) list) (sym was.given) rows1) row late high_t in
+                (subst (λ (b : Given). DataStandsAmong shape touched n (present b tape1) list) (sym was.given) list1) (subst (λ (b : Given). RowsStandAmong shape touched n (present b tape1) list) (sym was.given) rows1) row late high_t in
                 subst (λ (b : Given). HasFull (reading_of new) (present b tape2) shape list row role slot) was.given
                 (subst (λ (r : ℕ). HasFull (reading_of new) (present given1 tape2) shape list row r slot) same_role
                 (subst (λ (s : ℕ). HasFull (reading_of new) (present given1 tape2) shape list row t.role s) same_slot done_t))

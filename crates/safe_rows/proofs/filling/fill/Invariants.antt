@@ -7,7 +7,7 @@ use Rattle.row_io.specs.Rows.{reading_of, present}
 use Rattle.list_io.specs.Writing.{HasFull}
 use Rattle.views.specs.Moving.{Grows, IsMoved}
 use Rattle.shape_changes.specs.Safety.{HasRoomLeft, IsRisen}
-use Rattle.views.specs.Lacking.{HaveFailedSince, ListStands, RowsStandAmong, IsOfStripe}
+use Rattle.views.specs.Lacking.{HaveFailedSince, DataStandsAmong, RowsStandAmong, IsOfStripe}
 use Rattle.flat_history.specs.World.{World}
 use Rattle.views.specs.Rebuilding.{IsFilledAmong}
 use Rattle.shape_views.specs.Views.{Ledger}
@@ -25,8 +25,8 @@ invariant-loop-done g l = record {
   grows : Grows g.B.Bank.tells (g.B.Bank.tape l.fn.bank) (g.B.Bank.tape l.bank);
   clean : is_clean l.members.newest ≡ is_clean l.fn.members.newest;
   within : l.done ≤ l.chunk;
-  full : g.B.Bank.tells → (list : ℕ → Sector) → ListStands l.fn.members (present (g.B.Bank.given l.fn.bank) (g.B.Bank.tape l.fn.bank)) list
-      → RowsStandAmong (IsOfStripe l.shape l.stripe) l.fn.members (present (g.B.Bank.given l.fn.bank) (g.B.Bank.tape l.fn.bank)) list
+  full : g.B.Bank.tells → (list : ℕ → Sector) → DataStandsAmong l.shape (IsOfStripe l.shape l.stripe) l.fn.members (present (g.B.Bank.given l.fn.bank) (g.B.Bank.tape l.fn.bank)) list
+      → RowsStandAmong l.shape (IsOfStripe l.shape l.stripe) l.fn.members (present (g.B.Bank.given l.fn.bank) (g.B.Bank.tape l.fn.bank)) list
       → role_state (reading_of l.members) l.role ≡ Recovering l.slot → (row : ℕ) → IsInParts l.shape l.stripe l.done row → rows_held (reading_of l.fn.members) (Recovering l.slot) ≤ row
       → HasFull (reading_of l.members) (present (g.B.Bank.given l.fn.bank) (g.B.Bank.tape l.bank)) l.shape list row l.role l.slot;
   others : g.B.Bank.tells → IsFilledAmong l.fn.members l.role l.slot (IsInParts l.shape l.stripe l.done)

@@ -1,6 +1,5 @@
-use Rattle.std.proofs.Common.{◌≡◌, ℕ, ◌<◌, ◌≤◌, true, false, List, length, inl, inr, refl, sym, ◌∙◌, ap, subst, arith}
+use Rattle.std.proofs.Common.{◌≡◌, ℕ, ◌<◌, ◌≤◌, true, List, length, inl, inr, refl, sym, ◌∙◌, ap, subst, arith}
 use Rattle.std.specs.Prelude.{Option, Contains, is_some, slice_index}
-use Rattle.md_base.specs.declared.places.Shape.{Shape}
 use Rattle.md_base.specs.declared.answers.Refusal.{Refusal}
 use Rattle.md_base.specs.declared.status.Role.TheVariants.{Recovering}
 use Rattle.bank.specs.Given.{Given, NeverFalls}
@@ -9,7 +8,6 @@ use Rattle.superblocks.specs.declared.members.Members.{Members}
 use Rattle.superblocks.specs.Reading.{role_state, holder, is_clean}
 use Rattle.row_io.specs.Rows.{present, reading_of}
 use Rattle.list_io.specs.Buffers.{IsTouched}
-use Rattle.list_io.specs.Full.{DataStands, RowStands}
 use Rattle.list_io.specs.Writing.{AreDataFrom, HasFull}
 use Rattle.list_io.proofs.BufferLaws.{data_read}
 use Rattle.flat_history.specs.Sound.{OpensFit}
@@ -22,10 +20,10 @@ use Rattle.views.specs.Rebuilding.{AreSparesFree, IsFilledAmong}
 use Rattle.shape_changes.specs.Steady.{KeepsSafe, AreGoneTold, IsUncleanTold}
 use Rattle.views.proofs.MovedLaws.{moved-lost, moved-then, moved-from, grows-none, grows-then}
 use Rattle.views.proofs.LackingLaws.{since-lost, since-then, in-second, in-either}
-use Rattle.views.proofs.LackingLists.{none-of}
 use Rattle.views.proofs.LackingWrites.{lost-of, ok-of, recovering-before}
 use Rattle.shape_changes.proofs.Risen.{risen-lost, risen-then, room-first, room-then}
 use Rattle.views.proofs.SafeStretch.{safe-then, safe-lost, over-at, keeps-from, grows-longer, gone-before}
+use Rattle.views.proofs.Fit.{has-rows}
 use Rattle.views.proofs.LiveLeft.{holder-left}
 use Rattle.safe_rows.proofs.FillingLaws.{filled-none, filled-then, named-first, named-only, named-none}
 use Rattle.views.proofs.FilledParts.{recovered-alone, recovered-rows, filled-before, others-filled, at-touched}
@@ -756,12 +754,12 @@ returns-clause-filled g c =
     let buffer = c.read_touched-read.new.buffer.items in
     let c0 = present given tape0 in
     let c3 = present given tape3 in
-    let read = ok-of n c.read_touched-read.result.answer (ap (λ (o : Option Refusal). is_some o) (sym c.refused_by-refusal.ensures) ∙ sym c.is_some.ensures ∙ c.if-is_some.false) did.read told in
+    let read = ok-of shape n c.read_touched-read.result.answer (ap (λ (o : Option Refusal). is_some o) (sym c.refused_by-refusal.ensures) ∙ sym c.is_some.ensures ∙ c.if-is_some.false) did.read told in
     let then : role_state (reading_of p) role ≡ Recovering slot = recovering-before three role slot recovers in
     let early : role_state (reading_of n) role ≡ Recovering slot = recovering-before two role slot then in
     let own = data_read 0 shape true (reading_of m) (reading_of n) c0 list rows buffer read
-    (λ row has. subst (λ (s : Shape). DataStands (reading_of m) c0 s list row) (sym c.requires.shape) (stands row (did.below row has)))
-    (λ synced row has. subst (λ (s : Shape). RowStands (reading_of m) c0 s list row) (sym c.requires.shape) (full row (did.touched.only row has) (did.below row has))) in
+    (λ row has. stands row (did.touched.only row has) (did.below row has))
+    (λ synced row has. full row (did.touched.only row has) (did.below row has)) in
     let done : (i : ℕ) → i < length rows → c.args.target.now.held ≤ slice_index rows i → HasFull (reading_of q) c3 shape list (slice_index rows i) role slot =
     subst (λ (l : List ℕ). (i : ℕ) → i < length l → c.args.target.now.held ≤ slice_index l i → HasFull (reading_of q) c3 shape list (slice_index l i) role slot) c.as_slice.ensures.value
     (subst (λ (b : Given). (i : ℕ) → i < length c.as_slice.result.now → c.args.target.now.held ≤ slice_index c.as_slice.result.now i → HasFull (reading_of q) (present b tape3) shape list (slice_index c.as_slice.result.now i) role slot) same2
@@ -901,3 +899,9 @@ returns-clause-counts g c =
     let mid = c.name_missing-named.ensures.counts k in
     let high = c.fill_rows-lost.ensures.counts k in
     omega (arith, low, mid, high)
+
+pub read_touched-read-requires-clause-rows : goal.read_touched-read-requires-clause-rows
+read_touched-read-requires-clause-rows g c = has-rows (g.B.Bank.given c.args.bank.now) c.args.members.now c.requires.placed c.args.shape.now (inl c.requires.shape)
+
+pub returns-then-is_some-clause-grows : goal.returns-then-is_some-clause-grows
+returns-then-is_some-clause-grows g c = grows-none c.read_touched-read.ensures.tape

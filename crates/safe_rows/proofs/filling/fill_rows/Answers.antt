@@ -22,6 +22,7 @@ use Rattle.views.proofs.LackingLaws.{since-lost, since-then, in-second}
 use Rattle.views.proofs.LackingWrites.{marks-here, lost-of, recovering-before}
 use Rattle.shape_changes.proofs.Risen.{risen-lost, risen-then, room-then}
 use Rattle.views.proofs.SafeStretch.{safe-none, safe-then, safe-lost, over-at, keeps-from, grows-longer}
+use Rattle.views.proofs.Fit.{few}
 use Rattle.views.proofs.FilledParts.{found-in, safe-filled, others-filled}
 use Rattle.safe_rows.proofs.FillingLaws.{filling-kept}
 use Rattle.safe_rows.proofs.filling.fill_rows.Goals as goal
@@ -303,3 +304,6 @@ returns-clause-counts g c =
     let low = c.write_filled.ensures.counts slot in
     let high = c.name_missing.ensures.counts slot in
     omega (arith, low, high)
+
+pub lose_slot-requires-clause-few : goal.lose_slot-requires-clause-few
+lose_slot-requires-clause-few g c = let roles = few (g.B.Bank.given c.args.bank.now) c.args.members.now c.requires.placed in omega (arith, roles)

@@ -1,4 +1,4 @@
-use Rattle.std.proofs.Common.{◌≡◌, ◌+◌, ◌-◌, ◌*◌, ◌≤◌, ℕ, length, take, drop, inr, sym, ◌∙◌, subst, arith}
+use Rattle.std.proofs.Common.{◌≡◌, ◌+◌, ◌-◌, ◌*◌, ◌≤◌, ℕ, length, take, drop, inl, inr, sym, ◌∙◌, subst, arith}
 use Rattle.std.specs.Prelude.{slice_index, Contains}
 use Rattle.bank.specs.Given.{Given}
 use Rattle.layout.proofs.Limits.{limited}
@@ -42,7 +42,7 @@ loop-i-preserved g c =
     let tape0 = g.B.Bank.tape c.args.bank.now in
     let tape1 = g.B.Bank.tape c.loop-i.bank in
     let tape2 = g.B.Bank.tape c.fill_row.new.bank in
-    let valid = valid-in given m c.requires.placed shape c.requires.shape in
+    let valid = valid-in given m c.requires.placed shape (inl c.requires.shape) in
     let few : shape.disks ≤ 16 = (limited shape valid).most in
     let within : 8192 * i + 512 * shape.disks ≤ length c.loop-i.buffer = omega (arith, c.loop-i.auto.buffer, c.requires.buffer, few, c.loop-i-test.true) in
     let filled : g.B.Bank.tells → IsFilledAmong m role slot (λ other. other ≡ row) (present given tape1) (present given tape2) =

@@ -1,16 +1,23 @@
-use Rattle.std.proofs.Common.{inl, inr, ◌+◌, ◌*◌, ◌≤◌, refl, sym, ◌∙◌, subst, arith}
+use Rattle.std.proofs.Common.{inl, inr, ℕ, ◌+◌, ◌*◌, ◌≤◌, refl, sym, ◌∙◌, ap, subst, arith}
 use Rattle.bank.specs.Given.{Given}
-use Rattle.row_io.specs.Rows.{present}
+use Rattle.row_io.specs.Rows.{reading_of, present}
+use Rattle.md_base.specs.Shapes.{data_disks}
+use Rattle.shape_views.specs.Regions.{place_by}
 use Rattle.list_io.specs.Buffers.{IsTouched}
 use Rattle.flat_history.specs.Sound.{OpensFit}
 use Rattle.views.specs.Moving.{IsMoved}
 use Rattle.views.specs.Rebuilding.{AreSparesFree}
-use Rattle.views.specs.Lacking.{ListStands}
-use Rattle.views.proofs.MovedLaws.{moved-then, moved-same, grows-none, grows-then, moved-from, size-moved}
+use Rattle.views.specs.Lacking.{DataStandsAmong, AreOtherRowsKept, IsOfStripe}
+use Rattle.views.proofs.MovedLaws.{moved-then, moved-same, grows-none, grows-then, moved-from}
 use Rattle.views.proofs.LackingLaws.{since-same, since-then, in-either}
 use Rattle.views.proofs.LackingLists.{none-of}
 use Rattle.shape_changes.proofs.Risen.{risen-none, risen-then}
-use Rattle.views.proofs.SafeStretch.{safe-none, allowed-later}
+use Rattle.views.proofs.SafeStretch.{safe-none, allowed-later, region-later}
+use Rattle.views.proofs.Fit.{alike-force}
+use Rattle.views.proofs.PutLists.{touched-or-not}
+use Rattle.views.proofs.LackingWrites.{others-then}
+use Rattle.views.proofs.FilledParts.{touched-in_parts, parts-of_stripe}
+use Rattle.safe_rows.proofs.MendedStripes.{put-wider}
 use Rattle.views.proofs.MendedParts.{valid-in, stripe-within, part-within, part-touches, ArePut, put-none, put-then, put-untouched, nothing-written, no-bytes, not-begun, safe-part}
 use Rattle.safe_rows.proofs.mending.mend.Goals as goal
 
@@ -30,9 +37,9 @@ loop-done-init g c =
       grows = grows-none (λ told. refl);
       dirty = c.requires.dirty;
       within = omega arith;
-      put = λ told. put-none given c.args.shape.now _ m tape0 (λ row at. absurd (let low = at.0 in let high = at.1 in omega (arith, low, high)));
+      put = λ told. put-none given c.args.shape.now _ _ m tape0 (λ row at. absurd (let low = at.0 in let high = at.1 in omega (arith, low, high)));
       rise = risen-none m tape0 tape0 (λ told. omega arith);
-      safe = λ told world ledger room gone unclean list stands allowed safe. safe-none (OpensFit world) world.scope given ledger m tape0 safe;
+      safe = λ told world ledger room gone unclean list stands region allowed safe. safe-none (OpensFit world) world.scope given ledger m tape0 safe;
       given = refl;
       counts = λ s. omega arith;
       rows = omega arith;
@@ -46,6 +53,11 @@ overflow_add-first g c =
     (omega (arith, within)) in
     omega (arith, fits.0, fits.1)
 
+pub put-part-requires-clause-shape : goal.put-part-requires-clause-shape
+put-part-requires-clause-shape g c =
+    let was = c.loop-done.invariant.moved in
+    alike-force c.args.members.now.newest c.loop-done.members.newest was.reshape was.shape was.size c.args.shape.now c.requires.shape
+
 pub put-part-requires-clause-free : goal.put-part-requires-clause-free
 put-part-requires-clause-free g c = subst (λ (b : Given). AreSparesFree b c.loop-done.members) (sym c.loop-done.invariant.given) (c.loop-done.invariant.moved.free c.requires.free)
 
@@ -55,7 +67,7 @@ put-part-requires-clause-within g c =
     let given = g.B.Bank.given c.args.bank.now in
     let fits = part-within given c.args.members.now c.requires.placed c.args.shape.now c.requires.shape c.args.stripe c.requires.stripe c.list_length.result c.list_length.ensures c.loop-done.done c.min-count.result
     (let count = c.min-count.ensures in let within = was.within in omega (arith, count, within)) in
-    let size = size-moved given c.args.members.now c.loop-done.members was.moved in
+    let size = ap (λ (k : ℕ). data_disks c.args.shape.now * k) was.moved.size in
     omega (arith, fits.0, size)
 
 pub put-part-requires-clause-short : goal.put-part-requires-clause-short
@@ -88,12 +100,12 @@ returns-then-is_some-clause-stands g c = λ does told list stands.
     let m = c.args.members.now in
     let n = c.loop-done.members in
     let new = c.put-part.new.members in
-    let others = did.untouched (not-begun new c.put-part.result.begun c.put-part.result.refusal (sym c.is_some.ensures ∙ c.if-is_some.true) does did.torn) told in
-    (put-untouched given given1 was.given c.args.shape.now _ m n new (g.B.Bank.tape c.args.bank.now) (g.B.Bank.tape c.loop-done.bank) (g.B.Bank.tape c.put-part.new.bank) c.requires.shape was.moved
+    let others = did.untouched (not-begun c.args.shape.now new c.put-part.result.begun c.put-part.result.refusal (sym c.is_some.ensures ∙ c.if-is_some.true) does did.torn) told in
+    (put-untouched given given1 was.given c.args.shape.now _ _ m n new (g.B.Bank.tape c.args.bank.now) (g.B.Bank.tape c.loop-done.bank) (g.B.Bank.tape c.put-part.new.bank) was.moved
     (moved-from given given1 n n new was.given refl did.moved) others (was.put told)).stands list stands
 
 pub returns-then-is_some-clause-kept : goal.returns-then-is_some-clause-kept
-returns-then-is_some-clause-kept g c = λ does told list stands row lt here.
+returns-then-is_some-clause-kept g c = λ does told list stands row of here.
     let was = c.loop-done.invariant in
     let did = c.put-part.ensures in
     let given = g.B.Bank.given c.args.bank.now in
@@ -101,12 +113,15 @@ returns-then-is_some-clause-kept g c = λ does told list stands row lt here.
     let m = c.args.members.now in
     let n = c.loop-done.members in
     let new = c.put-part.new.members in
-    let others = did.untouched (not-begun new c.put-part.result.begun c.put-part.result.refusal (sym c.is_some.ensures ∙ c.if-is_some.true) does did.torn) told in
-    (put-untouched given given1 was.given c.args.shape.now _ m n new (g.B.Bank.tape c.args.bank.now) (g.B.Bank.tape c.loop-done.bank) (g.B.Bank.tape c.put-part.new.bank) c.requires.shape was.moved
-    (moved-from given given1 n n new was.given refl did.moved) others (was.put told)).rows list stands row lt here.whole (inr here)
+    let others = did.untouched (not-begun c.args.shape.now new c.put-part.result.begun c.put-part.result.refusal (sym c.is_some.ensures ∙ c.if-is_some.true) does did.torn) told in
+    (put-untouched given given1 was.given c.args.shape.now _ _ m n new (g.B.Bank.tape c.args.bank.now) (g.B.Bank.tape c.loop-done.bank) (g.B.Bank.tape c.put-part.new.bank) was.moved
+    (moved-from given given1 n n new was.given refl did.moved) others (was.put told)).rows list stands row of
+    (let high = of.1 in let rows = stripe-within given m c.requires.placed c.args.shape.now c.requires.shape c.args.stripe c.requires.stripe in omega (arith, high, rows)) here.whole (inr here)
 
 pub returns-then-is_some-clause-rebuilt : goal.returns-then-is_some-clause-rebuilt
-returns-then-is_some-clause-rebuilt g c = λ does told list stands.
+returns-then-is_some-clause-rebuilt g c = λ does told list stands role slot row lt is of.
+    let rows = stripe-within (g.B.Bank.given c.args.bank.now) c.args.members.now c.requires.placed c.args.shape.now c.requires.shape c.args.stripe c.requires.stripe in
+    let high = of.1 in
     let was = c.loop-done.invariant in
     let did = c.put-part.ensures in
     let given = g.B.Bank.given c.args.bank.now in
@@ -114,15 +129,36 @@ returns-then-is_some-clause-rebuilt g c = λ does told list stands.
     let m = c.args.members.now in
     let n = c.loop-done.members in
     let new = c.put-part.new.members in
-    let others = did.untouched (not-begun new c.put-part.result.begun c.put-part.result.refusal (sym c.is_some.ensures ∙ c.if-is_some.true) does did.torn) told in
-    (put-untouched given given1 was.given c.args.shape.now _ m n new (g.B.Bank.tape c.args.bank.now) (g.B.Bank.tape c.loop-done.bank) (g.B.Bank.tape c.put-part.new.bank) c.requires.shape was.moved
-    (moved-from given given1 n n new was.given refl did.moved) others (was.put told)).rebuilt list stands
+    let others = did.untouched (not-begun c.args.shape.now new c.put-part.result.begun c.put-part.result.refusal (sym c.is_some.ensures ∙ c.if-is_some.true) does did.torn) told in
+    (put-untouched given given1 was.given c.args.shape.now _ _ m n new (g.B.Bank.tape c.args.bank.now) (g.B.Bank.tape c.loop-done.bank) (g.B.Bank.tape c.put-part.new.bank) was.moved
+    (moved-from given given1 n n new was.given refl did.moved) others (was.put told)).rebuilt list stands role slot row lt is of (omega (arith, high, rows))
+
+pub returns-then-is_some-clause-others : goal.returns-then-is_some-clause-others
+returns-then-is_some-clause-others g c = λ told.
+    let was = c.loop-done.invariant in
+    let did = c.put-part.ensures in
+    let m = c.args.members.now in
+    let n = c.loop-done.members in
+    let new = c.put-part.new.members in
+    let given = g.B.Bank.given c.args.bank.now in
+    let given1 = g.B.Bank.given c.loop-done.bank in
+    let c0 = present given (g.B.Bank.tape c.args.bank.now) in
+    let tape1 = g.B.Bank.tape c.loop-done.bank in
+    let tape2 = g.B.Bank.tape c.put-part.new.bank in
+    let stripe = IsOfStripe c.args.shape.now c.args.stripe in
+    let touched = IsTouched c.args.shape.now (c.args.stripe * c.list_length.result + c.loop-done.done) c.min-count.result in
+    let part : c.loop-done.done + c.min-count.result ≤ c.args.shape.now.chunk = (let count = c.min-count.ensures in let within = was.within in omega (arith, count, within)) in
+    let valid = valid-in given m c.requires.placed c.args.shape.now c.requires.shape in
+    let inside : (row : ℕ) → touched row → stripe row = λ row at. parts-of_stripe c.args.shape.now c.args.stripe (c.loop-done.done + c.min-count.result) row part
+    (touched-in_parts c.args.shape.now valid c.args.stripe c.list_length.result c.list_length.ensures c.loop-done.done c.min-count.result part row at) in
+    others-then given stripe m n new c0 (present given tape1) (present given tape2) (moved-from given given1 n n new was.given refl did.moved) (was.put told).others
+    (subst (λ (b : Given). AreOtherRowsKept stripe (reading_of new) (present b tape1) (present b tape2)) was.given (λ row out. did.others told row (λ at. out (inside row at))))
 
 pub returns-then-is_some-clause-rise : goal.returns-then-is_some-clause-rise
 returns-then-is_some-clause-rise g c = risen-then c.loop-done.invariant.rise c.put-part.ensures.rise
 
 pub returns-then-is_some-clause-safe : goal.returns-then-is_some-clause-safe
-returns-then-is_some-clause-safe g c = λ told world ledger room gone unclean list stands allowed safe.
+returns-then-is_some-clause-safe g c = λ told world ledger room gone unclean list stands region allowed safe.
     let was = c.loop-done.invariant in
     let did = c.put-part.ensures in
     let m = c.args.members.now in
@@ -133,11 +169,18 @@ returns-then-is_some-clause-safe g c = λ told world ledger room gone unclean li
     let tape0 = g.B.Bank.tape c.args.bank.now in
     let tape1 = g.B.Bank.tape c.loop-done.bank in
     let tape2 = g.B.Bank.tape c.put-part.new.bank in
+    let stripe = IsOfStripe c.args.shape.now c.args.stripe in
+    let touched = IsTouched c.args.shape.now (c.args.stripe * c.list_length.result + c.loop-done.done) c.min-count.result in
+    let part : c.loop-done.done + c.min-count.result ≤ c.args.shape.now.chunk = (let count = c.min-count.ensures in let within = was.within in omega (arith, count, within)) in
+    let valid = valid-in given m c.requires.placed c.args.shape.now c.requires.shape in
+    let inside : (row : ℕ) → touched row → stripe row = λ row at. parts-of_stripe c.args.shape.now c.args.stripe (c.loop-done.done + c.min-count.result) row part
+    (touched-in_parts c.args.shape.now valid c.args.stripe c.list_length.result c.list_length.ensures c.loop-done.done c.min-count.result part row at) in
     safe-part world given given1 ledger m n new tape0 tape1 tape2 told was.given was.moved.placed (moved-from given given1 n n new was.given refl did.moved) did.grows was.rise room gone
-    (λ first gone1. was.safe told world ledger first gone1 unclean list stands allowed safe)
+    (λ first gone1. was.safe told world ledger first gone1 unclean list stands region allowed safe)
     (λ then now. did.safe told world ledger then gone unclean list list (nothing-written list _)
-    (subst (λ (b : Given). ListStands n (present b tape1) list) (sym was.given) ((was.put told).stands list stands)) (λ is. absurd (cc))
-    (λ begun. allowed-later given m n was.moved c.requires.placed ledger.values list allowed) now)
+    (subst (λ (b : Given). DataStandsAmong c.args.shape.now touched n (present b tape1) list) (sym was.given) (λ row at. (was.put told).stands list stands row (inside row at))) (λ is. absurd (cc))
+    (region-later given m n c.args.shape.now touched was.moved (λ x lt at. region x lt (inside (place_by m.newest x).row at)))
+    (λ begun. allowed-later given m n was.moved ledger.values list allowed) now)
 
 pub loop-done-preserved : goal.loop-done-preserved
 loop-done-preserved g c =
@@ -152,7 +195,12 @@ loop-done-preserved g c =
     let tape1 = g.B.Bank.tape c.loop-done.bank in
     let tape2 = g.B.Bank.tape c.put-part.new.bank in
     let moved : IsMoved given n new = moved-from given given1 n n new was.given refl did.moved in
+    let stripe = IsOfStripe c.args.shape.now c.args.stripe in
+    let touched = IsTouched c.args.shape.now (c.args.stripe * c.list_length.result + c.loop-done.done) c.min-count.result in
     let part : c.loop-done.done + c.min-count.result ≤ c.args.shape.now.chunk = (let count = c.min-count.ensures in let within = was.within in omega (arith, count, within)) in
+    let valid = valid-in given m c.requires.placed c.args.shape.now c.requires.shape in
+    let inside : (row : ℕ) → touched row → stripe row = λ row at. parts-of_stripe c.args.shape.now c.args.stripe (c.loop-done.done + c.min-count.result) row part
+    (touched-in_parts c.args.shape.now valid c.args.stripe c.list_length.result c.list_length.ensures c.loop-done.done c.min-count.result part row at) in
     record {
       moved = moved-then given m n new was.moved moved;
       failed = since-then m n new c.loop-done.spares c.put-part.result.spares _ (g.B.Bank.faults_of c.args.bank.now) (g.B.Bank.faults_of c.loop-done.bank) (g.B.Bank.faults_of c.put-part.new.bank)
@@ -163,22 +211,24 @@ loop-done-preserved g c =
       put = λ told.
           let none = none-of c.put-part.result.refusal (sym c.is_some.ensures ∙ c.if-is_some.false) in
           let first = c.args.stripe * c.list_length.result + c.loop-done.done in
-          let touched = IsTouched c.args.shape.now first c.min-count.result in
-          put-then given c.args.shape.now _ touched _ m n new tape0 tape1 tape2 was.moved.size moved
-          (part-touches c.args.shape.now (valid-in given m c.requires.placed c.args.shape.now c.requires.shape) c.args.stripe c.list_length.result c.list_length.ensures c.loop-done.done c.min-count.result part)
+          put-then given c.args.shape.now stripe _ touched _ m n new tape0 tape1 tape2 was.moved.size moved
+          (part-touches c.args.shape.now valid c.args.stripe c.list_length.result c.list_length.ensures c.loop-done.done c.min-count.result part)
           (was.put told)
-          (subst (λ (b : Given). ArePut b c.args.shape.now touched n new tape1 tape2) was.given (record {
+          (put-wider given c.args.shape.now touched stripe n new tape1 tape2 moved (touched-or-not c.args.shape.now first c.min-count.result) inside
+          (subst (λ (b : Given). ArePut b c.args.shape.now touched touched n new tape1 tape2) was.given (record {
             stands = λ list stands. did.put none told list list (nothing-written list first) stands;
-            rows = λ list stands row lt whole is. did.good none told list list (nothing-written list first) no-bytes stands (λ is. absurd (cc)) row lt whole is;
-            rebuilt = λ list stands. did.rebuilt none told list list (nothing-written list first) stands (λ is. absurd (cc));
-          }));
+            rows = λ list stands row has lt whole is. did.good none told list list (nothing-written list first) no-bytes stands (λ is. absurd (cc)) row has lt whole;
+            rebuilt = λ list stands role slot row below is has lt. did.rebuilt none told list list (nothing-written list first) stands (λ is. absurd (cc)) role slot row below is has lt;
+            others = did.others told;
+          })));
       rise = risen-then was.rise did.rise;
-      safe = λ told world ledger room gone unclean list stands allowed safe.
+      safe = λ told world ledger room gone unclean list stands region allowed safe.
           safe-part world given given1 ledger m n new tape0 tape1 tape2 told was.given was.moved.placed moved did.grows was.rise room gone
-          (λ first gone1. was.safe told world ledger first gone1 unclean list stands allowed safe)
+          (λ first gone1. was.safe told world ledger first gone1 unclean list stands region allowed safe)
           (λ then now. did.safe told world ledger then gone unclean list list (nothing-written list _)
-          (subst (λ (b : Given). ListStands n (present b tape1) list) (sym was.given) ((was.put told).stands list stands)) (λ is. absurd (cc))
-          (λ begun. allowed-later given m n was.moved c.requires.placed ledger.values list allowed) now);
+          (subst (λ (b : Given). DataStandsAmong c.args.shape.now touched n (present b tape1) list) (sym was.given) (λ row at. (was.put told).stands list stands row (inside row at))) (λ is. absurd (cc))
+          (region-later given m n c.args.shape.now touched was.moved (λ x lt at. region x lt (inside (place_by m.newest x).row at)))
+          (λ begun. allowed-later given m n was.moved ledger.values list allowed) now);
       given = did.given ∙ was.given;
       counts = λ s. let one = was.counts s in let two = did.counts s in omega (arith, one, two);
       rows = let one = was.rows in let two = did.rows in omega (arith, one, two);
@@ -193,13 +243,22 @@ returns-clause-mended g c = λ ok told list stands row of whole.
     let end = c.loop-done-test.false in
     let within = was.within in
     let rows = stripe-within (g.B.Bank.given c.args.bank.now) c.args.members.now c.requires.placed c.args.shape.now c.requires.shape c.args.stripe c.requires.stripe in
-    (was.put told).rows list stands row (omega (arith, high, rows)) whole (inl (low, omega (arith, high, end, within)))
+    (was.put told).rows list stands row of (omega (arith, high, rows)) whole (inl (low, omega (arith, high, end, within)))
 
 pub returns-clause-stands : goal.returns-clause-stands
 returns-clause-stands g c = λ does told. (c.loop-done.invariant.put told).stands
 
 pub returns-clause-kept : goal.returns-clause-kept
-returns-clause-kept g c = λ does told list stands row lt here. (c.loop-done.invariant.put told).rows list stands row lt here.whole (inr here)
+returns-clause-kept g c = λ does told list stands row of here.
+    let high = of.1 in
+    let rows = stripe-within (g.B.Bank.given c.args.bank.now) c.args.members.now c.requires.placed c.args.shape.now c.requires.shape c.args.stripe c.requires.stripe in
+    (c.loop-done.invariant.put told).rows list stands row of (omega (arith, high, rows)) here.whole (inr here)
 
 pub returns-clause-rebuilt : goal.returns-clause-rebuilt
-returns-clause-rebuilt g c = λ does told. (c.loop-done.invariant.put told).rebuilt
+returns-clause-rebuilt g c = λ does told list stands role slot row lt is of.
+    let high = of.1 in
+    let rows = stripe-within (g.B.Bank.given c.args.bank.now) c.args.members.now c.requires.placed c.args.shape.now c.requires.shape c.args.stripe c.requires.stripe in
+    (c.loop-done.invariant.put told).rebuilt list stands role slot row lt is of (omega (arith, high, rows))
+
+pub returns-clause-others : goal.returns-clause-others
+returns-clause-others g c = λ told. (c.loop-done.invariant.put told).others

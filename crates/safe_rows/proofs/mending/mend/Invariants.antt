@@ -5,9 +5,10 @@ use Rattle.superblocks.specs.Reading.{is_clean}
 use Rattle.row_io.specs.Rows.{present}
 use Rattle.views.specs.Moving.{Grows, IsMoved}
 use Rattle.shape_changes.specs.Safety.{HasRoomLeft, IsRisen}
-use Rattle.views.specs.Lacking.{HaveFailedSince, ListStands}
+use Rattle.views.specs.Lacking.{HaveFailedSince, DataStandsAmong, IsOfStripe}
 use Rattle.flat_history.specs.World.{World}
 use Rattle.shape_views.specs.Views.{Ledger}
+use Rattle.shape_views.specs.Windows.{IsOfRegion}
 use Rattle.shape_changes.specs.Steady.{IsSafeOver, KeepsSafe, AreGoneTold, AreWritesAllowed}
 use Rattle.views.proofs.MendedParts.{IsInParts, ArePut}
 use Rattle.safe_rows.proofs.mending.mend.Given as goal
@@ -22,12 +23,12 @@ invariant-loop-done g l = record {
   grows : Grows g.B.Bank.tells (g.B.Bank.tape l.fn.bank) (g.B.Bank.tape l.bank);
   dirty : is_clean l.members.newest ≡ false;
   within : l.done ≤ l.chunk;
-  put : g.B.Bank.tells → ArePut (g.B.Bank.given l.fn.bank) l.shape (IsInParts l.shape l.stripe l.done) l.fn.members l.members
+  put : g.B.Bank.tells → ArePut (g.B.Bank.given l.fn.bank) l.shape (IsOfStripe l.shape l.stripe) (IsInParts l.shape l.stripe l.done) l.fn.members l.members
       (g.B.Bank.tape l.fn.bank) (g.B.Bank.tape l.bank);
   rise : IsRisen g.B.Bank.tells l.fn.members l.members (g.B.Bank.tape l.fn.bank) (g.B.Bank.tape l.bank);
   safe : g.B.Bank.tells → (world : World) → (told : Ledger) → HasRoomLeft l.fn.members (g.B.Bank.tape l.fn.bank) (g.B.Bank.tape l.bank)
-      → AreGoneTold told l.members → told.unclean ≡ true → (list : ℕ → Sector) → ListStands l.fn.members (present (g.B.Bank.given l.fn.bank) (g.B.Bank.tape l.fn.bank)) list
-      → AreWritesAllowed l.fn.members told.values list → IsSafeOver world (g.B.Bank.given l.fn.bank) told l.fn.members (g.B.Bank.tape l.fn.bank)
+      → AreGoneTold told l.members → told.unclean ≡ true → (list : ℕ → Sector) → DataStandsAmong l.shape (IsOfStripe l.shape l.stripe) l.fn.members (present (g.B.Bank.given l.fn.bank) (g.B.Bank.tape l.fn.bank)) list
+      → IsOfRegion l.fn.members l.shape (IsOfStripe l.shape l.stripe) → AreWritesAllowed l.fn.members told.values list → IsSafeOver world (g.B.Bank.given l.fn.bank) told l.fn.members (g.B.Bank.tape l.fn.bank)
       → KeepsSafe world (g.B.Bank.given l.fn.bank) told l.members (g.B.Bank.tape l.fn.bank) (g.B.Bank.tape l.bank);
   given : g.B.Bank.given l.bank ≡ g.B.Bank.given l.fn.bank;
   counts : NeverFalls (g.B.Bank.faults_of l.fn.bank) (g.B.Bank.faults_of l.bank);

@@ -1,17 +1,16 @@
 use Rattle.std.proofs.Common.{◌<◌, ℕ, List, length, arith, refl, sym, ◌∙◌, ap, subst}
-use Rattle.md_base.specs.declared.places.Shape.{Shape}
 use Rattle.bank.specs.Given.{Given}
 use Rattle.bank.specs.declared.bank.Operation.{Operation}
 use Rattle.superblocks.specs.declared.members.Members.{Members}
-use Rattle.superblocks.specs.Reading.{shape_of}
 use Rattle.row_io.specs.Rows.{present, reading_of}
 use Rattle.list_io.specs.Buffers.{buffered}
-use Rattle.list_io.specs.Full.{DataStands, RowStands}
 use Rattle.list_io.proofs.BufferLaws.{data_read}
 use Rattle.views.specs.Placed.{IsPlaced, AreLost}
-use Rattle.views.specs.Moving.{IsMoved}
+use Rattle.shape_changes.specs.Marking.{AreOthersPresent}
+use Rattle.views.specs.Moving.{Grows, IsMoved}
 use Rattle.views.specs.Rebuilding.{AreSparesFree}
-use Rattle.views.proofs.MovedLaws.{moved-lost, moved-then, moved-from}
+use Rattle.views.proofs.MovedLaws.{moved-lost, moved-then, moved-from, grows-none, grows-then}
+use Rattle.views.proofs.Fit.{has-rows, force-valid}
 use Rattle.views.proofs.LackingLaws.{since-lost, since-then, in-second}
 use Rattle.views.proofs.LackingWrites.{lost-of, standing-later}
 use Rattle.safe_updates.proofs.RefusingLaws.{write-cause, write-told, told-first, told-why, many-told, not-err}
@@ -116,8 +115,8 @@ returns-clause-read g c = λ none told.
     record {
       held = λ i lt. standing-later given n c.raise-spares.new.members moved lost.placed c0 c0 (λ s k other. refl) shape _ (buffered buffer i) (read i lt).held;
       listed = λ list stands full. data_read 0 shape c.args.synced (reading_of m) (reading_of n) c0 list rows buffer read
-          (λ row has. subst (λ (s : Shape). DataStands (reading_of m) c0 s list row) (sym c.requires.shape) (stands row (did.below row has)))
-          (λ synced row has. subst (λ (s : Shape). RowStands (reading_of m) c0 s list row) (sym c.requires.shape) (full synced row has (did.below row has)));
+          (λ row has. stands row has (did.below row has))
+          (λ synced row has. full synced row has (did.below row has));
     }
 
 pub returns-clause-below : goal.returns-clause-below
@@ -167,21 +166,57 @@ pub returns-then-is_err-clause-first : goal.returns-then-is_err-clause-first
 returns-then-is_err-clause-first g c = told-first c.unwritten.result c.unwritten.ensures
 
 pub returns-then-is_err-clause-refused : goal.returns-then-is_err-clause-refused
-returns-then-is_err-clause-refused g c = told-why c.unwritten.result (write-cause c.args.synced c.read_touched-read.new.members) (told-first c.unwritten.result c.unwritten.ensures)
+returns-then-is_err-clause-refused g c = told-why c.unwritten.result (write-cause c.args.shape.now c.args.synced c.read_touched-read.new.members) (told-first c.unwritten.result c.unwritten.ensures)
 
 pub returns-then-is_err-clause-read : goal.returns-then-is_err-clause-read
 returns-then-is_err-clause-read g c = λ none.
     let n = c.read_touched-read.new.members in
     let did = c.read_touched-read.ensures in
-    absurd (write-told n c.args.shape.now c.args.synced c.read_touched-read.result.answer (c.requires.shape ∙ ap (λ (x : Members). shape_of x.newest) (sym did.lost.members))
+    absurd (write-told n c.args.shape.now c.args.synced c.read_touched-read.result.answer
     (sym c.is_err.ensures.value ∙ c.if-is_err.true) did.answer (sym c.unwritten.ensures ∙ none))
 
 pub returns-then-is_err-clause-dirty : goal.returns-then-is_err-clause-dirty
 returns-then-is_err-clause-dirty g c = λ none.
     let n = c.read_touched-read.new.members in
     let did = c.read_touched-read.ensures in
-    absurd (write-told n c.args.shape.now c.args.synced c.read_touched-read.result.answer (c.requires.shape ∙ ap (λ (x : Members). shape_of x.newest) (sym did.lost.members))
+    absurd (write-told n c.args.shape.now c.args.synced c.read_touched-read.result.answer
     (sym c.is_err.ensures.value ∙ c.if-is_err.true) did.answer (sym c.unwritten.ensures ∙ none))
 
 pub returns-clause-first : goal.returns-clause-first
-returns-clause-first g c = many-told _ c.args.synced c.raise-spares.new.members c.too_many.result c.too_many.ensures
+returns-clause-first g c = many-told _ c.args.shape.now c.args.synced c.raise-spares.new.members c.too_many_of.result c.too_many_of.ensures
+
+pub read_touched-read-requires-clause-rows : goal.read_touched-read-requires-clause-rows
+read_touched-read-requires-clause-rows g c = has-rows (g.B.Bank.given c.args.bank.now) c.args.members.now c.requires.placed c.args.shape.now c.requires.shape
+
+pub too_many_of-requires-clause-shape : goal.too_many_of-requires-clause-shape
+too_many_of-requires-clause-shape g c = force-valid c.args.members.now.newest c.requires.placed.fit c.args.shape.now c.requires.shape
+
+pub returns-then-is_err-clause-failed : goal.returns-then-is_err-clause-failed
+returns-then-is_err-clause-failed g c =
+    let m = c.args.members.now in
+    let n = c.read_touched-read.new.members in
+    let given = g.B.Bank.given c.args.bank.now in
+    let f0 = g.B.Bank.faults_of c.args.bank.now in
+    let f1 = g.B.Bank.faults_of c.read_touched-read.new.bank in
+    let r = c.read_touched-read.result.lost in
+    let shape = c.args.shape.now in
+    since-lost given shape m n r f0 f1 (lost-of given shape m n r f0 f1 c.requires.placed c.read_touched-read.ensures.lost)
+
+pub returns-then-is_err-clause-grows : goal.returns-then-is_err-clause-grows
+returns-then-is_err-clause-grows g c = grows-none c.read_touched-read.ensures.tape
+
+pub returns-clause-grows : goal.returns-clause-grows
+returns-clause-grows g c =
+    let early : Grows g.B.Bank.tells (g.B.Bank.tape c.args.bank.now) (g.B.Bank.tape c.read_touched-read.new.bank) = grows-none c.read_touched-read.ensures.tape in
+    grows-then early c.raise-spares.ensures.grows
+
+pub returns-clause-others : goal.returns-clause-others
+returns-clause-others g c = λ told.
+    let given = g.B.Bank.given c.args.bank.now in
+    let tape1 = g.B.Bank.tape c.read_touched-read.new.bank in
+    let tape2 = g.B.Bank.tape c.raise-spares.new.bank in
+    subst (λ (l : List Operation). AreOthersPresent (present given l) (present given tape2)) (c.read_touched-read.ensures.tape told)
+    (subst (λ (b : Given). AreOthersPresent (present b tape1) (present b tape2)) c.read_touched-read.ensures.given (c.raise-spares.ensures.others told))
+
+pub returns-clause-counts : goal.returns-clause-counts
+returns-clause-counts g c = λ s. let one = c.read_touched-read.ensures.lost.never_falls s in let two = c.raise-spares.ensures.counts s in omega (arith, one, two)

@@ -1,22 +1,22 @@
-use Rattle.std.proofs.Common.{◌≡◌, ◌⊎◌, ◌-◌, ◌<◌, ℕ, true, List, length, refl, sym, ◌∙◌, ap, subst, arith}
+use Rattle.std.proofs.Common.{◌≡◌, ◌-◌, ◌<◌, ℕ, List, length, inl, refl, sym, ◌∙◌, ap, subst, arith}
 use Rattle.std.specs.Prelude.{Contains, slice_index, None}
-use Rattle.md_base.specs.declared.places.Shape.{Shape}
 use Rattle.bank.specs.Given.{Given}
-use Rattle.superblocks.specs.Reading.{shape_of}
 use Rattle.row_io.specs.Rows.{reading_of, present}
-use Rattle.list_io.specs.Buffers.{buffered, AreStanding, AreTouched, IsTouched}
-use Rattle.list_io.specs.Full.{AreWholeIn, RowStands}
-use Rattle.list_io.specs.Writing.{AreDataFrom, HasFull}
+use Rattle.list_io.specs.Buffers.{buffered, AreStanding, IsTouched}
+use Rattle.list_io.specs.Writing.{AreDataFrom}
+use Rattle.shape_views.specs.Regions.{place_by}
+use Rattle.shape_views.specs.Windows.{IsOfRegion}
 use Rattle.views.specs.Moving.{IsMoved}
-use Rattle.views.specs.Lacking.{RowsStandAmong, AreRowsRead, AreRowsWritten}
-use Rattle.views.specs.Placed.{AreWhole}
-use Rattle.views.proofs.MovedLaws.{moved-then, moved-same, moved-from}
+use Rattle.views.specs.Lacking.{AreRowsRead, AreRowsWritten}
+use Rattle.views.proofs.MovedLaws.{moved-then, moved-same, moved-from, grows-then}
+use Rattle.views.specs.Rebuilding.{AreSparesFree}
 use Rattle.views.proofs.LackingLaws.{since-then, in-either}
-use Rattle.views.proofs.LackingWrites.{standing-later}
-use Rattle.views.proofs.LackingLists.{list-written, row-written, rebuilt-written, data-read, sectors-whole, none-of}
+use Rattle.views.proofs.LackingWrites.{standing-later, others-then, others-same}
+use Rattle.views.proofs.Elements.{contains-at}
+use Rattle.views.proofs.LackingLists.{data-touched, row-written, rebuilt-written, data-read, sectors-whole, none-of}
 use Rattle.flat_history.specs.Sound.{OpensFit}
 use Rattle.shape_changes.proofs.Risen.{risen-then, room-first, room-then}
-use Rattle.views.proofs.SafeStretch.{gone-before, safe-then, allowed-later, grows-longer, over-at, keeps-from}
+use Rattle.views.proofs.SafeStretch.{gone-before, safe-then, allowed-later, region-later, grows-longer, over-at, keeps-from}
 use Rattle.safe_updates.proofs.RefusingLaws.{many-told}
 use Rattle.safe_rows.proofs.putting.put.Goals as goal
 
@@ -74,13 +74,11 @@ returns-clause-put g c = λ ok told list list' w stands.
     subst (λ (b : Given). AreRowsWritten shape first from rows 0 (length rows) m3 (present b tape2) (present b tape3) buffer buffer') did1.given
     (subst (λ (n : ℕ). AreRowsWritten shape first from rows 0 n m3 (present given2 tape2) (present given2 tape3) buffer buffer') (did2.done ok ∙ ap length c.as_slice.ensures.value)
     (subst (λ (l : List ℕ). AreRowsWritten shape first from l 0 c.put_rows-done.result.next m3 (present given2 tape2) (present given2 tape3) buffer buffer') c.as_slice.ensures.value (did2.written told))) in
-    list-written given m m2 m3 did1.moved two c.requires.placed (present given tape0) (present given tape2) (present given tape3) (did1.others told) first c.args.count from rows buffer buffer' c.requires.from_few
-    (subst (λ (s : Shape). AreTouched s first c.args.count rows) c.requires.shape did1.touched)
-    (subst (λ (s : Shape). AreRowsWritten s first from rows 0 (length rows) m3 (present given tape2) (present given tape3) buffer buffer') c.requires.shape done)
-    list list' w c.args.synced (subst (λ (s : Shape). AreRowsRead s c.args.synced m m2 (present given tape0) rows buffer) c.requires.shape read) stands
+    data-touched given m m2 m3 did1.moved two c.requires.placed shape c.requires.shape (present given tape0) (present given tape2) (present given tape3) (did1.others told) first c.args.count from rows buffer buffer'
+    c.requires.from_few did1.touched done list list' w c.args.synced read stands
 
 pub returns-clause-good : goal.returns-clause-good
-returns-clause-good g c = λ ok told list list' w small stands full row below whole which.
+returns-clause-good g c = λ ok told list list' w small stands full row touch below whole.
     let given = g.B.Bank.given c.args.bank.now in
     let given2 = g.B.Bank.given c.prepare-begun.new.bank in
     let m = c.args.members.now in
@@ -104,18 +102,13 @@ returns-clause-good g c = λ ok told list list' w small stands full row below wh
     (subst (λ (n : ℕ). AreRowsWritten shape first from rows 0 n m3 (present given2 tape2) (present given2 tape3) buffer buffer') (did2.done ok ∙ ap length c.as_slice.ensures.value)
     (subst (λ (l : List ℕ). AreRowsWritten shape first from l 0 c.put_rows-done.result.next m3 (present given2 tape2) (present given2 tape3) buffer buffer') c.as_slice.ensures.value (did2.written told))) in
     let c0 = present given tape0 in
-    let touched : AreTouched (shape_of m.newest) first c.args.count rows = subst (λ (s : Shape). AreTouched s first c.args.count rows) c.requires.shape did1.touched in
-    let has : AreDataFrom 0 (shape_of m.newest) list rows buffer =
-    data-read given m m2 m3 did1.moved two c.requires.placed c0 first c.args.count rows buffer list c.args.synced touched did1.below
-    (subst (λ (s : Shape). AreRowsRead s c.args.synced m m2 c0 rows buffer) c.requires.shape read) stands
-    (subst (λ (s : Shape). c.args.synced ≡ true → AreWhole m3 ⊎ RowsStandAmong (IsTouched s first c.args.count) m c0 list) c.requires.shape full) in
-    subst (λ (s : Shape). AreWholeIn s list row → IsTouched s first c.args.count row ⊎ RowStands (reading_of m) c0 s list row → RowStands (reading_of m3) (present given tape3) s list' row) (sym c.requires.shape)
-    (row-written given m m2 m3 did1.moved two c.requires.placed c0 (present given tape2) (present given tape3) (did1.others told) first c.args.count from rows buffer buffer' c.requires.from_few touched
-    (subst (λ (s : Shape). AreRowsWritten s first from rows 0 (length rows) m3 (present given tape2) (present given tape3) buffer buffer') c.requires.shape done)
-    list list' w has (λ x low high. sectors-whole from c.requires.from small (x - first) (omega (arith, low, high))) row) whole which
+    let has : AreDataFrom 0 shape list rows buffer =
+    data-read given m m2 m3 shape c.requires.shape did1.moved two c.requires.placed c0 first c.args.count rows buffer list c.args.synced did1.touched did1.below read stands full in
+    row-written given m m2 m3 did1.moved two c.requires.placed shape c.requires.shape c0 (present given tape2) (present given tape3) (did1.others told) first c.args.count from rows buffer buffer' c.requires.from_few
+    did1.touched done list list' w has (λ x low high. sectors-whole from c.requires.from small (x - first) (omega (arith, low, high))) row whole (inl touch)
 
 pub returns-clause-rebuilt : goal.returns-clause-rebuilt
-returns-clause-rebuilt g c = λ ok told list list' w stands full role slot row lt is below.
+returns-clause-rebuilt g c = λ ok told list list' w stands full role slot row lt is touch below.
     let given = g.B.Bank.given c.args.bank.now in
     let given2 = g.B.Bank.given c.prepare-begun.new.bank in
     let m = c.args.members.now in
@@ -139,24 +132,51 @@ returns-clause-rebuilt g c = λ ok told list list' w stands full role slot row l
     (subst (λ (n : ℕ). AreRowsWritten shape first from rows 0 n m3 (present given2 tape2) (present given2 tape3) buffer buffer') (did2.done ok ∙ ap length c.as_slice.ensures.value)
     (subst (λ (l : List ℕ). AreRowsWritten shape first from l 0 c.put_rows-done.result.next m3 (present given2 tape2) (present given2 tape3) buffer buffer') c.as_slice.ensures.value (did2.written told))) in
     let c0 = present given tape0 in
-    let touched : AreTouched (shape_of m.newest) first c.args.count rows = subst (λ (s : Shape). AreTouched s first c.args.count rows) c.requires.shape did1.touched in
-    let has : AreDataFrom 0 (shape_of m.newest) list rows buffer =
-    data-read given m m2 m3 did1.moved two c.requires.placed c0 first c.args.count rows buffer list c.args.synced touched did1.below
-    (subst (λ (s : Shape). AreRowsRead s c.args.synced m m2 c0 rows buffer) c.requires.shape read) stands
-    (subst (λ (s : Shape). c.args.synced ≡ true → AreWhole m3 ⊎ RowsStandAmong (IsTouched s first c.args.count) m c0 list) c.requires.shape full) in
-    subst (λ (s : Shape). HasFull (reading_of m) c0 s list row role slot → HasFull (reading_of m3) (present given tape3) s list' row role slot) (sym c.requires.shape)
-    (rebuilt-written given m m2 m3 did1.moved two c.requires.placed c0 (present given tape2) (present given tape3) (did1.others told) first c.args.count from rows buffer buffer' c.requires.from_few touched
-    (subst (λ (s : Shape). AreRowsWritten s first from rows 0 (length rows) m3 (present given tape2) (present given tape3) buffer buffer') c.requires.shape done)
-    list list' w has role slot row (subst (λ (s : Shape). role < s.disks) c.requires.shape lt) is)
+    let has : AreDataFrom 0 shape list rows buffer =
+    data-read given m m2 m3 shape c.requires.shape did1.moved two c.requires.placed c0 first c.args.count rows buffer list c.args.synced did1.touched did1.below read stands full in
+    rebuilt-written given m m2 m3 did1.moved two c.requires.placed shape c.requires.shape c0 (present given tape2) (present given tape3) (did1.others told) first c.args.count from rows buffer buffer'
+    c.requires.from_few did1.touched done list list' w has role slot row lt is
+
+pub returns-then-is_some-clause-others : goal.returns-then-is_some-clause-others
+returns-then-is_some-clause-others g c = λ told.
+    let given = g.B.Bank.given c.args.bank.now in
+    let did = c.prepare-begun.ensures in
+    others-same given (IsTouched c.args.shape.now c.args.first c.args.count) c.args.members.now c.prepare-begun.new.members (present given (g.B.Bank.tape c.args.bank.now)) (present given (g.B.Bank.tape c.prepare-begun.new.bank))
+    did.moved c.requires.placed (did.others told)
+
+pub returns-clause-others : goal.returns-clause-others
+returns-clause-others g c = λ told.
+    let given = g.B.Bank.given c.args.bank.now in
+    let given2 = g.B.Bank.given c.prepare-begun.new.bank in
+    let m = c.args.members.now in
+    let m2 = c.prepare-begun.new.members in
+    let m3 = c.put_rows-done.new.members in
+    let did1 = c.prepare-begun.ensures in
+    let did2 = c.put_rows-done.ensures in
+    let tape2 = g.B.Bank.tape c.prepare-begun.new.bank in
+    let tape3 = g.B.Bank.tape c.put_rows-done.new.bank in
+    let rows = c.as_slice.result.now in
+    let buffer = c.prepare-begun.new.buffer.items in
+    let buffer' = c.put_rows-done.new.buffer.items in
+    let touched = IsTouched c.args.shape.now c.args.first c.args.count in
+    let c0 = present given (g.B.Bank.tape c.args.bank.now) in
+    let c2 = present given tape2 in
+    let two : IsMoved given m2 m3 = moved-from given given2 m2 m2 m3 did1.given refl did2.moved in
+    let done : AreRowsWritten c.args.shape.now c.args.first c.args.from.now rows 0 c.put_rows-done.result.next m3 c2 (present given tape3) buffer buffer' =
+    subst (λ (b : Given). AreRowsWritten c.args.shape.now c.args.first c.args.from.now rows 0 c.put_rows-done.result.next m3 (present b tape2) (present b tape3) buffer buffer') did1.given (did2.written told) in
+    let within = did2.within in
+    others-then given touched m m2 m3 c0 c2 (present given tape3) two (others-same given touched m m2 c0 c2 did1.moved c.requires.placed (did1.others told))
+    (λ row out. done.others row (λ i low lt e. out (did1.touched.only row (subst (λ (l : List ℕ). Contains l row) c.as_slice.ensures.value
+    (subst (λ (r : ℕ). Contains rows r) e (contains-at rows i (omega (arith, lt, within))))))))
 
 pub returns-then-is_some-clause-safe : goal.returns-then-is_some-clause-safe
-returns-then-is_some-clause-safe g c = λ told world ledger room gone unclean list list' w stands full allowed safe. c.prepare-begun.ensures.safe told world ledger room gone unclean safe
+returns-then-is_some-clause-safe g c = λ told world ledger room gone unclean list list' w stands full region allowed safe. c.prepare-begun.ensures.safe told world ledger room gone unclean safe
 
 pub returns-clause-rise : goal.returns-clause-rise
 returns-clause-rise g c = risen-then c.prepare-begun.ensures.rise c.put_rows-done.ensures.rise
 
 pub returns-clause-safe : goal.returns-clause-safe
-returns-clause-safe g c = λ told world ledger room gone unclean list list' w stands full allowed safe.
+returns-clause-safe g c = λ told world ledger room gone unclean list list' w stands full region allowed safe.
     let given = g.B.Bank.given c.args.bank.now in
     let given2 = g.B.Bank.given c.prepare-begun.new.bank in
     let m = c.args.members.now in
@@ -173,19 +193,31 @@ returns-clause-safe g c = λ told world ledger room gone unclean list list' w st
     let first = c.args.first in
     let none : c.prepare-begun.result.refusal ≡ None = none-of c.prepare-begun.result.refusal (sym c.is_some.ensures ∙ c.if-is_some.false) in
     let two : IsMoved given m2 m3 = moved-from given given2 m2 m2 m3 did1.given refl did2.moved in
-    let read : AreRowsRead (shape_of m.newest) c.args.synced m m2 (present given tape0) rows buffer =
-    subst (λ (s : Shape). AreRowsRead s c.args.synced m m2 (present given tape0) rows buffer) c.requires.shape (did1.read none told) in
+    let read : AreRowsRead shape c.args.synced m m2 (present given tape0) rows buffer = did1.read none told in
     let has : AreDataFrom 0 shape list c.as_slice.result.now buffer =
     subst (λ (l : List ℕ). AreDataFrom 0 shape list l buffer) (sym c.as_slice.ensures.value)
-    (subst (λ (s : Shape). AreDataFrom 0 s list rows buffer) (sym c.requires.shape)
-    (data-read given m m2 m3 did1.moved two c.requires.placed (present given tape0) first c.args.count rows buffer list c.args.synced
-    (subst (λ (s : Shape). AreTouched s first c.args.count rows) c.requires.shape did1.touched) did1.below read stands
-    (subst (λ (s : Shape). c.args.synced ≡ true → AreWhole m3 ⊎ RowsStandAmong (IsTouched s first c.args.count) m (present given tape0) list) c.requires.shape full))) in
+    (data-read given m m2 m3 shape c.requires.shape did1.moved two c.requires.placed (present given tape0) first c.args.count rows buffer list c.args.synced did1.touched did1.below read stands full) in
+    let here : IsOfRegion m2 shape (Contains c.as_slice.result.now) = region-later given m m2 shape (Contains c.as_slice.result.now) did1.moved
+    (λ x lt at. region x lt (did1.touched.only (place_by m.newest x).row (subst (λ (l : List ℕ). Contains l (place_by m.newest x).row) c.as_slice.ensures.value at))) in
     let one = did1.safe told world ledger (room-first m tape0 tape2 tape3 room (grows-longer did2.grows told)) (gone-before given m2 m3 did1.moved.placed two ledger gone) unclean safe in
     safe-then (OpensFit world) world.scope given ledger m2 m3 tape0 tape2 tape3 one
     (keeps-from world given given2 ledger m3 tape2 tape3 did1.given
-    (did2.safe told world ledger (room-then tape3 told room did1.rise) gone unclean (did1.dirty none) list list' w (λ t. has)
-    (allowed-later given m m2 did1.moved c.requires.placed ledger.values list' (allowed refl)) (over-at world given given2 ledger m2 tape2 did1.given one.next)))
+    (did2.safe told world ledger (room-then tape3 told room did1.rise) gone unclean (did1.dirty none) here list list' w (λ t. has)
+    (allowed-later given m m2 did1.moved ledger.values list' (allowed refl)) (over-at world given given2 ledger m2 tape2 did1.given one.next)))
 
 pub returns-clause-first : goal.returns-clause-first
-returns-clause-first g c = many-told _ c.args.synced c.put_rows-done.new.members c.put_rows-done.result.refusal c.put_rows-done.ensures.refused
+returns-clause-first g c = many-told _ c.args.shape.now c.args.synced c.put_rows-done.new.members c.put_rows-done.result.refusal c.put_rows-done.ensures.refused
+
+pub put_rows-done-requires-clause-free : goal.put_rows-done-requires-clause-free
+put_rows-done-requires-clause-free g c =
+    let did = c.prepare-begun.ensures in
+    subst (λ (b : Given). AreSparesFree b c.prepare-begun.new.members) (sym did.given) (did.moved.free c.requires.free)
+
+pub returns-clause-grows : goal.returns-clause-grows
+returns-clause-grows g c = grows-then c.prepare-begun.ensures.grows c.put_rows-done.ensures.grows
+
+pub returns-clause-dirty : goal.returns-clause-dirty
+returns-clause-dirty g c = λ ok. c.put_rows-done.ensures.clean ∙ c.prepare-begun.ensures.dirty (none-of c.prepare-begun.result.refusal (sym c.is_some.ensures ∙ c.if-is_some.false))
+
+pub returns-clause-counts : goal.returns-clause-counts
+returns-clause-counts g c = λ s. let one = c.prepare-begun.ensures.counts s in let two = c.put_rows-done.ensures.counts s in omega (arith, one, two)

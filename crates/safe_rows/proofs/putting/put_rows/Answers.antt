@@ -7,13 +7,12 @@ use Rattle.views.specs.Lacking.{AreRowsWritten}
 use Rattle.views.proofs.MovedLaws.{moved-then, moved-same, grows-none, grows-then, moved-from}
 use Rattle.views.proofs.LackingLaws.{since-same, since-then, in-either}
 use Rattle.views.proofs.LackingWrites.{written-then}
-use Rattle.std.specs.Prelude.{IsTrue}
-use Rattle.md_base.specs.Shapes.{is_valid_shape}
-use Rattle.md_base.specs.declared.places.Shape.{Shape}
+use Rattle.std.specs.Prelude.{Contains}
+use Rattle.views.proofs.Fit.{force-valid, alike-force}
 use Rattle.flat_history.specs.Sound.{OpensFit}
 use Rattle.views.proofs.LackingWrites.{data-later}
 use Rattle.shape_changes.proofs.Risen.{risen-none, risen-then, room-first, room-then}
-use Rattle.views.proofs.SafeStretch.{gone-before, safe-none, safe-then, allowed-later, grows-longer, over-at, keeps-from}
+use Rattle.views.proofs.SafeStretch.{gone-before, safe-none, safe-then, allowed-later, region-later, grows-longer, over-at, keeps-from}
 use Rattle.safe_rows.proofs.putting.put_rows.Goals as goal
 
 pub loop-next-init : goal.loop-next-init
@@ -36,11 +35,16 @@ loop-next-init g c =
       clean = refl;
       kept = λ whole. refl;
       rise = risen-none m tape0 tape0 (λ told. omega arith);
-      safe = λ told world ledger room gone unclean dirty list list' w has allowed safe. safe-none (OpensFit world) world.scope given ledger m tape0 safe;
+      safe = λ told world ledger room gone unclean dirty region list list' w has allowed safe. safe-none (OpensFit world) world.scope given ledger m tape0 safe;
       given = refl;
       counts = λ s. omega arith;
       size = refl;
     }
+
+pub put_stretch-one-requires-clause-shape : goal.put_stretch-one-requires-clause-shape
+put_stretch-one-requires-clause-shape g c =
+    let was = c.loop-next.invariant.moved in
+    alike-force c.args.members.now.newest c.loop-next.members.newest was.reshape was.shape was.size c.args.shape.now c.requires.shape
 
 pub put_stretch-one-requires-clause-free : goal.put_stretch-one-requires-clause-free
 put_stretch-one-requires-clause-free g c =
@@ -71,7 +75,7 @@ returns-then-is_some-clause-written g c = λ told.
     let tape2 = g.B.Bank.tape c.put_stretch-one.new.bank in
     let moved : IsMoved given c.loop-next.members c.put_stretch-one.new.members =
     moved-from given (g.B.Bank.given c.loop-next.bank) c.loop-next.members c.loop-next.members c.put_stretch-one.new.members was.given refl did.moved in
-    written-then given c.loop-next.members c.put_stretch-one.new.members moved was.moved.placed c.args.shape.now (c.requires.shape ∙ sym was.moved.shape) c.args.first c.args.from.now c.args.rows.now c.requires.once
+    written-then given c.loop-next.members c.put_stretch-one.new.members moved was.moved.placed c.args.shape.now (alike-force c.args.members.now.newest c.loop-next.members.newest was.moved.reshape was.moved.shape was.moved.size c.args.shape.now c.requires.shape) c.args.first c.args.from.now c.args.rows.now c.requires.once
     0 c.loop-next.next c.put_stretch-one.result.next (omega arith) did.within (present given tape0) (present given tape1) (present given tape2)
     c.args.buffer.now.items c.loop-next.buffer.items c.put_stretch-one.new.buffer.items (was.written told)
     (subst (λ (b : Given). AreRowsWritten c.args.shape.now c.args.first c.args.from.now c.args.rows.now c.loop-next.next c.put_stretch-one.result.next c.put_stretch-one.new.members
@@ -92,7 +96,7 @@ loop-next-preserved g c =
       failed = since-then c.args.members.now c.loop-next.members c.put_stretch-one.new.members c.loop-next.spares c.put_stretch-one.result.spares _ (g.B.Bank.faults_of c.args.bank.now) (g.B.Bank.faults_of c.loop-next.bank)
           (g.B.Bank.faults_of c.put_stretch-one.new.bank) was.counts did.counts was.failed did.failed (in-either c.loop-next.spares c.put_stretch-one.result.spares);
       grows = grows-then was.grows did.grows;
-      written = λ told. written-then given c.loop-next.members c.put_stretch-one.new.members moved was.moved.placed c.args.shape.now (c.requires.shape ∙ sym was.moved.shape) c.args.first c.args.from.now c.args.rows.now c.requires.once
+      written = λ told. written-then given c.loop-next.members c.put_stretch-one.new.members moved was.moved.placed c.args.shape.now (alike-force c.args.members.now.newest c.loop-next.members.newest was.moved.reshape was.moved.shape was.moved.size c.args.shape.now c.requires.shape) c.args.first c.args.from.now c.args.rows.now c.requires.once
           0 c.loop-next.next c.put_stretch-one.result.next (omega arith) did.within (present given tape0) (present given tape1) (present given tape2)
           c.args.buffer.now.items c.loop-next.buffer.items c.put_stretch-one.new.buffer.items (was.written told)
           (subst (λ (b : Given). AreRowsWritten c.args.shape.now c.args.first c.args.from.now c.args.rows.now c.loop-next.next c.put_stretch-one.result.next c.put_stretch-one.new.members
@@ -101,7 +105,7 @@ loop-next-preserved g c =
       clean = did.clean ∙ was.clean;
       kept = λ whole. did.kept whole ∙ was.kept (moved.whole whole);
       rise = risen-then was.rise did.rise;
-      safe = λ told world ledger room gone unclean dirty list list' w has allowed safe.
+      safe = λ told world ledger room gone unclean dirty region list list' w has allowed safe.
           let was = c.loop-next.invariant in
           let did = c.put_stretch-one.ensures in
           let m = c.args.members.now in
@@ -113,13 +117,13 @@ loop-next-preserved g c =
           let tape2 = g.B.Bank.tape c.put_stretch-one.new.bank in
           let new = c.put_stretch-one.new.members in
           let moved : IsMoved given n new = moved-from given given1 n n new was.given refl did.moved in
-          let one = was.safe told world ledger (room-first m tape0 tape1 tape2 room (grows-longer did.grows told)) (gone-before given n new was.moved.placed moved ledger gone) unclean dirty list list' w has allowed safe in
+          let one = was.safe told world ledger (room-first m tape0 tape1 tape2 room (grows-longer did.grows told)) (gone-before given n new was.moved.placed moved ledger gone) unclean dirty region list list' w has allowed safe in
           safe-then (OpensFit world) world.scope given ledger n new tape0 tape1 tape2 one
           (keeps-from world given given1 ledger new tape1 tape2 was.given
-          (did.safe told world ledger (room-then tape2 told room was.rise) gone unclean (was.clean ∙ dirty) list list' w
-          (λ told. data-later c.args.shape.now (subst (λ (s : Shape). IsTrue (is_valid_shape s)) (sym c.requires.shape) c.requires.placed.valid) c.args.first c.args.from.now c.args.rows.now 0 c.loop-next.next (omega arith)
+          (did.safe told world ledger (room-then tape2 told room was.rise) gone unclean (was.clean ∙ dirty) (region-later given m n c.args.shape.now (Contains c.args.rows.now) was.moved region) list list' w
+          (λ told. data-later c.args.shape.now (force-valid m.newest c.requires.placed.fit c.args.shape.now c.requires.shape) c.args.first c.args.from.now c.args.rows.now 0 c.loop-next.next (omega arith)
           n (present given tape0) (present given tape1) c.args.buffer.now.items c.loop-next.buffer.items list (was.written told) (has told))
-          (allowed-later given m n was.moved c.requires.placed ledger.values list' allowed) (over-at world given given1 ledger n tape1 was.given one.next)));
+          (allowed-later given m n was.moved ledger.values list' allowed) (over-at world given given1 ledger n tape1 was.given one.next)));
       given = did.given ∙ was.given;
       counts = λ s. let one = was.counts s in let two = did.counts s in omega (arith, one, two);
       size = did.size ∙ was.size;
@@ -129,7 +133,7 @@ pub returns-then-is_some-clause-rise : goal.returns-then-is_some-clause-rise
 returns-then-is_some-clause-rise g c = risen-then c.loop-next.invariant.rise c.put_stretch-one.ensures.rise
 
 pub returns-then-is_some-clause-safe : goal.returns-then-is_some-clause-safe
-returns-then-is_some-clause-safe g c = λ told world ledger room gone unclean dirty list list' w has allowed safe.
+returns-then-is_some-clause-safe g c = λ told world ledger room gone unclean dirty region list list' w has allowed safe.
     let was = c.loop-next.invariant in
     let did = c.put_stretch-one.ensures in
     let m = c.args.members.now in
@@ -141,10 +145,10 @@ returns-then-is_some-clause-safe g c = λ told world ledger room gone unclean di
     let tape2 = g.B.Bank.tape c.put_stretch-one.new.bank in
     let new = c.put_stretch-one.new.members in
     let moved : IsMoved given n new = moved-from given given1 n n new was.given refl did.moved in
-    let one = was.safe told world ledger (room-first m tape0 tape1 tape2 room (grows-longer did.grows told)) (gone-before given n new was.moved.placed moved ledger gone) unclean dirty list list' w has allowed safe in
+    let one = was.safe told world ledger (room-first m tape0 tape1 tape2 room (grows-longer did.grows told)) (gone-before given n new was.moved.placed moved ledger gone) unclean dirty region list list' w has allowed safe in
     safe-then (OpensFit world) world.scope given ledger n new tape0 tape1 tape2 one
     (keeps-from world given given1 ledger new tape1 tape2 was.given
-    (did.safe told world ledger (room-then tape2 told room was.rise) gone unclean (was.clean ∙ dirty) list list' w
-    (λ told. data-later c.args.shape.now (subst (λ (s : Shape). IsTrue (is_valid_shape s)) (sym c.requires.shape) c.requires.placed.valid) c.args.first c.args.from.now c.args.rows.now 0 c.loop-next.next (omega arith)
+    (did.safe told world ledger (room-then tape2 told room was.rise) gone unclean (was.clean ∙ dirty) (region-later given m n c.args.shape.now (Contains c.args.rows.now) was.moved region) list list' w
+    (λ told. data-later c.args.shape.now (force-valid m.newest c.requires.placed.fit c.args.shape.now c.requires.shape) c.args.first c.args.from.now c.args.rows.now 0 c.loop-next.next (omega arith)
     n (present given tape0) (present given tape1) c.args.buffer.now.items c.loop-next.buffer.items list (was.written told) (has told))
-    (allowed-later given m n was.moved c.requires.placed ledger.values list' allowed) (over-at world given given1 ledger n tape1 was.given one.next)))
+    (allowed-later given m n was.moved ledger.values list' allowed) (over-at world given given1 ledger n tape1 was.given one.next)))

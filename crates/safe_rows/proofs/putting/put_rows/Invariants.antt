@@ -1,4 +1,4 @@
-use Rattle.std.proofs.Common.{◌≡◌, ◌-◌, ◌≤◌, ℕ, true, false, length}
+use Rattle.std.proofs.Common.{◌≡◌, ◌-◌, ◌≤◌, ℕ, true, false, length, Contains}
 use Rattle.bank.specs.Given.{NeverFalls}
 use Rattle.md_base.specs.Sectors.{Sector}
 use Rattle.superblocks.specs.Reading.{is_clean}
@@ -10,6 +10,7 @@ use Rattle.views.specs.Lacking.{HaveFailedSince, AreRowsWritten}
 use Rattle.flat_history.specs.World.{World}
 use Rattle.shape_changes.specs.Safety.{HasRoomLeft, IsRisen}
 use Rattle.shape_views.specs.Views.{Ledger}
+use Rattle.shape_views.specs.Windows.{IsOfRegion}
 use Rattle.shape_changes.specs.Steady.{IsSafeOver, KeepsSafe, AreGoneTold, AreWritesAllowed}
 use Rattle.safe_rows.proofs.putting.put_rows.Given as goal
 
@@ -28,7 +29,7 @@ invariant-loop-next g l = record {
   kept : AreWhole l.members → l.members ≡ l.fn.members;
   rise : IsRisen g.B.Bank.tells l.fn.members l.members (g.B.Bank.tape l.fn.bank) (g.B.Bank.tape l.bank);
   safe : g.B.Bank.tells → (world : World) → (told : Ledger) → HasRoomLeft l.fn.members (g.B.Bank.tape l.fn.bank) (g.B.Bank.tape l.bank)
-      → AreGoneTold told l.members → told.unclean ≡ true → is_clean l.fn.members.newest ≡ false → (list list' : ℕ → Sector) → IsWritten list list' l.first l.from
+      → AreGoneTold told l.members → told.unclean ≡ true → is_clean l.fn.members.newest ≡ false → IsOfRegion l.fn.members l.shape (Contains l.rows) → (list list' : ℕ → Sector) → IsWritten list list' l.first l.from
       → (g.B.Bank.tells → AreDataFrom 0 l.shape list l.rows l.fn.buffer.items) → AreWritesAllowed l.fn.members told.values list'
       → IsSafeOver world (g.B.Bank.given l.fn.bank) told l.fn.members (g.B.Bank.tape l.fn.bank)
       → KeepsSafe world (g.B.Bank.given l.fn.bank) told l.members (g.B.Bank.tape l.fn.bank) (g.B.Bank.tape l.bank);

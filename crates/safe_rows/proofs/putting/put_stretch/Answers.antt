@@ -1,9 +1,9 @@
-use Rattle.std.proofs.Common.{refl, sym, subst}
+use Rattle.std.proofs.Common.{refl, sym, ◌∙◌, subst, arith}
 use Rattle.bank.specs.Given.{Given}
 use Rattle.row_io.specs.Rows.{present}
 use Rattle.shape_changes.specs.Marking.{AreOthersPresent}
 use Rattle.views.specs.Rebuilding.{AreSparesFree}
-use Rattle.views.proofs.MovedLaws.{moved-then, moved-from}
+use Rattle.views.proofs.MovedLaws.{moved-then, moved-from, grows-then}
 use Rattle.views.proofs.LackingLaws.{since-then, in-second}
 use Rattle.views.proofs.LackingWrites.{written-later}
 use Rattle.flat_history.specs.Sound.{OpensFit}
@@ -46,13 +46,13 @@ returns-clause-written g c = λ told.
     (did.written told)
 
 pub returns-then-is_some-clause-safe : goal.returns-then-is_some-clause-safe
-returns-then-is_some-clause-safe g c = λ told world ledger room gone unclean dirty list list' w has allowed safe. c.write_stretch-next.ensures.safe told world ledger dirty list list' w has allowed safe
+returns-then-is_some-clause-safe g c = λ told world ledger room gone unclean dirty region list list' w has allowed safe. c.write_stretch-next.ensures.safe told world ledger dirty region list list' w has allowed safe
 
 pub returns-clause-rise : goal.returns-clause-rise
 returns-clause-rise g c = risen-then c.write_stretch-next.ensures.rise c.name_missing-spares.ensures.rise
 
 pub returns-clause-safe : goal.returns-clause-safe
-returns-clause-safe g c = λ told world ledger room gone unclean dirty list list' w has allowed safe.
+returns-clause-safe g c = λ told world ledger room gone unclean dirty region list list' w has allowed safe.
     let given = g.B.Bank.given c.args.bank.now in
     let given1 = g.B.Bank.given c.write_stretch-next.new.bank in
     let tape0 = g.B.Bank.tape c.args.bank.now in
@@ -61,7 +61,18 @@ returns-clause-safe g c = λ told world ledger room gone unclean dirty list list
     let n = c.write_stretch-next.new.members in
     let did = c.write_stretch-next.ensures in
     let named = c.name_missing-spares.ensures in
-    let one = did.safe told world ledger dirty list list' w has allowed safe in
+    let one = did.safe told world ledger dirty region list list' w has allowed safe in
     safe-then (OpensFit world) world.scope given ledger n c.name_missing-spares.new.members tape0 tape1 tape2 one
     (keeps-from world given given1 ledger c.name_missing-spares.new.members tape1 tape2 did.given
     (named.safe told world ledger (room-then tape2 told room did.rise) gone (λ is. unclean) (over-at world given given1 ledger n tape1 did.given one.next)))
+
+pub returns-clause-grows : goal.returns-clause-grows
+returns-clause-grows g c = grows-then c.write_stretch-next.ensures.grows c.name_missing-spares.ensures.grows
+
+pub returns-clause-kept : goal.returns-clause-kept
+returns-clause-kept g c = λ whole.
+    let mid = c.name_missing-spares.ensures.moved.whole whole in
+    c.name_missing-spares.ensures.kept mid ∙ c.write_stretch-next.ensures.kept mid
+
+pub returns-clause-counts : goal.returns-clause-counts
+returns-clause-counts g c = λ s. let one = c.write_stretch-next.ensures.counts s in let two = c.name_missing-spares.ensures.counts s in omega (arith, one, two)

@@ -1,20 +1,16 @@
-use Rattle.std.specs.Prelude.{MatchOption, ⊤, Option, Contains}
-use Rattle.md_base.specs.declared.places.Shape.{Shape}
+use Rattle.std.specs.Prelude.{MatchOption, ⊤, Option}
 use Rattle.md_base.specs.declared.answers.Refusal.{Refusal}
-use Rattle.bank.specs.Tape.{EachMark, disk}
-use Rattle.list_io.specs.Writing.{IsPutting, AreSuperblocksKept}
-use Rattle.std.proofs.Common.{◌≡◌, sym, ◌∙◌, ap, subst}
+use Rattle.std.proofs.Common.{sym, subst}
 use Rattle.bank.specs.Given.{Given}
-use Rattle.superblocks.specs.declared.members.Members.{Members}
-use Rattle.superblocks.specs.Reading.{shape_of}
-use Rattle.row_io.specs.Rows.{present, reading_of}
+use Rattle.row_io.specs.Rows.{present}
 use Rattle.views.specs.Placed.{AreLost}
-use Rattle.views.specs.Lacking.{AreRowsWritten, AreTooMany}
+use Rattle.views.specs.Lacking.{AreRowsWritten, LacksTooMany}
 use Rattle.views.proofs.MemberLaws.{are_lost}
 use Rattle.views.proofs.MovedLaws.{moved-lost, lost-none}
 use Rattle.views.proofs.MarkedLaws.{grows-marks}
 use Rattle.views.proofs.LackingLaws.{since-lost, too-many-answer}
-use Rattle.views.proofs.LackingWrites.{has-rows, list-in, list-in-is, list-with, list-with-is}
+use Rattle.views.proofs.Fit.{has-rows}
+use Rattle.views.proofs.LackingWrites.{list-in, list-in-is, list-with, list-with-is}
 use Rattle.flat_history.specs.Sound.{OpensFit}
 use Rattle.shape_changes.proofs.Risen.{risen-lost}
 use Rattle.views.proofs.SafeStretch.{safe-put}
@@ -52,8 +48,8 @@ pub returns-clause-refused : goal.returns-clause-refused
 returns-clause-refused g c =
     let n = c.write_touched-written.new.members in
     let did = c.write_touched-written.ensures in
-    let same : c.args.shape.now ≡ shape_of n.newest = c.requires.shape ∙ ap (λ (m : Members). shape_of m.newest) (sym did.lost.members) in
-    subst (λ (o : Option Refusal). MatchOption o ⊤ (AreTooMany n)) (sym c.refused_by-refusal.ensures) (too-many-answer n c.args.shape.now c.write_touched-written.result.answer same did.answer)
+    subst (λ (o : Option Refusal). MatchOption o ⊤ (LacksTooMany c.args.shape.now n)) (sym c.refused_by-refusal.ensures)
+    (too-many-answer n c.args.shape.now c.write_touched-written.result.answer did.answer)
 
 pub returns-clause-grows : goal.returns-clause-grows
 returns-clause-grows g c =
@@ -88,7 +84,7 @@ returns-clause-kept g c = λ whole.
     let r = c.write_touched-written.result.lost in
     let shape = c.args.shape.now in
     let lost : AreLost given shape m n r f0 f1 = are_lost given shape m n r f0 f1 c.requires.placed did.lost.members did.lost.failed did.lost.never_falls in
-    lost.kept (lost-none given shape m n r f0 f1 lost c.requires.shape (ap (λ (x : Members). shape_of x.newest) did.lost.members) whole)
+    lost.kept (lost-none given shape m n r f0 f1 lost c.requires.shape whole)
 
 pub returns-clause-rise : goal.returns-clause-rise
 returns-clause-rise g c =
@@ -100,12 +96,11 @@ returns-clause-rise g c =
     (λ told. list-in-is shape c.args.rows.now c.args.buffer.now.items c.args.start c.requires.once)).longer
 
 pub returns-clause-safe : goal.returns-clause-safe
-returns-clause-safe g c = λ told world ledger dirty list list' w has allowed safe.
+returns-clause-safe g c = λ told world ledger dirty region list list' w has allowed safe.
     let did = c.write_touched-written.ensures in
     let given = g.B.Bank.given c.args.bank.now in
     let tape0 = g.B.Bank.tape c.args.bank.now in
     let tape1 = g.B.Bank.tape c.write_touched-written.new.bank in
-    safe-put (OpensFit world) world.scope given ledger c.args.members.now c.write_touched-written.new.members c.write_touched-written.result.lost list' c.args.rows.now tape0 tape1 told
-    did.lost.members c.requires.placed dirty c.requires.unlost allowed
-    (subst (λ (s : Shape). EachMark g.B.Bank.tells given.start tape0 tape1
-    (λ e. IsPutting (reading_of c.args.members.now) s list' (Contains c.args.rows.now) (disk given.start tape0) e × AreSuperblocksKept (disk given.start tape0) e)) c.requires.shape (did.each_mark list list' w has)) safe
+    safe-put (OpensFit world) world.scope given ledger c.args.members.now c.write_touched-written.new.members c.write_touched-written.result.lost c.args.shape.now list' c.args.rows.now tape0 tape1 told
+    did.lost.members c.requires.placed dirty c.requires.unlost region allowed
+    (did.each_mark list list' w has) safe

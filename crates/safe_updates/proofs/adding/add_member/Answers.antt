@@ -4,11 +4,10 @@ use Rattle.std.proofs.lemmas.Bool.{cases_lt}
 use Rattle.md_base.specs.Shapes.{has_slot}
 use Rattle.bank.specs.Given.{Given}
 use Rattle.bank.specs.Tape.{EachMark, disk}
-use Rattle.layout.proofs.Limits.{limited}
 use Rattle.superblocks.specs.declared.change.Give.TheVariants.{Same}
 use Rattle.superblocks.specs.declared.change.Change.{Change}
 use Rattle.flat_history.specs.Sound.{OpensFit}
-use Rattle.superblocks.specs.Reading.{role_count, shape_of}
+use Rattle.superblocks.specs.Reading.{role_count}
 use Rattle.superblocks.specs.Update.{IsRoleGive, give_of, is_recovery}
 use Rattle.superblocks.specs.Updating.{IsUpdate, IsWrittenBy, AreLosses, AreNamed, IsLater, IsSomeLeft, RisesByOperations, planned_newest}
 use Rattle.superblocks.specs.Outcome.{IsAddable, AreGivesOfLive, AreLive, AreStored, with_added, live_set, is_left, planned_roles, planned_spares}
@@ -21,12 +20,13 @@ use Rattle.views.specs.Placed.{IsPlaced}
 use Rattle.shape_changes.specs.Steady.{AreUnlost}
 use Rattle.views.specs.Rebuilding.{with_spare, AreSparesFree}
 use Rattle.views.proofs.AddedMembers.{addable, placed-with, unlost-roles, free-with, spare-with, live-here}
+use Rattle.views.proofs.Fit.{few as few-placed}
 use Rattle.safe_updates.proofs.AddedSafe.{adding-safe}
 use Rattle.safe_updates.proofs.AddedUpdates.{IsAddedBy, told-added, added-moved, added-risen, added-failed, told-spare, told-none, added-stored, lost-spare}
 use Rattle.views.proofs.LiveLeft.{left-steady}
 use Rattle.shape_changes.proofs.Kept.{give_of-same}
 use Rattle.views.proofs.MarkedLaws.{grows-marks, others-updated}
-use Rattle.views.proofs.PlacedLaws.{same-count}
+use Rattle.superblocks.proofs.ValidFields.{few-roles}
 use Rattle.safe_updates.proofs.adding.add_member.Given.{Over}
 use Rattle.safe_updates.proofs.adding.add_member.Goals.{After-without}
 use Rattle.safe_updates.proofs.adding.add_member.Goals as goal
@@ -45,7 +45,7 @@ pub update-lost-requires-clause-count : goal.update-lost-requires-clause-count
 update-lost-requires-clause-count g c =
     let m = c.args.members.now in
     subst (λ (ch : Change). role_count ch.shared ≤ 16) (sym c.adding-change.ensures)
-    (same-count m.newest c.requires.placed.still (limited (shape_of m.newest) c.requires.placed.valid).most)
+    (few-roles m.newest c.requires.placed.fit.valid)
 
 pub update-lost-requires-clause-gives : goal.update-lost-requires-clause-gives
 update-lost-requires-clause-gives g c = λ s below.
@@ -178,3 +178,9 @@ returns-clause-safe g c = λ tell world told room gone unclean of_scope unknown 
     unspare : (b : Bool) → has_spare c.args.members.now.spares c.args.slot ≡ b → b ≡ false
     unspare true is = absurd (c.requires.untaken 0 (inr is))
     unspare false is = refl
+
+pub update-lost-requires-clause-roles : goal.update-lost-requires-clause-roles
+update-lost-requires-clause-roles g c = let most = few-placed (g.B.Bank.given c.args.bank.now) c.args.members.now c.requires.placed in omega (arith, most)
+
+pub holders-held-requires-clause-few : goal.holders-held-requires-clause-few
+holders-held-requires-clause-few g c = let most = few-placed (g.B.Bank.given c.args.bank.now) c.args.members.now c.requires.placed in omega (arith, most)

@@ -5,8 +5,9 @@ use Rattle.std.proofs.lemmas.List.{get_or_past}
 use Rattle.md_base.specs.Shapes.{has_slot}
 use Rattle.md_base.specs.declared.status.Role.{Role}
 use Rattle.md_base.specs.declared.status.Role.TheVariants.{Missing}
-use Rattle.superblocks.specs.Reading.{shape_of, holder}
+use Rattle.superblocks.specs.Reading.{role_count, holder}
 use Rattle.superblocks.proofs.SlotSets.{none_above}
+use Rattle.views.proofs.Fit.{few}
 use Rattle.safe_updates.proofs.flushes.flush_members.Goals as goal
 
 pub holders-requires-clause-small : goal.holders-requires-clause-small
@@ -61,9 +62,12 @@ returns-clause-failed g c = λ s has.
     let role = c.holders.ensures.only s held in (
       c.flush_slots-failed.ensures.tried.failed s parts.0 parts.1,
       role.0,
-      role-below c.args.members.now.roles (shape_of c.args.members.now.newest).disks role.0 s c.requires.placed.roles role.1,
+      role-below c.args.members.now.roles (role_count c.args.members.now.newest) role.0 s c.requires.placed.roles role.1,
       role.1,
     )
   where
     falsum : false ≡ true → ⊥
     falsum e = absurd (cc)
+
+pub holders-requires-clause-few : goal.holders-requires-clause-few
+holders-requires-clause-few g c = let most = few (g.B.Bank.given c.args.bank.now) c.args.members.now c.requires.placed in omega (arith, most)

@@ -1,4 +1,4 @@
-use Rattle.std.proofs.Common.{ℕ, refl, sym, ◌∙◌, ap, subst}
+use Rattle.std.proofs.Common.{ℕ, refl, sym, ◌∙◌, ap, subst, arith}
 use Rattle.bank.specs.Given.{Given}
 use Rattle.bank.specs.Tape.{Contents, disk}
 use Rattle.md_base.specs.Sectors.{Sector}
@@ -19,6 +19,7 @@ use Rattle.views.proofs.MarkedSafe.{flushed-safe, lost-safe, added-longer}
 use Rattle.views.proofs.MovedLaws.{grows-then}
 use Rattle.shape_changes.proofs.Risen.{risen-none, risen-lost, risen-then, room-then}
 use Rattle.views.proofs.SafeStretch.{safe-then, over-at, keeps-from}
+use Rattle.views.proofs.Fit.{few}
 use Rattle.safe_updates.proofs.WholeFlushed.{flush-added, ok-of, flushed-full, since-earlier, lost-moved, mid-placed, mid-free, out, failed-moved, failed-since}
 use Rattle.safe_updates.proofs.giving.flush_and_record.Given.{Over}
 use Rattle.safe_updates.proofs.giving.flush_and_record.Goals.{After-make_whole}
@@ -164,3 +165,6 @@ returns-clause-given_back g c = λ whole tell world told room gone here unclean 
     subst (λ (b : Given). IsSafeOver world b (given_back c.args.role told) c.make_whole.new.members tape2) c.flush.ensures.given
     (c.make_whole.ensures.given_back whole tell world told (room-after g c tell list room) gone here unclean premise does list (stands-then g c tell list stands) allowed (full-then g c tell list full)
     (over-at world given given1 told c.args.members.now tape1 c.flush.ensures.given kept.next))
+
+pub lose_slot-requires-clause-few : goal.lose_slot-requires-clause-few
+lose_slot-requires-clause-few g c = let most = few (g.B.Bank.given c.args.bank.now) c.args.members.now c.requires.placed in omega (arith, most)

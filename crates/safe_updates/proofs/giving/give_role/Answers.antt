@@ -1,10 +1,10 @@
-use Rattle.std.proofs.Common.{◌≡◌, inl, inr, ℕ, ◌&&◌, ◌||◌, Bool, false, not, Some, refl, sym, ◌∙◌, ap, subst, arith}
+use Rattle.std.proofs.Common.{◌≡◌, ◌<◌, inl, inr, ℕ, ◌&&◌, ◌||◌, Bool, false, not, Some, refl, sym, ◌∙◌, ap, subst, arith}
 use Rattle.std.proofs.lemmas.Bool.{cases_eq, cases_lt}
 use Rattle.md_base.specs.Shapes.{has_slot}
-use Rattle.layout.proofs.Limits.{limited}
+use Rattle.superblocks.proofs.ValidFields.{few-roles}
 use Rattle.bank.specs.Given.{Given}
 use Rattle.superblocks.specs.declared.change.Change.{Change}
-use Rattle.superblocks.specs.Reading.{shape_of}
+use Rattle.superblocks.specs.Reading.{shape_of, role_count}
 use Rattle.superblocks.specs.Update.{IsRoleGive, give_of}
 use Rattle.superblocks.specs.Outcome.{AreLive, AreGivesOfLive, is_in_update, with_added}
 use Rattle.superblocks.proofs.SlotSets.{none_above}
@@ -13,6 +13,7 @@ use Rattle.shape_changes.specs.Marking.{giving}
 use Rattle.views.proofs.MarkedLaws.{grows-marks, others-of}
 use Rattle.views.proofs.Gives.{gives_of, give-here, give-other}
 use Rattle.views.proofs.GivenMembers.{IsReceiver}
+use Rattle.views.proofs.Fit.{few}
 use Rattle.safe_updates.proofs.GivenMoved.{moved-given, failed-given, holders-more}
 use Rattle.safe_updates.proofs.GivingDone.{given-left, losses-done}
 use Rattle.shape_changes.specs.Changing.{IsChanged}
@@ -20,9 +21,16 @@ use Rattle.shape_changes.proofs.CalledLaws.{changed-by}
 use Rattle.shape_changes.proofs.ChangeSafe.{told-changed, risen-changed}
 use Rattle.shape_changes.proofs.GivenSafe.{giving-stays-safe}
 use Rattle.views.proofs.GivenPlan.{gives-live, receiver-of, spare-receives}
+use Rattle.superblocks.specs.declared.members.Members.{Members}
+use Rattle.views.specs.Placed.{IsPlaced}
+use Rattle.safe_updates.proofs.MadeWhole.{role-within}
 use Rattle.safe_updates.proofs.giving.give_role.Given.{Over}
 use Rattle.safe_updates.proofs.giving.give_role.Goals.{After-without}
 use Rattle.safe_updates.proofs.giving.give_role.Goals as goal
+
+-- a role of the shape is one of the array's
+within : {given : Given} {m : Members} → IsPlaced given m → {role : ℕ} → role < (shape_of m.newest).disks → role < role_count m.newest
+within {given} {m} placed {role} below = subst (λ (n : ℕ). role < n) placed.roles (role-within given m placed role below)
 
 pub holders-requires-clause-small : goal.holders-requires-clause-small
 holders-requires-clause-small g c role slot held = (c.requires.placed.holders role slot held).small
@@ -31,7 +39,7 @@ pub update-lost-requires-clause-gives : goal.update-lost-requires-clause-gives
 update-lost-requires-clause-gives g c s below =
     subst (λ (ch : Change). IsRoleGive (give_of ch.gives s)) (sym c.giving-change.ensures) (elim (cases_eq s c.args.slot) [
       | inl same ↦ subst IsRoleGive (sym (ap (give_of (gives_of c.args.slot c.args.role (Some 0))) same ∙ give-here c.args.slot c.args.role (Some 0) (c.requires.free c.args.slot c.requires.spare).room.small))
-          (let most = (limited (shape_of c.args.members.now.newest) c.requires.placed.valid).most in let lt = c.requires.role in omega (arith, most, lt))
+          (let most = few-roles c.args.members.now.newest c.requires.placed.fit.valid in let lt = within c.requires.placed c.requires.role in omega (arith, most, lt))
       | inr apart ↦ subst IsRoleGive (sym (give-other c.args.slot c.args.role (Some 0) s apart)) tt
     ])
 
@@ -39,7 +47,7 @@ pub update-lost-requires-clause-alone : goal.update-lost-requires-clause-alone
 update-lost-requires-clause-alone g c =
     subst (λ (ch : Change). AreGivesOfLive c.args.members.now ch) (sym c.giving-change.ensures) (λ s none. elim (cases_eq s c.args.slot) [
       | inl same ↦ absurd (
-          let live = (receiver-of (g.B.Bank.given c.args.bank.now) c.args.members.now c.args.role c.args.slot c.requires.placed c.requires.free c.requires.role c.requires.vacant c.requires.spare).live in
+          let live = (receiver-of (g.B.Bank.given c.args.bank.now) c.args.members.now c.args.role c.args.slot c.requires.placed c.requires.free (within c.requires.placed c.requires.role) c.requires.vacant c.requires.spare).live in
           let there = ap (λ (t : ℕ). is_in_update c.args.members.now (giving c.args.members.now c.args.slot c.args.role (Some 0)) t) same ∙ ap (λ (b : Bool). b || false) live in
           let clash = sym there ∙ none in cc
           )
@@ -48,7 +56,7 @@ update-lost-requires-clause-alone g c =
 
 module _ (g : Over) (c : After-without g) where
   to : IsReceiver (g.B.Bank.given c.args.bank.now) c.args.members.now c.args.role c.args.slot
-  to = receiver-of (g.B.Bank.given c.args.bank.now) c.args.members.now c.args.role c.args.slot c.requires.placed c.requires.free c.requires.role c.requires.vacant c.requires.spare
+  to = receiver-of (g.B.Bank.given c.args.bank.now) c.args.members.now c.args.role c.args.slot c.requires.placed c.requires.free (within c.requires.placed c.requires.role) c.requires.vacant c.requires.spare
 
   done : IsChanged g.B.Bank.tells (g.B.Bank.given c.args.bank.now) (giving c.args.members.now c.args.slot c.args.role (Some 0)) c.args.members.now c.update-lost.new.members (g.B.Bank.tape c.args.bank.now)
       (g.B.Bank.tape c.update-lost.new.bank)
@@ -102,4 +110,10 @@ pub returns-clause-safe : goal.returns-clause-safe
 returns-clause-safe g c = λ tell world told room gone here unclean safe.
     giving-stays-safe (OpensFit world) world.scope (g.B.Bank.given c.args.bank.now) told c.args.role c.args.slot c.args.members.now c.update-lost.new.members (g.B.Bank.tape c.args.bank.now)
     (g.B.Bank.tape c.update-lost.new.bank) (told-changed tell (done g c))
-    (spare-receives (g.B.Bank.given c.args.bank.now) c.args.members.now c.args.role c.args.slot c.requires.placed c.requires.free c.requires.role c.requires.vacant c.requires.spare) room gone safe
+    (spare-receives (g.B.Bank.given c.args.bank.now) c.args.members.now c.args.role c.args.slot c.requires.placed c.requires.free (within c.requires.placed c.requires.role) c.requires.vacant c.requires.spare) room gone safe
+
+pub update-lost-requires-clause-roles : goal.update-lost-requires-clause-roles
+update-lost-requires-clause-roles g c = let most = few (g.B.Bank.given c.args.bank.now) c.args.members.now c.requires.placed in omega (arith, most)
+
+pub holders-requires-clause-few : goal.holders-requires-clause-few
+holders-requires-clause-few g c = let most = few (g.B.Bank.given c.args.bank.now) c.args.members.now c.requires.placed in omega (arith, most)

@@ -16,11 +16,13 @@ use Rattle.superblocks.proofs.SlotSets.{none_above}
 use Rattle.flat_history.specs.World.{World}
 use Rattle.flat_history.specs.Sound.{OpensFit}
 use Rattle.row_io.specs.Rows.{present}
-use Rattle.views.specs.Lacking.{DoesWithout, RowsStand}
+use Rattle.shape_views.specs.Regions.{DoWithout}
+use Rattle.views.specs.Lacking.{RowsStand}
 use Rattle.views.specs.Rebuilding.{IsFlushedFull}
 use Rattle.shape_views.specs.Views.{Ledger}
 use Rattle.shape_changes.specs.Safety.{HasRoomLeft}
 use Rattle.shape_changes.specs.Steady.{IsSafeOver, AreGoneTold, AreWritesAllowed, given_back}
+use Rattle.views.proofs.Fit.{valid, few}
 use Rattle.views.proofs.LiveLeft.{holder-left}
 use Rattle.shape_changes.specs.Marking.{giving}
 use Rattle.views.proofs.MarkedLaws.{grows-marks, others-of}
@@ -49,7 +51,7 @@ pub update-lost-requires-clause-gives : goal.update-lost-requires-clause-gives
 update-lost-requires-clause-gives g c s below =
     subst (λ (ch : Change). IsRoleGive (give_of ch.gives s)) (sym c.giving-change.ensures) (elim (cases_eq s c.args.slot) [
       | inl same ↦ subst IsRoleGive (sym (ap (give_of (gives_of c.args.slot c.args.role None)) same ∙ give-here c.args.slot c.args.role None (holder-receives (g.B.Bank.given c.args.bank.now) c.args.members.now c.args.role c.args.slot c.requires.placed c.requires.unlost c.requires.role c.requires.recovering).room.small))
-          (let most = (limited (shape_of c.args.members.now.newest) c.requires.placed.valid).most in let lt = c.requires.role in omega (arith, most, lt))
+          (let most = (limited (shape_of c.args.members.now.newest) (valid (g.B.Bank.given c.args.bank.now) c.args.members.now c.requires.placed)).most in let lt = c.requires.role in omega (arith, most, lt))
       | inr apart ↦ subst IsRoleGive (sym (give-other c.args.slot c.args.role None s apart)) tt
     ])
 
@@ -134,7 +136,7 @@ returns-clause-rise g c = risen-changed (done g c) refl (gives-live (g.B.Bank.gi
 
 -- by the ledger, or by one in which the role isn't gone
 module _ (g : Over) (c : After-without g) (tell : g.B.Bank.tells) (world : World) (told : Ledger) (gone : AreGoneTold told c.update-lost.new.members) (here : told.gone c.args.role ≡ true)
-    (premise : OpensFit world) (does : DoesWithout c.args.members.now) (list : ℕ → Sector)
+    (premise : OpensFit world) (does : DoWithout c.args.members.now) (list : ℕ → Sector)
     (stands : RowsStand c.args.members.now (present (g.B.Bank.given c.args.bank.now) (g.B.Bank.tape c.args.bank.now)) list) (allowed : AreWritesAllowed c.args.members.now told.values list)
     (full : IsFlushedFull c.args.members.now c.args.role c.args.slot list (disk (g.B.Bank.given c.args.bank.now).start (g.B.Bank.tape c.args.bank.now)))
     (room : HasRoomLeft c.args.members.now (g.B.Bank.tape c.args.bank.now) (g.B.Bank.tape c.update-lost.new.bank)) (safe : IsSafeOver world (g.B.Bank.given c.args.bank.now) told c.args.members.now (g.B.Bank.tape c.args.bank.now)) where
@@ -148,7 +150,7 @@ module _ (g : Over) (c : After-without g) (tell : g.B.Bank.tells) (world : World
       let after = g.B.Bank.tape c.update-lost.new.bank in
       making-safe (OpensFit world) world.scope given told more (giving m c.args.slot c.args.role None) c.args.slot c.args.role m n before after (made g c tell) refl
       (gives-live given m c.requires.placed None c.args.role c.args.slot (to g c)) room
-      (λ steady. makable (OpensFit world) world.scope given told c.args.role c.args.slot m n before after (told-changed tell (done g c)) c.requires.placed (to g c) c.requires.role c.requires.recovering premise does list
+      (λ steady. makable (OpensFit world) world.scope given told c.args.role c.args.slot m n before after (told-changed tell (done g c)) c.requires.placed c.requires.still (to g c) c.requires.role c.requires.recovering premise does list
       stands allowed full gone here steady more back) safe
 
 pub returns-clause-safe : goal.returns-clause-safe
@@ -164,3 +166,9 @@ returns-clause-given_back g c = λ whole tell world told room gone here unclean 
     inl (change-named (OpensFit world) world.scope given told (given_back c.args.role told) n (g.B.Bank.tape c.args.bank.now) (g.B.Bank.tape c.update-lost.new.bank)
     (whole-safe g c tell world told gone here premise does list stands allowed full room safe (given_back c.args.role told) (back-given (OpensFit world) world.scope given told c.args.role c.args.slot n gone whole))
     (holder-left given n c.args.role c.args.slot moved.placed moved.unlost (ap holder whole))).steady
+
+pub update-lost-requires-clause-roles : goal.update-lost-requires-clause-roles
+update-lost-requires-clause-roles g c = let most = few (g.B.Bank.given c.args.bank.now) c.args.members.now c.requires.placed in omega (arith, most)
+
+pub holders-held-requires-clause-few : goal.holders-held-requires-clause-few
+holders-held-requires-clause-few g c = let most = few (g.B.Bank.given c.args.bank.now) c.args.members.now c.requires.placed in omega (arith, most)

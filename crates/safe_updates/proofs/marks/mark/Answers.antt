@@ -1,10 +1,9 @@
-use Rattle.std.proofs.Common.{◌≡◌, ◌≤◌, refl, sym, subst, min, ◌+◌, ◌-◌}
+use Rattle.std.proofs.Common.{◌≡◌, ◌≤◌, refl, sym, subst, min, ◌+◌, ◌-◌, arith}
 use Rattle.std.specs.Prelude.{◌^◌}
 use Rattle.bank.specs.Given.{Given}
 use Rattle.bank.specs.Tape.{disk}
-use Rattle.layout.proofs.Limits.{limited}
 use Rattle.superblocks.specs.declared.change.Change.{Change}
-use Rattle.superblocks.specs.Reading.{role_count, shape_of}
+use Rattle.superblocks.specs.Reading.{role_count}
 use Rattle.superblocks.specs.Update.{IsRoleGive, give_of}
 use Rattle.superblocks.specs.Updating.{ArePlanned}
 use Rattle.superblocks.specs.Outcome.{with_added, live_set, is_left, AreLive, AreGivesOfLive}
@@ -13,13 +12,14 @@ use Rattle.shape_changes.specs.Marking.{marking}
 use Rattle.shape_changes.proofs.Kept.{give_of-same}
 use Rattle.views.proofs.PlacedLaws.{marked-less, marked-count, placed-less, less-unlost}
 use Rattle.shape_changes.proofs.CalledLaws.{changed-by}
+use Rattle.views.proofs.Fit.{few}
 use Rattle.safe_updates.proofs.marks.mark.Goals as goal
 
 pub update-requires-clause-count : goal.update-requires-clause-count
 update-requires-clause-count g c =
     let m = c.args.members.now in
     subst (λ (ch : Change). role_count ch.shared ≤ 16) (sym c.marking-change.ensures)
-    (marked-count m c.args.clean c.requires.placed.still (limited (shape_of m.newest) c.requires.placed.valid).most)
+    (marked-count m c.args.clean c.requires.placed.fit.valid)
 
 pub update-requires-clause-gives : goal.update-requires-clause-gives
 update-requires-clause-gives g c = λ s below.
@@ -72,3 +72,6 @@ returns-clause-placed g c =
 
 pub returns-clause-unlost : goal.returns-clause-unlost
 returns-clause-unlost g c = less-unlost c.update.new.members.lost c.args.members.now c.update.new.members (returns-clause-less g c) refl
+
+pub update-requires-clause-roles : goal.update-requires-clause-roles
+update-requires-clause-roles g c = let most = few (g.B.Bank.given c.args.bank.now) c.args.members.now c.requires.placed in omega (arith, most)

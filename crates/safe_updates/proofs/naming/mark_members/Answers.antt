@@ -13,6 +13,7 @@ use Rattle.safe_updates.specs.Named.{AreDataKept}
 use Rattle.views.proofs.MarkLaws.{few-planned}
 use Rattle.shape_changes.proofs.Kept.{give_of-same}
 use Rattle.views.proofs.MovedLaws.{moved-less}
+use Rattle.views.proofs.Fit.{few}
 use Rattle.safe_updates.proofs.SparesLaws.{spare-left, spare-stays, free-told}
 use Rattle.views.proofs.MarkedLaws.{grows-marks, others-updated, failed-marked}
 use Rattle.views.proofs.LackingLaws.{since-failed, holders-updated}
@@ -98,3 +99,6 @@ returns-clause-missing g c = λ live.
 pub returns-clause-data : goal.returns-clause-data
 returns-clause-data g c =
     each_mark-map (AreDataKept (disk (g.B.Bank.given c.args.bank.now).start (g.B.Bank.tape c.args.bank.now))) (λ told e at. at.touched.elsewhere) c.mark-lost.ensures.marked.update.marks
+
+pub holders-held-requires-clause-few : goal.holders-held-requires-clause-few
+holders-held-requires-clause-few g c = let most = few (g.B.Bank.given c.args.bank.now) c.args.members.now c.requires.placed in omega (arith, most)

@@ -1,8 +1,15 @@
-use Rattle.std.proofs.Common.{inl, refl, arith}
+use Rattle.std.proofs.Common.{inl, refl, arith, ◌≡◌, sym, ◌∙◌, true, ℕ, ◌<◌}
 use Rattle.bank.specs.Tape.{disk}
 use Rattle.safe_updates.specs.Named.{AreDataKept}
 use Rattle.flat_history.specs.Sound.{OpensFit}
 use Rattle.views.proofs.LiveLeft.{left-steady}
+use Rattle.views.proofs.Fit.{few}
+use Rattle.views.proofs.HeldRows.{vacant-missing}
+use Rattle.row_io.specs.Rows.{reading_of}
+use Rattle.superblocks.specs.declared.members.Members.{Members}
+use Rattle.superblocks.specs.Reading.{role_count}
+use Rattle.views.specs.Placed.{is_vacant, AreWhole}
+use Rattle.views.specs.Lacking.{IsNamed}
 use Rattle.safe_updates.proofs.RolesNamed.{unnamed-named}
 use Rattle.views.proofs.MarkedSafe.{same-markable}
 use Rattle.views.proofs.SafeStretch.{safe-none}
@@ -37,3 +44,16 @@ returns-then-not-has_unnamed-clause-missing g c = λ live role lt vacant device 
 pub returns-then-not-has_unnamed-clause-data : goal.returns-then-not-has_unnamed-clause-data
 returns-then-not-has_unnamed-clause-data g c =
     marks-here {P = AreDataKept (disk (g.B.Bank.given c.args.bank.now).start (g.B.Bank.tape c.args.bank.now))} g.B.Bank.tells (g.B.Bank.given c.args.bank.now).start (g.B.Bank.tape c.args.bank.now) (λ s k other. inl refl)
+
+pub has_unnamed-requires-clause-few : goal.has_unnamed-requires-clause-few
+has_unnamed-requires-clause-few g c = let most = few (g.B.Bank.given c.args.bank.now) c.args.members.now c.requires.placed in omega (arith, most)
+
+-- where all roles are whole, none is vacant
+none-vacant : {P : Type 0} (m : Members) → AreWhole m → (role : ℕ) × (role < role_count m.newest) × (is_vacant (reading_of m) role ≡ true) × IsNamed m.newest role → P
+none-vacant m whole found = absurd (let clash = sym (vacant-missing (reading_of m) found.0 found.2) ∙ whole found.0 found.1 in cc)
+
+pub returns-clause-kept : goal.returns-clause-kept
+returns-clause-kept g c = λ whole. none-vacant c.args.members.now whole (c.has_unnamed.ensures.some c.if-not-has_unnamed.false)
+
+pub returns-clause-tape : goal.returns-clause-tape
+returns-clause-tape g c = λ whole tell. none-vacant c.args.members.now whole (c.has_unnamed.ensures.some c.if-not-has_unnamed.false)

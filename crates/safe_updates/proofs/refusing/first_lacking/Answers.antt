@@ -2,9 +2,7 @@ use Rattle.std.proofs.Common.{◌≡◌, ◌≤◌, ◌<◌, ◌+◌, ◌&&◌, 
 use Rattle.std.proofs.lemmas.Bool.Decides.{nat_tests}
 use Rattle.md_base.proofs.Least.{least_below-none}
 use Rattle.md_base.specs.declared.places.Place.{Place}
-use Rattle.md_base.specs.declared.places.Shape.{Shape}
 use Rattle.layout.specs.Layout.{place}
-use Rattle.superblocks.specs.Reading.{shape_of}
 use Rattle.superblocks.proofs.Searches.{least_below-first}
 use Rattle.row_io.specs.Rows.{reading_of, is_missing}
 use Rattle.safe_updates.specs.First.{is_lacking}
@@ -23,10 +21,10 @@ not-last b = grind (arith)
 pub loop-i-preserved : goal.loop-i-preserved
 loop-i-preserved c = below_more _ _ c.loop-i.invariant here
   where
-    at : c.place-at.result ≡ place (shape_of c.args.members.now.newest) (c.args.first + c.loop-i.i)
-    at = c.place-at.ensures.place ∙ ap (λ (s : Shape). place s (c.args.first + c.loop-i.i)) c.shape_in-shape.ensures
+    at : c.place-at.result ≡ place c.args.shape.now (c.args.first + c.loop-i.i)
+    at = c.place-at.ensures.place
 
-    here : is_lacking c.args.members.now c.args.mended (c.args.first + c.loop-i.i) ≡ false
+    here : is_lacking c.args.shape.now c.args.members.now c.args.mended (c.args.first + c.loop-i.i) ≡ false
     here = ap (λ (p : Place). nat_le c.args.mended p.row && is_missing (reading_of c.args.members.now) p.role) (sym at) ∙ elim c.else-at-mended.branch [
       | else-at-mended-via-then-at-mended+else-is_missing w ↦
           ap (λ (b : Bool). nat_le c.args.mended c.place-at.result.row && b) (sym w.is_missing.ensures ∙ w.if-is_missing.false) ∙ not-last (nat_le c.args.mended c.place-at.result.row)
@@ -37,15 +35,15 @@ loop-i-preserved c = below_more _ _ c.loop-i.invariant here
 pub returns-then-is_missing : goal.returns-then-is_missing
 returns-then-is_missing c =
     let m = c.args.members.now in
-    let at : c.place-at.result ≡ place (shape_of m.newest) (c.args.first + c.loop-i.i) = c.place-at.ensures.place ∙ ap (λ (s : Shape). place s (c.args.first + c.loop-i.i)) c.shape_in-shape.ensures in
-    let pass : is_lacking m c.args.mended (c.args.first + c.loop-i.i) ≡ true = ap (λ (p : Place). nat_le c.args.mended p.row && is_missing (reading_of m) p.role) (sym at)
+    let at : c.place-at.result ≡ place c.args.shape.now (c.args.first + c.loop-i.i) = c.place-at.ensures.place in
+    let pass : is_lacking c.args.shape.now m c.args.mended (c.args.first + c.loop-i.i) ≡ true = ap (λ (p : Place). nat_le c.args.mended p.row && is_missing (reading_of m) p.role) (sym at)
     ∙ ap₂ (λ (a b : Bool). a && b) (at-most c.args.mended c.place-at.result.row (omega (arith, c.if-at-mended.true))) (sym c.is_missing.ensures ∙ c.if-is_missing.true) in
-    sym (ap (option_map (λ i. (place (shape_of m.newest) (c.args.first + i)).role))
-    (least_below-first c.args.count (λ i. is_lacking m c.args.mended (c.args.first + i)) c.loop-i.i c.loop-i-test.true pass c.loop-i.invariant)
+    sym (ap (option_map (λ i. (place c.args.shape.now (c.args.first + i)).role))
+    (least_below-first c.args.count (λ i. is_lacking c.args.shape.now m c.args.mended (c.args.first + i)) c.loop-i.i c.loop-i-test.true pass c.loop-i.invariant)
     ∙ ap (λ (p : Place). Some p.role) (sym at))
 
 pub returns : goal.returns
 returns c =
     let m = c.args.members.now in
-    sym (ap (option_map (λ i. (place (shape_of m.newest) (c.args.first + i)).role))
-    (least_below-none c.args.count (λ i. is_lacking m c.args.mended (c.args.first + i)) (λ j lt. c.loop-i.invariant j (omega (arith, lt, c.loop-i-test.false)))))
+    sym (ap (option_map (λ i. (place c.args.shape.now (c.args.first + i)).role))
+    (least_below-none c.args.count (λ i. is_lacking c.args.shape.now m c.args.mended (c.args.first + i)) (λ j lt. c.loop-i.invariant j (omega (arith, lt, c.loop-i-test.false)))))

@@ -1,8 +1,6 @@
 use Rattle.std.proofs.Common.{◌≡◌, ◌&&◌, Bool, false, not, sym, ◌∙◌, ap, ap₂, arith, below_more}
 use Rattle.md_base.proofs.Least.{least_below-none}
-use Rattle.md_base.specs.declared.places.Shape.{Shape}
 use Rattle.layout.specs.Layout.{is_parity_only}
-use Rattle.superblocks.specs.Reading.{shape_of}
 use Rattle.superblocks.proofs.Searches.{least_below-first}
 use Rattle.row_io.specs.Rows.{reading_of, is_missing}
 use Rattle.safe_updates.proofs.refusing.lowest_missing.Goals.{else-is_missing-via-then-is_missing+else-not-parity_only, else-is_missing-via-else-is_missing}
@@ -14,29 +12,27 @@ not-last b = grind (arith)
 pub loop-role-preserved : goal.loop-role-preserved
 loop-role-preserved c = below_more _ _ c.loop-role.invariant here
   where
-    here : (is_missing (reading_of c.args.members.now) c.loop-role.role && not (is_parity_only (shape_of c.args.members.now.newest) c.loop-role.role)) ≡ false
+    here : (is_missing (reading_of c.args.members.now) c.loop-role.role && not (is_parity_only c.args.shape.now c.loop-role.role)) ≡ false
     here = elim c.else-is_missing.branch [
       | else-is_missing-via-then-is_missing+else-not-parity_only w ↦
           ap (λ (b : Bool). is_missing (reading_of c.args.members.now) c.loop-role.role && not b)
-          (ap (λ (s : Shape). is_parity_only s c.loop-role.role) (sym c.shape_in-shape.ensures) ∙ sym w.parity_only.ensures.value ∙ w.if-not-parity_only.false)
+          (sym w.parity_only.ensures.value ∙ w.if-not-parity_only.false)
           ∙ not-last (is_missing (reading_of c.args.members.now) c.loop-role.role)
       | else-is_missing-via-else-is_missing w ↦
-          ap (λ (b : Bool). b && not (is_parity_only (shape_of c.args.members.now.newest) c.loop-role.role)) (sym c.is_missing.ensures ∙ w.if-is_missing.false)
+          ap (λ (b : Bool). b && not (is_parity_only c.args.shape.now c.loop-role.role)) (sym c.is_missing.ensures ∙ w.if-is_missing.false)
     ]
 
 pub returns-then-not-parity_only : goal.returns-then-not-parity_only
 returns-then-not-parity_only c =
     let m = c.args.members.now in
-    let same = ap (λ (s : Shape). s.disks) c.shape_in-shape.ensures in
-    sym (least_below-first (shape_of m.newest).disks (λ role. is_missing (reading_of m) role && not (is_parity_only (shape_of m.newest) role)) c.loop-role.role
-    (let lt = c.loop-role-test.true in omega (arith, lt, same))
+    sym (least_below-first c.args.shape.now.disks (λ role. is_missing (reading_of m) role && not (is_parity_only c.args.shape.now role)) c.loop-role.role
+    (let lt = c.loop-role-test.true in omega (arith, lt))
     (ap₂ (λ (a b : Bool). a && not b) (sym c.is_missing.ensures ∙ c.if-is_missing.true)
-    (ap (λ (s : Shape). is_parity_only s c.loop-role.role) (sym c.shape_in-shape.ensures) ∙ sym c.parity_only.ensures.value ∙ c.if-not-parity_only.true))
+    (sym c.parity_only.ensures.value ∙ c.if-not-parity_only.true))
     c.loop-role.invariant)
 
 pub returns : goal.returns
 returns c =
     let m = c.args.members.now in
-    let same = ap (λ (s : Shape). s.disks) c.shape_in-shape.ensures in
-    sym (least_below-none (shape_of m.newest).disks (λ role. is_missing (reading_of m) role && not (is_parity_only (shape_of m.newest) role))
-    (λ j lt. c.loop-role.invariant j (omega (arith, lt, c.loop-role-test.false, same))))
+    sym (least_below-none c.args.shape.now.disks (λ role. is_missing (reading_of m) role && not (is_parity_only c.args.shape.now role))
+    (λ j lt. c.loop-role.invariant j (omega (arith, lt, c.loop-role-test.false))))

@@ -1,14 +1,13 @@
-use Rattle.std.proofs.Common.{refl, sym, ◌∙◌, ap, subst}
+use Rattle.std.proofs.Common.{refl, sym, ◌∙◌, ap, subst, arith}
 use Rattle.bank.specs.Given.{Given}
 use Rattle.bank.specs.Tape.{Contents}
-use Rattle.superblocks.specs.Reading.{shape_of, is_clean}
+use Rattle.superblocks.specs.Reading.{is_clean}
 use Rattle.row_io.specs.Rows.{present, reading_of}
 use Rattle.views.specs.Placed.{AreWhole, AreLost, IsPlaced}
 use Rattle.shape_changes.specs.Marking.{AreOthersPresent}
 use Rattle.views.specs.Rebuilding.{AreSparesFree}
 use Rattle.views.proofs.Flushed.{contents-added}
-use Rattle.views.proofs.MemberLaws.{are_lost}
-use Rattle.views.proofs.MovedLaws.{moved-lost, moved-then, lost-none, moved-from}
+use Rattle.views.proofs.MovedLaws.{moved-lost, moved-then, lost-none, moved-from, grows-then}
 use Rattle.views.proofs.LackingLaws.{since-lost, since-then, in-second, holders-flushed, holders-fewer, holders-at}
 use Rattle.flat_history.specs.Sound.{OpensFit}
 use Rattle.superblocks.specs.declared.members.Members.{Members}
@@ -16,6 +15,8 @@ use Rattle.shape_changes.specs.Steady.{IsNamedOver, IsUncleanTold}
 use Rattle.views.proofs.MarkedSafe.{lost-safe, added-longer}
 use Rattle.views.proofs.SafeStretch.{safe-then, over-at, keeps-from}
 use Rattle.shape_changes.proofs.Risen.{risen-lost, risen-then, room-then}
+use Rattle.views.proofs.Fit.{few}
+use Rattle.safe_updates.proofs.Widest.{widest, widest-force, lost-all}
 use Rattle.safe_updates.proofs.settles.flush_naming.Goals as goal
 
 pub lose_slots-requires-clause-small : goal.lose_slots-requires-clause-small
@@ -29,8 +30,8 @@ name_missing-requires-clause-placed g c =
     let f0 = g.B.Bank.faults_of c.args.bank.now in
     let f1 = g.B.Bank.faults_of c.flush_members-failed.new.bank in
     let n = c.lose_slots.new.members in
-    let lost : AreLost given (shape_of m.newest) m n c.flush_members-failed.result f0 f1 =
-    are_lost given (shape_of m.newest) m n c.flush_members-failed.result f0 f1 c.requires.placed c.lose_slots.ensures did1.failed did1.counts.never_falls in
+    let lost : AreLost given (widest m.newest) m n c.flush_members-failed.result f0 f1 =
+    lost-all given m n c.flush_members-failed.result f0 f1 c.requires.placed c.lose_slots.ensures did1.failed did1.counts.never_falls in
     subst (λ (b : Given). IsPlaced b n) (sym did1.given) lost.placed
 
 pub name_missing-requires-clause-unlost : goal.name_missing-requires-clause-unlost
@@ -41,9 +42,9 @@ name_missing-requires-clause-unlost g c =
     let f0 = g.B.Bank.faults_of c.args.bank.now in
     let f1 = g.B.Bank.faults_of c.flush_members-failed.new.bank in
     let n = c.lose_slots.new.members in
-    let lost : AreLost given (shape_of m.newest) m n c.flush_members-failed.result f0 f1 =
-    are_lost given (shape_of m.newest) m n c.flush_members-failed.result f0 f1 c.requires.placed c.lose_slots.ensures did1.failed did1.counts.never_falls in
-    (moved-lost given (shape_of m.newest) m n c.flush_members-failed.result f0 f1 c.requires.placed lost c.requires.unlost).unlost
+    let lost : AreLost given (widest m.newest) m n c.flush_members-failed.result f0 f1 =
+    lost-all given m n c.flush_members-failed.result f0 f1 c.requires.placed c.lose_slots.ensures did1.failed did1.counts.never_falls in
+    (moved-lost given (widest m.newest) m n c.flush_members-failed.result f0 f1 c.requires.placed lost c.requires.unlost).unlost
 
 pub name_missing-requires-clause-free : goal.name_missing-requires-clause-free
 name_missing-requires-clause-free g c =
@@ -53,10 +54,10 @@ name_missing-requires-clause-free g c =
     let f0 = g.B.Bank.faults_of c.args.bank.now in
     let f1 = g.B.Bank.faults_of c.flush_members-failed.new.bank in
     let n = c.lose_slots.new.members in
-    let lost : AreLost given (shape_of m.newest) m n c.flush_members-failed.result f0 f1 =
-    are_lost given (shape_of m.newest) m n c.flush_members-failed.result f0 f1 c.requires.placed c.lose_slots.ensures did1.failed did1.counts.never_falls in
+    let lost : AreLost given (widest m.newest) m n c.flush_members-failed.result f0 f1 =
+    lost-all given m n c.flush_members-failed.result f0 f1 c.requires.placed c.lose_slots.ensures did1.failed did1.counts.never_falls in
     subst (λ (b : Given). AreSparesFree b n) (sym did1.given)
-    ((moved-lost given (shape_of m.newest) m n c.flush_members-failed.result f0 f1 c.requires.placed lost c.requires.unlost).free c.requires.free)
+    ((moved-lost given (widest m.newest) m n c.flush_members-failed.result f0 f1 c.requires.placed lost c.requires.unlost).free c.requires.free)
 
 pub returns-clause-moved : goal.returns-clause-moved
 returns-clause-moved g c =
@@ -66,9 +67,9 @@ returns-clause-moved g c =
     let f0 = g.B.Bank.faults_of c.args.bank.now in
     let f1 = g.B.Bank.faults_of c.flush_members-failed.new.bank in
     let n = c.lose_slots.new.members in
-    let lost : AreLost given (shape_of m.newest) m n c.flush_members-failed.result f0 f1 =
-    are_lost given (shape_of m.newest) m n c.flush_members-failed.result f0 f1 c.requires.placed c.lose_slots.ensures did1.failed did1.counts.never_falls in
-    moved-then given m n c.name_missing.new.members (moved-lost given (shape_of m.newest) m n c.flush_members-failed.result f0 f1 c.requires.placed lost c.requires.unlost)
+    let lost : AreLost given (widest m.newest) m n c.flush_members-failed.result f0 f1 =
+    lost-all given m n c.flush_members-failed.result f0 f1 c.requires.placed c.lose_slots.ensures did1.failed did1.counts.never_falls in
+    moved-then given m n c.name_missing.new.members (moved-lost given (widest m.newest) m n c.flush_members-failed.result f0 f1 c.requires.placed lost c.requires.unlost)
     (moved-from given (g.B.Bank.given c.flush_members-failed.new.bank) n n c.name_missing.new.members did1.given refl c.name_missing.ensures.moved)
 
 pub returns-clause-failed : goal.returns-clause-failed
@@ -80,10 +81,10 @@ returns-clause-failed g c =
     let f1 = g.B.Bank.faults_of c.flush_members-failed.new.bank in
     let f2 = g.B.Bank.faults_of c.name_missing.new.bank in
     let n = c.lose_slots.new.members in
-    let lost : AreLost given (shape_of m.newest) m n c.flush_members-failed.result f0 f1 =
-    are_lost given (shape_of m.newest) m n c.flush_members-failed.result f0 f1 c.requires.placed c.lose_slots.ensures did1.failed did1.counts.never_falls in
+    let lost : AreLost given (widest m.newest) m n c.flush_members-failed.result f0 f1 =
+    lost-all given m n c.flush_members-failed.result f0 f1 c.requires.placed c.lose_slots.ensures did1.failed did1.counts.never_falls in
     since-then m n c.name_missing.new.members 0 c.name_missing.result c.name_missing.result f0 f1 f2 did1.counts.never_falls c.name_missing.ensures.counts
-    (since-lost given (shape_of m.newest) m n c.flush_members-failed.result f0 f1 lost) c.name_missing.ensures.failed (in-second c.name_missing.result)
+    (since-lost given (widest m.newest) m n c.flush_members-failed.result f0 f1 lost) c.name_missing.ensures.failed (in-second c.name_missing.result)
 
 pub returns-clause-others : goal.returns-clause-others
 returns-clause-others g c = λ told s k other.
@@ -106,12 +107,12 @@ returns-clause-flushed g c = λ told.
     let tape1 = g.B.Bank.tape c.flush_members-failed.new.bank in
     let tape2 = g.B.Bank.tape c.name_missing.new.bank in
     let n = c.lose_slots.new.members in
-    let lost : AreLost given (shape_of m.newest) m n c.flush_members-failed.result f0 f1 =
-    are_lost given (shape_of m.newest) m n c.flush_members-failed.result f0 f1 c.requires.placed c.lose_slots.ensures did1.failed did1.counts.never_falls in
+    let lost : AreLost given (widest m.newest) m n c.flush_members-failed.result f0 f1 =
+    lost-all given m n c.flush_members-failed.result f0 f1 c.requires.placed c.lose_slots.ensures did1.failed did1.counts.never_falls in
     holders-fewer given n c.name_missing.new.members tape2 c.name_missing.ensures.moved.held
     (holders-at (reading_of n) given1 given tape2 (sym did1.given)
     (c.name_missing.ensures.flushed told (holders-at (reading_of n) given given1 tape1 did1.given
-    (holders-flushed given (shape_of m.newest) m n tape1 c.flush_members-failed.result f0 f1 lost did1.flushed told))))
+    (holders-flushed given (widest m.newest) m n tape1 c.flush_members-failed.result f0 f1 lost did1.flushed told))))
 
 pub returns-clause-kept : goal.returns-clause-kept
 returns-clause-kept g c = λ whole.
@@ -121,11 +122,11 @@ returns-clause-kept g c = λ whole.
     let f0 = g.B.Bank.faults_of c.args.bank.now in
     let f1 = g.B.Bank.faults_of c.flush_members-failed.new.bank in
     let n = c.lose_slots.new.members in
-    let lost : AreLost given (shape_of m.newest) m n c.flush_members-failed.result f0 f1 =
-    are_lost given (shape_of m.newest) m n c.flush_members-failed.result f0 f1 c.requires.placed c.lose_slots.ensures did1.failed did1.counts.never_falls in
-    let moved = moved-lost given (shape_of m.newest) m n c.flush_members-failed.result f0 f1 c.requires.placed lost c.requires.unlost in
+    let lost : AreLost given (widest m.newest) m n c.flush_members-failed.result f0 f1 =
+    lost-all given m n c.flush_members-failed.result f0 f1 c.requires.placed c.lose_slots.ensures did1.failed did1.counts.never_falls in
+    let moved = moved-lost given (widest m.newest) m n c.flush_members-failed.result f0 f1 c.requires.placed lost c.requires.unlost in
     let mid : AreWhole n = c.name_missing.ensures.moved.whole whole in
-    c.name_missing.ensures.kept mid ∙ lost.kept (lost-none given (shape_of m.newest) m n c.flush_members-failed.result f0 f1 lost refl moved.shape mid)
+    c.name_missing.ensures.kept mid ∙ lost.kept (lost-none given (widest m.newest) m n c.flush_members-failed.result f0 f1 lost (widest-force m.newest) mid)
 
 pub returns-clause-clean : goal.returns-clause-clean
 returns-clause-clean g c = c.name_missing.ensures.clean ∙ ap (λ (x : Members). is_clean x.newest) c.lose_slots.ensures
@@ -174,3 +175,10 @@ returns-clause-named g c = λ tell world told room gone unclean now left.
     (c.name_missing.ensures.named tell world told
     (room-then tape2 tell room (risen-lost m n failed tape0 tape1 is (λ t. added-longer tape0 tape1 (did1.tape t)))) gone
     (subst (λ (x : Members). IsUncleanTold told x) (sym is) unclean) (over-at world given given1 told n tape1 did1.given flushed.next) left)
+
+pub lose_slots-requires-clause-few : goal.lose_slots-requires-clause-few
+lose_slots-requires-clause-few g c = let most = few (g.B.Bank.given c.args.bank.now) c.args.members.now c.requires.placed in omega (arith, most)
+
+pub returns-clause-grows : goal.returns-clause-grows
+returns-clause-grows g c =
+    grows-then (record { more = λ told. let added = c.flush_members-failed.ensures.tape told in (added.0, added.2) }) c.name_missing.ensures.grows

@@ -4,7 +4,8 @@ use Rattle.md_base.specs.declared.answers.Refusal.{Refusal}
 use Rattle.bank.specs.Given.{Given}
 use Rattle.bank.specs.Tape.{disk}
 use Rattle.flat_history.specs.Sound.{OpensFit}
-use Rattle.views.specs.Lacking.{DoesWithout, AreTooMany, RowsStand}
+use Rattle.shape_views.specs.Regions.{DoWithout}
+use Rattle.views.specs.Lacking.{AreTooMany, RowsStand}
 use Rattle.shape_changes.specs.Marking.{AreOthersPresent}
 use Rattle.views.specs.Rebuilding.{AreSparesFree}
 use Rattle.shape_changes.specs.Kinds.{IsMarkable}
@@ -56,8 +57,8 @@ returns-clause-flushed g c = λ told.
 -- ---- where slots are lost
 
 -- of the refusal alone
-without-none : (m : Members) (refusal : Option Refusal) → MatchOption refusal (DoesWithout m) (AreTooMany m) → refusal ≡ None → DoesWithout m
-without-none m refusal is none = subst (λ (o : Option Refusal). MatchOption o (DoesWithout m) (AreTooMany m)) none is
+without-none : (m : Members) (refusal : Option Refusal) → MatchOption refusal (DoWithout m) (AreTooMany m) → refusal ≡ None → DoWithout m
+without-none m refusal is none = subst (λ (o : Option Refusal). MatchOption o (DoWithout m) (AreTooMany m)) none is
 
 -- of three tests that fail the second does
 second : (a b c : Bool) → ((a || b) || c) ≡ false → b ≡ false
@@ -78,8 +79,8 @@ returns-then-is_some-unsynced-clause-settled g c = λ none tell world told room 
     let tape1 = g.B.Bank.tape c.flush_naming-named.new.bank in
     let did1 = c.flush_naming-named.ensures in
     let does1 = without-none m1 c.too_many-refusal.result c.too_many-refusal.ensures none in
-    let does = without-before given m m1 c.requires.placed did1.moved does1 in
-    settled-safe (OpensFit world) world.scope given told c.args.unsynced m1 tape1 list did1.moved.placed (did1.flushed tell)
+    let does = without-before given m m1 did1.moved does1 in
+    settled-safe (OpensFit world) world.scope given told c.args.unsynced m1 tape1 list did1.moved.placed (did1.moved.reshape.reshaping ∙ c.requires.still) (did1.flushed tell)
     (list-moved given m m1 (present given tape0) (present given tape1) list did1.moved c.requires.placed (did1.others tell) (stands does))
     (λ is. still c.is_some.result c.args.unsynced c.is_clean.result c.if-is_some-unsynced.true (c.is_some.ensures ∙ ap (λ (o : Option Refusal). is_some o) none) (c.is_clean.ensures ∙ is))
     (λ clean does_without premise. rows-moved given m m1 (present given tape0) (present given tape1) list did1.moved c.requires.placed (did1.others tell)
@@ -117,9 +118,9 @@ returns-clause-safe g c = λ tell world told room gone unclean list stands rows 
     let moved2 = moved-from given given1 m1 m1 m2 did1.given refl did2.moved in
     let kept = did1.safe tell world told (room-first m tape0 tape1 tape2 room (grows-longer did2.grows tell)) (gone-before given m1 m2 did1.moved.placed moved2 told gone) unclean now in
     let markable : IsMarkable (OpensFit world) world.scope true told m1 m2 (disk given.start tape1) =
-    settled-markable (OpensFit world) world.scope given told m1 m2 tape1 list did1.moved.placed (did1.flushed tell) gone (allowed-later given m m1 did1.moved c.requires.placed told.values list allowed)
+    settled-markable (OpensFit world) world.scope given told m1 m2 tape1 list did1.moved.placed (did1.moved.reshape.reshaping ∙ c.requires.still) (did1.flushed tell) gone (allowed-later given m m1 did1.moved told.values list allowed)
     (λ does premise. rows-moved given m m1 (present given tape0) (present given tape1) list did1.moved c.requires.placed (did1.others tell)
-    (rows (second c.is_some.result c.args.unsynced c.is_clean.result c.if-is_some-unsynced.false) (without-before given m m1 c.requires.placed did1.moved does) premise)) in
+    (rows (second c.is_some.result c.args.unsynced c.is_clean.result c.if-is_some-unsynced.false) (without-before given m m1 did1.moved does) premise)) in
     safe-then (OpensFit world) world.scope given told m1 m2 tape0 tape1 tape2 kept
     (keeps-from world given given1 told m2 tape1 tape2 did1.given
     (did2.safe tell world told (room-then tape2 tell room did1.rise)
@@ -142,15 +143,15 @@ returns-clause-settled g c = λ none tell world told room gone unclean dirty lis
     let others2 = subst (λ (b : Given). AreOthersPresent (present b tape1) (present b tape2)) did1.given (did2.others tell) in
     let kept = did1.safe tell world told (room-first m tape0 tape1 tape2 room (grows-longer did2.grows tell)) (gone-before given m1 m2 did1.moved.placed moved2 told gone) unclean now in
     let does1 = without-none m1 c.too_many-refusal.result c.too_many-refusal.ensures (none-there c.too_many-refusal.result c.is_some.result c.args.unsynced c.is_clean.result c.is_some.ensures c.if-is_some-unsynced.false) in
-    let does = without-before given m m1 c.requires.placed did1.moved does1 in
+    let does = without-before given m m1 did1.moved does1 in
     let stands1 = list-moved given m m1 (present given tape0) (present given tape1) list did1.moved c.requires.placed (did1.others tell) (stands does) in
     let rows1 : OpensFit world → RowsStand m1 (present given tape1) list =
     λ premise. rows-moved given m m1 (present given tape0) (present given tape1) list did1.moved c.requires.placed (did1.others tell)
     (rows (second c.is_some.result c.args.unsynced c.is_clean.result c.if-is_some-unsynced.false) does premise) in
     let markable : IsMarkable (OpensFit world) world.scope true told m1 m2 (disk given.start tape1) =
-    settled-markable (OpensFit world) world.scope given told m1 m2 tape1 list did1.moved.placed (did1.flushed tell) gone (allowed-later given m m1 did1.moved c.requires.placed told.values list allowed) (λ does_without premise. rows1 premise) in
+    settled-markable (OpensFit world) world.scope given told m1 m2 tape1 list did1.moved.placed (did1.moved.reshape.reshaping ∙ c.requires.still) (did1.flushed tell) gone (allowed-later given m m1 did1.moved told.values list allowed) (λ does_without premise. rows1 premise) in
     let held = c.unmarked.ensures.left none in
-    settled-safe (OpensFit world) world.scope given told c.args.unsynced m2 tape2 list moved2.placed
+    settled-safe (OpensFit world) world.scope given told c.args.unsynced m2 tape2 list moved2.placed (moved2.reshape.reshaping ∙ did1.moved.reshape.reshaping ∙ c.requires.still)
     (holders-fewer given m1 m2 tape2 moved2.held (holders-at (reading_of m1) given1 given tape2 (sym did1.given) (did2.flushed tell (holders-at (reading_of m1) given given1 tape1 did1.given (did1.flushed tell)))))
     (list-moved given m1 m2 (present given tape1) (present given tape2) list moved2 did1.moved.placed others2 stands1)
     (λ is. absurd (never (sym did2.clean ∙ is)))

@@ -1,14 +1,19 @@
-use Rattle.std.proofs.Common.{◌≡◌, ℕ, ◌<◌, true, subst}
-use Rattle.std.specs.Prelude.{MatchOption}
+use Rattle.std.proofs.Common.{◌≡◌, ℕ, ◌<◌, true, subst, arith}
+use Rattle.std.specs.Prelude.{MatchOption, None}
 use Rattle.md_base.specs.Shapes.{has_slot}
-use Rattle.views.specs.Lacking.{DoesWithout, AreTooMany}
+use Rattle.shape_views.specs.Regions.{DoWithout}
+use Rattle.views.specs.Lacking.{AreTooMany}
 use Rattle.views.proofs.LiveLeft.{some-held}
 use Rattle.views.proofs.MemberLaws.{some_slot}
+use Rattle.superblocks.proofs.ValidFields.{few-roles}
 use Rattle.safe_updates.proofs.settles.unmarked.Goals as goal
 
 pub returns-then-holders-eq0-clause-left : goal.returns-then-holders-eq0-clause-left
 returns-then-holders-eq0-clause-left c = λ none.
-    some-held c.args.members.now c.requires.shape (subst (λ o. MatchOption o (DoesWithout c.args.members.now) (AreTooMany c.args.members.now)) none c.too_many.ensures)
+    some-held c.args.members.now c.requires.shapes.old (does none).old
+  where
+    does : c.too_many.result ≡ None → DoWithout c.args.members.now
+    does none = subst (λ o. MatchOption o (DoWithout c.args.members.now) (AreTooMany c.args.members.now)) none c.too_many.ensures
 
 pub returns-clause-left : goal.returns-clause-left
 returns-clause-left c = λ none.
@@ -18,3 +23,9 @@ returns-clause-left c = λ none.
   where
     small : (s : ℕ) → has_slot c.holders.result s ≡ true → s < 32
     small s has = let held = c.holders.ensures.only s has in c.requires.small held.0 s held.1
+
+pub holders-requires-clause-few : goal.holders-requires-clause-few
+holders-requires-clause-few c =
+    let most = few-roles c.args.members.now.newest c.requires.shapes in
+    let count = c.requires.roles in
+    omega (arith, most, count)

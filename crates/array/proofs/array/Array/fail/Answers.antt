@@ -16,11 +16,12 @@ use Rattle.call_entries.specs.Losing.{losses_of}
 use Rattle.array_kept.specs.Kept.{scope_in}
 use Rattle.views.proofs.MovedLaws.{moved-then}
 use Rattle.views.proofs.LackingLaws.{lost-since}
+use Rattle.views.proofs.Still.{count-still}
 use Rattle.array_kept.proofs.ReadyLaws.{ready, scope-same, list-same}
 use Rattle.array_kept.proofs.ReplyLaws.{fail_reply, no_role_reply}
 use Rattle.array_kept.proofs.LossLaws.{losses-failed, ended-behind}
 use Rattle.views.proofs.HeldRows.{vacant-moved}
-use Rattle.array_kept.proofs.DegradedLaws.{kept-refused, leaves-failed, degraded-failed}
+use Rattle.array_kept.proofs.DegradedLaws.{count-moved, kept-refused, leaves-failed, degraded-failed}
 use Rattle.calls_kept.proofs.FailedLaws.{placed-out, unlost-out, moved-out, out-vacant, out-spares, out-only, clean-out, rise-out, named-out}
 use Rattle.array.proofs.array.Array.fail.Goals as goal
 
@@ -91,7 +92,7 @@ invariant_of-self-2 g c =
     let placed = placed-out given a.members mid c.lose_slot.result c.in-Some.slot role was.kept.placed was.kept.unlost c.lose_slot.ensures.members c.lose_slot.ensures.alone c.in-Some.ensures.held in
     let moved = moved-out given a.members mid c.lose_slot.result c.in-Some.slot role was.kept.placed was.kept.unlost c.lose_slot.ensures.members c.lose_slot.ensures.alone c.in-Some.ensures.held in
     let since = lost-since given mid m c.shape_in-disks.result.disks c.vacant_roles-before.result roles spares before after placed did.moved did.failed
-    (ap (λ (s : Shape). s.disks) (c.shape_in-disks.ensures ∙ sym moved.shape)) c.vacant_roles-before.ensures c.newly_vacant-roles.ensures in
+    (ap (λ (s : Shape). s.disks) c.shape_in-disks.ensures ∙ sym (count-still a.members.newest was.kept.still) ∙ sym (count-moved moved)) c.vacant_roles-before.ensures c.newly_vacant-roles.ensures in
     let items = behind-loss c.make_room.new.self.items c.enter-2.new.epoch.entries.items c.enter_behind.new.epoch.entries.items c.args.who end (Lost role Command) (losses_of roles spares ++ Failed role ∷ []) c.enter-2.ensures.items c.enter_behind.ensures.items in
     let out = out-only given a.members mid c.lose_slot.result c.in-Some.slot role was.kept.placed was.kept.unlost c.lose_slot.ensures.members c.lose_slot.ensures.alone c.in-Some.ensures.held in
     let gone = out-vacant given a.members mid c.lose_slot.result c.in-Some.slot role was.kept.placed was.kept.unlost c.lose_slot.ensures.members c.lose_slot.ensures.alone c.in-Some.ensures.held in
@@ -145,7 +146,7 @@ returns-clause-held g c =
     let placed = placed-out given a.members mid c.lose_slot.result c.in-Some.slot role was.kept.placed was.kept.unlost c.lose_slot.ensures.members c.lose_slot.ensures.alone c.in-Some.ensures.held in
     let moved = moved-out given a.members mid c.lose_slot.result c.in-Some.slot role was.kept.placed was.kept.unlost c.lose_slot.ensures.members c.lose_slot.ensures.alone c.in-Some.ensures.held in
     let since = lost-since given mid m c.shape_in-disks.result.disks c.vacant_roles-before.result roles spares before after placed did.moved did.failed
-    (ap (λ (s : Shape). s.disks) (c.shape_in-disks.ensures ∙ sym moved.shape)) c.vacant_roles-before.ensures c.newly_vacant-roles.ensures in
+    (ap (λ (s : Shape). s.disks) c.shape_in-disks.ensures ∙ sym (count-still a.members.newest was.kept.still) ∙ sym (count-moved moved)) c.vacant_roles-before.ensures c.newly_vacant-roles.ensures in
     rw (← c.self.view_is) (moved-then given a.members mid m moved did.moved).held
 
 pub returns-clause-losses : goal.returns-clause-losses
@@ -166,7 +167,7 @@ returns-clause-losses g c =
     let placed = placed-out given a.members mid c.lose_slot.result c.in-Some.slot role was.kept.placed was.kept.unlost c.lose_slot.ensures.members c.lose_slot.ensures.alone c.in-Some.ensures.held in
     let moved = moved-out given a.members mid c.lose_slot.result c.in-Some.slot role was.kept.placed was.kept.unlost c.lose_slot.ensures.members c.lose_slot.ensures.alone c.in-Some.ensures.held in
     let since = lost-since given mid m c.shape_in-disks.result.disks c.vacant_roles-before.result roles spares before after placed did.moved did.failed
-    (ap (λ (s : Shape). s.disks) (c.shape_in-disks.ensures ∙ sym moved.shape)) c.vacant_roles-before.ensures c.newly_vacant-roles.ensures in
+    (ap (λ (s : Shape). s.disks) c.shape_in-disks.ensures ∙ sym (count-still a.members.newest was.kept.still) ∙ sym (count-moved moved)) c.vacant_roles-before.ensures c.newly_vacant-roles.ensures in
     let items = behind-loss c.make_room.new.self.items c.enter-2.new.epoch.entries.items c.enter_behind.new.epoch.entries.items c.args.who end (Lost role Command) (losses_of roles spares ++ Failed role ∷ []) c.enter-2.ensures.items c.enter_behind.ensures.items in
     rw (← c.self.view_is) (losses-failed a.members mid m before after a.epoch.entries.items c.make_room.new.self.items c.enter_behind.new.epoch.entries.items c.args.who end role c.in-Some.slot roles spares
     moved.held since c.in-Some.ensures.held c.make_room.ensures.items items)
@@ -198,7 +199,7 @@ returns-clause-same g c =
     let placed = placed-out given a.members mid c.lose_slot.result c.in-Some.slot role was.kept.placed was.kept.unlost c.lose_slot.ensures.members c.lose_slot.ensures.alone c.in-Some.ensures.held in
     let moved = moved-out given a.members mid c.lose_slot.result c.in-Some.slot role was.kept.placed was.kept.unlost c.lose_slot.ensures.members c.lose_slot.ensures.alone c.in-Some.ensures.held in
     let since = lost-since given mid m c.shape_in-disks.result.disks c.vacant_roles-before.result roles spares before after placed did.moved did.failed
-    (ap (λ (s : Shape). s.disks) (c.shape_in-disks.ensures ∙ sym moved.shape)) c.vacant_roles-before.ensures c.newly_vacant-roles.ensures in
+    (ap (λ (s : Shape). s.disks) c.shape_in-disks.ensures ∙ sym (count-still a.members.newest was.kept.still) ∙ sym (count-moved moved)) c.vacant_roles-before.ensures c.newly_vacant-roles.ensures in
     rw (← c.self.view_is) (record {
       uuid = c.enter_behind.ensures.uuid ∙ c.enter-2.ensures.uuid;
       given = c.enter_behind.ensures.given ∙ c.enter-2.ensures.given;

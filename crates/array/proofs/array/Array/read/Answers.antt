@@ -1,4 +1,4 @@
-use Rattle.std.proofs.Common.{◌≡◌, ◌+◌, ◌/◌, ◌<◌, ◌≤◌, ◌++◌, ◌∷◌, [], ℕ, Option, Some, List, length, take, take_all, drop, inl, refl, sym, ◌∙◌, ap, subst, arith}
+use Rattle.std.proofs.Common.{◌≡◌, ◌+◌, ◌*◌, ◌/◌, ◌<◌, ◌≤◌, ◌++◌, ◌∷◌, [], ℕ, Option, Some, List, length, take, take_all, drop, inl, refl, sym, ◌∙◌, ap, subst, arith}
 use Rattle.std.proofs.lemmas.List.{take-append-le}
 use Rattle.std.specs.Vec.{with_items}
 use Rattle.md_base.specs.Sectors.{Sector, sectors_of}
@@ -18,8 +18,16 @@ use Rattle.views.specs.Lacking.{AreLostSince, IsUnread, mended_rows}
 use Rattle.array_kept.specs.Kept.{scope_in, world_in, AreFillsRight}
 use Rattle.array_kept.specs.Calls.{world_for}
 use Rattle.flat_history.proofs.OneShapeGoing.{begins-open}
-use Rattle.views.proofs.LackingLaws.{lost-since, does-without}
+use Rattle.superblocks.specs.Reading.{shape_of}
+use Rattle.md_base.specs.Shapes.{data_disks, is_multiple}
+use Rattle.row_io.specs.Rows.{present}
+use Rattle.list_io.specs.Buffers.{IsTouched}
+use Rattle.std.specs.Prelude.{IsTrue}
+use Rattle.views.proofs.LackingLaws.{lost-since, shape-without}
+use Rattle.views.proofs.Still.{count-still, without-still}
+use Rattle.calls_kept.proofs.TouchedLaws.{holds-fetched}
 use Rattle.views.proofs.MemberLaws.{list-few}
+use Rattle.views.proofs.LackingLists.{row-sector}
 use Rattle.array_kept.proofs.ReadyLaws.{ready, scope-same, list-same}
 use Rattle.array_kept.proofs.DegradedLaws.{refused-here, kept-refused, unread-here}
 use Rattle.array_kept.proofs.LossLaws.{losses-behind, ended-behind}
@@ -48,7 +56,7 @@ invariant_of-self-in-Some g c =
     let count = length c.args.into.now / 512 in
     let size = list_size (places_of a.members) in
     let mended = mended_rows a.work.resync a.members in
-    let why = refused-here size (c.args.at + count) a.work.resync (IsUnread mended c.args.at count) a.members c.in-Some.refusal
+    let why = refused-here size (c.args.at + count) a.work.resync (IsUnread (shape_of a.members.newest) mended c.args.at count) a.members c.in-Some.refusal
     (λ within. unread-here (g.B.Bank.given a.bank) size c.args.at count mended a.work.resync a.members c.in-Some.refusal was.kept.placed within (λ none. ap (λ (o : Option ℕ). mended_rows o a.members) none)) c.in-Some.ensures.why in
     ready (entries_of c.args.who c.ops-end.result (Refused c.in-Some.refusal ∷ []))
     (kept-refused c.args.who c.ops-end.result was.kept (begins-open a.epoch.entries.items c.args.who number) c.requires.caller c.ops-end.ensures.count c.in-Some.refusal why)
@@ -62,8 +70,8 @@ returns-in-Some-clause-answered g c =
     let number : c.args.who.number ≡ next_number c.args.who.caller a.epoch.entries.items = c.requires.next ∙ ap (λ p. next_number c.args.who.caller p.entries) (sym c.self.view_is) in
     let count = length c.args.into.now / 512 in
     rw (← c.self.view_is) (refused_reply (list_size (places_of a.members)) a.epoch.entries.items was.kept.sized was.kept.unlimited (AsksRead c.args.at count) c.args.who (c.args.at + count)
-    (IsUnread (mended_rows a.work.resync a.members) c.args.at count) c.enter.new.epoch.entries.items c.ops-end.result a.members c.in-Some.refusal (read_kind c.args.at count)
-    (unread-of (mended_rows a.work.resync a.members) c.args.at count a.members c.in-Some.refusal) c.in-Some.ensures.why
+    (IsUnread (shape_of a.members.newest) (mended_rows a.work.resync a.members) c.args.at count) c.enter.new.epoch.entries.items c.ops-end.result a.members c.in-Some.refusal (read_kind c.args.at count)
+    (unread-of (shape_of a.members.newest) (mended_rows a.work.resync a.members) c.args.at count a.members c.in-Some.refusal) c.in-Some.ensures.why
     (c.enter.ensures.items ∙ ap (λ (l : List Entry). l ++ entries_of c.args.who c.ops-end.result (Refused c.in-Some.refusal ∷ [])) c.make_room.ensures.items) number)
 
 pub returns-in-Some-clause-ended : goal.returns-in-Some-clause-ended
@@ -72,6 +80,22 @@ returns-in-Some-clause-ended g c =
 
 pub returns-in-Some-clause-caused : goal.returns-in-Some-clause-caused
 returns-in-Some-clause-caused g c = rw (← c.self.view_is) c.in-Some.ensures.why
+
+-- ---- it is read by the one shape
+
+pub fetch-fetched-requires-clause-shape : goal.fetch-fetched-requires-clause-shape
+fetch-fetched-requires-clause-shape g c = inl c.shape_in-shape.ensures
+
+pub fetch-fetched-requires-clause-within : goal.fetch-fetched-requires-clause-within
+fetch-fetched-requires-clause-within g c =
+    let m = c.self.inside.members in
+    let same = asked-is c.in-Ok.bytes.items c.as_mut_slice.result.now c.args.into.now c.in-Ok.ensures.len c.as_mut_slice.ensures.value in
+    let within : c.args.at + length c.as_mut_slice.result.now / 512 ≤ data_disks (shape_of m.newest) * m.newest.size = let below = c.in_default.ensures.why.0 in omega (arith, same, below) in
+    subst (λ (s : Shape). c.args.at + length c.as_mut_slice.result.now / 512 ≤ data_disks s * m.newest.size) (sym c.shape_in-shape.ensures) within
+
+pub fetch-fetched-requires-clause-stripes : goal.fetch-fetched-requires-clause-stripes
+fetch-fetched-requires-clause-stripes g c =
+    subst (λ (s : Shape). IsTrue (is_multiple c.mended_rows-mended.result s.chunk)) (sym c.shape_in-shape.ensures) c.mended_rows-mended.ensures.stripes
 
 -- ---- the list is short
 
@@ -100,11 +124,11 @@ invariant_of-self-in-Some-refusal g c =
     let end = c.ops-end-2.result in
     let count = length c.as_mut_slice.result.now / 512 in
     let since : AreLostSince a.members m roles spares before after = lost-since given a.members m c.shape_in-shape.result.disks c.vacant_roles-before.result roles spares before after was.kept.placed did.moved did.failed
-    (ap (λ (s : Shape). s.disks) c.shape_in-shape.ensures) c.vacant_roles-before.ensures c.newly_vacant-roles.ensures in
+    (ap (λ (s : Shape). s.disks) c.shape_in-shape.ensures ∙ sym (count-still a.members.newest was.kept.still)) c.vacant_roles-before.ensures c.newly_vacant-roles.ensures in
     ready (entries_of c.args.who end (losses_of roles spares ++ Refused refusal ∷ []))
-    (kept-unread c.args.who end was.kept (begins-open a.epoch.entries.items c.args.who number) c.requires.caller c.ops-end-2.ensures.count did.moved did.grows roles spares before after since did.others did.rise did.clean did.safe c.args.at count c.mended_rows-mended.result refusal
+    (kept-unread c.args.who end was.kept (begins-open a.epoch.entries.items c.args.who number) c.requires.caller c.ops-end-2.ensures.count did.moved did.grows roles spares before after since did.others did.rise did.clean did.safe c.shape_in-shape.result c.shape_in-shape.ensures c.args.at count c.mended_rows-mended.result refusal
     (subst (λ (n : ℕ). c.args.at + n ≤ list_size (places_of a.members)) (sym (asked-is c.in-Ok.bytes.items c.as_mut_slice.result.now c.args.into.now c.in-Ok.ensures.len c.as_mut_slice.ensures.value)) c.in_default.ensures.why.0) c.mended_rows-mended.ensures.rows
-    (some-of (IsUnread c.mended_rows-mended.result c.args.at count m) c.fetch-fetched.result.refusal refusal c.in-Some-refusal.is did.refused))
+    (some-of (IsUnread c.shape_in-shape.result c.mended_rows-mended.result c.args.at count m) c.fetch-fetched.result.refusal refusal c.in-Some-refusal.is did.refused))
     was.failed did.counts did.given (scope-same given a.backup did.given c.enter_behind.ensures.uuid c.enter_behind.ensures.given) c.enter_behind.ensures.first c.make_room.ensures.items c.enter_behind.ensures.items
     (omega (arith, c.enter_behind.ensures.room, c.in-Ok-make_room.ensures.ok)) was.rows_fit
     (let len = (with_items a.buffer c.fetch-fetched.new.scratch).ok.0 in let ok = a.buffer.ok.0 in omega (arith, len, ok, was.buffer_fits))
@@ -121,9 +145,9 @@ returns-in-Some-refusal-clause-answered g c =
     let end = c.ops-end-2.result in
     let count = length c.args.into.now / 512 in
     let asked = length c.as_mut_slice.result.now / 512 in
-    let why = some-of (IsUnread c.mended_rows-mended.result c.args.at asked m) c.fetch-fetched.result.refusal refusal c.in-Some-refusal.is c.fetch-fetched.ensures.refused in
+    let why = some-of (IsUnread c.shape_in-shape.result c.mended_rows-mended.result c.args.at asked m) c.fetch-fetched.result.refusal refusal c.in-Some-refusal.is c.fetch-fetched.ensures.refused in
     rw (← c.self.view_is) (lost_reply (list_size (places_of a.members)) a.epoch.entries.items was.kept.sized was.kept.unlimited (AsksRead c.args.at count) c.args.who (c.args.at + count)
-    c.enter_behind.new.epoch.entries.items end roles spares refusal (read_kind c.args.at count) c.in_default.ensures.why.0 (unread-of c.mended_rows-mended.result c.args.at asked m refusal why)
+    c.enter_behind.new.epoch.entries.items end roles spares refusal (read_kind c.args.at count) c.in_default.ensures.why.0 (unread-of c.shape_in-shape.result c.mended_rows-mended.result c.args.at asked m refusal why)
     (c.enter_behind.ensures.items ∙ ap (λ (l : List Entry). l ++ entries_of c.args.who end (losses_of roles spares ++ Refused refusal ∷ [])) c.make_room.ensures.items) number)
 
 pub returns-in-Some-refusal-clause-caused : goal.returns-in-Some-refusal-clause-caused
@@ -134,10 +158,11 @@ returns-in-Some-refusal-clause-caused g c =
     let count = length c.args.into.now / 512 in
     let asked = length c.as_mut_slice.result.now / 512 in
     let same : asked ≡ count = asked-is c.in-Ok.bytes.items c.as_mut_slice.result.now c.args.into.now c.in-Ok.ensures.len c.as_mut_slice.ensures.value in
-    let why = some-of (IsUnread c.mended_rows-mended.result c.args.at asked m) c.fetch-fetched.result.refusal refusal c.in-Some-refusal.is c.fetch-fetched.ensures.refused in
-    rw (← c.self.view_is) (refused-for (list_size (places_of a.members)) (c.args.at + count) (IsUnread (mended_rows a.work.resync a.members) c.args.at count) a.members m refusal
-    (unread-of c.mended_rows-mended.result c.args.at asked m refusal why) c.in_default.ensures.why.0
-    (subst (λ (n : ℕ). IsUnread n c.args.at count m refusal) c.mended_rows-mended.ensures.rows (subst (λ (n : ℕ). IsUnread c.mended_rows-mended.result c.args.at n m refusal) same why)))
+    let why = some-of (IsUnread c.shape_in-shape.result c.mended_rows-mended.result c.args.at asked m) c.fetch-fetched.result.refusal refusal c.in-Some-refusal.is c.fetch-fetched.ensures.refused in
+    rw (← c.self.view_is) (refused-for (list_size (places_of a.members)) (c.args.at + count) (IsUnread (shape_of a.members.newest) (mended_rows a.work.resync a.members) c.args.at count) a.members m refusal
+    (unread-of c.shape_in-shape.result c.mended_rows-mended.result c.args.at asked m refusal why) c.in_default.ensures.why.0
+    (subst (λ (s : Shape). IsUnread s (mended_rows a.work.resync a.members) c.args.at count m refusal) c.shape_in-shape.ensures
+    (subst (λ (n : ℕ). IsUnread c.shape_in-shape.result n c.args.at count m refusal) c.mended_rows-mended.ensures.rows (subst (λ (n : ℕ). IsUnread c.shape_in-shape.result c.mended_rows-mended.result c.args.at n m refusal) same why))))
 
 pub returns-in-Some-refusal-clause-tape : goal.returns-in-Some-refusal-clause-tape
 returns-in-Some-refusal-clause-tape g c = rw (← c.self.view_is) c.fetch-fetched.ensures.tape
@@ -162,7 +187,7 @@ returns-in-Some-refusal-clause-losses g c =
     let roles = c.newly_vacant-roles.result in
     let spares = c.fetch-fetched.result.spares in
     let since : AreLostSince a.members m roles spares before after = lost-since (g.B.Bank.given a.bank) a.members m c.shape_in-shape.result.disks c.vacant_roles-before.result roles spares before after was.kept.placed did.moved did.failed
-    (ap (λ (s : Shape). s.disks) c.shape_in-shape.ensures) c.vacant_roles-before.ensures c.newly_vacant-roles.ensures in
+    (ap (λ (s : Shape). s.disks) c.shape_in-shape.ensures ∙ sym (count-still a.members.newest was.kept.still)) c.vacant_roles-before.ensures c.newly_vacant-roles.ensures in
     rw (← c.self.view_is) (losses-behind a.members m before after a.epoch.entries.items c.make_room.new.self.items c.enter_behind.new.epoch.entries.items c.args.who c.ops-end-2.result roles spares
     (Refused c.in-Some-refusal.refusal) since tt c.make_room.ensures.items c.enter_behind.ensures.items)
 
@@ -212,12 +237,15 @@ invariant_of-self-3 g c =
     let same : length bytes / 512 ≡ length c.as_mut_slice.result.now / 512 = ap (λ (n : ℕ). n / 512) c.fetch-fetched.auto.into in
     let whole = written-whole c.in-Ok.bytes.len c.in-Ok.bytes.items bytes (c.fetch-fetched.auto.into ∙ ap (λ (l : List ℕ). length l) c.as_mut_slice.ensures.value) c.in-Ok.bytes.ok.0 in
     let within : c.args.at + length bytes / 512 ≤ size = rw len c.in_default.ensures.why.0 in
-    let does = does-without a.members (λ refusal many. c.in_default.ensures.why.1 refusal (inl many)) in
+    let does = without-still a.members was.kept.still (shape-without (shape_of a.members.newest) a.members (λ refusal many. c.in_default.ensures.why.1 refusal (inl many))) in
+    let held = holds-fetched c.shape_in-shape.result a.members m c.shape_in-shape.ensures (present (g.B.Bank.given a.bank) (g.B.Bank.tape a.bank)) (IsTouched c.shape_in-shape.result c.args.at (length c.as_mut_slice.result.now / 512)) c.mended_rows-mended.result
+    (λ (list : ℕ → Sector). (k : ℕ) → k < length bytes / 512 → row_sector bytes k ≡ list (c.args.at + k))
+    (λ t list stands filled k below. sym (row-sector bytes k) ∙ did.holds c.in_default-refusal.is t list stands filled k (subst (λ (n : ℕ). k < n) same below)) in
     let since : AreLostSince a.members m roles spares before after = lost-since given a.members m c.shape_in-shape.result.disks c.vacant_roles-before.result roles spares before after was.kept.placed did.moved did.failed
-    (ap (λ (s : Shape). s.disks) c.shape_in-shape.ensures) c.vacant_roles-before.ensures c.newly_vacant-roles.ensures in
+    (ap (λ (s : Shape). s.disks) c.shape_in-shape.ensures ∙ sym (count-still a.members.newest was.kept.still)) c.vacant_roles-before.ensures c.newly_vacant-roles.ensures in
     ready (entries_of c.args.who end (losses_of roles spares ++ Read c.args.at (sectors_of bytes) ∷ []))
     (kept-read c.args.who end was.kept (begins-open a.epoch.entries.items c.args.who number) c.requires.caller c.ops-end-2.ensures.count did.moved did.grows roles spares before after since did.others did.rise did.clean did.safe c.args.at bytes within
-    (fetched was.kept (entries_of c.args.who end (losses_of roles spares ++ Read c.args.at (sectors_of bytes) ∷ [])) m c.args.at c.mended_rows-mended.result bytes does c.mended_rows-mended.ensures.rows (λ t list stands filled i lt. did.holds c.in_default-refusal.is t list stands filled i (subst (λ (n : ℕ). i < n) same lt))))
+    (fetched was.kept (entries_of c.args.who end (losses_of roles spares ++ Read c.args.at (sectors_of bytes) ∷ [])) m c.args.at c.mended_rows-mended.result bytes does c.mended_rows-mended.ensures.rows (λ t list stands filled i lt. row-sector bytes i ∙ held t list stands filled i lt)))
     was.failed did.counts did.given (scope-same given a.backup did.given c.enter_behind-2.ensures.uuid c.enter_behind-2.ensures.given) c.enter_behind-2.ensures.first c.make_room.ensures.items
     (c.enter_behind-2.ensures.items ∙ ap (λ (b : List Sector). c.make_room.new.self.items ++ entries_of c.args.who end (losses_of roles spares ++ Read c.args.at b ∷ [])) (c.from_bytes-body.ensures ∙ ap sectors_of whole))
     (omega (arith, c.enter_behind-2.ensures.room, c.in-Ok-make_room.ensures.ok)) was.rows_fit
@@ -250,11 +278,14 @@ returns-clause-holds g c = λ t fills i lt.
     let whole = written-whole c.in-Ok.bytes.len c.in-Ok.bytes.items bytes (c.fetch-fetched.auto.into ∙ ap (λ (l : List ℕ). length l) c.as_mut_slice.ensures.value) c.in-Ok.bytes.ok.0 in
     let copied : c.copy_from_slice.new.self ≡ bytes = c.copy_from_slice.ensures.after ∙ c.as_slice.ensures.value ∙ whole in
     let same : length bytes / 512 ≡ length c.as_mut_slice.result.now / 512 = ap (λ (n : ℕ). n / 512) c.fetch-fetched.auto.into in
-    let does = does-without a.members (λ refusal many. c.in_default.ensures.why.1 refusal (inl many)) in
+    let does = without-still a.members was.kept.still (shape-without (shape_of a.members.newest) a.members (λ refusal many. c.in_default.ensures.why.1 refusal (inl many))) in
+    let held = holds-fetched c.shape_in-shape.result a.members m c.shape_in-shape.ensures (present (g.B.Bank.given a.bank) (g.B.Bank.tape a.bank)) (IsTouched c.shape_in-shape.result c.args.at (length c.as_mut_slice.result.now / 512)) c.mended_rows-mended.result
+    (λ (list : ℕ → Sector). (k : ℕ) → k < length bytes / 512 → row_sector bytes k ≡ list (c.args.at + k))
+    (λ t list stands filled k below. sym (row-sector bytes k) ∙ did.holds c.in_default-refusal.is t list stands filled k (subst (λ (n : ℕ). k < n) same below)) in
     let added = entries_of c.args.who c.ops-end-2.result (losses_of c.newly_vacant-roles.result c.fetch-fetched.result.spares ++ Read c.args.at c.from_bytes-body.result ∷ []) in
     let items : c.enter_behind-2.new.epoch.entries.items ≡ a.epoch.entries.items ++ added = c.enter_behind-2.ensures.items ∙ ap (λ (l : List Entry). l ++ added) c.make_room.ensures.items in
     ap (λ (l : List ℕ). row_sector l i) copied
-    ∙ fetched was.kept added m c.args.at c.mended_rows-mended.result bytes does c.mended_rows-mended.ensures.rows (λ t list stands filled k below. did.holds c.in_default-refusal.is t list stands filled k (subst (λ (n : ℕ). k < n) same below)) t
+    ∙ fetched was.kept added m c.args.at c.mended_rows-mended.result bytes does c.mended_rows-mended.ensures.rows (λ t list stands filled k below. row-sector bytes k ∙ held t list stands filled k below) t
     (subst (λ (l : List Entry). AreFillsRight (world_in (g.B.Bank.given a.bank) (g.B.Bank.tape a.bank) (scope_in (g.B.Bank.given a.bank) a.epoch.uuid a.epoch.given a.backup) a.epoch.first) a.work.resync m l) items
     (subst (λ p. AreFillsRight (world_for (g.B.Bank.given p.bank) (g.B.Bank.tape p.bank) p) p.work.resync m c.enter_behind-2.new.epoch.entries.items) (sym c.self.view_is) fills)) i (subst (λ (l : List ℕ). i < length l / 512) copied lt)
     ∙ ap (λ p. now (opening_list (world_for (g.B.Bank.given p.bank) (g.B.Bank.tape p.bank) p)) p.entries (c.args.at + i)) c.self.view_is
@@ -285,7 +316,7 @@ returns-clause-losses g c =
     let roles = c.newly_vacant-roles.result in
     let spares = c.fetch-fetched.result.spares in
     let since : AreLostSince a.members m roles spares before after = lost-since (g.B.Bank.given a.bank) a.members m c.shape_in-shape.result.disks c.vacant_roles-before.result roles spares before after was.kept.placed did.moved did.failed
-    (ap (λ (s : Shape). s.disks) c.shape_in-shape.ensures) c.vacant_roles-before.ensures c.newly_vacant-roles.ensures in
+    (ap (λ (s : Shape). s.disks) c.shape_in-shape.ensures ∙ sym (count-still a.members.newest was.kept.still)) c.vacant_roles-before.ensures c.newly_vacant-roles.ensures in
     rw (← c.self.view_is) (losses-behind a.members m before after a.epoch.entries.items c.make_room.new.self.items c.enter_behind-2.new.epoch.entries.items c.args.who c.ops-end-2.result roles spares
     (Read c.args.at c.from_bytes-body.result) since tt c.make_room.ensures.items c.enter_behind-2.ensures.items)
 
@@ -334,9 +365,10 @@ returns-in-Some-refusal-clause-first g c =
     let asked = length c.as_mut_slice.result.now / 512 in
     let mended = mended_rows a.work.resync a.members in
     let same : asked ≡ count = asked-is c.in-Ok.bytes.items c.as_mut_slice.result.now c.args.into.now c.in-Ok.ensures.len c.as_mut_slice.ensures.value in
-    let why = some-of (λ r. read_refusal c.mended_rows-mended.result c.args.at asked m ≡ Some r) c.fetch-fetched.result.refusal refusal c.in-Some-refusal.is c.fetch-fetched.ensures.first in
-    rw (← c.self.view_is) (call-within (list_size (places_of a.members)) (c.args.at + count) (read_refusal mended c.args.at count m) c.in_default.ensures.why.0
-    ∙ subst (λ (n : ℕ). read_refusal n c.args.at count m ≡ Some refusal) c.mended_rows-mended.ensures.rows (subst (λ (n : ℕ). read_refusal c.mended_rows-mended.result c.args.at n m ≡ Some refusal) same why))
+    let why = some-of (λ r. read_refusal c.shape_in-shape.result c.mended_rows-mended.result c.args.at asked m ≡ Some r) c.fetch-fetched.result.refusal refusal c.in-Some-refusal.is c.fetch-fetched.ensures.first in
+    rw (← c.self.view_is) (call-within (list_size (places_of a.members)) (c.args.at + count) (read_refusal (shape_of a.members.newest) mended c.args.at count m) c.in_default.ensures.why.0
+    ∙ subst (λ (s : Shape). read_refusal s mended c.args.at count m ≡ Some refusal) c.shape_in-shape.ensures
+    (subst (λ (n : ℕ). read_refusal c.shape_in-shape.result n c.args.at count m ≡ Some refusal) c.mended_rows-mended.ensures.rows (subst (λ (n : ℕ). read_refusal c.shape_in-shape.result c.mended_rows-mended.result c.args.at n m ≡ Some refusal) same why)))
 
 pub returns-clause-first : goal.returns-clause-first
 returns-clause-first g c = rw (← c.self.view_is) (sym c.in_default.ensures.first)

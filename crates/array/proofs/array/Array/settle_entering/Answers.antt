@@ -4,8 +4,7 @@ use Rattle.md_base.specs.declared.answers.Refusal.{Refusal}
 use Rattle.md_base.specs.declared.places.Shape.{Shape}
 use Rattle.superblocks.specs.declared.members.Members.{Members}
 use Rattle.flat_history.specs.declared.events.Event.TheVariants.{Refused}
-use Rattle.superblocks.specs.Reading.{shape_of}
-use Rattle.layout.proofs.Limits.{limited}
+use Rattle.superblocks.proofs.ValidFields.{few-roles}
 use Rattle.flat_history.specs.declared.events.Entry.{Entry}
 use Rattle.flat_history.specs.Flat.{next_number}
 use Rattle.flat_history.specs.Plain.{entries_of}
@@ -16,6 +15,7 @@ use Rattle.call_entries.specs.Losing.{losses_of}
 use Rattle.views.specs.Lacking.{AreTooMany}
 use Rattle.array_kept.specs.Kept.{scope_in, AreTold}
 use Rattle.views.proofs.LackingLaws.{lost-since}
+use Rattle.views.proofs.Still.{count-still}
 use Rattle.array_kept.proofs.ReadyLaws.{ready, settles-of, scope-same, list-same}
 use Rattle.array_kept.proofs.ReplyLaws.{refused-zero}
 use Rattle.array_kept.proofs.LossLaws.{losses-behind, ended-behind, behind-alone, settling-no-loss}
@@ -61,7 +61,7 @@ invariant_of-self-in-Some-refusal g c =
     let roles = c.newly_vacant-roles.result in
     let spares = c.settle-settled.result.spares in
     let end = c.ops-end-2.result in
-    let since = lost-since given a.members m c.shape_in-disks.result.disks c.vacant_roles-before.result roles spares before after was.kept.placed did.moved did.failed (ap (λ (s : Shape). s.disks) c.shape_in-disks.ensures)
+    let since = lost-since given a.members m c.shape_in-disks.result.disks c.vacant_roles-before.result roles spares before after was.kept.placed did.moved did.failed (ap (λ (s : Shape). s.disks) c.shape_in-disks.ensures ∙ sym (count-still a.members.newest was.kept.still))
     c.vacant_roles-before.ensures c.newly_vacant-roles.ensures in
     let refusal = c.in-Some-refusal.refusal in
     let many = too-many-of m c.settle-settled.result.refusal refusal c.in-Some-refusal.is did.refused in
@@ -91,7 +91,7 @@ returns-in-Some-refusal-clause-losses g c =
     let roles = c.newly_vacant-roles.result in
     let spares = c.settle-settled.result.spares in
     let end = c.ops-end-2.result in
-    let since = lost-since given a.members m c.shape_in-disks.result.disks c.vacant_roles-before.result roles spares before after was.kept.placed did.moved did.failed (ap (λ (s : Shape). s.disks) c.shape_in-disks.ensures)
+    let since = lost-since given a.members m c.shape_in-disks.result.disks c.vacant_roles-before.result roles spares before after was.kept.placed did.moved did.failed (ap (λ (s : Shape). s.disks) c.shape_in-disks.ensures ∙ sym (count-still a.members.newest was.kept.still))
     c.vacant_roles-before.ensures c.newly_vacant-roles.ensures in
     rw (← c.self.view_is) (losses-behind a.members m before after a.epoch.entries.items c.make_room.new.self.items c.enter_behind.new.epoch.entries.items c.args.who end roles spares
     (Refused c.in-Some-refusal.refusal) since tt c.make_room.ensures.items c.enter_behind.ensures.items)
@@ -130,7 +130,7 @@ invariant_of-self-2 g c =
     let roles = c.newly_vacant-roles.result in
     let spares = c.settle-settled.result.spares in
     let end = c.ops-end-2.result in
-    let since = lost-since given a.members m c.shape_in-disks.result.disks c.vacant_roles-before.result roles spares before after was.kept.placed did.moved did.failed (ap (λ (s : Shape). s.disks) c.shape_in-disks.ensures)
+    let since = lost-since given a.members m c.shape_in-disks.result.disks c.vacant_roles-before.result roles spares before after was.kept.placed did.moved did.failed (ap (λ (s : Shape). s.disks) c.shape_in-disks.ensures ∙ sym (count-still a.members.newest was.kept.still))
     c.vacant_roles-before.ensures c.newly_vacant-roles.ensures in
     let settles = settles-of c.args.event c.requires.event in
     ready (entries_of c.args.who end (losses_of roles spares ++ c.args.event ∷ []))
@@ -153,9 +153,9 @@ returns-clause-left g c = λ t.
     let roles = c.newly_vacant-roles.result in
     let spares = c.settle-settled.result.spares in
     let end = c.ops-end-2.result in
-    let since = lost-since given a.members m c.shape_in-disks.result.disks c.vacant_roles-before.result roles spares before after was.kept.placed did.moved did.failed (ap (λ (s : Shape). s.disks) c.shape_in-disks.ensures)
+    let since = lost-since given a.members m c.shape_in-disks.result.disks c.vacant_roles-before.result roles spares before after was.kept.placed did.moved did.failed (ap (λ (s : Shape). s.disks) c.shape_in-disks.ensures ∙ sym (count-still a.members.newest was.kept.still))
     c.vacant_roles-before.ensures c.newly_vacant-roles.ensures in
-    let told = told-since given a.members m a.epoch.entries.items c.args.who end roles spares (c.args.event ∷ []) before after (limited (shape_of m.newest) did.moved.placed.valid).most did.moved was.kept.told since ((settles-of c.args.event c.requires.event).gives c.args.who end) in
+    let told = told-since given a.members m a.epoch.entries.items c.args.who end roles spares (c.args.event ∷ []) before after (few-roles m.newest did.moved.placed.fit.valid) did.moved was.kept.told since ((settles-of c.args.event c.requires.event).gives c.args.who end) in
     let entries_are = c.enter_behind-2.ensures.items ∙ ap (λ (l : List Entry). l ++ entries_of c.args.who end (losses_of roles spares ++ c.args.event ∷ [])) c.make_room.ensures.items in
     rw (← c.self.view_is) (left-flushed given a.members m c.enter_behind-2.new.epoch.entries.items (g.B.Bank.tape c.settle-settled.new.bank) was.kept.placed did.moved (subst (λ (l : List Entry). AreTold m l) (sym entries_are) told) (did.flushed t))
 
@@ -178,7 +178,7 @@ returns-clause-losses g c =
     let roles = c.newly_vacant-roles.result in
     let spares = c.settle-settled.result.spares in
     let end = c.ops-end-2.result in
-    let since = lost-since given a.members m c.shape_in-disks.result.disks c.vacant_roles-before.result roles spares before after was.kept.placed did.moved did.failed (ap (λ (s : Shape). s.disks) c.shape_in-disks.ensures)
+    let since = lost-since given a.members m c.shape_in-disks.result.disks c.vacant_roles-before.result roles spares before after was.kept.placed did.moved did.failed (ap (λ (s : Shape). s.disks) c.shape_in-disks.ensures ∙ sym (count-still a.members.newest was.kept.still))
     c.vacant_roles-before.ensures c.newly_vacant-roles.ensures in
     rw (← c.self.view_is) (losses-behind a.members m before after a.epoch.entries.items c.make_room.new.self.items c.enter_behind-2.new.epoch.entries.items c.args.who end roles spares
     c.args.event since (settling-no-loss a.members before after c.args.event c.requires.event) c.make_room.ensures.items c.enter_behind-2.ensures.items)
@@ -209,3 +209,9 @@ returns-in-Some-refusal-clause-spares g c = rw (← c.self.view_is) c.settle-set
 
 pub returns-clause-spares : goal.returns-clause-spares
 returns-clause-spares g c = rw (← c.self.view_is) c.settle-settled.ensures.moved.fewer
+
+pub returns-clause-failed : goal.returns-clause-failed
+returns-clause-failed g c = rw (← c.self.view_is) c.settle-settled.ensures.failed.roles
+
+pub returns-clause-never_falls : goal.returns-clause-never_falls
+returns-clause-never_falls g c = rw (← c.self.view_is) c.settle-settled.ensures.counts

@@ -2,6 +2,7 @@ use Rattle.std.proofs.Common.{◌≡◌, ℕ, Option, length, refl, ap, ◌∙�
 use Rattle.flat_history.specs.Epochs.{IsEpochRight, HasRoomForEvents, OpensAlike, world_of}
 use Rattle.flat_history.specs.OneShape.{opening_in, IsOneShapeLegal}
 use Rattle.flat_history.specs.Sound.{FillsRight}
+use Rattle.bank.specs.Given.{NeverFalls}
 use Rattle.array_kept.specs.Calls.{AreLeftFlushed}
 use Rattle.array_kept.proofs.ReadyLaws.{kept-legal, epoch-right}
 use Rattle.views.proofs.LackingLaws.{does-without}
@@ -35,3 +36,6 @@ returns-in-Ok-clause-right g c = λ t fills room alike.
     (subst (λ (b : Option ℕ). FillsRight (world_of given tape b a.epoch) a.epoch.entries.items) (sym backup) fills)
     (subst (λ (b : Option ℕ). HasRoomForEvents (world_of given tape b a.epoch)) (sym backup) room)
     (subst (λ (b : Option ℕ). OpensAlike (world_of given tape b a.epoch)) (sym backup) alike))
+
+pub returns-in-Ok-clause-never_falls : goal.returns-in-Ok-clause-never_falls
+returns-in-Ok-clause-never_falls g c = subst (λ p. NeverFalls (g.B.Bank.faults_of c.args.self.bank) (g.B.Bank.faults_of p.bank)) (sym c.array.view_is) c.in-Ok.ensures.never_falls

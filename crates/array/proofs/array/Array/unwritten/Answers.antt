@@ -1,4 +1,4 @@
-use Rattle.std.proofs.Common.{◌≡◌, ◌≤◌, ◌+◌, Bool, refl, sym, ◌∙◌, ap, arith}
+use Rattle.std.proofs.Common.{◌≡◌, ◌≤◌, ◌+◌, Bool, refl, sym, ◌∙◌, ap, ap₂, arith}
 use Rattle.md_base.specs.declared.places.Shape.{Shape}
 use Rattle.superblocks.specs.Reading.{shape_of}
 use Rattle.views.specs.Whole.{list_size}
@@ -23,8 +23,8 @@ returns-clause-first g c =
     let visible : c.visible-visible.result ≡ list_size (places_of m) = c.visible-visible.ensures.length ∙ ap (λ v. list_size (places_of v.members)) (sym c.self.view_is) in
     let within : to ≤ list_size (places_of m) = omega (arith, visible, c.if-visible-at.false) in
     let same = c.are_mended.ensures ∙ ap (λ v. are_mended c.shape_in-shape.result (mended_rows v.work.resync v.members) to) (sym c.self.view_is) ∙ ap (λ (s : Shape). are_mended s mended to) c.shape_in-shape.ensures in
-    let told : c.unwritten.result ≡ write_refusal asked m = c.unwritten.ensures ∙ ap (λ (b : Bool). write_refusal b m) same in
-    rw (← c.self.view_is) (within-is (list_size (places_of m)) to c.unwritten.result (write_refusal asked m) within told)
+    let told : c.unwritten.result ≡ write_refusal (shape_of m.newest) asked m = c.unwritten.ensures ∙ ap₂ (λ (s : Shape) (b : Bool). write_refusal s b m) c.shape_in-shape.ensures same in
+    rw (← c.self.view_is) (within-is (list_size (places_of m)) to c.unwritten.result (write_refusal (shape_of m.newest) asked m) within told)
 
 pub returns-clause-why : goal.returns-clause-why
 returns-clause-why g c =
@@ -35,5 +35,5 @@ returns-clause-why g c =
     let visible : c.visible-visible.result ≡ list_size (places_of m) = c.visible-visible.ensures.length ∙ ap (λ v. list_size (places_of v.members)) (sym c.self.view_is) in
     let within : to ≤ list_size (places_of m) = omega (arith, visible, c.if-visible-at.false) in
     let same = c.are_mended.ensures ∙ ap (λ v. are_mended c.shape_in-shape.result (mended_rows v.work.resync v.members) to) (sym c.self.view_is) ∙ ap (λ (s : Shape). are_mended s mended to) c.shape_in-shape.ensures in
-    let told : c.unwritten.result ≡ write_refusal asked m = c.unwritten.ensures ∙ ap (λ (b : Bool). write_refusal b m) same in
-    rw (← c.self.view_is) (write-judged (list_size (places_of m)) to asked m c.unwritten.result within told)
+    let told : c.unwritten.result ≡ write_refusal (shape_of m.newest) asked m = c.unwritten.ensures ∙ ap₂ (λ (s : Shape) (b : Bool). write_refusal s b m) c.shape_in-shape.ensures same in
+    rw (← c.self.view_is) (write-judged (shape_of m.newest) (list_size (places_of m)) to asked m c.unwritten.result within told)
