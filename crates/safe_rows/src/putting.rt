@@ -1,11 +1,10 @@
 //! Writes of an array that may lack members.
 
-ghost use Rattle.std.specs.Prelude.{◌≡◌, ◌≢◌, ◌⊎◌, ◌+◌, ◌*◌, ◌/◌, ◌^◌, ◌<◌, ◌≤◌, ℕ, List, true, false, length, slice_index, Contains, vec_capacity, None, Some, MatchOption, ⊤};
+ghost use Rattle.std.specs.Prelude.{◌≡◌, ◌⊎◌, ◌+◌, ◌*◌, ◌/◌, ◌^◌, ◌<◌, ◌≤◌, ℕ, true, false, length, slice_index, Contains, vec_capacity, None, Some, MatchOption, ⊤};
 ghost use Rattle.bank.specs.Given.{NeverFalls};
-ghost use Rattle.bank.specs.Tape.{EachMark, disk};
 ghost use Rattle.md_base.specs.Sectors.{Sector, IsWhole};
 ghost use Rattle.md_base.specs.declared.status.Role.TheVariants.{Recovering as IsRecovering};
-ghost use Rattle.superblocks.specs.Reading.{Scope, is_clean, role_state};
+ghost use Rattle.superblocks.specs.Reading.{is_clean, role_state};
 ghost use Rattle.row_io.specs.Rows.{reading_of, present};
 ghost use Rattle.list_io.specs.Buffers.{buffered, AreDistinct, AreStanding, AreTouched, IsTouched};
 ghost use Rattle.list_io.specs.Full.{AreWholeIn, RowStands};
@@ -16,9 +15,9 @@ ghost use Rattle.shape_changes.specs.Steady.{AreUnlost, IsSafeOver, KeepsSafe, A
 ghost use Rattle.views.specs.Rebuilding.{AreSparesFree};
 ghost use Rattle.views.specs.Moving.{Grows, IsMoved};
 ghost use Rattle.shape_changes.specs.Marking.{AreOthersPresent};
-ghost use Rattle.shape_changes.specs.Safety.{HasMarkRoom, HasRoomLeft, IsRisen};
+ghost use Rattle.shape_changes.specs.Safety.{HasRoomLeft, IsRisen};
 ghost use Rattle.shape_views.specs.Windows.{IsOfRegion};
-ghost use Rattle.views.specs.Lacking.{HaveFailedSince, LacksTooMany, IsUnwritten, DataStandsAmong, RowsStandAmong, AreOtherRowsKept, AreBytes, AreRowsRead, AreRowsWritten, IsListPut};
+ghost use Rattle.views.specs.Lacking.{HaveFailedSince, LacksTooMany, IsUnwritten, DataStandsAmong, RowsStandAmong, AreOtherRowsKept, AreBytes, AreRowsRead, AreRowsWritten};
 ghost use Rattle.safe_updates.specs.First.{write_refusal};
 ghost use Rattle.flat_history.specs.World.{World};
 ghost use Rattle.shape_views.specs.Views.{Ledger};
