@@ -17,7 +17,7 @@ use Rattle.runner.proofs.sessions.perform.Goals as goal
 
 -- what stands past the end of the lines
 abbrev nothing : Numbered
-nothing = record { number = 0; line = Create record { uuid = []; shape = record { level = 0; layout = 0; chunk = 0; disks = 0 }; size = 0; offset = 0 } }
+nothing = record { number = 0; lane = InScript; line = Create record { uuid = []; shape = record { level = 0; layout = 0; chunk = 0; disks = 0 }; size = 0; offset = 0 } }
 
 pub returns-then-is_some-clause-performed : goal.returns-then-is_some-clause-performed
 returns-then-is_some-clause-performed g c =
