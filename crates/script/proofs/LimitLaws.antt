@@ -8,8 +8,8 @@ use Rattle.std.proofs.lemmas.List.Folds.{list_all-append}
 use Rattle.uuid.specs.Text.{parsed}
 use lib.Chars.{codes}
 use Rattle.md_base.specs.declared.places.Shape.{Shape}
-use Rattle.script.specs.Keys.{has_key}
-use Rattle.script.specs.Numbers.{words_of, number_below}
+use Rattle.line_words.specs.Keys.{has_key}
+use Rattle.line_words.specs.Numbers.{words_of, number_below}
 use Rattle.script.specs.Grammar.{is_span, span_of, array_from, array_of, shape_of, create_keys, create_of, assemble_of, alone, read_of, write_of, fail_of, add_of, step_of, examine_of, line_of, is_printable, is_passed_over, asks_for, is_for_lanes, for_lanes, inside_of, opens, outside_of, meaning_of}
 use Rattle.script.specs.Script.{numbered, asked, is_inside_behind, is_of_b, is_of_worker, in_turn, is_within_limits}
 use Rattle.script.specs.declared.reply.Lane.{Lane}

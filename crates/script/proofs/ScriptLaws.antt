@@ -8,10 +8,10 @@ use Rattle.std.specs.List.{enumerate_from, filter_map, cons_option, fold, scan, 
 use Rattle.std.specs.Option.{option_to_list}
 use Rattle.md_base.specs.Search.{least_below}
 use Rattle.script.proofs.LimitLaws.{asked_within_limits}
-use Rattle.script.proofs.LeastLaws.{least_below-reached, least_below-passed}
+use Rattle.line_words.proofs.LeastLaws.{least_below-reached, least_below-passed}
 use lib.Chars.{codes}
 use Rattle.std.specs.Str.{bytes_eq}
-use Rattle.script.specs.Numbers.{words_of}
+use Rattle.line_words.specs.Numbers.{words_of}
 use Rattle.script.specs.Grammar.{is_printable, is_passed_over, line_of, asks_for, opens, outside_of, meaning_of}
 use Rattle.script.specs.Script.{most_lines, most_bytes, most_sectors, lines_of, numbered, is_inside_behind, is_inside, meanings, asked, in_turn, sectors_of, total_sectors, is_refused, is_bad, unless_bad, script_with, is_within_limits}
 use Rattle.script.specs.declared.lines.Line.{Line}

@@ -4,9 +4,9 @@ use Rattle.std.specs.List.{list_all}
 use Rattle.std.specs.Option.{option_and_then}
 use Rattle.uuid.specs.Text.{parsed}
 use Rattle.md_base.specs.declared.places.Shape.{Shape}
-use Rattle.script.specs.Keys.{has_key, given}
-use Rattle.script.specs.Layouts.{layout_named}
-use Rattle.script.specs.Numbers.{is_space, words_of, number_below}
+use Rattle.line_words.specs.Keys.{has_key, given}
+use Rattle.line_words.specs.Layouts.{layout_named}
+use Rattle.line_words.specs.Numbers.{is_space, words_of, number_below}
 use Rattle.script.specs.declared.lines.Line.{Line}
 use Rattle.script.specs.declared.lines.Line.TheVariants.{Create, Read, Write, Flush, Fail, Add, Step, Wait, Stop, Halt, Detail, Mdstat, Examine, Assemble}
 use Rattle.script.specs.declared.grammar.Meaning.{Meaning}

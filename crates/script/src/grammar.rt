@@ -4,13 +4,11 @@ ghost use Rattle.std.specs.Prelude.{◌≡◌, ◌==◌, slice_index};
 ghost use Rattle.std.specs.List.{list_all};
 ghost use Rattle.uuid.specs.Text.{parsed};
 ghost use Rattle.script.specs.Grammar.{meaning_of, outside_of, inside_of, opens, is_for_lanes, asks_for, for_lanes, is_printable, line_of, alone, create_keys, create_of, shape_of, assemble_of, read_of, write_of, fail_of, add_of, step_of, examine_of, span_of};
-ghost use Rattle.script.specs.Keys.{has_key};
-ghost use Rattle.script.specs.Numbers.{is_space, words_of};
+ghost use Rattle.line_words.specs.Keys.{has_key};
+ghost use Rattle.line_words.specs.Numbers.{is_space, words_of};
 
-use crate::keys::{have_keys, value_of};
-use crate::layouts::layout_named;
+use line_words::{Words, have_keys, layout_named, number, small_number, value_of};
 use crate::lines::{CreateLine, Line};
-use crate::numbers::{Words, number, small_number};
 use crate::reply::Lane;
 use md_base::Shape;
 use uuid::Uuid;

@@ -2,10 +2,7 @@
 #![tactic(auto)]
 
 pub mod grammar;
-pub mod keys;
-pub mod layouts;
 pub mod lines;
-pub mod numbers;
 pub mod reply;
 pub mod seeds;
 

@@ -4,7 +4,7 @@ ghost use Rattle.std.specs.Prelude.{◌≡◌, ℕ, ◌+◌, ◌<◌, ◌≤◌,
 ghost use Rattle.script.specs.Looks.{kind_seen};
 ghost use Rattle.script.specs.Texts.{assembled_text, busy_word, created_text, ending_text, event_text, field_word, is_same, kind_of, kind_text, kinds, lane_text, layout_text, refusal_text, refused, run_text, runs, runs_text, shape_text, shown_text, worker_refusal_text, waited_text, worker_text, Hex};
 
-use crate::layouts::layout_name;
+use line_words::layout_name;
 use crate::seeds::seed_contents;
 use flat_history::Event;
 use md_base::{BusyKind, Refusal, Sectors, Shape, ShapeField, Status};

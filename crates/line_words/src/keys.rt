@@ -3,8 +3,8 @@
 ghost use Rattle.std.specs.Prelude.{◌≡◌, map};
 ghost use Rattle.std.specs.List.{list_all};
 ghost use Rattle.std.specs.Option.{option_copied};
-ghost use Rattle.script.specs.Keys.{behind, has_key, given};
-ghost use Rattle.script.specs.Numbers.{words_of};
+ghost use Rattle.line_words.specs.Keys.{behind, has_key, given};
+ghost use Rattle.line_words.specs.Numbers.{words_of};
 
 use crate::numbers::Words;
 

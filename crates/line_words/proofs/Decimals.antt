@@ -6,7 +6,7 @@ use Rattle.std.specs.Char.{is_ascii_digit, digit_value}
 use Rattle.std.specs.Str.Parse.{digits_value}
 use Rattle.std.proofs.lemmas.Str.Parse.{digits_value-take-le}
 use Rattle.std.proofs.lemmas.Int.Digits.{digits_value_more}
-use Rattle.script.specs.Numbers.{is_numeral, number_below}
+use Rattle.line_words.specs.Numbers.{is_numeral, number_below}
 
 -- no leading zero, as a fact
 plain_true : (first count : ℕ) → 0 < count → (first ≡ 48 → count ≤ 1) → (not (eqb first 48) || eqb count 1) ≡ true

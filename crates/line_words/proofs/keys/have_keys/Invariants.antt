@@ -1,9 +1,9 @@
 -- The words that are left decide.
 use Rattle.std.proofs.Common.{◌≡◌, map}
 use Rattle.std.specs.List.{list_all}
-use Rattle.script.specs.Keys.{has_key}
-use Rattle.script.specs.Numbers.{words_of}
-use Rattle.script.proofs.keys.have_keys.Given as goal
+use Rattle.line_words.specs.Keys.{has_key}
+use Rattle.line_words.specs.Numbers.{words_of}
+use Rattle.line_words.proofs.keys.have_keys.Given as goal
 
 abbrev pub invariant-loop-word : goal.invariant-loop-word
 invariant-loop-word l =

@@ -1,8 +1,8 @@
 use Rattle.std.proofs.Common.{◌≡◌, sym, ◌∙◌, subst, refl, None, arith}
 use Rattle.md_base.specs.Search.{least_below}
-use Rattle.script.specs.Layouts.{layout_name, is_name}
-use Rattle.script.proofs.LeastLaws.{least_below-reached, least_below-passed}
-use Rattle.script.proofs.layouts.layout_named.Goals as goal
+use Rattle.line_words.specs.Layouts.{layout_name, is_name}
+use Rattle.line_words.proofs.LeastLaws.{least_below-reached, least_below-passed}
+use Rattle.line_words.proofs.layouts.layout_named.Goals as goal
 
 pub loop-layout-init : goal.loop-layout-init
 unfolding least_below

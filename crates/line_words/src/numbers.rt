@@ -2,12 +2,12 @@
 
 ghost use Rattle.std.specs.Prelude.{◌≡◌, ◌≤◌, ◌^◌, length, not, position, unwrap_or};
 ghost use Rattle.std.specs.Iterator.{YieldsFirstRef, item_count};
-ghost use Rattle.script.specs.Numbers.{is_space, words_of, number_below};
+ghost use Rattle.line_words.specs.Numbers.{is_space, words_of, number_below};
 
 /// The words that are left of a line.
 #[derive(Clone, Copy)]
 pub struct Words<'a> {
-    line: &'a [u8],
+    pub line: &'a [u8],
 }
 
 impl<'a> Words<'a> {

@@ -2,7 +2,7 @@
 
 ghost use Rattle.std.specs.Prelude.{◌≡◌};
 ghost use Rattle.std.specs.Option.{option_copied};
-ghost use Rattle.script.specs.Layouts.{layout_name, is_name, layout_named};
+ghost use Rattle.line_words.specs.Layouts.{layout_name, is_name, layout_named};
 
 /// The name of a layout number, where it has one.
 pub fn layout_name(layout: u32) -> Option<&'static str>

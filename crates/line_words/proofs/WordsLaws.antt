@@ -8,7 +8,7 @@ use Rattle.std.proofs.lemmas.List.Sums.{fails_before_first, passes_at_first, pre
 use Rattle.std.proofs.lemmas.List.Elements.{All-from_get_or}
 use Rattle.std.specs.Option.{unwrap_or}
 use Rattle.std.specs.List.{position, position_or_len, slice_split, onto_first}
-use Rattle.script.specs.Numbers.{is_space, words_of}
+use Rattle.line_words.specs.Numbers.{is_space, words_of}
 
 abbrev is_other : ℕ → Bool
 is_other b = not (is_space b)

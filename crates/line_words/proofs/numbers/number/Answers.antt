@@ -3,8 +3,8 @@ use Rattle.std.specs.Char.{is_ascii_digit}
 use Rattle.std.proofs.lemmas.Bool.Decides.{nat_tests}
 use Rattle.std.proofs.lemmas.List.{take_all}
 use Rattle.std.proofs.lemmas.List.Folds.{list_all_more}
-use Rattle.script.proofs.Decimals.{digit_more, larger, number_is, numeral_true}
-use Rattle.script.proofs.numbers.number.Goals as goal
+use Rattle.line_words.proofs.Decimals.{digit_more, larger, number_is, numeral_true}
+use Rattle.line_words.proofs.numbers.number.Goals as goal
 
 pub returns-in_err-checked_mul : goal.returns-in_err-checked_mul
 returns-in_err-checked_mul c =

@@ -1,8 +1,8 @@
 use Rattle.std.proofs.Common.{◌≡◌, ◌<◌, arith, sym, ◌∙◌, ◌∷◌, length}
 use Rattle.std.proofs.lemmas.Grind.{common_steps}
-use Rattle.script.proofs.WordsLaws.{words_of-spaces, words_of-next}
-use Rattle.script.specs.Numbers.{words_of}
-use Rattle.script.proofs.numbers.WordsIterator.next.Goals as goal
+use Rattle.line_words.proofs.WordsLaws.{words_of-spaces, words_of-next}
+use Rattle.line_words.specs.Numbers.{words_of}
+use Rattle.line_words.proofs.numbers.WordsIterator.next.Goals as goal
 
 pub returns-in_err-start-clause-steps : goal.returns-in_err-start-clause-steps
 returns-in_err-start-clause-steps c =

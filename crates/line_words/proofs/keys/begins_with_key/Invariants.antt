@@ -1,7 +1,7 @@
 -- The keys that are left decide.
 use Rattle.std.proofs.Common.{◌≡◌, drop, map}
-use Rattle.script.specs.Keys.{has_key}
-use Rattle.script.proofs.keys.begins_with_key.Given as goal
+use Rattle.line_words.specs.Keys.{has_key}
+use Rattle.line_words.proofs.keys.begins_with_key.Given as goal
 
 abbrev pub invariant-loop-key : goal.invariant-loop-key
 invariant-loop-key l =
