@@ -3,3 +3,4 @@ pub mod RunLaws
 pub mod ScriptLaws
 pub mod SeedLaws
 pub mod LimitLaws
+pub mod TurnLaws

@@ -1,17 +1,15 @@
 -- Every line that a script asks is within the limits.
 use Rattle.std.proofs.Common.{◌≡◌, ℕ, ◌+◌, ◌^◌, ◌++◌, Bool, true, false, cond, not, ◌&&◌, nat_le, List, [], ◌∷◌, refl, sym, ap, ap₂, ◌∙◌, ◌⊎◌, inl, inr, Option, Some, None, option_map}
 use Rattle.std.specs.Str.{bytes_eq}
-use Rattle.std.specs.List.{list_all, filter_map, scan, cons_option, enumerate_from, AllPass}
+use Rattle.std.specs.List.{list_all}
 use Rattle.std.specs.Option.{option_and_then}
-use Rattle.std.proofs.lemmas.List.Sums.{AllPass-from_list_all}
-use Rattle.std.proofs.lemmas.List.Folds.{list_all-append}
 use Rattle.uuid.specs.Text.{parsed}
 use lib.Chars.{codes}
 use Rattle.md_base.specs.declared.places.Shape.{Shape}
 use Rattle.line_words.specs.Keys.{has_key}
 use Rattle.line_words.specs.Numbers.{words_of, number_below}
 use Rattle.script.specs.Grammar.{is_span, span_of, array_from, array_of, shape_of, create_keys, create_of, assemble_of, alone, read_of, write_of, fail_of, add_of, step_of, examine_of, line_of, is_printable, is_passed_over, asks_for, is_for_lanes, for_lanes, inside_of, opens, outside_of, meaning_of}
-use Rattle.script.specs.Script.{numbered, asked, is_inside_behind, is_of_b, is_of_worker, in_turn, is_within_limits}
+use Rattle.script.specs.Script.{is_within_limits}
 use Rattle.script.specs.declared.reply.Lane.{Lane}
 use Rattle.script.specs.declared.reply.Lane.TheVariants.{Script, A, B, Worker}
 use Rattle.script.specs.declared.lines.Line.{Line}
@@ -182,7 +180,7 @@ outside_ok (verb ∷ values) lane line e =
     either_ok (bytes_eq verb (codes "together")) (opens values) (asks_for Script (line_of (verb ∷ values))) lane line (opens_ok values lane line)
     (asks_ok Script lane (line_of (verb ∷ values)) line (line_ok (verb ∷ values))) e
 
-meaning_ok : (inside : Bool) (text : List ℕ) (lane : Lane) (line : Line) → meaning_of inside text ≡ Asks lane line → is_within_limits line ≡ true
+pub meaning_ok : (inside : Bool) (text : List ℕ) (lane : Lane) (line : Line) → meaning_of inside text ≡ Asks lane line → is_within_limits line ≡ true
 meaning_ok inside text lane line e =
     by_tests (not (is_printable text)) (is_passed_over text) inside (inside_of (words_of text)) (outside_of (words_of text))
     (inside_ok (words_of text) lane line) (outside_ok (words_of text) lane line) e
@@ -193,41 +191,3 @@ meaning_ok inside text lane line e =
     by_tests false true c x y this other h = absurd (cc)
     by_tests false false true x y this other h = this h
     by_tests false false false x y this other h = other h
-
-abbrev fits : Numbered → Bool
-fits n = is_within_limits n.line
-
-numbered_ok : (n : ℕ) (meaning : Meaning) (rest : List Numbered) → ((lane : Lane) (line : Line) → meaning ≡ Asks lane line → is_within_limits line ≡ true)
-    → list_all fits rest ≡ true → list_all fits (cons_option (numbered n meaning) rest) ≡ true
-numbered_ok n PassedOver rest each ok = ok
-numbered_ok n Opens rest each ok = ok
-numbered_ok n Bad rest each ok = ok
-numbered_ok n (Asks lane line) rest each ok = ap (λ b. b && list_all fits rest) (each lane line refl) ∙ ok
-
-asked_ok : (n : ℕ) (inside : Bool) (lines : List (List ℕ))
-    → list_all fits (filter_map (λ p. numbered (p.0) (p.1)) (enumerate_from n (scan (λ i line. is_inside_behind i (meaning_of i line)) meaning_of inside lines))) ≡ true
-asked_ok n inside [] = refl
-asked_ok n inside (line ∷ lines) = numbered_ok n (meaning_of inside line) _ (meaning_ok inside line) (asked_ok (n + 1) (is_inside_behind inside (meaning_of inside line)) lines)
-
-both : (a b : Bool) → (a && b) ≡ true → (a ≡ true) × (b ≡ true)
-both true b e = (refl, e)
-both false b e = absurd (cc)
-
--- the order of the replies changes none
-turn_ok : (b w : Bool) (waiting others : List Numbered) (first : Numbered) → ((ws : List Numbered) → list_all fits ws ≡ true → list_all fits (in_turn ws others) ≡ true)
-    → list_all fits waiting ≡ true → fits first ≡ true
-    → list_all fits (cond b (in_turn (waiting ++ first ∷ []) others) (cond w (waiting ++ first ∷ in_turn [] others) (first ∷ in_turn waiting others))) ≡ true
-turn_ok true w waiting others first rest ok this =
-    rest (waiting ++ first ∷ []) (list_all-append fits waiting (first ∷ []) ∙ ap₂ (λ x y. x && (y && true)) ok this)
-turn_ok false true waiting others first rest ok this =
-    list_all-append fits waiting (first ∷ in_turn [] others) ∙ ap₂ (λ x y. x && (y && list_all fits (in_turn [] others))) ok this ∙ rest [] refl
-turn_ok false false waiting others first rest ok this = ap (λ y. y && list_all fits (in_turn waiting others)) this ∙ rest waiting ok
-
-turned_ok : (lines waiting : List Numbered) → list_all fits waiting ≡ true → list_all fits lines ≡ true → list_all fits (in_turn waiting lines) ≡ true
-turned_ok [] waiting ok each = ok
-turned_ok (first ∷ others) waiting ok each =
-    let parts = both (fits first) (list_all fits others) each in
-    turn_ok (is_of_b first.lane) (is_of_worker first.lane) waiting others first (λ ws h. turned_ok others ws h (parts.1)) ok (parts.0)
-
-pub asked_within_limits : (lines : List (List ℕ)) → AllPass (λ n. is_within_limits n.line) (in_turn [] (asked lines))
-asked_within_limits lines = AllPass-from_list_all fits (in_turn [] (asked lines)) (turned_ok (asked lines) [] refl (asked_ok 1 false lines))

@@ -7,17 +7,14 @@ use Rattle.std.proofs.lemmas.List.Sums.{sum_by-append, fold_more}
 use Rattle.std.specs.List.{enumerate_from, filter_map, cons_option, fold, scan, AllPass}
 use Rattle.std.specs.Option.{option_to_list}
 use Rattle.md_base.specs.Search.{least_below}
-use Rattle.script.proofs.LimitLaws.{asked_within_limits}
+use Rattle.script.proofs.TurnLaws.{outside_lane, asked_within_limits, asked_by_lanes, asked_in_turn}
 use Rattle.line_words.proofs.LeastLaws.{least_below-reached, least_below-passed}
-use lib.Chars.{codes}
-use Rattle.std.specs.Str.{bytes_eq}
-use Rattle.line_words.specs.Numbers.{words_of}
-use Rattle.script.specs.Grammar.{is_printable, is_passed_over, line_of, asks_for, opens, outside_of, meaning_of}
-use Rattle.script.specs.Script.{most_lines, most_bytes, most_sectors, lines_of, numbered, is_inside_behind, is_inside, meanings, asked, in_turn, sectors_of, total_sectors, is_refused, is_bad, unless_bad, script_with, is_within_limits}
+use Rattle.script.specs.Grammar.{meaning_of}
+use Rattle.script.specs.Script.{most_lines, most_bytes, most_sectors, lines_of, numbered, is_inside_behind, is_inside, meanings, asked, in_turn, sectors_of, total_sectors, is_refused, is_bad, unless_bad, script_with, is_within_limits, may_ask, are_in_turn}
 use Rattle.script.specs.declared.lines.Line.{Line}
 use Rattle.script.specs.declared.lines.Numbered.{Numbered}
 use Rattle.script.specs.declared.grammar.Meaning.{Meaning}
-use Rattle.script.specs.declared.grammar.Meaning.TheVariants.{PassedOver, Opens, Asks, Bad}
+use Rattle.script.specs.declared.grammar.Meaning.TheVariants.{PassedOver, Opens, Asks}
 use Rattle.script.specs.declared.reply.Lane.{Lane}
 use Rattle.script.specs.declared.reply.Lane.TheVariants.{Script, A, B, Worker}
 
@@ -65,31 +62,6 @@ asked-more lines k within =
 inside-more : (lines : List (List ℕ)) (k : ℕ) → k < length lines
     → is_inside (take (k + 1) lines) ≡ is_inside_behind (is_inside (take k lines)) (meaning_at lines k)
 inside-more lines k within = fold_more next false lines k [] within
-
--- outside a block only the script asks
-outside_lane : (text : List ℕ) (lane : Lane) (line : Line) → Asks lane line ≡ meaning_of false text → lane ≡ Script
-outside_lane text lane line e = by_tests (not (is_printable text)) (is_passed_over text) (words_of text) e
-  where
-    opened : (values : List (List ℕ)) → Asks lane line ≡ opens values → lane ≡ Script
-    opened [] h = absurd (cc)
-    opened (value ∷ values) h = absurd (cc)
-
-    asked_line : (o : Option Line) → Asks lane line ≡ asks_for Script o → lane ≡ Script
-    asked_line None h = absurd (cc)
-    asked_line (Some l) h = cc
-
-    by_verb : (b : Bool) (values : List (List ℕ)) (o : Option Line) → Asks lane line ≡ cond b (opens values) (asks_for Script o) → lane ≡ Script
-    by_verb true values o h = opened values h
-    by_verb false values o h = asked_line o h
-
-    by_words : (words : List (List ℕ)) → Asks lane line ≡ outside_of words → lane ≡ Script
-    by_words [] h = absurd (cc)
-    by_words (verb ∷ values) h = by_verb (bytes_eq verb (codes "together")) values (line_of (verb ∷ values)) h
-
-    by_tests : (a b : Bool) (words : List (List ℕ)) → Asks lane line ≡ cond a Bad (cond b PassedOver (outside_of words)) → lane ≡ Script
-    by_tests true b words h = absurd (cc)
-    by_tests false true words h = absurd (cc)
-    by_tests false false words h = by_words words h
 
 -- what is known once the first k lines were read and none was bad
 pub record SoFar (blocks : Bool) (lines : List (List ℕ)) (k : ℕ) (script waiting : List Numbered) (inside : Bool) (sectors : ℕ) : Type 0 where
@@ -196,7 +168,7 @@ module _ {blocks : Bool} {lines : List (List ℕ)} {k : ℕ} {script waiting : L
   none_left lane line new_waiting means ended kept = by_lane lane ended (λ h. kept (outside h) ∙ so_far.none_waiting h)
     where
       outside : inside ≡ false → lane ≡ Script
-      outside h = outside_lane (get_or lines k []) lane line (means ∙ ap (λ i. meaning_of i (get_or lines k [])) h)
+      outside h = outside_lane (get_or lines k []) lane line (sym (means ∙ ap (λ i. meaning_of i (get_or lines k [])) h))
 
       by_lane : (l : Lane) → (l ≡ Worker → new_waiting ≡ []) → (inside ≡ false → new_waiting ≡ []) → is_inside_behind inside (Asks l line) ≡ false → new_waiting ≡ []
       by_lane Worker worker others h = worker refl
@@ -254,6 +226,12 @@ module _ {blocks : Bool} (text : List ℕ) {k : ℕ} {script waiting : List Numb
 
   pub all_within : inside ≡ false → AllPass (λ n. is_within_limits n.line) script
   all_within closed = subst (AllPass (λ n. is_within_limits n.line)) (in_order closed) (asked_within_limits (take k (lines_of text)))
+
+  pub all_by_lanes : inside ≡ false → AllPass (λ n. may_ask n.lane n.line) script
+  all_by_lanes closed = subst (AllPass (λ n. may_ask n.lane n.line)) (in_order closed) (asked_by_lanes (take k (lines_of text)))
+
+  pub all_in_turn : inside ≡ false → are_in_turn Script script ≡ true
+  all_in_turn closed = ap (are_in_turn Script) (sym (in_order closed)) ∙ asked_in_turn (take k (lines_of text)) (sym so_far.inside_is ∙ closed)
 
 -- what a turn of the loop over the lines tells
 pub at_turn : (lines : List (List ℕ)) (i : ℕ) (line : List ℕ) → (i < length lines) × (line ≡ get_or lines i line) → (i < length lines) × (line ≡ get_or lines i [])

@@ -1,17 +1,17 @@
 -- What the text of a whole script asks, or which of its lines is the first bad one.
-use Rattle.std.specs.Prelude.{◌≡◌, ℕ, ◌+◌, ◌-◌, Bool, true, false, ◌||◌, not, ◌==◌, nat_lt, nat_le, if◌then◌else◌, List, [], ◌∷◌, ◌++◌, length, take, fold, scan, sum_by, slice_index, slice_index_or, Option, Some, None, Result, Ok, Err}
+use Rattle.std.specs.Prelude.{◌≡◌, ℕ, ◌+◌, ◌-◌, Bool, true, false, ◌&&◌, ◌||◌, not, ◌==◌, nat_lt, nat_le, if◌then◌else◌, List, [], ◌∷◌, ◌++◌, length, take, fold, scan, sum_by, slice_index, slice_index_or, Option, Some, None, Result, Ok, Err}
 use Rattle.std.specs.List.{slice_split, enumerate_from, filter_map}
 use Rattle.md_base.specs.Search.{least_below}
-use Rattle.script.specs.Grammar.{is_span, meaning_of}
+use Rattle.script.specs.Grammar.{is_span, is_for_lanes, meaning_of}
 use Rattle.script.specs.declared.lines.Line.{Line}
-use Rattle.script.specs.declared.lines.Line.TheVariants.{Read, Write, Step}
+use Rattle.script.specs.declared.lines.Line.TheVariants.{Read, Write, Step, Wait}
 use Rattle.script.specs.declared.lines.Numbered.{Numbered}
 use Rattle.script.specs.declared.lines.ScriptFault.{ScriptFault}
 use Rattle.script.specs.declared.lines.ScriptFault.TheVariants.{BadLine, NoMemory}
 use Rattle.script.specs.declared.grammar.Meaning.{Meaning}
 use Rattle.script.specs.declared.grammar.Meaning.TheVariants.{PassedOver, Opens, Asks, Bad}
 use Rattle.script.specs.declared.reply.Lane.{Lane}
-use Rattle.script.specs.declared.reply.Lane.TheVariants.{B, Worker}
+use Rattle.script.specs.declared.reply.Lane.TheVariants.{Script, A, B, Worker}
 
 -- The limits of a script: bytes, lines, and sectors read and written in all.
 abbrev pub most_bytes : ℕ
@@ -81,6 +81,26 @@ is_within_limits (Read start count) = is_span (start, count)
 is_within_limits (Write start count seed) = is_span (start, count)
 is_within_limits (Step most) = nat_le 1 most
 is_within_limits line = true
+
+-- what a lane may ask; the worker asks what `wait` does
+abbrev pub may_ask : Lane → Line → Bool
+may_ask Script line = true
+may_ask A line = is_for_lanes line
+may_ask B line = is_for_lanes line
+may_ask Worker Wait = true
+may_ask Worker line = false
+
+-- which lane may follow: in a block lane a comes first, then lane b, and the worker last
+abbrev pub may_follow : Lane → Lane → Bool
+may_follow A Script = false
+may_follow B Script = false
+may_follow B A = false
+may_follow former lane = true
+
+-- lines in turn, behind one of this lane; the last ends its block
+abbrev pub are_in_turn : Lane → List Numbered → Bool
+are_in_turn former [] = may_follow former Script
+are_in_turn former (first ∷ others) = may_follow former first.lane && are_in_turn first.lane others
 
 abbrev pub total_sectors : List Numbered → ℕ
 total_sectors asked = sum_by (λ numbered. sectors_of numbered.line) asked

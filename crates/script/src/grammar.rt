@@ -7,9 +7,9 @@ ghost use Rattle.script.specs.Grammar.{meaning_of, outside_of, inside_of, opens,
 ghost use Rattle.line_words.specs.Keys.{has_key};
 ghost use Rattle.line_words.specs.Numbers.{is_space, words_of};
 
-use line_words::{Words, have_keys, layout_named, number, small_number, value_of};
 use crate::lines::{CreateLine, Line};
 use crate::reply::Lane;
+use line_words::{Words, have_keys, layout_named, number, small_number, value_of};
 use md_base::Shape;
 use uuid::Uuid;
 

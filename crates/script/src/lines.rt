@@ -1,8 +1,8 @@
 //! The lines of a whole script.
 
-ghost use Rattle.std.specs.Prelude.{◌≡◌, List, [], ◌∷◌, ◌++◌, IfOk, IfErr, OnOk, Ok, true, false};
+ghost use Rattle.std.specs.Prelude.{◌≡◌, List, [], ◌∷◌, ◌++◌, IfOk, IfErr, OnOk, Ok, IsTrue, true, false};
 ghost use Rattle.std.specs.List.{AllPass};
-ghost use Rattle.script.specs.Script.{script_of, script_with, is_inside_behind, in_turn, IsFaultOf, sectors_of, is_within_limits, without_end};
+ghost use Rattle.script.specs.Script.{script_of, script_with, is_inside_behind, in_turn, IsFaultOf, sectors_of, is_within_limits, may_ask, are_in_turn, without_end};
 ghost use Rattle.script.specs.declared.lines.Numbered.{Numbered as Asked};
 ghost use Rattle.script.specs.declared.reply.Lane.TheVariants.{Script as OfScript, Worker as OfWorker};
 
@@ -138,6 +138,8 @@ impl Turns {
 fn read_lines(alloc: Global, text: &[u8], blocks: bool) -> Result<Vec<Numbered>, ScriptFault>
     ensures lines { IfOk result (λ lines. script_with blocks text.now ≡ Ok lines.items) }
     ensures limits { IfOk result (λ lines. AllPass (λ numbered. is_within_limits numbered.line) lines.items) }
+    ensures lanes { IfOk result (λ lines. AllPass (λ numbered. may_ask numbered.lane numbered.line) lines.items) }
+    ensures turns { IfOk result (λ lines. IsTrue (are_in_turn OfScript lines.items)) }
     ensures bad { IfErr result (IsFaultOf blocks text.now) }
 {
     if text.len() > MOST_BYTES {
@@ -181,6 +183,8 @@ fn read_lines(alloc: Global, text: &[u8], blocks: bool) -> Result<Vec<Numbered>,
 pub fn read_script_with_blocks(alloc: Global, text: &[u8]) -> Result<Vec<Numbered>, ScriptFault>
     ensures lines { IfOk result (λ lines. script_with true text.now ≡ Ok lines.items) }
     ensures limits { IfOk result (λ lines. AllPass (λ numbered. is_within_limits numbered.line) lines.items) }
+    ensures lanes { IfOk result (λ lines. AllPass (λ numbered. may_ask numbered.lane numbered.line) lines.items) }
+    ensures turns { IfOk result (λ lines. IsTrue (are_in_turn OfScript lines.items)) }
     ensures bad { IfErr result (IsFaultOf true text.now) }
 {
     read_lines(alloc, text, true)

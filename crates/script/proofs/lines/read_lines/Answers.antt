@@ -8,7 +8,7 @@ use Rattle.script.specs.Grammar.{meaning_of}
 use Rattle.script.specs.Script.{lines_of, without_end, is_refused, asked, is_inside_behind, in_turn}
 use Rattle.script.specs.declared.grammar.Meaning.TheVariants.{PassedOver, Opens, Asks}
 use Rattle.script.specs.declared.lines.Numbered.{Numbered}
-use Rattle.script.proofs.ScriptLaws.{so_far-start, so_far-bad, so_far-long, so_far-silent, so_far-asked, none_left, past_limit, too_long, bad_at, all_read, all_within, unended, at_turn}
+use Rattle.script.proofs.ScriptLaws.{so_far-start, so_far-bad, so_far-long, so_far-silent, so_far-asked, none_left, past_limit, too_long, bad_at, all_read, all_within, all_by_lanes, all_in_turn, unended, at_turn}
 use Rattle.script.proofs.lines.read_lines.Goals as goal
 
 pub returns-then-text-gt-MOST_BYTES-clause-bad : goal.returns-then-text-gt-MOST_BYTES-clause-bad
@@ -144,3 +144,19 @@ returns-clause-limits c =
     (rw c.into_iter-line-iterator.ensures.into_iter_gives c.split-line-items.ensures.done) refl (λ x b q h. search (rules, tests)))
     c.loop-line.yielded _ c.loop-line.yielded_by _ _ c.in-None.is c.next.ensures.steps in
     all_within c.args.text.now (omega arith) (c.loop-line.invariant.1) (done.1) c.if-inside.false
+
+pub returns-clause-lanes : goal.returns-clause-lanes
+returns-clause-lanes c =
+    let done = YieldsList-end (YieldsList-from_slice_split _ (λ b. eqb b 10) (without_end c.args.text.now)
+    (rw c.into_iter-line-iterator.ensures.into_iter_gives (c.split-line-items.ensures.rest ∙ c.without_last_newline.ensures))
+    (rw c.into_iter-line-iterator.ensures.into_iter_gives c.split-line-items.ensures.done) refl (λ x b q h. search (rules, tests)))
+    c.loop-line.yielded _ c.loop-line.yielded_by _ _ c.in-None.is c.next.ensures.steps in
+    all_by_lanes c.args.text.now (omega arith) (c.loop-line.invariant.1) (done.1) c.if-inside.false
+
+pub returns-clause-turns : goal.returns-clause-turns
+returns-clause-turns c =
+    let done = YieldsList-end (YieldsList-from_slice_split _ (λ b. eqb b 10) (without_end c.args.text.now)
+    (rw c.into_iter-line-iterator.ensures.into_iter_gives (c.split-line-items.ensures.rest ∙ c.without_last_newline.ensures))
+    (rw c.into_iter-line-iterator.ensures.into_iter_gives c.split-line-items.ensures.done) refl (λ x b q h. search (rules, tests)))
+    c.loop-line.yielded _ c.loop-line.yielded_by _ _ c.in-None.is c.next.ensures.steps in
+    all_in_turn c.args.text.now (omega arith) (c.loop-line.invariant.1) (done.1) c.if-inside.false
