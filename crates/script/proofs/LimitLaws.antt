@@ -1,5 +1,5 @@
 -- Every line that a script asks is within the limits.
-use Rattle.std.proofs.Common.{◌≡◌, ℕ, ◌+◌, ◌^◌, ◌++◌, Bool, true, false, cond, not, ◌&&◌, nat_le, List, [], ◌∷◌, refl, sym, ap, ap₂, ◌∙◌, ◌⊎◌, inl, inr, Option, Some, None, option_map}
+use Rattle.std.proofs.Common.{◌≡◌, ℕ, ◌^◌, Bool, true, false, cond, not, nat_le, List, [], ◌∷◌, refl, sym, ap, ◌∙◌, ◌⊎◌, inl, inr, Option, Some, None, option_map}
 use Rattle.std.specs.Str.{bytes_eq}
 use Rattle.std.specs.List.{list_all}
 use Rattle.std.specs.Option.{option_and_then}
@@ -14,9 +14,8 @@ use Rattle.script.specs.declared.reply.Lane.{Lane}
 use Rattle.script.specs.declared.reply.Lane.TheVariants.{Script, A, B, Worker}
 use Rattle.script.specs.declared.lines.Line.{Line}
 use Rattle.script.specs.declared.lines.Line.TheVariants.{Create, Read, Write, Flush, Fail, Add, Step, Wait, Stop, Halt, Detail, Mdstat, Examine, Assemble}
-use Rattle.script.specs.declared.lines.Numbered.{Numbered}
 use Rattle.script.specs.declared.grammar.Meaning.{Meaning}
-use Rattle.script.specs.declared.grammar.Meaning.TheVariants.{PassedOver, Opens, Asks, Bad}
+use Rattle.script.specs.declared.grammar.Meaning.TheVariants.{PassedOver, Asks, Bad}
 
 -- Where a chain of choices gives a value.
 then_some : {A B : Type 0} (f : A → Option B) (o : Option A) (r : B) → option_and_then f o ≡ Some r → (a : A) × (f a ≡ Some r)

@@ -1,5 +1,5 @@
 -- What is known of a script once its first lines were read.
-use Rattle.std.proofs.Common.{◌≡◌, ℕ, ◌+◌, ◌<◌, ◌≤◌, Bool, true, false, cond, not, ◌||◌, ltb, leb, List, [], ◌∷◌, ◌++◌, length, take, get_or, refl, sym, ap, ap₂, ◌∙◌, subst, arith, Some, None, Option, Ok, Err, zero-add, append_assoc}
+use Rattle.std.proofs.Common.{◌≡◌, ℕ, ◌+◌, ◌<◌, ◌≤◌, Bool, true, false, cond, ◌||◌, ltb, leb, List, [], ◌∷◌, ◌++◌, length, take, get_or, refl, sym, ap, ap₂, ◌∙◌, subst, arith, Some, None, Option, Ok, Err, zero-add, append_assoc}
 use Rattle.std.proofs.lemmas.Bool.Decides.{nat_tests}
 use Rattle.std.proofs.lemmas.List.{take_more, take_all, length-take-le, append-nil, get_or_default}
 use Rattle.std.proofs.lemmas.List.Elements.{filter_map-append}
@@ -14,7 +14,7 @@ use Rattle.script.specs.Script.{most_lines, most_bytes, most_sectors, lines_of, 
 use Rattle.script.specs.declared.lines.Line.{Line}
 use Rattle.script.specs.declared.lines.Numbered.{Numbered}
 use Rattle.script.specs.declared.grammar.Meaning.{Meaning}
-use Rattle.script.specs.declared.grammar.Meaning.TheVariants.{PassedOver, Opens, Asks}
+use Rattle.script.specs.declared.grammar.Meaning.TheVariants.{Asks}
 use Rattle.script.specs.declared.reply.Lane.{Lane}
 use Rattle.script.specs.declared.reply.Lane.TheVariants.{Script, A, B, Worker}
 

@@ -1,11 +1,11 @@
-use Rattle.std.proofs.Common.{◌≡◌, ℕ, ◌+◌, take, cond, not, ◌++◌, ◌∷◌, true, false, Result, Ok, Err, ◌≤◌, get_or, [], List, length, eqb, arith, rules, refl, sym, ap, ap₂, ◌∙◌}
+use Rattle.std.proofs.Common.{◌≡◌, ◌+◌, take, not, ◌++◌, ◌∷◌, true, false, Result, Ok, Err, get_or, [], List, length, eqb, arith, rules, refl, sym, ap, ◌∙◌}
 use Rattle.std.proofs.lemmas.Iterator.Splits.{YieldsList-from_slice_split}
 use Rattle.std.proofs.lemmas.Iterator.Consumers.{YieldsList-turn, YieldsList-end}
 use Rattle.std.proofs.lemmas.List.{length_push}
 use Rattle.std.specs.Result.{OnOk, is_err}
 use borrow.Author.Tests.{tests}
 use Rattle.script.specs.Grammar.{meaning_of}
-use Rattle.script.specs.Script.{lines_of, without_end, is_refused, asked, is_inside_behind, in_turn}
+use Rattle.script.specs.Script.{lines_of, without_end, is_refused, asked, in_turn}
 use Rattle.script.specs.declared.grammar.Meaning.TheVariants.{PassedOver, Opens, Asks}
 use Rattle.script.specs.declared.lines.Numbered.{Numbered}
 use Rattle.script.proofs.ScriptLaws.{so_far-start, so_far-bad, so_far-long, so_far-silent, so_far-asked, none_left, past_limit, too_long, bad_at, all_read, all_within, all_by_lanes, all_in_turn, unended, at_turn}
