@@ -3,6 +3,7 @@ use Rattle.std.proofs.Math.ListN.{get_or}
 use Rattle.bank.specs.Given.{Given}
 use Rattle.script.specs.declared.lines.Numbered.{Numbered}
 use Rattle.script.specs.declared.lines.Line.TheVariants.{Create}
+use Rattle.script.specs.declared.reply.Lane.TheVariants.{Script as InScript}
 use Rattle.runner.specs.Ended.{IsRunKept}
 use Rattle.runner.specs.Making.{setting_of}
 use Rattle.runner.specs.States.{bank_in}
