@@ -37,13 +37,16 @@ is_inside_behind inside Opens = true
 is_inside_behind inside (Asks Worker line) = false
 is_inside_behind inside meaning = inside
 
--- and behind these lines: from `together` on, until `end`
+-- behind this line, and behind several from the text's beginning on: from `together` on, until `end`
+abbrev pub is_inside_next : Bool → List ℕ → Bool
+is_inside_next inside line = is_inside_behind inside (meaning_of inside line)
+
 abbrev pub is_inside : List (List ℕ) → Bool
-is_inside lines = fold (λ inside line. is_inside_behind inside (meaning_of inside line)) false lines
+is_inside lines = fold is_inside_next false lines
 
 -- what these lines mean, one after another
 abbrev pub meanings : List (List ℕ) → List Meaning
-meanings lines = scan (λ inside line. is_inside_behind inside (meaning_of inside line)) meaning_of false lines
+meanings lines = scan is_inside_next meaning_of false lines
 
 -- what they ask, in order, each with its number and its lane
 abbrev pub numbered : ℕ → Meaning → Option Numbered
