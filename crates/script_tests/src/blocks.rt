@@ -4,7 +4,7 @@ use flat_history::Event;
 use md_base::Refusal;
 use script::{
     Lane, Line, Numbered, ScriptFault, push_event, push_lane, push_refusal, push_worker,
-    push_worker_refusal, read_script, read_script_with_blocks,
+    push_worker_refusal, read_script, read_script_with_blocks, seed_sectors,
 };
 use std::alloc::{AllocError, Global};
 use std::process::Abort;
@@ -140,6 +140,41 @@ const WANTED: [(u64, Lane, Line); 11] = [
     (15, Lane::Worker, Line::Wait),
 ];
 
+const BLOCK: &str =
+    "together\na: write 128 64 3\na: read 128 64\nb: write 10240 64 4\nb: flush\nb: read 10240 64\nend\n";
+
+const OF_BLOCK: [(u64, Lane, Line); 6] = [
+    (
+        2,
+        Lane::A,
+        Line::Write {
+            at: 128,
+            count: 64,
+            seed: 3,
+        },
+    ),
+    (3, Lane::A, Line::Read { at: 128, count: 64 }),
+    (
+        4,
+        Lane::B,
+        Line::Write {
+            at: 10240,
+            count: 64,
+            seed: 4,
+        },
+    ),
+    (5, Lane::B, Line::Flush),
+    (
+        6,
+        Lane::B,
+        Line::Read {
+            at: 10240,
+            count: 64,
+        },
+    ),
+    (7, Lane::Worker, Line::Wait),
+];
+
 fn compare(rt: &impl Abort, lines: &[Numbered], wanted: &[(u64, Lane, Line)]) {
     assert!(rt; lines.len() == wanted.len());
     for k in 0..lines.len() {
@@ -155,6 +190,8 @@ fn compare(rt: &impl Abort, lines: &[Numbered], wanted: &[(u64, Lane, Line)]) {
 fn lines_of_blocks(rt: HostRuntime) -> Result<(), Fail> {
     let lines = read_script_with_blocks(rt.alloc(), SCRIPT.as_bytes())?;
     compare(&rt, lines.as_slice(), &WANTED);
+    let lines = read_script_with_blocks(rt.alloc(), BLOCK.as_bytes())?;
+    compare(&rt, lines.as_slice(), &OF_BLOCK);
     Ok(())
 }
 
@@ -215,6 +252,16 @@ fn replies_in_lanes(rt: HostRuntime) -> Result<(), Fail> {
     let refused = Event::Refused {
         refusal: Refusal::PastEnd(192),
     };
+    let read = Event::Read {
+        at: 128,
+        body: seed_sectors(alloc, 128, 64, 3)?,
+    };
+    let wrote = Event::Wrote {
+        at: 10240,
+        body: seed_sectors(alloc, 10240, 64, 4)?,
+    };
+    assert!(rt; is_shown(alloc, Lane::A, &read, "a: read 128 64: seed 3 x64")?);
+    assert!(rt; is_shown(alloc, Lane::B, &wrote, "b: wrote 10240 64")?);
     assert!(rt; is_shown(alloc, Lane::A, &Event::Flushed, "a: flushed")?);
     assert!(rt; is_shown(alloc, Lane::B, &Event::Failed { role: 1 }, "b: failed 1")?);
     assert!(rt; is_shown(alloc, Lane::B, &refused, "b: refused 1 PastEnd 192")?);
