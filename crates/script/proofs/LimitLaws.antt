@@ -1,19 +1,19 @@
 -- Every line that a script asks is within the limits.
-use Rattle.std.proofs.Common.{◌≡◌, ℕ, ◌^◌, Bool, true, false, cond, not, ◌&&◌, nat_le, List, [], ◌∷◌, refl, sym, ap, ◌∙◌, ◌⊎◌, inl, inr, Option, Some, None, option_map}
+use Rattle.std.proofs.Common.{◌≡◌, ℕ, ◌^◌, Bool, true, false, cond, not, nat_le, List, [], ◌∷◌, refl, sym, ap, ◌∙◌, ◌⊎◌, inl, inr, Option, Some, None, option_map}
 use Rattle.std.specs.Str.{bytes_eq}
-use Rattle.std.specs.List.{list_all, filter_map, cons_option, enumerate_from, AllPass}
+use Rattle.std.specs.List.{list_all}
 use Rattle.std.specs.Option.{option_and_then}
-use Rattle.std.proofs.lemmas.List.Sums.{AllPass-from_list_all}
 use Rattle.uuid.specs.Text.{parsed}
 use lib.Chars.{codes}
 use Rattle.md_base.specs.declared.places.Shape.{Shape}
-use Rattle.script.specs.Keys.{has_key}
-use Rattle.script.specs.Numbers.{words_of, number_below}
-use Rattle.script.specs.Grammar.{is_span, span_of, array_from, array_of, shape_of, create_keys, create_of, assemble_of, alone, read_of, write_of, fail_of, add_of, step_of, examine_of, line_of, is_printable, is_passed_over, asks_or_bad, meaning_of}
-use Rattle.script.specs.Script.{numbered, asked, is_within_limits}
+use Rattle.line_words.specs.Keys.{has_key}
+use Rattle.line_words.specs.Numbers.{words_of, number_below}
+use Rattle.script.specs.Grammar.{is_span, span_of, array_from, array_of, shape_of, create_keys, create_of, assemble_of, alone, read_of, write_of, fail_of, add_of, step_of, examine_of, line_of, is_printable, is_passed_over, asks_for, is_for_lanes, for_lanes, inside_of, opens, outside_of, meaning_of}
+use Rattle.script.specs.Script.{is_within_limits}
+use Rattle.script.specs.declared.reply.Lane.{Lane}
+use Rattle.script.specs.declared.reply.Lane.TheVariants.{Script, A, B, Worker}
 use Rattle.script.specs.declared.lines.Line.{Line}
 use Rattle.script.specs.declared.lines.Line.TheVariants.{Create, Read, Write, Flush, Fail, Add, Step, Wait, Stop, Halt, Detail, Mdstat, Examine, Assemble}
-use Rattle.script.specs.declared.lines.Numbered.{Numbered}
 use Rattle.script.specs.declared.grammar.Meaning.{Meaning}
 use Rattle.script.specs.declared.grammar.Meaning.TheVariants.{PassedOver, Asks, Bad}
 
@@ -141,29 +141,52 @@ line_ok (verb ∷ values) line e =
     (verb_ok (bytes_eq verb (codes "examine")) (examine_of values) None line (examine_ok values line) (λ h. absurd (cc)))))))))))))))
     e
 
-meaning_ok : (text : List ℕ) (line : Line) → meaning_of text ≡ Asks line → is_within_limits line ≡ true
-meaning_ok text line e = by_tests (not (is_printable text)) (is_passed_over text) (line_of (words_of text)) (line_ok (words_of text) line) e
+for_lanes_ok : (o : Option Line) (line : Line) → ((l : Line) → o ≡ Some l → is_within_limits l ≡ true) → for_lanes o ≡ Some line → is_within_limits line ≡ true
+for_lanes_ok None line ok e = absurd (cc)
+for_lanes_ok (Some l) line ok e = ok line (kept (either_some (is_for_lanes l) (Some l) None line e))
   where
-    by_tests : (a b : Bool) (o : Option Line) → (o ≡ Some line → is_within_limits line ≡ true)
-        → cond a Bad (cond b PassedOver (asks_or_bad o)) ≡ Asks line → is_within_limits line ≡ true
-    by_tests true b o ok h = absurd (cc)
-    by_tests false true o ok h = absurd (cc)
-    by_tests false false None ok h = absurd (cc)
-    by_tests false false (Some l) ok h = ok (cc)
+    kept : (Some l ≡ Some line) ⊎ (None ≡ Some line) → Some l ≡ Some line
+    kept (inl h) = h
+    kept (inr h) = absurd (cc)
 
-numbered_ok : (p : ℕ × List ℕ) → (rest : List Numbered) → list_all (λ n. is_within_limits n.line) rest ≡ true
-    → list_all (λ n. is_within_limits n.line) (cons_option (numbered (p.0) (meaning_of (p.1))) rest) ≡ true
-numbered_ok p rest ok = by_meaning (meaning_of (p.1)) (meaning_ok (p.1))
+asks_ok : (lane other : Lane) (o : Option Line) (line : Line) → ((l : Line) → o ≡ Some l → is_within_limits l ≡ true) → asks_for lane o ≡ Asks other line → is_within_limits line ≡ true
+asks_ok lane other None line ok e = absurd (cc)
+asks_ok lane other (Some l) line ok e = ok line (cc)
+
+-- one word, or another
+either_ok : (b : Bool) (x y : Meaning) (lane : Lane) (line : Line) → (x ≡ Asks lane line → is_within_limits line ≡ true)
+    → (y ≡ Asks lane line → is_within_limits line ≡ true) → cond b x y ≡ Asks lane line → is_within_limits line ≡ true
+either_ok true x y lane line this others e = this e
+either_ok false x y lane line this others e = others e
+
+inside_ok : (words : List (List ℕ)) (lane : Lane) (line : Line) → inside_of words ≡ Asks lane line → is_within_limits line ≡ true
+inside_ok [] lane line e = absurd (cc)
+inside_ok (verb ∷ values) lane line e =
+    let laned = λ (l : Line) (h : for_lanes (line_of values) ≡ Some l). for_lanes_ok (line_of values) l (line_ok values) h in
+    either_ok (bytes_eq verb (codes "a:")) (asks_for A (for_lanes (line_of values))) _ lane line (asks_ok A lane (for_lanes (line_of values)) line laned)
+    (either_ok (bytes_eq verb (codes "b:")) (asks_for B (for_lanes (line_of values))) _ lane line (asks_ok B lane (for_lanes (line_of values)) line laned)
+    (either_ok (bytes_eq verb (codes "end")) (asks_for Worker (alone Wait values)) Bad lane line
+    (asks_ok Worker lane (alone Wait values) line (λ l h. alone_ok Wait l values refl h)) (λ h. absurd (cc))))
+    e
+
+opens_ok : (words : List (List ℕ)) (lane : Lane) (line : Line) → opens words ≡ Asks lane line → is_within_limits line ≡ true
+opens_ok [] lane line e = absurd (cc)
+opens_ok (word ∷ words) lane line e = absurd (cc)
+
+outside_ok : (words : List (List ℕ)) (lane : Lane) (line : Line) → outside_of words ≡ Asks lane line → is_within_limits line ≡ true
+outside_ok [] lane line e = absurd (cc)
+outside_ok (verb ∷ values) lane line e =
+    either_ok (bytes_eq verb (codes "together")) (opens values) (asks_for Script (line_of (verb ∷ values))) lane line (opens_ok values lane line)
+    (asks_ok Script lane (line_of (verb ∷ values)) line (line_ok (verb ∷ values))) e
+
+pub meaning_ok : (inside : Bool) (text : List ℕ) (lane : Lane) (line : Line) → meaning_of inside text ≡ Asks lane line → is_within_limits line ≡ true
+meaning_ok inside text lane line e =
+    by_tests (not (is_printable text)) (is_passed_over text) inside (inside_of (words_of text)) (outside_of (words_of text))
+    (inside_ok (words_of text) lane line) (outside_ok (words_of text) lane line) e
   where
-    by_meaning : (m : Meaning) → ((line : Line) → m ≡ Asks line → is_within_limits line ≡ true)
-        → list_all (λ n. is_within_limits n.line) (cons_option (numbered (p.0) m) rest) ≡ true
-    by_meaning PassedOver each = ok
-    by_meaning Bad each = ok
-    by_meaning (Asks line) each = ap (λ b. b && list_all (λ n. is_within_limits n.line) rest) (each line refl) ∙ ok
-
-asked_ok : (lines : List (ℕ × List ℕ)) → list_all (λ n. is_within_limits n.line) (filter_map (λ p. numbered (p.0) (meaning_of (p.1))) lines) ≡ true
-asked_ok [] = refl
-asked_ok (p ∷ lines) = numbered_ok p (filter_map (λ q. numbered (q.0) (meaning_of (q.1))) lines) (asked_ok lines)
-
-pub asked_within_limits : (lines : List (List ℕ)) → AllPass (λ n. is_within_limits n.line) (asked lines)
-asked_within_limits lines = AllPass-from_list_all (λ n. is_within_limits n.line) (asked lines) (asked_ok (enumerate_from 1 lines))
+    by_tests : (a b c : Bool) (x y : Meaning) → (x ≡ Asks lane line → is_within_limits line ≡ true) → (y ≡ Asks lane line → is_within_limits line ≡ true)
+        → cond a Bad (cond b PassedOver (cond c x y)) ≡ Asks lane line → is_within_limits line ≡ true
+    by_tests true b c x y this other h = absurd (cc)
+    by_tests false true c x y this other h = absurd (cc)
+    by_tests false false true x y this other h = this h
+    by_tests false false false x y this other h = other h

@@ -1,16 +1,18 @@
 -- What one line of a script asks.
-use Rattle.std.specs.Prelude.{ℕ, ◌+◌, ◌^◌, Bool, ◌&&◌, ◌||◌, not, ◌==◌, nat_lt, nat_le, if◌then◌else◌, List, [], ◌∷◌, slice_index, bytes_eq, codes, Option, Some, None, option_map}
+use Rattle.std.specs.Prelude.{ℕ, ◌+◌, ◌^◌, Bool, ◌&&◌, ◌||◌, not, ◌==◌, true, false, nat_lt, nat_le, if◌then◌else◌, List, [], ◌∷◌, slice_index, bytes_eq, codes, Option, Some, None, option_map}
 use Rattle.std.specs.List.{list_all}
 use Rattle.std.specs.Option.{option_and_then}
 use Rattle.uuid.specs.Text.{parsed}
 use Rattle.md_base.specs.declared.places.Shape.{Shape}
-use Rattle.script.specs.Keys.{has_key, given}
-use Rattle.script.specs.Layouts.{layout_named}
-use Rattle.script.specs.Numbers.{is_space, words_of, number_below}
+use Rattle.line_words.specs.Keys.{has_key, given}
+use Rattle.line_words.specs.Layouts.{layout_named}
+use Rattle.line_words.specs.Numbers.{is_space, words_of, number_below}
 use Rattle.script.specs.declared.lines.Line.{Line}
 use Rattle.script.specs.declared.lines.Line.TheVariants.{Create, Read, Write, Flush, Fail, Add, Step, Wait, Stop, Halt, Detail, Mdstat, Examine, Assemble}
 use Rattle.script.specs.declared.grammar.Meaning.{Meaning}
-use Rattle.script.specs.declared.grammar.Meaning.TheVariants.{PassedOver, Asks, Bad}
+use Rattle.script.specs.declared.grammar.Meaning.TheVariants.{PassedOver, Opens, Asks, Bad}
+use Rattle.script.specs.declared.reply.Lane.{Lane}
+use Rattle.script.specs.declared.reply.Lane.TheVariants.{Script, A, B, Worker}
 
 -- where COUNT sectors begin and how many they are: COUNT is 1 to 128, and X + COUNT below 2^63
 abbrev pub is_span : ℕ × ℕ → Bool
@@ -130,13 +132,47 @@ is_printable text = list_all (λ b. nat_le 32 b && nat_le b 126) text
 abbrev pub is_passed_over : List ℕ → Bool
 is_passed_over text = list_all is_space text || (slice_index text 0 == 35)
 
-abbrev pub asks_or_bad : Option Line → Meaning
-asks_or_bad (Some line) = Asks line
-asks_or_bad None = Bad
+-- a line of this lane asks this, or it is bad
+abbrev pub asks_for : Lane → Option Line → Meaning
+asks_for lane (Some line) = Asks lane line
+asks_for lane None = Bad
 
--- what the text of a line means
-abbrev pub meaning_of : List ℕ → Meaning
-meaning_of text =
+-- what may stand in a lane: `read`, `write`, `flush` and `fail`
+abbrev pub is_for_lanes : Line → Bool
+is_for_lanes (Read start count) = true
+is_for_lanes (Write start count seed) = true
+is_for_lanes Flush = true
+is_for_lanes (Fail role) = true
+is_for_lanes line = false
+
+abbrev pub for_lanes : Option Line → Option Line
+for_lanes (Some line) = if is_for_lanes line then Some line else None
+for_lanes None = None
+
+-- a line of a block: behind `a:` or `b:` what that lane asks; or `end`, at which the worker asks what `wait` does
+abbrev pub inside_of : List (List ℕ) → Meaning
+inside_of [] = Bad
+inside_of (verb ∷ values) =
+    if bytes_eq verb (codes "a:") then asks_for A (for_lanes (line_of values))
+    else if bytes_eq verb (codes "b:") then asks_for B (for_lanes (line_of values))
+    else if bytes_eq verb (codes "end") then asks_for Worker (alone Wait values)
+    else Bad
+
+-- `together` opens a block, and stands alone
+abbrev pub opens : List (List ℕ) → Meaning
+opens [] = Opens
+opens values = Bad
+
+-- a line outside a block
+abbrev pub outside_of : List (List ℕ) → Meaning
+outside_of [] = Bad
+outside_of (verb ∷ values) =
+    if bytes_eq verb (codes "together") then opens values else asks_for Script (line_of (verb ∷ values))
+
+-- what the text of a line means, inside a block or outside
+abbrev pub meaning_of : Bool → List ℕ → Meaning
+meaning_of inside text =
     if not (is_printable text) then Bad
     else if is_passed_over text then PassedOver
-    else asks_or_bad (line_of (words_of text))
+    else if inside then inside_of (words_of text)
+    else outside_of (words_of text)

@@ -1,8 +1,5 @@
 pub mod Grammar
-pub mod Keys
-pub mod Layouts
 pub mod Looks
-pub mod Numbers
 pub mod Script
 pub mod Seeds
 pub mod Texts

@@ -17,7 +17,7 @@ use Rattle.flat_history.specs.declared.events.Event.{Event}
 use Rattle.flat_history.specs.declared.events.Event.TheVariants.{Read, Wrote, Flushed, Added, Failed, Visible, Planned, Stepped, Stopped, Halted, Refused}
 use Rattle.script.specs.declared.reply.Lane.{Lane}
 use Rattle.script.specs.declared.reply.Lane.TheVariants.{Script, A, B, Worker}
-use Rattle.script.specs.Layouts.{layout_name}
+use Rattle.line_words.specs.Layouts.{layout_name}
 use Rattle.script.specs.Seeds.{seed_sector}
 
 -- ---- refusals

@@ -3,28 +3,28 @@
 ghost use Rattle.std.specs.Prelude.{◌≡◌, ◌==◌, slice_index};
 ghost use Rattle.std.specs.List.{list_all};
 ghost use Rattle.uuid.specs.Text.{parsed};
-ghost use Rattle.script.specs.Grammar.{meaning_of, is_printable, line_of, alone, create_keys, create_of, shape_of, assemble_of, read_of, write_of, fail_of, add_of, step_of, examine_of, span_of};
-ghost use Rattle.script.specs.Keys.{has_key};
-ghost use Rattle.script.specs.Numbers.{is_space, words_of};
+ghost use Rattle.script.specs.Grammar.{meaning_of, outside_of, inside_of, opens, is_for_lanes, asks_for, for_lanes, is_printable, line_of, alone, create_keys, create_of, shape_of, assemble_of, read_of, write_of, fail_of, add_of, step_of, examine_of, span_of};
+ghost use Rattle.line_words.specs.Keys.{has_key};
+ghost use Rattle.line_words.specs.Numbers.{is_space, words_of};
 
-use crate::keys::{have_keys, value_of};
-use crate::layouts::layout_named;
 use crate::lines::{CreateLine, Line};
-use crate::numbers::{Words, number, small_number};
+use crate::reply::Lane;
+use line_words::{Words, have_keys, layout_named, number, small_number, value_of};
 use md_base::Shape;
 use uuid::Uuid;
 
-/// What the text of a line means.
+/// What the text of a line means: it may open a block, or ask something in a lane.
 #[derive(Clone, Copy, Debug, PartialEq, Eq)]
 pub enum Meaning {
     PassedOver,
-    Asks(Line),
+    Opens,
+    Asks(Lane, Line),
     Bad,
 }
 
-/// What this line of the text means.
-pub fn meaning_of_line(text: &[u8]) -> Meaning
-    ensures { result ≡ meaning_of text.now }
+/// What this line of the text means, inside a block or outside.
+pub fn meaning_of_line(inside: bool, text: &[u8]) -> Meaning
+    ensures { result ≡ meaning_of inside text.now }
 {
     if !has_plain_bytes(text) {
         return Meaning::Bad;
@@ -32,10 +32,91 @@ pub fn meaning_of_line(text: &[u8]) -> Meaning
     if is_blank(text) || is_comment(text) {
         return Meaning::PassedOver;
     }
-    match parse_line(Words::of(text)) {
-        Some(line) => Meaning::Asks(line),
+    if inside {
+        parse_inside(Words::of(text))
+    } else {
+        parse_outside(Words::of(text))
+    }
+}
+
+// A line outside a block.
+fn parse_outside(words: Words<'_>) -> Meaning
+    ensures { result ≡ outside_of (words_of words.entry.line.now) }
+{
+    let mut values = words;
+    match values.next() {
+        None => Meaning::Bad,
+        Some(verb) => {
+            if verb == b"together".as_slice() {
+                parse_opening(values)
+            } else {
+                asks_for(Lane::Script, parse_line(words))
+            }
+        }
+    }
+}
+
+// What stands behind `together`: nothing.
+fn parse_opening(mut words: Words<'_>) -> Meaning
+    ensures { result ≡ opens (words_of words.entry.line.now) }
+{
+    match words.next() {
+        None => Meaning::Opens,
+        Some(_) => Meaning::Bad,
+    }
+}
+
+// A line of a block.
+fn parse_inside(mut words: Words<'_>) -> Meaning
+    ensures { result ≡ inside_of (words_of words.entry.line.now) }
+{
+    let Some(verb) = words.next() else {
+        return Meaning::Bad;
+    };
+    if verb == b"a:".as_slice() {
+        asks_for(Lane::A, for_lanes(parse_line(words)))
+    } else if verb == b"b:".as_slice() {
+        asks_for(Lane::B, for_lanes(parse_line(words)))
+    } else if verb == b"end".as_slice() {
+        asks_for(Lane::Worker, parse_alone(words, Line::Wait))
+    } else {
+        Meaning::Bad
+    }
+}
+
+// A line of this lane asks this, or it is bad.
+fn asks_for(lane: Lane, asked: Option<Line>) -> Meaning
+    ensures { result ≡ asks_for lane asked }
+{
+    match asked {
+        Some(line) => Meaning::Asks(lane, line),
         None => Meaning::Bad,
     }
+}
+
+// The line, where it may stand in a lane.
+fn for_lanes(asked: Option<Line>) -> Option<Line>
+    ensures { result ≡ for_lanes asked }
+{
+    match asked {
+        Some(line) => {
+            if is_for_lanes(&line) {
+                Some(line)
+            } else {
+                None
+            }
+        }
+        None => None,
+    }
+}
+
+fn is_for_lanes(line: &Line) -> bool
+    ensures { result ≡ is_for_lanes line.now }
+{
+    matches!(
+        line,
+        Line::Read { .. } | Line::Write { .. } | Line::Flush | Line::Fail { .. }
+    )
 }
 
 fn has_plain_bytes(text: &[u8]) -> bool

@@ -2,14 +2,11 @@
 #![tactic(auto)]
 
 pub mod grammar;
-pub mod keys;
-pub mod layouts;
 pub mod lines;
-pub mod numbers;
 pub mod reply;
 pub mod seeds;
 
-pub use lines::{CreateLine, Line, Numbered, ScriptFault, read_script};
+pub use lines::{CreateLine, Line, Numbered, ScriptFault, read_script, read_script_with_blocks};
 pub use reply::{
     Lane, push_assembled, push_created, push_event, push_lane, push_refusal, push_waited,
     push_worker, push_worker_refusal,

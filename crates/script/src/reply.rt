@@ -4,9 +4,9 @@ ghost use Rattle.std.specs.Prelude.{◌≡◌, ℕ, ◌+◌, ◌<◌, ◌≤◌,
 ghost use Rattle.script.specs.Looks.{kind_seen};
 ghost use Rattle.script.specs.Texts.{assembled_text, busy_word, created_text, ending_text, event_text, field_word, is_same, kind_of, kind_text, kinds, lane_text, layout_text, refusal_text, refused, run_text, runs, runs_text, shape_text, shown_text, worker_refusal_text, waited_text, worker_text, Hex};
 
-use crate::layouts::layout_name;
 use crate::seeds::seed_contents;
 use flat_history::Event;
+use line_words::layout_name;
 use md_base::{BusyKind, Refusal, Sectors, Shape, ShapeField, Status};
 use std::alloc::AllocError;
 
@@ -44,43 +44,31 @@ pub fn push_refusal(text: &mut Vec<u8>, refusal: &Refusal) -> Result<(), AllocEr
 {
     match *refusal {
         Refusal::PastEnd(visible) => push_refused(text, 1, "PastEnd", &[visible]),
-        Refusal::TooManyMissing(count, tolerance) => {
-            push_refused(text, 2, "TooManyMissing", &[count, tolerance])
-        }
+        Refusal::TooManyMissing(gone, most) => push_pair(text, 2, "TooManyMissing", gone, most),
         Refusal::NotResynced(role) => push_refused(text, 3, "NotResynced", &[u64::from(role)]),
         Refusal::BackupFault => push_refused(text, 4, "BackupFault", &[]),
         Refusal::NoSuchRole(role) => push_refused(text, 5, "NoSuchRole", &[u64::from(role)]),
         Refusal::SlotTaken(slot) => push_refused(text, 6, "SlotTaken", &[u64::from(slot)]),
-        Refusal::SlotTooSmall(have, want) => push_refused(text, 7, "SlotTooSmall", &[have, want]),
+        Refusal::SlotTooSmall(have, want) => push_pair(text, 7, "SlotTooSmall", have, want),
         Refusal::PastSize(size) => push_refused(text, 8, "PastSize", &[size]),
         Refusal::SlotFault(slot) => push_refused(text, 9, "SlotFault", &[u64::from(slot)]),
         Refusal::Busy(kind) => push_worded(text, 10, "Busy", busy_name(kind)),
         Refusal::Degraded(role) => push_refused(text, 11, "Degraded", &[u64::from(role)]),
         Refusal::SameShape => push_refused(text, 12, "SameShape", &[]),
         Refusal::BadShape(field) => push_worded(text, 13, "BadShape", field_name(field)),
-        Refusal::SizeNotMultiple(size, chunk) => {
-            push_refused(text, 14, "SizeNotMultiple", &[size, chunk])
-        }
-        Refusal::NeedSpares(have, want) => push_refused(text, 15, "NeedSpares", &[have, want]),
+        Refusal::SizeNotMultiple(size, by) => push_pair(text, 14, "SizeNotMultiple", size, by),
+        Refusal::NeedSpares(have, want) => push_pair(text, 15, "NeedSpares", have, want),
         Refusal::NeedBackup => push_refused(text, 16, "NeedBackup", &[]),
-        Refusal::BackupTooSmall(have, want) => {
-            push_refused(text, 17, "BackupTooSmall", &[have, want])
-        }
-        Refusal::ArraySizeFirst(visible, least) => {
-            push_refused(text, 18, "ArraySizeFirst", &[visible, least])
-        }
+        Refusal::BackupTooSmall(have, want) => push_pair(text, 17, "BackupTooSmall", have, want),
+        Refusal::ArraySizeFirst(size, least) => push_pair(text, 18, "ArraySizeFirst", size, least),
         Refusal::Nothing => push_refused(text, 19, "Nothing", &[]),
         Refusal::NoSuperblock => push_refused(text, 20, "NoSuperblock", &[]),
         Refusal::Unsupported(bits) => push_refused(text, 21, "Unsupported", &[bits]),
         Refusal::BadField(offset) => push_refused(text, 22, "BadField", &[offset]),
         Refusal::TwoHolders(device) => push_refused(text, 23, "TwoHolders", &[u64::from(device)]),
-        Refusal::MembersMissing(count, tolerance) => {
-            push_refused(text, 24, "MembersMissing", &[count, tolerance])
-        }
+        Refusal::MembersMissing(gone, most) => push_pair(text, 24, "MembersMissing", gone, most),
         Refusal::DirtyDegraded(role) => push_refused(text, 25, "DirtyDegraded", &[u64::from(role)]),
-        Refusal::PositionNotOnUnit(position, unit) => {
-            push_refused(text, 26, "PositionNotOnUnit", &[position, unit])
-        }
+        Refusal::PositionNotOnUnit(at, unit) => push_pair(text, 26, "PositionNotOnUnit", at, unit),
         Refusal::BackupAbsent => push_refused(text, 27, "BackupAbsent", &[]),
         Refusal::NotRunning => push_refused(text, 28, "NotRunning", &[]),
         Refusal::Running => push_refused(text, 29, "Running", &[]),
@@ -206,6 +194,19 @@ fn push_refused(
         push_counted(text, " ", *value)?;
     }
     Ok(())
+}
+
+fn push_pair(
+    text: &mut Vec<u8>,
+    number: u64,
+    name: &str,
+    first: u64,
+    second: u64,
+) -> Result<(), AllocError>
+    ensures { OnOk result
+        (text.new.items ≡ text.old.items ++ refused number name.now (decimal first ∷ decimal second ∷ [])) }
+{
+    push_refused(text, number, name, &[first, second])
 }
 
 fn push_worded(text: &mut Vec<u8>, number: u64, name: &str, word: &str) -> Result<(), AllocError>

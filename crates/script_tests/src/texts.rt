@@ -1,7 +1,7 @@
 //! Texts as a user may write them, and what they ask.
 
 use md_base::Shape;
-use script::{CreateLine, Line, Numbered, ScriptFault, read_script, seed_sectors};
+use script::{CreateLine, Lane, Line, Numbered, ScriptFault, read_script, seed_sectors};
 use std::alloc::Global;
 use std::process::Abort;
 use std::test::Fail;
@@ -379,7 +379,12 @@ const ASKED: [Asked; 19] = [
 // Whether the text is one line that asks for this.
 fn asks_alone(alloc: Global, text: &str, line: Line) -> Result<bool, Fail> {
     let lines = read_script(alloc, text.as_bytes())?;
-    Ok(lines.as_slice() == [Numbered { number: 1, line }].as_slice())
+    let asked = Numbered {
+        number: 1,
+        lane: Lane::Script,
+        line,
+    };
+    Ok(lines.as_slice() == [asked].as_slice())
 }
 
 fn create([level, layout, chunk, disks]: [u32; 4], size: u64, offset: u64) -> Line {
@@ -456,7 +461,11 @@ fn compare(rt: &impl Abort, lines: &[Numbered], wanted: &[(u64, Line)]) {
     assert!(rt; lines.len() == wanted.len());
     for k in 0..lines.len() {
         let (number, line) = wanted[k];
-        assert!(rt; lines[k] == Numbered { number, line }, "line {number}");
+        let lane = Lane::Script;
+        assert!(rt;
+            lines[k] == Numbered { number, lane, line },
+            "line {number}"
+        );
     }
 }
 

@@ -6,7 +6,7 @@ ghost use Rattle.status_text.specs.Appends.{Appends};
 ghost use Rattle.status_text.specs.Texts.{counted, clean_word, line, progress};
 
 use md_base::Status;
-use script::layouts::layout_name;
+use line_words::layout_name;
 use std::alloc::AllocError;
 
 pub fn push_words(text: &mut Vec<u8>, words: &str) -> Result<(), AllocError>

@@ -3,6 +3,7 @@ use Rattle.std.proofs.Math.ListN.{get_or}
 use Rattle.bank.specs.Given.{Given}
 use Rattle.script.specs.declared.lines.Numbered.{Numbered}
 use Rattle.script.specs.declared.lines.Line.TheVariants.{Create}
+use Rattle.script.specs.declared.reply.Lane.TheVariants.{Script as InScript}
 use Rattle.runner.specs.Ended.{IsRunKept}
 use Rattle.runner.specs.Making.{setting_of}
 use Rattle.runner.specs.States.{bank_in}
@@ -17,7 +18,7 @@ use Rattle.runner.proofs.sessions.perform.Goals as goal
 
 -- what stands past the end of the lines
 abbrev nothing : Numbered
-nothing = record { number = 0; line = Create record { uuid = []; shape = record { level = 0; layout = 0; chunk = 0; disks = 0 }; size = 0; offset = 0 } }
+nothing = record { number = 0; lane = InScript; line = Create record { uuid = []; shape = record { level = 0; layout = 0; chunk = 0; disks = 0 }; size = 0; offset = 0 } }
 
 pub returns-then-is_some-clause-performed : goal.returns-then-is_some-clause-performed
 returns-then-is_some-clause-performed g c =
