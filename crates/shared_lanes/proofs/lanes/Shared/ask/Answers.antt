@@ -1,5 +1,5 @@
 use Rattle.shared_lanes.proofs.Answered.{answered}
-use Rattle.shared_lanes.proofs.lanes.call.Goals as goal
+use Rattle.shared_lanes.proofs.lanes.Shared.ask.Goals as goal
 
 pub returns-clause-answered : goal.returns-clause-answered
 returns-clause-answered g c =
