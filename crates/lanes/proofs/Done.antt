@@ -12,7 +12,7 @@ use Rattle.seen_laws.specs.Callers.{IsReplyTo, AreReplied}
 use Rattle.seen_laws.proofs.PlaceLaws.{reads, there, still-replied, reply-more, replied-new}
 use Rattle.seen_laws.proofs.BeforeLaws.{seen-self, seen-on}
 use Rattle.lanes.specs.Carried.{Carried, IsHeld, GoesOn, next_call, IsEntered, IsAnswered}
-use Rattle.lanes.specs.Lane.{AreOneEach, done_of, StandsIn, AreDone}
+use Rattle.lanes.specs.Lane.{AreOneEach, done_of, StandsIn, AreCalls, AreDone}
 
 -- ---- a pass that goes on
 
@@ -93,6 +93,34 @@ stands-on caller entries more (Done at event) stands = one (slice_get entries at
     one (Some e) is stands =
         subst (λ (found : Option Entry). MatchOption found ⊥ (λ e. (e.caller ≡ caller) × (e.event ≡ event))) (sym (there entries more at e is)) stands
 stands-on caller entries more Short stands = tt
+
+-- ---- calls
+
+pub calls-more : {P : Type 0} (answered : P → Request → Reply → P → Type 0) (pass mid new : P) (requests : List Request) (replies : List Reply) (request : Request)
+    (at : ℕ) (event : Event) → AreCalls answered pass requests replies mid → AllEntered replies → answered mid request (Done at event) new
+    → AreCalls answered pass (requests ++ request ∷ []) (replies ++ Done at event ∷ []) new
+calls-more {P} answered pass mid new [] [] request at event calls all one = (new, subst (λ (p : P). answered p request (Done at event) new) calls one, refl)
+calls-more answered pass mid new [] (r ∷ replies) request at event calls all one = absurd calls
+calls-more answered pass mid new (q ∷ requests) [] request at event calls all one = absurd calls
+calls-more answered pass mid new (q ∷ requests) (Done place old ∷ replies) request at event calls all one =
+    (calls.0, calls.1, calls-more answered calls.0 mid new requests replies request at event calls.2 all one)
+calls-more answered pass mid new (q ∷ requests) (Short ∷ replies) request at event calls all one = absurd all
+
+pub calls-short : {P : Type 0} (answered : P → Request → Reply → P → Type 0) (pass mid new : P) (requests : List Request) (replies : List Reply) (request : Request)
+    (rest : List Request) → AreCalls answered pass requests replies mid → AllEntered replies → answered mid request Short new
+    → AreCalls answered pass (requests ++ request ∷ rest) (replies ++ Short ∷ []) new
+calls-short {P} answered pass mid new [] [] request rest calls all one = subst (λ (p : P). answered p request Short new) calls one
+calls-short answered pass mid new [] (r ∷ replies) request rest calls all one = absurd calls
+calls-short answered pass mid new (q ∷ requests) [] request rest calls all one = absurd calls
+calls-short answered pass mid new (q ∷ requests) (Done place old ∷ replies) request rest calls all one =
+    (calls.0, calls.1, calls-short answered calls.0 mid new requests replies request rest calls.2 all one)
+calls-short answered pass mid new (q ∷ requests) (Short ∷ replies) request rest calls all one = absurd all
+
+pub calls-one : {P : Type 0} (answered : P → Request → Reply → P → Type 0) (pass mid new : P) (requests : List Request) (replies : List Reply) (request : Request)
+    (reply : Reply) → AreCalls answered pass requests replies mid → AllEntered replies → answered mid request reply new
+    → AreCalls answered pass (requests ++ request ∷ []) (replies ++ reply ∷ []) new
+calls-one answered pass mid new requests replies request (Done at event) calls all one = calls-more answered pass mid new requests replies request at event calls all one
+calls-one answered pass mid new requests replies request Short calls all one = calls-short answered pass mid new requests replies request [] calls all one
 
 -- ---- one more
 

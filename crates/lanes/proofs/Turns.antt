@@ -1,5 +1,5 @@
 -- One turn more of a worker.
-use Rattle.std.proofs.Common.{◌≡◌, ℕ, ◌+◌, List, [], ◌∷◌, ◌++◌, length, map, refl, sym, ap, subst, Option, Some, None, MatchOption, IfSome, arith, length-append}
+use Rattle.std.proofs.Common.{◌≡◌, ℕ, ◌+◌, List, [], ◌∷◌, ◌++◌, length, map, refl, sym, ap, subst, subst₂, Option, Some, None, MatchOption, IfSome, arith, length-append}
 use Rattle.std.proofs.lemmas.List.{map-append}
 use Rattle.std.proofs.lemmas.List.Sums.{sum_by-append}
 use Rattle.flat_history.specs.declared.events.Request.{Request}
@@ -8,9 +8,9 @@ use Rattle.shared_array.specs.declared.reply.Reply.{Reply}
 use Rattle.shared_array.specs.declared.reply.Reply.TheVariants.{Done, NoMemory as Short}
 use Rattle.lanes.specs.declared.worker.Worked.{Worked}
 use Rattle.lanes.specs.Carried.{Carried, GoesOn, IsAnswered}
-use Rattle.lanes.specs.Lane.{AreDone}
+use Rattle.lanes.specs.Lane.{AreCalls, AreDone}
 use Rattle.lanes.specs.Worker.{done_in, left_behind, AreTurns, HasWorked}
-use Rattle.lanes.proofs.Done.{none-done, AllEntered, done-one}
+use Rattle.lanes.proofs.Done.{none-done, AllEntered, calls-one, done-one}
 
 abbrev Turn : Type 0
 Turn = ℕ × Reply
@@ -65,12 +65,13 @@ if-more None weaker fact = tt
 if-more (Some m) weaker fact = weaker fact
 
 -- the first turn
-pub first-turn : {tells : Type 0} (answers : ℕ → ℕ → ℕ → Type 0) (left most : ℕ) (old new : Carried) (reply : Reply) (done : ℕ) → answers 0 left most
-    → GoesOn tells old new → IsAnswered tells old (AsksSteps most) reply new → done ≡ done_in reply
-    → HasWorked answers left old new (record { turns = 1; done = done; last = reply })
-first-turn answers left most old new reply done asked goes answered is = record {
+pub first-turn : {tells P : Type 0} (answered : P → Request → Reply → P → Type 0) (carried : P → Carried) (answers : ℕ → ℕ → ℕ → Type 0) (left most : ℕ) (old new : P) (reply : Reply) (done : ℕ) → answers 0 left most
+    → answered old (AsksSteps most) reply new → GoesOn tells (carried old) (carried new) → IsAnswered tells (carried old) (AsksSteps most) reply (carried new)
+    → done ≡ done_in reply → HasWorked answered carried answers left old new (record { turns = 1; done = done; last = reply })
+first-turn answered carried answers left most old new reply done asked call goes entered is = record {
   turns = (most, reply) ∷ [];
-  made = done-one old old new [] [] (AsksSteps most) (none-done old) tt goes reply answered;
+  calls = calls-one answered old old new [] [] (AsksSteps most) reply refl tt call;
+  made = done-one (carried old) (carried old) (carried new) [] [] (AsksSteps most) (none-done (carried old)) tt goes reply entered;
   asked = (asked, ends (left_behind reply));
   count = refl;
   done = omega (arith, is);
@@ -82,11 +83,13 @@ first-turn answers left most old new reply done asked goes answered is = record 
     ends (Some m) = tt
 
 -- one more
-pub turn-more : {tells : Type 0} (answers : ℕ → ℕ → ℕ → Type 0) (left more most : ℕ) (old mid new : Carried) (worked : Worked) (reply : Reply) (done : ℕ)
-    → left_behind worked.last ≡ Some more → HasWorked answers left old mid worked → answers worked.turns more most → GoesOn tells mid new
-    → IsAnswered tells mid (AsksSteps most) reply new → done ≡ done_in reply
-    → HasWorked answers left old new (record { turns = worked.turns + 1; done = worked.done + done; last = reply })
-turn-more {tells} answers left more most old mid new worked reply done is was asked goes answered tells-done =
+pub turn-more : {tells P : Type 0} (answered : P → Request → Reply → P → Type 0) (carried : P → Carried) (answers : ℕ → ℕ → ℕ → Type 0) (left more most : ℕ)
+    (old mid new : P) (worked : Worked) (reply : Reply) (done : ℕ)
+    → left_behind worked.last ≡ Some more → HasWorked answered carried answers left old mid worked → answers worked.turns more most
+    → answered mid (AsksSteps most) reply new → GoesOn tells (carried mid) (carried new) → IsAnswered tells (carried mid) (AsksSteps most) reply (carried new)
+    → done ≡ done_in reply
+    → HasWorked answered carried answers left old new (record { turns = worked.turns + 1; done = worked.done + done; last = reply })
+turn-more answered carried answers left more most old mid new worked reply done is was asked call goes entered tells-done =
     let turns = was.turns in
     let before = was.last.0 in
     let last : Turn = (was.last.1, worked.last) in
@@ -97,9 +100,12 @@ turn-more {tells} answers left more most old mid new worked reply done is was as
     (all-entered answers last more is before 0 left (subst (λ (l : List Turn). AreTurns answers 0 left l) turns-is was.asked)) in
     record {
       turns = turns ++ next ∷ [];
-      made = subst (λ (l : List Request). AreDone old new l (map (λ (t : Turn). t.1) (turns ++ next ∷ []))) (sym (map-append (λ (t : Turn). AsksSteps t.0) turns (next ∷ [])))
-          (subst (λ (l : List Reply). AreDone old new (map (λ (t : Turn). AsksSteps t.0) turns ++ AsksSteps most ∷ []) l) (sym (map-append (λ (t : Turn). t.1) turns (next ∷ [])))
-            (done-one old mid new (map (λ (t : Turn). AsksSteps t.0) turns) (map (λ (t : Turn). t.1) turns) (AsksSteps most) was.made all goes reply answered));
+      calls = subst₂ (λ (qs : List Request) (rs : List Reply). AreCalls answered old qs rs new) (sym (map-append (λ (t : Turn). AsksSteps t.0) turns (next ∷ [])))
+          (sym (map-append (λ (t : Turn). t.1) turns (next ∷ [])))
+          (calls-one answered old mid new (map (λ (t : Turn). AsksSteps t.0) turns) (map (λ (t : Turn). t.1) turns) (AsksSteps most) reply was.calls all call);
+      made = subst₂ (λ (qs : List Request) (rs : List Reply). AreDone (carried old) (carried new) qs rs) (sym (map-append (λ (t : Turn). AsksSteps t.0) turns (next ∷ [])))
+          (sym (map-append (λ (t : Turn). t.1) turns (next ∷ [])))
+          (done-one (carried old) (carried mid) (carried new) (map (λ (t : Turn). AsksSteps t.0) turns) (map (λ (t : Turn). t.1) turns) (AsksSteps most) was.made all goes reply entered);
       asked = subst (λ (l : List Turn). AreTurns answers 0 left (l ++ next ∷ [])) (sym turns-is)
           (asked-more answers last more is before 0 left next (subst (λ (l : List Turn). AreTurns answers 0 left l) turns-is was.asked)
             (subst (λ (n : ℕ). answers n more most) (let count = was.count in let long = ap (λ (l : List Turn). length l) turns-is in omega (arith, count, long)) asked));

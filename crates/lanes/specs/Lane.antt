@@ -30,6 +30,15 @@ abbrev pub StandsIn : ℕ → List Entry → Reply → Type 0
 StandsIn caller entries (Done at event) = MatchOption (slice_get entries at) ⊥ (λ e. (e.caller ≡ caller) × (e.event ≡ event))
 StandsIn caller entries Short = ⊤
 
+-- From one pass to the other the requests were made, each with the pass that the one before gave back, and answered by these replies. None was made
+-- behind one for which memory was short.
+abbrev pub AreCalls : {P : Type 0} → (P → Request → Reply → P → Type 0) → P → List Request → List Reply → P → Type 0
+AreCalls answered pass [] [] pass' = pass' ≡ pass
+AreCalls answered pass (request ∷ requests) (Done at event ∷ replies) pass' =
+    (next : _) × answered pass request (Done at event) next × AreCalls answered next requests replies pass'
+AreCalls answered pass (request ∷ requests) (Short ∷ []) pass' = answered pass request Short pass'
+AreCalls answered pass requests replies pass' = ⊥
+
 -- These requests were made, each once and in their order, and nothing else: by each reply's place its event is in what was seen, it fits its
 -- request, and the done ones are the newest of the caller's own.
 pub record AreDone (old new : Carried) (requests : List Request) (replies : List Reply) : Type 0 where

@@ -2,12 +2,13 @@
 use Rattle.std.specs.Prelude.{◌≡◌, ℕ, ◌+◌, ◌==◌, if◌then◌else◌, List, [], ◌∷◌, ◌++◌, length, map, Option, Some, None, MatchOption, ⊤}
 use Rattle.std.specs.List.{sum_by}
 use Rattle.flat_history.specs.declared.events.Event.TheVariants.{Stepped}
+use Rattle.flat_history.specs.declared.events.Request.{Request}
 use Rattle.flat_history.specs.declared.events.Request.TheVariants.{Steps as AsksSteps}
 use Rattle.shared_array.specs.declared.reply.Reply.{Reply}
 use Rattle.shared_array.specs.declared.reply.Reply.TheVariants.{Done}
 use Rattle.lanes.specs.declared.worker.Worked.{Worked}
 use Rattle.lanes.specs.Carried.{Carried}
-use Rattle.lanes.specs.Lane.{AreDone}
+use Rattle.lanes.specs.Lane.{AreCalls, AreDone}
 
 -- how many steps a reply tells as done
 abbrev pub done_in : Reply → ℕ
@@ -28,9 +29,11 @@ AreTurns answers turn left (now ∷ turns) =
 
 -- A worker asked for steps, turn after turn, and for nothing else. It tells how many turns it had, how many steps were done in them, and the last
 -- reply.
-pub record HasWorked (answers : ℕ → ℕ → ℕ → Type 0) (left : ℕ) (old new : Carried) (worked : Worked) : Type 0 where
+pub record HasWorked {P : Type 0} (answered : P → Request → Reply → P → Type 0) (carried : P → Carried) (answers : ℕ → ℕ → ℕ → Type 0) (left : ℕ) (old new : P)
+    (worked : Worked) : Type 0 where
   pub turns : List (ℕ × Reply)
-  pub made : AreDone old new (map (λ t. AsksSteps t.0) turns) (map (λ t. t.1) turns)
+  pub calls : AreCalls answered old (map (λ t. AsksSteps t.0) turns) (map (λ t. t.1) turns) new
+  pub made : AreDone (carried old) (carried new) (map (λ t. AsksSteps t.0) turns) (map (λ t. t.1) turns)
   pub asked : AreTurns answers 0 left turns
   pub count : worked.turns ≡ length turns
   pub done : worked.done ≡ sum_by (λ t. done_in t.1) turns

@@ -1,10 +1,10 @@
 //! A lane: requests of one caller, one after another.
 ghost use Rattle.std.specs.Prelude.{◌≡◌, ◌≢◌, ◌+◌, ◌<◌, ◌≤◌, ◌++◌, [], ◌∷◌, List, vec_len, vec_capacity};
 ghost use Rattle.std.specs.List.{All};
-ghost use Rattle.shared_array.specs.declared.reply.Reply.{Reply as AReply};
+ghost use Rattle.shared_array.specs.declared.reply.Reply.{Reply};
 ghost use Rattle.shared_array.specs.Replies.{IsAskable};
 ghost use Rattle.lanes.specs.Carried.{GoesOn, IsOwn, IsAnswered};
-ghost use Rattle.lanes.specs.Lane.{AreDone, is_short};
+ghost use Rattle.lanes.specs.Lane.{AreCalls, AreDone, is_short};
 
 use crate::service::Service;
 use flat_history::Request;
@@ -43,7 +43,7 @@ fn make<R: Wait, S: Service>(
     ensures lock { S.lock_of result.0 ≡ S.lock_of pass }
     ensures later { GoesOn S.tells (S.carried pass) (S.carried result.0) }
     ensures own { IsOwn (S.carried result.0) }
-    ensures answered { (reply : AReply) × (replies.new.items ≡ replies.old.items ++ reply ∷ []) × (result.1 ≡ is_short reply) × IsAnswered S.tells (S.carried pass) request reply (S.carried result.0) }
+    ensures answered { (reply : Reply) × (replies.new.items ≡ replies.old.items ++ reply ∷ []) × (result.1 ≡ is_short reply) × S.answered pass request reply result.0 × IsAnswered S.tells (S.carried pass) request reply (S.carried result.0) }
     ensures len { vec_len replies.new ≡ vec_len replies.old + 1 }
     ensures capacity { vec_capacity replies.old ≤ vec_capacity replies.new }
 {
@@ -69,7 +69,7 @@ pub fn run_lane<R: Wait, S: Service>(
     ensures lock { S.lock_of result ≡ S.lock_of pass }
     ensures later { GoesOn S.tells (S.carried pass) (S.carried result) }
     ensures own { IsOwn (S.carried pass) → IsOwn (S.carried result) }
-    ensures done { (made : List AReply) × (replies.new.items ≡ replies.old.items ++ made) × AreDone (S.carried pass) (S.carried result) requests.items made }
+    ensures done { (made : List Reply) × (replies.new.items ≡ replies.old.items ++ made) × AreCalls S.answered pass requests.items made result × AreDone (S.carried pass) (S.carried result) requests.items made }
 {
     let mut pass = pass;
     for request in requests {

@@ -1,5 +1,7 @@
 //! What answers the requests of callers that share an array.
 ghost use Rattle.std.specs.Prelude.{◌≡◌, ◌≢◌};
+ghost use Rattle.flat_history.specs.declared.events.Request.{Request};
+ghost use Rattle.shared_array.specs.declared.reply.Reply.{Reply};
 ghost use Rattle.shared_array.specs.Replies.{IsAskable};
 ghost use Rattle.lanes.specs.Carried.{Carried, GoesOn, IsOwn, IsAnswered};
 
@@ -26,13 +28,17 @@ pub trait Service {
     /// What a pass carries.
     ghost carried: { Self.Pass → Carried };
 
+    /// A call with the first pass has answered this request by this reply, and has given back the second pass.
+    ghost answered: { Self.Pass → Request → Reply → Self.Pass → Type 0 };
+
     /// Has the request done in the caller's next call. It may wait. Where memory is short nothing is done.
     fn call<R: Wait>(&self, rt: &R, pass: Self::Pass, request: Request) -> (Self::Pass, Reply)
         requires lock { lock_of pass ≡ lock self.now }
         requires caller { (carried pass).caller ≢ 254 }
         requires askable { IsAskable request }
+        ensures answered { answered pass request result.1 result.0 }
         ensures lock { lock_of result.0 ≡ lock_of pass }
         ensures later { GoesOn tells (carried pass) (carried result.0) }
-        ensures answered { IsAnswered tells (carried pass) request result.1 (carried result.0) }
+        ensures entered { IsAnswered tells (carried pass) request result.1 (carried result.0) }
         ensures own { IsOwn (carried result.0) };
 }

@@ -64,7 +64,7 @@ fn take_turn<R: Wait, S: Service, F: Fn(u64, u64) -> u64>(
     ensures lock { S.lock_of result.0 ≡ S.lock_of pass }
     ensures later { GoesOn S.tells (S.carried pass) (S.carried result.0) }
     ensures own { IsOwn (S.carried result.0) }
-    ensures asked { (most : ℕ) × F.post (asked_by pace.now) turn left most × IsAnswered S.tells (S.carried pass) (AsksSteps most) result.1 (S.carried result.0) }
+    ensures asked { (most : ℕ) × F.post (asked_by pace.now) turn left most × S.answered pass (AsksSteps most) result.1 result.0 × IsAnswered S.tells (S.carried pass) (AsksSteps most) result.1 (S.carried result.0) }
     ensures most { done_in result.1 ≤ 64 }
     ensures some { IfSome (left_behind result.1) (λ more. 1 ≤ done_in result.1) }
 {
@@ -88,8 +88,9 @@ pub fn run_worker<R: Wait, S: Service, F: Fn(u64, u64) -> u64>(
     ensures lock { S.lock_of result.0 ≡ S.lock_of pass }
     ensures later { GoesOn S.tells (S.carried pass) (S.carried result.0) }
     ensures own { IsOwn (S.carried result.0) }
-    ensures worked { HasWorked (F.post (asked_by pace.now)) left (S.carried pass) (S.carried result.0) result.1 }
+    ensures worked { HasWorked S.answered S.carried (F.post (asked_by pace.now)) left pass result.0 result.1 }
     ensures ended { IsNone (left_behind result.1.last) ⊎ (result.1.turns ≡ 2 ^ 40) }
+    ensures at_most { result.1.turns ≤ 2 ^ 40 }
     ensures few { result.1.turns ≤ result.1.done + 1 }
 {
     let (mut pass, mut last) = take_turn(rt, service, pass, pace, 0, left);

@@ -1,5 +1,5 @@
 -- What a call of the lock tells of what its passes carry.
-use Rattle.std.proofs.Common.{◌≡◌, ℕ, ◌+◌, ◌<◌, ◌≤◌, Bool, true, List, [], ◌∷◌, ◌++◌, length, refl, sym, ap, ◌∙◌, subst, subst₂, Option, Some, None, is_some, MatchOption, arith}
+use Rattle.std.proofs.Common.{◌≡◌, ℕ, ◌+◌, ◌≤◌, true, List, ◌++◌, length, refl, sym, ap, ◌∙◌, subst, subst₂, Option, Some, None, is_some, MatchOption, arith}
 use Rattle.md_base.specs.declared.answers.Who.{Who}
 use Rattle.bank.specs.declared.bank.Operation.{Operation}
 use Rattle.bank.specs.Given.{Given}
@@ -11,13 +11,12 @@ use Rattle.shared_array.specs.declared.reply.Reply.{Reply}
 use Rattle.shared_array.specs.declared.reply.Reply.TheVariants.{Done, NoMemory as Short}
 use Rattle.turn_lock.specs.declared.view.Known.{Known}
 use Rattle.turn_lock.specs.declared.lock.Pass.{Pass}
-use Rattle.turn_lock.specs.Turns.{mine_of}
 use Rattle.seen_laws.specs.Callers.{IsReplyTo, IsCalled, HasCalled}
 use Rattle.seen_laws.proofs.BeforeLaws.{seen-self}
-use Rattle.lanes.specs.Carried.{Carried, IsHeld, GoesOn, IsOwn, next_call, IsEntered, IsAnswered as IsRepliedTo}
-use Rattle.shared_lanes.specs.Serving.{most_entries, sectors_of, seen_of, requests_of, IsEarlier, IsServed, HasMade}
+use Rattle.lanes.specs.Carried.{GoesOn, IsOwn, next_call, IsEntered, IsAnswered as IsRepliedTo}
+use Rattle.shared_lanes.specs.Serving.{most_entries, sectors_of, seen_of, IsEarlier}
 use Rattle.shared_lanes.specs.ServingLaws.{performed-called, earlier-on, same-sectors, earlier}
-use Rattle.shared_lanes.specs.Lanes.{Sees, IsBegunWith, own_requests, known_of, carried_by, IsToldBy, IsAnswered}
+use Rattle.shared_lanes.specs.Lanes.{own_requests, known_of, carried_by, IsToldBy, IsAnswered}
 
 -- what holds of what is known
 known-has : {T : Type 0} (known : Option T) (some : is_some known ≡ true) (P : T → Type 0) → MatchOption known ⊥ P → P (known_of known some)
@@ -25,7 +24,7 @@ known-has (Some k) some P fact = fact
 known-has None some P fact = absurd fact
 
 -- a call, told in other terms
-told-as : {size size' : ℕ} (who : Who) (request : Request) (old new new' : List Entry) → size' ≡ size → new' ≡ new → IsCalled size who request old new → IsCalled size' who request old new'
+abbrev told-as : {size size' : ℕ} (who : Who) (request : Request) (old new new' : List Entry) → size' ≡ size → new' ≡ new → IsCalled size who request old new → IsCalled size' who request old new'
 told-as who request old new new' size-is new-is c = record {
   inner = c.inner;
   reply = c.reply;
@@ -38,10 +37,10 @@ told-as who request old new new' size-is new-is c = record {
 
 module _ {B : Type 0} (tells : Type 0) (given : B → Given) (tape : B → List Operation) (faults : B → ℕ → ℕ) (pass pass' : Pass (Parts B) Request) (request : Request)
     (reply : Reply) (same : pass'.caller ≡ pass.caller) (k : IsAnswered tells given tape faults pass request reply pass') where
-  known : Known (Parts B)
+  abbrev known : Known (Parts B)
   known = known_of pass.seat.me.0.known pass.live
 
-  known' : Known (Parts B)
+  abbrev known' : Known (Parts B)
   known' = known_of pass'.seat.me.0.known pass'.live
 
   later : IsEarlier tells given tape known.seen k.found

@@ -1,11 +1,10 @@
 //! The lock round an array, and the passes by which callers use it.
-ghost use Rattle.std.specs.Prelude.{◌≡◌, ◌≢◌, ◌<◌, length, IfOk, IfErr};
+ghost use Rattle.std.specs.Prelude.{◌≡◌, ◌<◌, length, IfOk, IfErr};
 ghost use Rattle.array_kept.specs.Calls.{IsEndOf};
-ghost use Rattle.shared_array.specs.Replies.{IsAskable};
 ghost use Rattle.turn_lock.specs.Turns.{AreDistinct, Met};
 ghost use Rattle.turn_lock.specs.Passes.{AreNew, EachPass, Ended};
 ghost use Rattle.shared_lanes.specs.Serving.{array_ways};
-ghost use Rattle.shared_lanes.specs.Lanes.{own_requests, carried_by, IsAnswered};
+ghost use Rattle.shared_lanes.specs.Lanes.{own_requests};
 
 use crate::serving::Answering;
 use array::Array;
@@ -67,22 +66,11 @@ impl<B: Bank + Drop> Shared<B> {
         let Shared { lock } = self;
         lock.close(passes).into_array()
     }
-
-    // Takes the array, has it do the request, and lets it go.
-    fn ask<R: Wait>(&self, rt: &R, pass: Pass<B>, request: Request) -> (Pass<B>, Reply)
-        requires lock { pass.seat.table_id ≡ self.now.lock.table.shared.table_id }
-        requires caller { pass.caller ≢ 254 }
-        requires askable { IsAskable request }
-        ensures same { (result.0.seat.table_id ≡ pass.seat.table_id) × (result.0.caller ≡ pass.caller) }
-        ensures answered { IsAnswered B.tells B.given B.tape B.faults_of pass request result.1 result.0 }
-    {
-        self.lock.call(rt, pass, request)
-    }
 }
 
 impl<B: Bank + Drop> Service for Shared<B> {
     ghost use Rattle.turn_lock.specs.Passes.{LockId};
-    ghost use Rattle.lanes.specs.Carried.{GoesOn, IsOwn, IsAnswered as IsRepliedTo};
+    ghost use Rattle.shared_lanes.specs.Lanes.{carried_by, IsAnswered};
 
     type Pass = Pass<B>;
 
@@ -96,14 +84,10 @@ impl<B: Bank + Drop> Service for Shared<B> {
 
     ghost carried = { carried_by B.given B.tape };
 
+    ghost answered = { IsAnswered B.tells B.given B.tape B.faults_of };
+
     /// Takes the array, has it do the request, and lets it go. It may wait.
-    fn call<R: Wait>(&self, rt: &R, pass: Pass<B>, request: Request) -> (Pass<B>, Reply)
-        ensures lock { result.0.seat.table_id ≡ pass.seat.table_id }
-        ensures later { GoesOn B.tells (carried_by B.given B.tape pass) (carried_by B.given B.tape result.0) }
-        ensures answered { IsRepliedTo B.tells (carried_by B.given B.tape pass) request result.1 (carried_by B.given B.tape result.0) }
-        ensures own { IsOwn (carried_by B.given B.tape result.0) }
-        ensures done { IsAnswered B.tells B.given B.tape B.faults_of pass request result.1 result.0 }
-    {
-        self.ask(rt, pass, request)
+    fn call<R: Wait>(&self, rt: &R, pass: Pass<B>, request: Request) -> (Pass<B>, Reply) {
+        self.lock.call(rt, pass, request)
     }
 }

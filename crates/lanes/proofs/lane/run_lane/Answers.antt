@@ -6,27 +6,38 @@ use Rattle.shared_array.specs.declared.reply.Reply.{Reply}
 use Rattle.shared_array.specs.declared.reply.Reply.TheVariants.{Done, NoMemory as Short}
 use Rattle.shared_array.specs.Replies.{IsAskable}
 use Rattle.lanes.specs.Carried.{Carried, GoesOn, IsAnswered}
-use Rattle.lanes.specs.Lane.{AreDone, is_short}
-use Rattle.lanes.proofs.Done.{stays, on, none-done, AllEntered, entered-more, done-more, done-short}
+use Rattle.lanes.specs.Lane.{AreCalls, AreDone, is_short}
+use Rattle.lanes.proofs.Done.{stays, on, none-done, AllEntered, entered-more, calls-more, calls-short, done-more, done-short}
 use Rattle.lanes.proofs.lane.run_lane.Goals as goal
 
 none-left : {X : Type 0} (l : List X) → length l ≡ 0 → l ≡ []
 none-left [] is = refl
 none-left (x ∷ l) is = absurd (omega arith)
 
--- a request was answered, and the lane goes on
-goes-on : {tells : Type 0} (old mid new : Carried) (requests : List Request) (replies : List Reply) (request : Request) (reply : Reply) → is_short reply ≡ false
-    → AreDone old mid requests replies → AllEntered replies → GoesOn tells mid new → IsAnswered tells mid request reply new
-    → AreDone old new (requests ++ request ∷ []) (replies ++ reply ∷ []) × AllEntered (replies ++ reply ∷ [])
-goes-on old mid new requests replies request (Done at event) is was all goes k = (done-more old mid new requests replies request was all goes at event k, entered-more replies at event all)
-goes-on old mid new requests replies request Short is was all goes k = absurd cc
+module _ {tells P : Type 0} (answered : P → Request → Reply → P → Type 0) (carried : P → Carried) (old mid new : P) (requests : List Request) (replies : List Reply)
+    (request : Request) where
+  -- a request was answered, and the lane goes on
+  goes-on : (reply : Reply) → is_short reply ≡ false → AreCalls answered old requests replies mid → AreDone (carried old) (carried mid) requests replies
+      → AllEntered replies → GoesOn tells (carried mid) (carried new) → answered mid request reply new → IsAnswered tells (carried mid) request reply (carried new)
+      → AreCalls answered old (requests ++ request ∷ []) (replies ++ reply ∷ []) new
+      × AreDone (carried old) (carried new) (requests ++ request ∷ []) (replies ++ reply ∷ []) × AllEntered (replies ++ reply ∷ [])
+  goes-on (Done at event) is calls was all goes call k = (
+    calls-more answered old mid new requests replies request at event calls all call,
+    done-more (carried old) (carried mid) (carried new) requests replies request was all goes at event k,
+    entered-more replies at event all,
+  )
+  goes-on Short is calls was all goes call k = absurd cc
 
--- memory was short, and the lane ends
-ends : {tells : Type 0} (old mid new : Carried) (requests : List Request) (replies : List Reply) (request : Request) (rest : List Request) (reply : Reply) → is_short reply ≡ true
-    → AreDone old mid requests replies → AllEntered replies → GoesOn tells mid new → IsAnswered tells mid request reply new
-    → AreDone old new (requests ++ request ∷ rest) (replies ++ reply ∷ [])
-ends old mid new requests replies request rest (Done at event) is was all goes k = absurd cc
-ends old mid new requests replies request rest Short is was all goes k = done-short old mid new requests replies request was all goes rest k
+  -- memory was short, and the lane ends
+  ends : (rest : List Request) (reply : Reply) → is_short reply ≡ true → AreCalls answered old requests replies mid → AreDone (carried old) (carried mid) requests replies
+      → AllEntered replies → GoesOn tells (carried mid) (carried new) → answered mid request reply new → IsAnswered tells (carried mid) request reply (carried new)
+      → AreCalls answered old (requests ++ request ∷ rest) (replies ++ reply ∷ []) new
+      × AreDone (carried old) (carried new) (requests ++ request ∷ rest) (replies ++ reply ∷ [])
+  ends rest (Done at event) is calls was all goes call k = absurd cc
+  ends rest Short is calls was all goes call k = (
+    calls-short answered old mid new requests replies request rest calls all call,
+    done-short (carried old) (carried mid) (carried new) requests replies request was all goes rest k,
+  )
 
 pub loop-request-init : goal.loop-request-init
 loop-request-init g c =
@@ -41,7 +52,7 @@ loop-request-init g c =
       (λ own. own),
       omega (arith, len, room),
       All-same IsAskable _ _ items c.requires.askable,
-      ([], sym (append-nil c.args.replies.now.items), none-done (g.S.Service.carried c.args.pass), tt),
+      ([], sym (append-nil c.args.replies.now.items), refl, none-done (g.S.Service.carried c.args.pass), tt),
     )
 
 pub loop-request-preserved : goal.loop-request-preserved
@@ -53,8 +64,8 @@ loop-request-preserved g c =
     let steps : into_iter_items at.request-iterator ≡ x ∷ into_iter_items c.next.new.self = c.in-Some.ensures.steps.0 in
     let gone = c.in-Some.ensures.steps.1 in
     let one = c.make-next.ensures in
-    let more = goes-on (g.S.Service.carried c.args.pass) (g.S.Service.carried at.pass) (g.S.Service.carried c.make-next.result.0) at.yielded made.0 x one.answered.0
-    (sym one.answered.2 ∙ c.if-short.false) made.2 made.3 one.later one.answered.3 in (
+    let more = goes-on g.S.Service.answered g.S.Service.carried c.args.pass at.pass c.make-next.result.0 at.yielded made.0 x one.answered.0
+    (sym one.answered.2 ∙ c.if-short.false) made.2 made.3 made.4 one.later one.answered.3 one.answered.4 in (
       append_assoc at.yielded (x ∷ []) _ ∙ rw (← steps) was.0,
       (let long = was.1 in let short = ap length steps in omega (arith, long, short, gone)),
       one.lock ∙ was.2,
@@ -67,6 +78,7 @@ loop-request-preserved g c =
         one.answered.1 ∙ ap (λ (l : List Reply). l ++ one.answered.0 ∷ []) made.1 ∙ append_assoc c.args.replies.now.items made.0 (one.answered.0 ∷ []),
         more.0,
         more.1,
+        more.2,
       ),
     )
 
@@ -82,10 +94,11 @@ returns-then-short-clause-done g c =
     let x = c.in-Some.request in
     let steps : into_iter_items at.request-iterator ≡ x ∷ into_iter_items c.next.new.self = c.in-Some.ensures.steps.0 in
     let one = c.make-next.ensures in
+    let more = ends g.S.Service.answered g.S.Service.carried c.args.pass at.pass c.make-next.result.0 at.yielded made.0 x (into_iter_items c.next.new.self) one.answered.0
+    (sym one.answered.2 ∙ c.if-short.true) made.2 made.3 made.4 one.later one.answered.3 one.answered.4 in
     let all : at.yielded ++ x ∷ into_iter_items c.next.new.self ≡ c.args.requests.items = rw (← steps) was.0 in (
       made.0 ++ one.answered.0 ∷ [],
       one.answered.1 ∙ ap (λ (l : List Reply). l ++ one.answered.0 ∷ []) made.1 ∙ append_assoc c.args.replies.now.items made.0 (one.answered.0 ∷ []),
-      subst (λ (l : List Request). AreDone (g.S.Service.carried c.args.pass) (g.S.Service.carried c.make-next.result.0) l (made.0 ++ one.answered.0 ∷ [])) all
-      (ends (g.S.Service.carried c.args.pass) (g.S.Service.carried at.pass) (g.S.Service.carried c.make-next.result.0) at.yielded made.0 x (into_iter_items c.next.new.self) one.answered.0
-        (sym one.answered.2 ∙ c.if-short.true) made.2 made.3 one.later one.answered.3),
+      subst (λ (l : List Request). AreCalls g.S.Service.answered c.args.pass l (made.0 ++ one.answered.0 ∷ []) c.make-next.result.0) all more.0,
+      subst (λ (l : List Request). AreDone (g.S.Service.carried c.args.pass) (g.S.Service.carried c.make-next.result.0) l (made.0 ++ one.answered.0 ∷ [])) all more.1,
     )

@@ -4,7 +4,7 @@ use Rattle.std.specs.Vec.Iter.{into_iter_items, into_iter_len}
 use Rattle.shared_array.specs.declared.reply.Reply.{Reply}
 use Rattle.shared_array.specs.Replies.{IsAskable}
 use Rattle.lanes.specs.Carried.{GoesOn, IsOwn}
-use Rattle.lanes.specs.Lane.{AreDone}
+use Rattle.lanes.specs.Lane.{AreCalls, AreDone}
 use Rattle.lanes.proofs.Done.{AllEntered}
 use Rattle.lanes.proofs.lane.run_lane.Given as goal
 
@@ -18,4 +18,5 @@ invariant-loop-request g l =
     × (vec_len l.replies + into_iter_len l.request-iterator ≤ vec_capacity l.replies)
     × All IsAskable (into_iter_items l.request-iterator)
     × ((made : List Reply) × (l.replies.items ≡ l.fn.replies.items ++ made)
+        × AreCalls g.S.Service.answered l.fn.pass l.yielded made l.pass
         × AreDone (g.S.Service.carried l.fn.pass) (g.S.Service.carried l.pass) l.yielded made × AllEntered made)

@@ -9,7 +9,7 @@ invariant-loop-turns g l =
     (g.S.Service.lock_of l.pass ≡ g.S.Service.lock_of l.fn.pass)
     × GoesOn g.S.Service.tells (g.S.Service.carried l.fn.pass) (g.S.Service.carried l.pass)
     × IsOwn (g.S.Service.carried l.pass)
-    × HasWorked (goal.F-post g (asked_by l.pace)) l.fn.left (g.S.Service.carried l.fn.pass) (g.S.Service.carried l.pass) (record { turns = l.turns; done = l.done; last = l.last })
+    × HasWorked g.S.Service.answered g.S.Service.carried (goal.F-post g (asked_by l.pace)) l.fn.left l.fn.pass l.pass (record { turns = l.turns; done = l.done; last = l.last })
     × (1 ≤ l.turns)
     × (l.turns ≤ 2 ^ 40)
     × (l.done ≤ 64 * l.turns)
