@@ -111,17 +111,17 @@ none-has_called size start caller = record { places = ap (λ (l : List Entry). r
 
 -- ---- replies
 
-reads : (xs : List Entry) (e : Entry) → slice_get (xs ++ e ∷ []) (length xs) ≡ Some e
+pub reads : (xs : List Entry) (e : Entry) → slice_get (xs ++ e ∷ []) (length xs) ≡ Some e
 reads [] e = refl
 reads (x ∷ xs) e = reads xs e
 
-there : (xs more : List Entry) (place : ℕ) (e : Entry) → slice_get xs place ≡ Some e → slice_get (xs ++ more) place ≡ Some e
+pub there : (xs more : List Entry) (place : ℕ) (e : Entry) → slice_get xs place ≡ Some e → slice_get (xs ++ more) place ≡ Some e
 there [] more place e is = absurd (cc)
 there (x ∷ xs) more zero e is = is
 there (x ∷ xs) more (suc place) e is = there xs more place e is
 
 -- what is answered stays so
-still-replied : (size : ℕ) (old more : List Entry) (requests : List (Request × ℕ)) → AreReplied size old requests → AreReplied size (old ++ more) requests
+pub still-replied : (size : ℕ) (old more : List Entry) (requests : List (Request × ℕ)) → AreReplied size old requests → AreReplied size (old ++ more) requests
 still-replied size old more [] replied = tt
 still-replied size old more (request ∷ requests) replied = (one (slice_get old request.1) refl replied.0, still-replied size old more requests replied.1)
   where
@@ -134,7 +134,7 @@ still-replied size old more (request ∷ requests) replied = (one (slice_get old
         (subst (λ (l : List Entry). IsReplyTo size l e request.0) (sym before) answers)
 
 -- one more is
-reply-more : (size : ℕ) (entries : List Entry) (requests : List (Request × ℕ)) (request : Request) (place : ℕ) → AreReplied size entries requests
+pub reply-more : (size : ℕ) (entries : List Entry) (requests : List (Request × ℕ)) (request : Request) (place : ℕ) → AreReplied size entries requests
     → MatchOption (slice_get entries place) ⊥ (λ e. IsReplyTo size (take place entries) e request) → AreReplied size entries (requests ++ (request, place) ∷ [])
 reply-more size entries [] request place replied answers = (answers, tt)
 reply-more size entries (r ∷ requests) request place replied answers = (replied.0, reply-more size entries requests request place replied.1 answers)
@@ -178,7 +178,7 @@ module _ (size : ℕ) (start since old new : List Entry) (who : Who) (request : 
   at-reply : length (old ++ c.inner) ≡ length new - 1
   at-reply = omega (arith, long-new)
 
-  replied-new : MatchOption (slice_get new (length new - 1)) ⊥ (λ e. IsReplyTo size (take (length new - 1) new) e request)
+  pub replied-new : MatchOption (slice_get new (length new - 1)) ⊥ (λ e. IsReplyTo size (take (length new - 1) new) e request)
   replied-new =
       let is : new ≡ (old ++ c.inner) ++ c.reply ∷ [] = c.is ∙ sym (append_assoc old c.inner (c.reply ∷ [])) in
       let there : MatchOption (slice_get ((old ++ c.inner) ++ c.reply ∷ []) (length (old ++ c.inner))) ⊥

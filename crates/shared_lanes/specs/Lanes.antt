@@ -1,5 +1,6 @@
 -- The passes of a shared array: what each has seen of it, and which calls are its own.
-use Rattle.std.specs.Prelude.{◌≡◌, ℕ, ◌<◌, List, [], ◌∷◌, ◌++◌}
+use Rattle.std.proofs.Common.{subst}
+use Rattle.std.specs.Prelude.{◌≡◌, ℕ, ◌<◌, List, [], ◌∷◌, ◌++◌, Option, Some, None, is_some, true, MatchBool, ⊤}
 use Rattle.bank.specs.declared.bank.Operation.{Operation}
 use Rattle.bank.specs.Given.{Given}
 use Rattle.flat_history.specs.declared.events.Request.{Request}
@@ -8,7 +9,8 @@ use Rattle.shared_array.specs.declared.reply.Reply.{Reply}
 use Rattle.shared_array.specs.declared.reply.Reply.TheVariants.{Done, NoMemory as Short}
 use Rattle.turn_lock.specs.declared.lock.Pass.{Pass}
 use Rattle.turn_lock.specs.Turns.{OnKnown, OnSeen, mine_of}
-use Rattle.shared_lanes.specs.Serving.{most_entries, IsEarlier, IsServed, HasMade, requests_of}
+use Rattle.lanes.specs.Carried.{Carried}
+use Rattle.shared_lanes.specs.Serving.{most_entries, sectors_of, seen_of, IsEarlier, IsServed, HasMade, requests_of}
 
 -- the pass has seen an array of which this holds
 abbrev pub Sees : {B : Type 0} → Pass (Parts B) Request → (Parts B → Type 0) → Type 0
@@ -21,6 +23,23 @@ IsBegunWith pass start = OnKnown pass.seat.me.0 (λ k. k.start ≡ start)
 -- its own requests, each with the place of its reply
 abbrev pub own_requests : {B : Type 0} → Pass (Parts B) Request → List (Request × ℕ)
 own_requests pass = requests_of (mine_of pass.seat.me.0.hands)
+
+-- what a pass has seen, and with what its lock was begun
+abbrev pub known_of : {T : Type 0} (known : Option T) → is_some known ≡ true → T
+known_of (Some known) some = known
+known_of None none = absurd (subst (λ there. MatchBool there ⊥ ⊤) none tt)
+
+-- what a pass carries
+abbrev pub carried_by : {B : Type 0} → (B → Given) → (B → List Operation) → Pass (Parts B) Request → Carried
+carried_by given tape pass =
+    let known = known_of pass.seat.me.0.known pass.live in
+    record {
+      caller = pass.caller;
+      sectors = sectors_of known.seen;
+      start = known.start.entries;
+      seen = seen_of given tape known.seen;
+      mine = own_requests pass;
+    }
 
 -- A reply tells where the request stands among the pass's own; where memory was short nothing was done.
 abbrev pub IsToldBy : {B : Type 0} → Type 0 → (B → Given) → (B → List Operation) → (B → ℕ → ℕ) → Pass (Parts B) Request → Pass (Parts B) Request → Request

@@ -1,11 +1,8 @@
 -- An array as a lock sees it: what of it was seen, and which calls its callers have made.
 use Rattle.std.specs.Prelude.{◌≡◌, ◌≢◌, ℕ, ◌<◌, ◌≤◌, ◌^◌, Bool, true, false, min, List, length, map}
-use Rattle.md_base.specs.declared.answers.Who.{Who}
 use Rattle.bank.specs.declared.bank.Operation.{Operation}
 use Rattle.bank.specs.Given.{Given}
-use Rattle.flat_history.specs.declared.events.Entry.{Entry}
 use Rattle.flat_history.specs.declared.events.Request.{Request}
-use Rattle.flat_history.specs.Flat.{next_number}
 use Rattle.flat_history.specs.Seen.{Seen}
 use Rattle.views.specs.Whole.{list_size}
 use Rattle.views.specs.Placed.{places_of}
@@ -17,6 +14,7 @@ use Rattle.shared_array.specs.Replies.{IsAskable, IsLater, IsRepliedBy}
 use Rattle.turn_lock.specs.declared.call.Call.{Call}
 use Rattle.turn_lock.specs.Ways.{Ways}
 use Rattle.seen_laws.specs.Callers.{IsBefore, HasCalled}
+use Rattle.lanes.specs.Carried.{next_call}
 
 -- no memory holds a history of so many entries, and one that did would take no more calls
 abbrev pub most_entries : ℕ
@@ -49,10 +47,6 @@ abbrev pub is_done : Reply → Bool
 is_done (Done at event) = true
 is_done Short = false
 
--- a caller's next call
-abbrev pub next_call : ℕ → List Entry → Who
-next_call caller entries = record { caller = caller; number = next_number caller entries }
-
 -- A request was done, in the caller's next call, and the reply tells the event of the last entry and its place.
 pub record IsServed {B : Type 0} (tells : Type 0) (given : B → Given) (tape : B → List Operation) (faults : B → ℕ → ℕ) (old new : Parts B)
     (caller : ℕ) (request : Request) (reply : Reply) : Type 0 where
@@ -68,7 +62,7 @@ requests_of calls = map (λ c. (c.request, c.at)) calls
 
 -- since the start the caller has made just these calls, each of which was answered by a reply that fits it
 abbrev pub HasMade : {B : Type 0} → Parts B → Parts B → ℕ → List (Call Request) → Type 0
-HasMade start now caller calls = length now.entries ≤ most_entries → HasCalled (sectors_of start) start.entries now.entries caller (requests_of calls)
+HasMade start now caller calls = length now.entries ≤ most_entries → HasCalled (sectors_of now) start.entries now.entries caller (requests_of calls)
 
 -- how a lock tells arrays and their histories apart
 abbrev pub array_ways : {B : Type 0} → Type 0 → (B → Given) → (B → List Operation) → (B → ℕ → ℕ) → Ways (Parts B) Request Reply

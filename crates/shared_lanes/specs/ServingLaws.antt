@@ -1,5 +1,5 @@
 -- The laws of an array, for a lock.
-use Rattle.std.proofs.Common.{◌≡◌, ◌≢◌, ◌⊎◌, inl, inr, ℕ, ◌-◌, ◌*◌, ◌<◌, ◌≤◌, true, false, List, [], ◌∷◌, ◌++◌, length, refl, sym, ap, ◌∙◌, subst, arith, length-append}
+use Rattle.std.proofs.Common.{◌≡◌, ◌≢◌, ◌⊎◌, inl, inr, ℕ, ◌-◌, ◌*◌, ◌<◌, ◌≤◌, true, false, List, [], ◌∷◌, ◌++◌, length, refl, sym, ap, ◌∙◌, subst, subst₂, arith, length-append}
 use Rattle.std.proofs.lemmas.List.{map-append}
 use Rattle.std.proofs.lemmas.Bool.{cases_lt}
 use Rattle.std.proofs.lemmas.List.Elements.{All-nil}
@@ -24,12 +24,13 @@ use Rattle.turn_lock.specs.Ways.{IsLawful}
 use Rattle.seen_laws.specs.Callers.{IsShownAs, HasCalled, IsCalled}
 use Rattle.seen_laws.proofs.PlaceLaws.{none-has_called, counted, unmoved}
 use Rattle.seen_laws.proofs.BeforeLaws.{seen-self, seen-on, shorter-before, calls-later}
-use Rattle.shared_lanes.specs.Serving.{most_entries, sectors_of, size_of, seen_of, IsEarlier, next_call, IsServed, requests_of, HasMade, array_ways}
+use Rattle.lanes.specs.Carried.{next_call}
+use Rattle.shared_lanes.specs.Serving.{most_entries, sectors_of, size_of, seen_of, IsEarlier, IsServed, requests_of, HasMade, array_ways}
 
 -- ---- earlier and later
 
 module _ {B : Type 0} {tells : Type 0} {given : B → Given} {tape : B → List Operation} where
-  earlier-on : (x y z : Parts B) → IsEarlier tells given tape x y → IsEarlier tells given tape y z → IsEarlier tells given tape x z
+  pub earlier-on : (x y z : Parts B) → IsEarlier tells given tape x y → IsEarlier tells given tape y z → IsEarlier tells given tape x z
   earlier-on x y z p q = record {
     before = seen-on (seen_of given tape x) (seen_of given tape y) (seen_of given tape z) p.before q.before;
     sectors = q.sectors ∙ p.sectors;
@@ -64,32 +65,38 @@ module _ {B : Type 0} {tells : Type 0} {given : B → Given} {tape : B → List 
 
 -- ---- a call
 
--- what is told of a call is one call of the history
-performed-called : {B : Type 0} (request : Request) (who : Who) (old : Parts B) (new : List Entry) (event : Event) → who.number ≡ next_number who.caller old.entries
-    → IsPerformed request who old new event → IsCalled (sectors_of old) who request old.entries new
-performed-called AsksShow who old new event number shown = record {
-  inner = [];
-  reply = record { caller = who.caller; number = who.number; end = shown.end; event = event };
-  number = number;
-  own = All-nil (IsOfCall who);
-  last = (refl, refl);
-  is = shown.is;
-  answers = subst (λ (e : Event). IsShownAs (sectors_of old) e) (sym shown.event_is) (shown.told.length, shown.told.visible);
-}
-performed-called request who old new event number performed = record {
-  inner = performed.inner;
-  reply = record { caller = who.caller; number = who.number; end = performed.end; event = event };
-  number = number;
-  own = performed.own;
-  last = (refl, refl);
-  is = performed.is;
-  answers = performed.fits;
-}
+-- what is told of a call is one call of the history, which ends with that event
+pub performed-called : {B : Type 0} (request : Request) (who : Who) (old : Parts B) (new : List Entry) (event : Event) → who.number ≡ next_number who.caller old.entries
+    → IsPerformed request who old new event → (c : IsCalled (sectors_of old) who request old.entries new) × (c.reply.event ≡ event)
+performed-called AsksShow who old new event number shown = (
+  record {
+    inner = [];
+    reply = record { caller = who.caller; number = who.number; end = shown.end; event = event };
+    number = number;
+    own = All-nil (IsOfCall who);
+    last = (refl, refl);
+    is = shown.is;
+    answers = subst (λ (e : Event). IsShownAs (sectors_of old) e) (sym shown.event_is) (shown.told.length, shown.told.visible);
+  },
+  refl,
+)
+performed-called request who old new event number performed = (
+  record {
+    inner = performed.inner;
+    reply = record { caller = who.caller; number = who.number; end = performed.end; event = event };
+    number = number;
+    own = performed.own;
+    last = (refl, refl);
+    is = performed.is;
+    answers = performed.fits;
+  },
+  refl,
+)
 
 module _ {B : Type 0} {tells : Type 0} {given : B → Given} {tape : B → List Operation} {faults : B → ℕ → ℕ} where
   served-called : (old new : Parts B) (caller : ℕ) (request : Request) (reply : Reply) → IsServed tells given tape faults old new caller request reply
       → IsCalled (sectors_of old) (next_call caller old.entries) request old.entries new.entries
-  served-called old new caller request (Done at event) served = performed-called request (next_call caller old.entries) old new.entries event refl served.replied.0
+  served-called old new caller request (Done at event) served = (performed-called request (next_call caller old.entries) old new.entries event refl served.replied.0).0
   served-called old new caller request Short served = absurd (no served.done)
     where
       no : false ≡ true → ⊥
@@ -106,7 +113,7 @@ module _ {B : Type 0} {tells : Type 0} {given : B → Given} {tape : B → List 
 
   -- ---- the same bank and list
 
-  same-sectors : (old new : Parts B) (caller : ℕ) (request : Request) (reply : Reply) → IsServed tells given tape faults old new caller request reply
+  pub same-sectors : (old new : Parts B) (caller : ℕ) (request : Request) (reply : Reply) → IsServed tells given tape faults old new caller request reply
       → sectors_of new ≡ sectors_of old
   same-sectors old new caller request reply served = λ i. data_disks (served.later.same.shape i) * served.later.same.size i
 
@@ -123,7 +130,7 @@ module _ {B : Type 0} {tells : Type 0} {given : B → Given} {tape : B → List 
         entries = (c.inner ++ c.reply ∷ [], c.is);
       }
 
-  earlier : (old new : Parts B) (caller : ℕ) (request : Request) (reply : Reply) → IsServed tells given tape faults old new caller request reply
+  pub earlier : (old new : Parts B) (caller : ℕ) (request : Request) (reply : Reply) → IsServed tells given tape faults old new caller request reply
       → IsEarlier tells given tape old new
   earlier old new caller request reply served = record {
     before = calls-later (sectors_of old) (seen_of given tape old) (seen_of given tape new) (next_call caller old.entries) request
@@ -136,13 +143,6 @@ module _ {B : Type 0} {tells : Type 0} {given : B → Given} {tape : B → List 
 
   -- ---- own calls
 
-  -- a call on a list of the start's size
-  call-since : (start x y : Parts B) (caller : ℕ) (request : Request) (reply : Reply) → IsEarlier tells given tape start x
-      → IsServed tells given tape faults x y caller request reply
-      → IsCalled (sectors_of start) (next_call caller x.entries) request x.entries y.entries
-  call-since start x y caller request reply begins served = subst (λ (n : ℕ). IsCalled n (next_call caller x.entries) request x.entries y.entries) begins.sectors
-      (served-called x y caller request reply served)
-
   own : (start x y : Parts B) (caller : ℕ) (request : Request) (reply : Reply) (mine : List (Call Request)) → IsEarlier tells given tape start x
       → IsServed tells given tape faults x y caller request reply
       → HasMade start x caller mine → HasMade start y caller (mine ++ record { request = request; at = size_of y - 1 } ∷ [])
@@ -150,11 +150,11 @@ module _ {B : Type 0} {tells : Type 0} {given : B → Given} {tape : B → List 
       let more = longer x y caller request reply served in
       let before : length x.entries ≤ most_entries = omega (arith, more, few) in
       let at : size_of y - 1 ≡ length y.entries - 1 = omega (arith, few) in
-      subst (λ (l : List (Request × ℕ)). HasCalled (sectors_of start) start.entries y.entries caller l)
+      subst₂ (λ (n : ℕ) (l : List (Request × ℕ)). HasCalled n start.entries y.entries caller l) (sym (same-sectors x y caller request reply served))
       (sym (map-append (λ (c : Call Request). (c.request, c.at)) mine (record { request = request; at = size_of y - 1 } ∷ [])
       ∙ ap (λ (n : ℕ). requests_of mine ++ (request, n) ∷ []) at))
-      (counted (sectors_of start) start.entries begins.before.begins.entries.0 x.entries y.entries (next_call caller x.entries) request begins.before.begins.entries.1
-      (call-since start x y caller request reply begins served) (requests_of mine) (made before))
+      (counted (sectors_of x) start.entries begins.before.begins.entries.0 x.entries y.entries (next_call caller x.entries) request begins.before.begins.entries.1
+      (served-called x y caller request reply served) (requests_of mine) (made before))
 
   others : (start x y : Parts B) (caller other : ℕ) (request : Request) (reply : Reply) (mine : List (Call Request)) → IsEarlier tells given tape start x
       → IsServed tells given tape faults x y caller request reply
@@ -162,8 +162,9 @@ module _ {B : Type 0} {tells : Type 0} {given : B → Given} {tape : B → List 
   others start x y caller other request reply mine begins served ne made few =
       let more = longer x y caller request reply served in
       let before : length x.entries ≤ most_entries = omega (arith, more, few) in
-      unmoved (sectors_of start) start.entries begins.before.begins.entries.0 x.entries y.entries (next_call caller x.entries) request begins.before.begins.entries.1
-      (call-since start x y caller request reply begins served) other (requests_of mine) ne (made before)
+      subst (λ (n : ℕ). HasCalled n start.entries y.entries other (requests_of mine)) (sym (same-sectors x y caller request reply served))
+      (unmoved (sectors_of x) start.entries begins.before.begins.entries.0 x.entries y.entries (next_call caller x.entries) request begins.before.begins.entries.1
+      (served-called x y caller request reply served) other (requests_of mine) ne (made before))
 
 pub array_lawful : {B : Type 0} (tells : Type 0) (given : B → Given) (tape : B → List Operation) (faults : B → ℕ → ℕ) → IsLawful (array_ways tells given tape faults)
 array_lawful tells given tape faults = record {

@@ -4,5 +4,5 @@
 mod lanes;
 mod serving;
 
-pub use lanes::{Pass, Shared, call, close, meet, start};
+pub use self::lanes::{Pass, Shared};
 pub use serving::Answering;

@@ -1,0 +1,4 @@
+pub mod Carried
+pub mod Lane
+pub mod Pace
+pub mod Worker

@@ -1,0 +1,12 @@
+//! Callers that share an array: a service that answers them, a lane of requests, and a worker that asks for background steps.
+#![tactic(auto)]
+
+mod lane;
+mod pace;
+mod service;
+mod worker;
+
+pub use lane::run_lane;
+pub use pace::Pace;
+pub use service::Service;
+pub use worker::{Worked, run_worker};
