@@ -1,6 +1,6 @@
 -- Where the rows of an opened array stand, each role that is held on a slot of its own, and what room its spares have.
-use Rattle.std.proofs.Common.{◌≡◌, inl, inr, ℕ, zero, suc, ◌+◌, ◌*◌, ◌^◌, ◌<◌, ◌≤◌, ◌==◌, Bool, true, false, cond, not, ◌||◌, ◌&&◌, nat_lt, nat_le, List, [], ◌∷◌, length, take, drop, get_or, Option, Some, None, unwrap_or, option_map, refl, sym, ◌∙◌, ap, subst, arith}
-use Rattle.std.specs.Prelude.{find, max}
+use Rattle.std.proofs.Common.{◌≡◌, inl, inr, ℕ, zero, suc, ◌+◌, ◌*◌, ◌^◌, ◌<◌, ◌≤◌, ◌==◌, Bool, true, false, cond, not, ◌||◌, ◌&&◌, nat_lt, nat_le, List, [], ◌∷◌, length, take, drop, get_or, Option, Some, None, option_map, refl, sym, ◌∙◌, ap, subst, arith}
+use Rattle.std.specs.Prelude.{find}
 use Rattle.std.specs.Option.{option_or, option_map_or}
 use Rattle.std.specs.List.{list_any}
 use Rattle.std.proofs.lemmas.Bool.{cases_lt}
@@ -9,17 +9,16 @@ use Rattle.std.proofs.lemmas.List.{get_or-take, get_or_past, length-take}
 use Rattle.std.proofs.lemmas.List.Folds.{list_any-append}
 use Rattle.md_base.specs.declared.status.Role.{Role}
 use Rattle.md_base.specs.declared.status.Role.TheVariants.{Whole, Recovering, Missing}
-use Rattle.md_base.specs.declared.places.Shape.{Shape}
 use Rattle.md_base.specs.declared.answers.Refusal.{Refusal}
 use Rattle.md_base.specs.declared.answers.Refusal.TheVariants.{NoSuperblock, BadField}
-use Rattle.md_base.specs.Shapes.{is_valid_shape, is_multiple, is_level, is_layout, has_slot}
+use Rattle.md_base.specs.Shapes.{is_multiple, is_level, is_layout, has_slot}
 use Rattle.md_base.specs.Search.{tabulate}
 use Rattle.md_base.proofs.Tabulated.{length-tabulate, get_or-tabulate}
 use Rattle.sb1.specs.declared.sb.Sb.{Sb}
 use Rattle.geometry.specs.Geometry.{is_size}
 use Rattle.bank.specs.Given.{Given, sizes}
 use Rattle.superblocks.specs.declared.members.Members.{Members}
-use Rattle.superblocks.specs.Reading.{Reading, reading_by, newest_of, holder_from, spares_from, holds_role, state_of, is_fresh, is_spare, is_recovering, lies_within, is_reshaping, entry_of, role_count, shape_of, target_of, role_state, holder, data_offset_of}
+use Rattle.superblocks.specs.Reading.{Reading, reading_by, newest_of, holder_from, spares_from, holds_role, state_of, is_fresh, is_spare, is_recovering, lies_within, is_reshaping, entry_of, role_count, role_state, holder, data_offset_of}
 use Rattle.superblocks.specs.Verdict.{members_refusal, bad_field, judged_fields, first_bad_entry, is_bad_size}
 use Rattle.superblocks.specs.Election.{reading_in, IsElected}
 use Rattle.superblocks.specs.Update.{is_held_by, is_live}
