@@ -27,12 +27,14 @@ use Rattle.shape_changes.specs.Held.{IsHeldBy}
 use Rattle.views.specs.Lacking.{DoesWithout, ListStands, RowsStand, AreHoldersFlushed}
 use Rattle.array_kept.specs.Kept.{world_in, AreSectorsWhole, AreUsed}
 use Rattle.views.specs.Rebuilding.{AreSparesFree, MayHold}
+use Rattle.views.proofs.Fit.{few as few-placed}
+use Rattle.views.proofs.Still.{count-still}
 use Rattle.array_kept.specs.Adopting.{IsAdoptable}
 use Rattle.assemble.specs.declared.opening.Opened.{Opened}
 use Rattle.assemble.specs.Opening.{scope_of, IsOpened, AreFlushed}
 use Rattle.assemble.proofs.FoundRows.{list-length, list-stands, list-whole, rows-stand}
 use Rattle.assemble.proofs.Judged.{elected-does}
-use Rattle.assemble.proofs.PlacedFound.{count-is, few-spares}
+use Rattle.assemble.proofs.PlacedFound.{few-spares}
 use Rattle.assemble.proofs.OpenedHeld.{numbers-kept, opened-held}
 use Rattle.superblocks.specs.Reads.{has_spare}
 use Rattle.superblocks.proofs.Searches.{any_below-some}
@@ -40,7 +42,6 @@ use Rattle.md_base.specs.Search.{any_below}
 use Rattle.md_base.specs.declared.status.Role.TheVariants.{Missing}
 use Rattle.std.proofs.lemmas.Bool.{cases_lt}
 use Rattle.std.proofs.lemmas.List.{get_or_past}
-use Rattle.layout.proofs.Limits.{limited}
 
 module _ {tells : Type 0} (bank : Given) (tape : List Operation) (backup : Option ℕ) (asked : Option (List ℕ)) (opened : Opened) (few : bank.slots ≤ 32)
     (is : IsOpened tells bank (contents bank.start tape (length tape)) backup asked opened)
@@ -71,7 +72,7 @@ module _ {tells : Type 0} (bank : Given) (tape : List Operation) (backup : Optio
   module _ (told : tells) where
     length-is : length (opening_list world) ≡ list_size p
     unfolding opening_list
-    length-is = list-length bank m placed scope c (is.says told)
+    length-is = list-length bank m placed is.still scope c (is.says told)
 
     tolerance-is : (opening_in world).tolerance ≡ tolerance (shape_of m.newest)
     unfolding reading_at
@@ -79,7 +80,7 @@ module _ {tells : Type 0} (bank : Given) (tape : List Operation) (backup : Optio
 
     disks-is : (opening_in world).disks ≡ (shape_of m.newest).disks
     unfolding reading_at
-    disks-is = ap (λ (o : Option Reading). option_map_or (λ q. role_count q.newest) o 0) (is.says told) ∙ count-is m.newest placed.still
+    disks-is = ap (λ (o : Option Reading). option_map_or (λ q. role_count q.newest) o 0) (is.says told) ∙ count-still m.newest is.still
 
     dirty-is : was_dirty world ≡ not (is_clean m.newest)
     unfolding reading_at
@@ -89,7 +90,7 @@ module _ {tells : Type 0} (bank : Given) (tape : List Operation) (backup : Optio
     unfolding reading_at
     absent-is role lt gone =
         ap (λ (o : Option Reading). option_map_or (λ q. nat_lt role (role_count q.newest) && not (is_whole (role_state q role))) o false) (is.says told)
-        ∙ also (nat_lt role (role_count m.newest)) (is_missing (reading_of m) role) (below role (role_count m.newest) (omega (arith, lt, count-is m.newest placed.still))) gone
+        ∙ also (nat_lt role (role_count m.newest)) (is_missing (reading_of m) role) (below role (role_count m.newest) (omega (arith, lt, count-still m.newest is.still))) gone
       where
         below : (a b : ℕ) → a < b → nat_lt a b ≡ true
         below a b lt = grind (arith, nat_tests, lt)
@@ -108,7 +109,7 @@ module _ {tells : Type 0} (bank : Given) (tape : List Operation) (backup : Optio
         -- such a role is below the disk count
         role-below : (o : Option ℕ) → holder (role_state (reading_of m) role) ≡ o → o ≡ Some slot → role < 32
         role-below o is_at held = elim (cases_lt role (length m.roles)) [
-          | inl below ↦ let n = placed.roles in let most = (limited (shape_of m.newest) placed.valid).most in omega (arith, below, n, most)
+          | inl below ↦ let most = few-placed bank m placed in omega (arith, below, most)
           | inr past ↦ absurd (let none : None ≡ Some slot = sym (ap holder (get_or_past m.roles role Missing past)) ∙ is_at ∙ held in cc)
         ]
 
@@ -140,18 +141,18 @@ module _ {tells : Type 0} (bank : Given) (tape : List Operation) (backup : Optio
 
     list-is : ListStands m c (now (opening_list world) [])
     unfolding opening_list
-    list-is = list-stands bank m placed scope c (is.says told)
+    list-is = list-stands bank m placed is.still scope c (is.says told)
 
-    does : DoesWithout m
-    does = elected-does (sizes bank).sectors (take bank.slots opened.members.own) opened.members.lost opened.members is.elected
+    does : DoesWithout (shape_of m.newest) m
+    does = (elected-does (sizes bank).sectors (take bank.slots opened.members.own) opened.members.lost opened.members is.elected).old
 
     whole-list : HasWholeSectors bank tape → AreSectorsWhole (list_size p) (now (opening_list world) [])
     unfolding opening_list
-    whole-list has = list-whole bank m placed scope c (is.says told) refl (λ slot k within. sectors-whole bank tape (length tape) slot k has within) does
+    whole-list has = list-whole bank m placed is.still scope c (is.says told) refl (λ slot k within. sectors-whole bank tape (length tape) slot k has within) does
 
     rows-are : HasWholeSectors bank tape → OpensGood world → RowsStand m c (now (opening_list world) [])
     unfolding opening_list
-    rows-are has opens = rows-stand bank m placed scope c (is.says told) refl (λ slot k within. sectors-whole bank tape (length tape) slot k has within) does ((sound-is opens.sound).rows (clean-is opens.clean))
+    rows-are has opens = rows-stand bank m placed is.still scope c (is.says told) refl (λ slot k within. sectors-whole bank tape (length tape) slot k has within) does ((sound-is opens.sound).rows (clean-is opens.clean))
 
     -- ---- the superblocks
 
@@ -174,6 +175,7 @@ module _ {tells : Type 0} (bank : Given) (tape : List Operation) (backup : Optio
     slots = few;
     spares = few-spares bank opened.members few is.elected;
     placed = placed;
+    still = is.still;
     unlost = unlost;
     free = free;
     sizes_are = refl;

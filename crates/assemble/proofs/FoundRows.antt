@@ -45,6 +45,7 @@ use Rattle.flat_history.proofs.SameLaws.{stands-is}
 use Rattle.views.specs.Placed.{places_of, IsPlaced}
 use Rattle.views.specs.Whole.{list_size}
 use Rattle.views.specs.Lacking.{ListStands, RowsStand}
+use Rattle.views.proofs.Fit.{valid, multiple}
 use Rattle.array_kept.specs.Kept.{AreSectorsWhole}
 
 -- a list that nothing happened to
@@ -73,7 +74,7 @@ held-there false h f other slot is = absurd (cc)
 below-is : (a b : ℕ) → a < b → nat_lt a b ≡ true
 below-is a b lt = grind (arith, nat_tests, lt)
 
-module _ (bank : Given) (m : Members) (placed : IsPlaced bank m) (scope : Scope) (c : Contents) (says : reading scope c ≡ Some (reading_in bank.slots m)) where
+module _ (bank : Given) (m : Members) (placed : IsPlaced bank m) (still : is_reshaping m.newest ≡ false) (scope : Scope) (c : Contents) (says : reading scope c ≡ Some (reading_in bank.slots m)) where
   abbrev r : Reading
   r = reading_in bank.slots m
 
@@ -115,7 +116,7 @@ module _ (bank : Given) (m : Members) (placed : IsPlaced bank m) (scope : Scope)
   -- ---- the list
 
   no-target : target_of m.newest ≡ None
-  no-target = ap (λ (b : Bool). cond b (Some (record { level = m.newest.new_level; layout = m.newest.new_layout; chunk = m.newest.new_chunk; disks = m.newest.raid_disks })) None) placed.still
+  no-target = ap (λ (b : Bool). cond b (Some (record { level = m.newest.new_level; layout = m.newest.new_layout; chunk = m.newest.new_chunk; disks = m.newest.raid_disks })) None) still
 
   length-is : list_length m.newest ≡ list_size (places_of m)
   length-is =
@@ -126,7 +127,7 @@ module _ (bank : Given) (m : Members) (placed : IsPlaced bank m) (scope : Scope)
       same n = grind (arith, nat_tests)
 
   shape-is : (x : ℕ) → shape_for m.newest x ≡ shape
-  shape-is x = by (is_reshaping m.newest) refl placed.still
+  shape-is x = by (is_reshaping m.newest) refl still
     where
       by : (b : Bool) → is_reshaping m.newest ≡ b → b ≡ false → shape_for m.newest x ≡ shape
       by true here not = absurd (cc)
@@ -136,7 +137,7 @@ module _ (bank : Given) (m : Members) (placed : IsPlaced bank m) (scope : Scope)
   no-section at = ap (section_for scope c at) no-window ∙ none at
     where
       no-window : next_window m.newest ≡ None
-      no-window = let e = placed.still in cc
+      no-window = let e = still in cc
 
       none : (at : Option ℕ) → section_for scope c at None ≡ None
       none (Some slot) = refl
@@ -164,7 +165,7 @@ module _ (bank : Given) (m : Members) (placed : IsPlaced bank m) (scope : Scope)
 
   -- a sector that has its place in a row of the members is one of the list
   within-list : (row x : ℕ) → row < m.newest.size → (place shape x).row ≡ row → x < list_size (places_of m)
-  within-list row x below at = place-sector_below shape placed.valid x m.newest.size placed.multiple (omega (arith, at, below))
+  within-list row x below at = place-sector_below shape (valid bank m placed) x m.newest.size (multiple bank m placed) (omega (arith, at, below))
 
   list-there : (row role x : ℕ) → row < m.newest.size → place shape x ≡ record { role = role; row = row } → list x ≡ standing_sector c own shape row role
   list-there row role x below there =
@@ -177,8 +178,8 @@ module _ (bank : Given) (m : Members) (placed : IsPlaced bank m) (scope : Scope)
 
   pub list-stands : ListStands m c (now (stands scope c) [])
   list-stands row below role slot lt here held =
-      let found = sector_there shape role row placed.valid lt here in
-      sym (full-data shape list role row found.0 placed.valid found.1 ∙ list-there row role found.0 below found.1 ∙ standing-held row role slot held)
+      let found = sector_there shape role row (valid bank m placed) lt here in
+      sym (full-data shape list role row found.0 (valid bank m placed) found.1 ∙ list-there row role found.0 below found.1 ∙ standing-held row role slot held)
 
   -- ---- the rows, where each sector is whole and no more roles are missing than the array can do without
 
@@ -240,24 +241,24 @@ module _ (bank : Given) (m : Members) (placed : IsPlaced bank m) (scope : Scope)
       full-listed x at =
           list-at x (within-list row x below at)
           ∙ ap (λ (n : ℕ). standing_sector c own shape n (place shape x).role) at
-          ∙ sym (full-stands (place shape x).role (place-role_below shape placed.valid x))
+          ∙ sym (full-stands (place shape x).role (place-role_below shape (valid bank m placed) x))
 
       -- and so is whole
       row-whole : AreWholeIn shape list row
-      row-whole x at = subst IsSector (sym (full-listed x at)) (full-whole (place shape x).role (place-role_below shape placed.valid x))
+      row-whole x at = subst IsSector (sym (full-listed x at)) (full-whole (place shape x).role (place-role_below shape (valid bank m placed) x))
 
     pub list-whole : AreSectorsWhole (list_size (places_of m)) (now (stands scope c) [])
-    list-whole x within = row-whole (place shape x).row (place-row_below shape placed.valid x m.newest.size placed.multiple within) x refl
+    list-whole x within = row-whole (place shape x).row (place-row_below shape (valid bank m placed) x m.newest.size (multiple bank m placed) within) x refl
 
     -- ---- where each row is good
 
     -- some sector of the list has its place in the row
     on-row : (row : ℕ) → row < m.newest.size → (x : ℕ) × (x < list_size (places_of m)) × ((place shape x).row ≡ row)
     on-row row below =
-        let some : 0 < shape.chunk = chunk_some shape placed.valid in
+        let some : 0 < shape.chunk = chunk_some shape (valid bank m placed) in
         let x : ℕ = sector_at shape (row / shape.chunk) 0 (row % shape.chunk) in
         let at : (place shape x).row ≡ row =
-        ap (λ (q : Place). q.row) (place-sector shape (row / shape.chunk) 0 (row % shape.chunk) (data_some shape placed.valid) (mod_below row shape.chunk some)) ∙ div-add-mod' row shape.chunk in
+        ap (λ (q : Place). q.row) (place-sector shape (row / shape.chunk) 0 (row % shape.chunk) (data_some shape (valid bank m placed)) (mod_below row shape.chunk some)) ∙ div-add-mod' row shape.chunk in
         (x, within-list row x below at, at)
 
     module _ (good : HasGoodRows scope c r) where
@@ -281,13 +282,13 @@ module _ (bank : Given) (m : Members) (placed : IsPlaced bank m) (scope : Scope)
         -- is that of the list
         full-data_is : (role : ℕ) → role < shape.disks → is_parity (roles row below) role ≡ false → full row below role ≡ list (listed_at shape row role)
         full-data_is role lt here =
-            let found = sector_there shape role row placed.valid lt here in
-            full-stands row below role lt ∙ sym (ap list (listed-is shape role row found.0 placed.valid found.1) ∙ list-there row role found.0 below found.1)
+            let found = sector_there shape role row (valid bank m placed) lt here in
+            full-stands row below role lt ∙ sym (ap list (listed-is shape role row found.0 (valid bank m placed) found.1) ∙ list-there row role found.0 below found.1)
 
         full-parity_is : (role : ℕ) → role < shape.disks → is_parity (roles row below) role ≡ true → full row below role ≡ full_sector shape list row role
         full-parity_is role lt here =
             let but : IsGoodBut (roles row below) (full row below) (is_parity (roles row below)) =
-            record { valid = row_roles-valid shape row placed.valid; whole = full-whole row below; good = full-good; tolerated = parity_few (roles row below) (full row below) } in
+            record { valid = row_roles-valid shape row (valid bank m placed); whole = full-whole row below; good = full-good; tolerated = parity_few (roles row below) (full row below) } in
             sym (ap (λ (b : Bool). cond b (fill (roles row below) (row_without (is_parity (roles row below)) shape.disks (full row below)) role) (full row below role)) here
             ∙ fills-are-own (roles row below) (full row below) (is_parity (roles row below)) role but lt)
             ∙ filled-same (roles row below) shape.disks (full row below) (λ other. list (listed_at shape row other)) full-data_is role lt

@@ -1,5 +1,5 @@
 -- From what is judged of the superblocks that were found to what is answered of the contents.
-use Rattle.std.proofs.Common.{◌≡◌, ◌⊎◌, inl, inr, ℕ, Bool, true, false, cond, nat_lt, refl, sym, ap, ◌∙◌, subst, List, [], ◌∷◌, length, take, map, slice_index, Option, Some, None, Result, Ok, Err, IfOk, IfErr, IfSome, option_map, arith, ◌<◌, ◌≤◌, zero, suc, ◌+◌, ◌-◌, ◌^◌, get_or, replicate, drop}
+use Rattle.std.proofs.Common.{◌≡◌, ◌⊎◌, inl, inr, ℕ, Bool, true, false, cond, nat_lt, refl, sym, ap, ◌∙◌, subst, List, [], ◌∷◌, length, take, map, slice_index, Option, Some, None, unwrap_or, Result, Ok, Err, IfOk, IfErr, IfSome, option_map, arith, ◌<◌, ◌≤◌, zero, suc, ◌+◌, ◌-◌, ◌^◌, get_or, replicate, drop}
 use Rattle.std.specs.Prelude.{not, ◌&&◌, ◌||◌, bytes_eq, find, option_to_list}
 use Rattle.std.specs.Option.{option_or, option_map_or}
 use Rattle.std.proofs.lemmas.List.{length-map, length-take-le, get_or-take, get_or-drop, get_or-replicate, get_or_past, length-replicate}
@@ -16,14 +16,14 @@ use Rattle.sb1.specs.declared.sb.Sb.{Sb}
 use Rattle.bank.specs.Given.{Given, sizes}
 use Rattle.bank.specs.Tape.{Contents}
 use Rattle.superblocks.specs.declared.members.Members.{Members}
-use Rattle.superblocks.specs.Reading.{Scope, Reading, reading, reading_of, reading_by, newest_of, newer, of_array, superblocks, seen_superblock, is_reshaping, shape_of, target_of, shapes_in_force}
+use Rattle.superblocks.specs.Reading.{Scope, Reading, reading, reading_of, reading_by, newest_of, newer, of_array, superblocks, seen_superblock, is_reshaping, shape_of, final_shape, target_of, shapes_in_force}
 use Rattle.superblocks.specs.Verdict.{members_refusal, members_verdict, first_of_all, fresh_from, unsupported, bad_field, two_holders, members_missing, missing_count, too_many, dirty_degraded, off_unit, AreValidShapes}
 use Rattle.superblocks.specs.Election.{seen_superblocks, uuid_for, reading_in, IsElected}
 use Rattle.superblocks.specs.Writing.{AreWritable}
 use Rattle.superblocks.specs.Found.{AreInSectors}
 use Rattle.superblocks.proofs.ValidFields.{valid-shapes}
 use Rattle.election.proofs.Elected.{map-tabulate}
-use Rattle.views.specs.Lacking.{DoesWithout}
+use Rattle.shape_views.specs.Regions.{DoWithout}
 use Rattle.flat_history.specs.Stands.{verdict, refusal_of, backup_absent, has_room, reach_of}
 use Rattle.assemble.specs.declared.opening.Opened.{Opened}
 use Rattle.assemble.specs.Opening.{scope_of, array_of, AreGiven, AreOfGiven, AreCounted, IsOpened, IsRefused, IsReshapeRefused, HasCause}
@@ -49,8 +49,8 @@ elected-valid sectors own lost members elected =
     (nothing_first (bad_field r.newest slots)
     (first_of_all (two_holders slots ∷ members_missing r.newest r.roles ∷ dirty_degraded r.newest r.roles ∷ off_unit r.newest ∷ [])) rest).0
 
--- nor are more roles missing than the array can do without
-pub elected-does : (sectors : ℕ → ℕ) (own : List (Option Sb)) (lost : ℕ) (members : Members) → IsElected sectors own lost members → DoesWithout members
+-- nor are more roles missing than a shape in force can do without
+pub elected-does : (sectors : ℕ → ℕ) (own : List (Option Sb)) (lost : ℕ) (members : Members) → IsElected sectors own lost members → DoWithout members
 elected-does sectors own lost members elected =
     let r : Reading = reading_in (length own) members in
     let slots : List (Sb × ℕ) = fresh_from r.newest sectors 0 r.own in
@@ -62,19 +62,27 @@ elected-does sectors own lost members elected =
     (first_of_all (two_holders slots ∷ members_missing r.newest r.roles ∷ dirty_degraded r.newest r.roles ∷ off_unit r.newest ∷ [])) fields.1 in
     let missing = nothing_first (two_holders slots) (first_of_all (members_missing r.newest r.roles ∷ dirty_degraded r.newest r.roles ∷ off_unit r.newest ∷ [])) two.1 in
     let none = (nothing_first (members_missing r.newest r.roles) (first_of_all (dirty_degraded r.newest r.roles ∷ off_unit r.newest ∷ [])) missing.1).0 in
-    at_most (tolerance (shape_of r.newest)) (missing_count r.roles (shape_of r.newest))
-    (first_fails (too_many r.roles) (shape_of r.newest) (option_to_list (target_of r.newest)) (no_map (find (too_many r.roles) (shapes_in_force r.newest)) none))
+    let found = fails (too_many r.roles) (shape_of r.newest) (target_of r.newest) (no_map (find (too_many r.roles) (shapes_in_force r.newest)) none) in
+    record {
+      old = at_most (tolerance (shape_of r.newest)) (missing_count r.roles (shape_of r.newest)) found.0;
+      final = at_most (tolerance (final_shape r.newest)) (missing_count r.roles (final_shape r.newest)) found.1;
+    }
   where
     no_map : (found : Option Shape) → option_map (λ shape. MembersMissing (missing_count members.roles shape) (tolerance shape)) found ≡ None → found ≡ None
     no_map None e = refl
     no_map (Some shape) e = absurd (cc)
 
-    first_fails : (test : Shape → Bool) (shape : Shape) (more : List Shape) → find test (shape ∷ more) ≡ None → test shape ≡ false
+    first_fails : (test : Shape → Bool) (shape : Shape) (more : List Shape) → find test (shape ∷ more) ≡ None → (test shape ≡ false) × (find test more ≡ None)
     first_fails test shape more e = by (test shape) e
       where
-        by : (b : Bool) → cond b (Some shape) (find test more) ≡ None → b ≡ false
+        by : (b : Bool) → cond b (Some shape) (find test more) ≡ None → (b ≡ false) × (find test more ≡ None)
         by true e = absurd (cc)
-        by false e = refl
+        by false e = (refl, e)
+
+    -- neither the shape passes nor the one that will stand in the end
+    fails : (test : Shape → Bool) (shape : Shape) (target : Option Shape) → find test (shape ∷ option_to_list target) ≡ None → (test shape ≡ false) × (test (unwrap_or target shape) ≡ false)
+    fails test shape None e = let first = first_fails test shape [] e in (first.0, first.0)
+    fails test shape (Some other) e = let first = first_fails test shape (other ∷ []) e in (first.0, (first_fails test other [] first.1).0)
 
     at_most : (a b : ℕ) → nat_lt a b ≡ false → b ≤ a
     at_most a b e = grind (arith, nat_tests, e)

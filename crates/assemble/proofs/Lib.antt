@@ -9,6 +9,7 @@ pub mod MadeLaws
 pub mod FirstLaws
 pub mod NewLaws
 pub mod NewZeros
+pub mod StillFit
 pub mod FoundRows
 pub mod PlacedFound
 pub mod Adopting

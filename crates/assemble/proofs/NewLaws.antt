@@ -1,5 +1,5 @@
 -- What is made is an array that opens, and whose rows can be read and written.
-use Rattle.std.proofs.Common.{◌≡◌, inl, inr, ℕ, zero, suc, ◌<◌, ◌≤◌, ◌==◌, Bool, true, false, cond, ◌||◌, not, nat_lt, nat_le, List, [], ◌∷◌, length, take, get_or, Option, Some, None, refl, sym, ◌∙◌, ap, ap₂, subst, arith}
+use Rattle.std.proofs.Common.{◌≡◌, inl, inr, ℕ, zero, suc, ◌^◌, ◌<◌, ◌≤◌, ◌==◌, Bool, true, false, cond, ◌||◌, not, nat_lt, nat_le, List, [], ◌∷◌, length, take, get_or, Option, Some, None, refl, sym, ◌∙◌, ap, ap₂, subst, arith}
 use Rattle.std.specs.Prelude.{◌&&◌, is_some, bytes_eq}
 use Rattle.std.specs.List.{list_any}
 use Rattle.std.specs.Option.{option_or, option_map_or}
@@ -15,6 +15,7 @@ use Rattle.md_base.specs.Search.{tabulate, least_below}
 use Rattle.md_base.proofs.Tabulated.{length-tabulate, get_or-tabulate}
 use Rattle.sb1.specs.declared.sb.Sb.{Sb}
 use Rattle.sb1.specs.Superblock.{superblock_in}
+use Rattle.geometry.specs.Geometry.{is_size}
 use Rattle.bank.specs.Given.{Given, sizes, IsFaulted}
 use Rattle.bank.specs.Tape.{Contents, contents, AreFlushes}
 use Rattle.superblocks.specs.declared.members.Members.{Members}
@@ -37,10 +38,12 @@ use Rattle.bank.specs.declared.bank.Operation.{Operation}
 use Rattle.bank.specs.declared.bank.Operation.TheVariants.{Write, Flush}
 use Rattle.views.specs.Flushing.{OnlyFlushesAdded, OnlyItsSlotsFail}
 use Rattle.views.proofs.Flushed.{contents-added}
+use Rattle.views.proofs.Still.{count-still}
 use Rattle.assemble.proofs.FillLaws.{present-same}
 use Rattle.assemble.proofs.CreateLaws.{fewer, not-backup, least_below-fails}
 use Rattle.assemble.proofs.Judged.{verdict-for, still_none}
 use Rattle.assemble.proofs.MadeLaws.{elected-made}
+use Rattle.assemble.proofs.StillFit.{still-fit}
 
 same-bytes : (u : List ℕ) → bytes_eq u u ≡ true
 same-bytes u = (bytes_eq-Decides u u).1 refl
@@ -235,11 +238,8 @@ module _ (bank : Given) (backup : Option ℕ) (spec : CreateSpec) (room : HasRoo
 
   pub are-placed : IsPlaced bank members
   are-placed = record {
-    still = still-is;
-    valid = ap is_valid_shape shape-is ∙ room.valid;
-    multiple = ap₂ (λ n (s : Shape). is_multiple n s.chunk) size-is shape-is ∙ room.multiple;
-    short = omega (arith, size-is, room.short);
-    roles = ap (λ l. length l) filled.roles ∙ length-tabulate disks (λ role. Whole role) ∙ sym (ap (λ (s : Shape). s.disks) shape-is);
+    fit = still-fit members.newest still-is (ap is_valid_shape shape-is ∙ room.valid) (ap₂ (λ n (s : Shape). is_size n s.chunk) size-is shape-is ∙ sized spec.size (is_multiple spec.size spec.shape.chunk) room.some room.short room.multiple);
+    roles = ap (λ l. length l) filled.roles ∙ length-tabulate disks (λ role. Whole role) ∙ sym (ap (λ (s : Shape). s.disks) shape-is) ∙ sym (count-still members.newest still-is);
     holders = λ role slot is. (let lt : slot < disks = place-of role slot is in
         let off : data_offset_of (members_reading members) slot ≡ spec.offset = offset-is slot lt in
         let long : rows_end spec ≤ bank.sectors slot = room.within slot lt in
@@ -257,6 +257,9 @@ module _ (bank : Given) (backup : Option ℕ) (spec : CreateSpec) (room : HasRoo
         let found = filled.own.made slot lt in
         subst (λ o. IsMember bank o slot) (sym found.1) (writable-of slot found.0 found.1));
   }
+    where
+      sized : (n : ℕ) (b : Bool) → 1 ≤ n → n ≤ 2 ^ 48 → b ≡ true → (nat_le 1 n && nat_le n (2 ^ 48) && b) ≡ true
+      sized n b some short whole = grind (arith, nat_tests, some, short, whole)
 
   pub is-new : (given : ℕ) → ((s : ℕ) → has_slot given s ≡ nat_lt s bank.slots) → IsNew bank spec (record { members = members; given = given })
   is-new given all = record {

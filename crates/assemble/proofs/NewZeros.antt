@@ -31,6 +31,7 @@ use Rattle.flat_history.specs.Stands.{verdict, refusal_of}
 use Rattle.array.specs.declared.spec.CreateSpec.{CreateSpec}
 use Rattle.views.specs.Whole.{Places, AreFit, in_row, IsReadWhole}
 use Rattle.views.specs.Placed.{places_of}
+use Rattle.views.proofs.Fit.{valid, multiple, short}
 use Rattle.views.proofs.WholeLaws.{stands-length, stands-at}
 use Rattle.assemble.specs.declared.opening.Opened.{Opened}
 use Rattle.assemble.specs.Opening.{scope_of, IsOpened}
@@ -127,12 +128,12 @@ module _ (bank : Given) (backup : Option ℕ) (spec : CreateSpec) (c : Contents)
       ∙ ap (λ (o : Option Sb). option_map_or (λ sb. sb.data_offset) o 0) found.1 ∙ ap (λ n. n.data_offset) found.2.made
 
   zero-at : (role row : ℕ) → role < p.shape.disks → row < p.size → in_row p c row role ≡ zero_sector
-  zero-at role row lt short =
+  zero-at role row lt within =
       ap₂ (λ (s o : ℕ). c s (o + row)) (slot-is role lt) (offset-is role lt)
-      ∙ zeros role row (omega (arith, lt, disks-is)) (omega (arith, short, new.size))
+      ∙ zeros role row (omega (arith, lt, disks-is)) (omega (arith, within, new.size))
 
   fit : AreFit p
-  fit = record { valid = new.placed.valid; multiple = new.placed.multiple; short = new.placed.short }
+  fit = record { valid = valid bank members new.placed; multiple = multiple bank members new.placed; short = short bank members new.placed }
 
   accepted : refusal_of scope r ≡ None
   unfolding verdict

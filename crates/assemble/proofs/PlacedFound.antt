@@ -1,6 +1,6 @@
 -- Where the rows of an opened array stand, each role that is held on a slot of its own, and what room its spares have.
-use Rattle.std.proofs.Common.{◌≡◌, inl, inr, ℕ, zero, suc, ◌+◌, ◌*◌, ◌^◌, ◌<◌, ◌≤◌, ◌==◌, Bool, true, false, cond, not, ◌||◌, ◌&&◌, nat_lt, nat_le, List, [], ◌∷◌, length, take, drop, get_or, Option, Some, None, unwrap_or, option_map, refl, sym, ◌∙◌, ap, subst, arith}
-use Rattle.std.specs.Prelude.{find, max}
+use Rattle.std.proofs.Common.{◌≡◌, inl, inr, ℕ, zero, suc, ◌+◌, ◌*◌, ◌^◌, ◌<◌, ◌≤◌, ◌==◌, Bool, true, false, cond, not, ◌||◌, ◌&&◌, nat_lt, nat_le, List, [], ◌∷◌, length, take, drop, get_or, Option, Some, None, option_map, refl, sym, ◌∙◌, ap, subst, arith}
+use Rattle.std.specs.Prelude.{find}
 use Rattle.std.specs.Option.{option_or, option_map_or}
 use Rattle.std.specs.List.{list_any}
 use Rattle.std.proofs.lemmas.Bool.{cases_lt}
@@ -9,16 +9,16 @@ use Rattle.std.proofs.lemmas.List.{get_or-take, get_or_past, length-take}
 use Rattle.std.proofs.lemmas.List.Folds.{list_any-append}
 use Rattle.md_base.specs.declared.status.Role.{Role}
 use Rattle.md_base.specs.declared.status.Role.TheVariants.{Whole, Recovering, Missing}
-use Rattle.md_base.specs.declared.places.Shape.{Shape}
 use Rattle.md_base.specs.declared.answers.Refusal.{Refusal}
 use Rattle.md_base.specs.declared.answers.Refusal.TheVariants.{NoSuperblock, BadField}
-use Rattle.md_base.specs.Shapes.{is_valid_shape, is_multiple, is_level, is_layout, has_slot}
+use Rattle.md_base.specs.Shapes.{is_multiple, is_level, is_layout, has_slot}
 use Rattle.md_base.specs.Search.{tabulate}
 use Rattle.md_base.proofs.Tabulated.{length-tabulate, get_or-tabulate}
 use Rattle.sb1.specs.declared.sb.Sb.{Sb}
+use Rattle.geometry.specs.Geometry.{is_size}
 use Rattle.bank.specs.Given.{Given, sizes}
 use Rattle.superblocks.specs.declared.members.Members.{Members}
-use Rattle.superblocks.specs.Reading.{Reading, reading_by, newest_of, holder_from, spares_from, holds_role, state_of, is_fresh, is_spare, is_recovering, lies_within, is_reshaping, entry_of, role_count, shape_of, target_of, role_state, holder, data_offset_of}
+use Rattle.superblocks.specs.Reading.{Reading, reading_by, newest_of, holder_from, spares_from, holds_role, state_of, is_fresh, is_spare, is_recovering, lies_within, is_reshaping, entry_of, role_count, role_state, holder, data_offset_of}
 use Rattle.superblocks.specs.Verdict.{members_refusal, bad_field, judged_fields, first_bad_entry, is_bad_size}
 use Rattle.superblocks.specs.Election.{reading_in, IsElected}
 use Rattle.superblocks.specs.Update.{is_held_by, is_live}
@@ -32,16 +32,7 @@ use Rattle.shape_changes.specs.Steady.{AreUnlost}
 use Rattle.views.specs.Rebuilding.{AreSparesFree}
 use Rattle.assemble.specs.Opening.{AreOfGiven, AreCounted}
 use Rattle.assemble.proofs.Judged.{elected-valid, reading-made}
-
--- the roles of an array without a reshape are those of its shape
-pub count-is : (newest : Sb) → is_reshaping newest ≡ false → role_count newest ≡ (shape_of newest).disks
-count-is newest still = ap (λ (target : Option Shape). max (shape_of newest).disks (unwrap_or target (shape_of newest)).disks) none ∙ same (shape_of newest).disks
-  where
-    none : target_of newest ≡ None
-    none = ap (λ (b : Bool). cond b (Some (record { level = newest.new_level; layout = newest.new_layout; chunk = newest.new_chunk; disks = newest.raid_disks })) None) still
-
-    same : (a : ℕ) → max a a ≡ a
-    same a = omega arith
+use Rattle.assemble.proofs.StillFit.{still-fit}
 
 -- ---- how many spares
 
@@ -175,17 +166,12 @@ good-size N e = third-fails 72 76 80 (not (is_level N.level)) (not (is_layout N.
     (none-first (option_map (λ (f : ℕ × Bool). BadField f.0) (find (λ (f : ℕ × Bool). f.1) (judged_fields N [])))
     (option_map (λ (index : ℕ). BadField (256 + 2 * index)) (first_bad_entry N [])) e)
 
-size-parts : (n : ℕ) (multiple rest : Bool) → not (nat_le 1 n && nat_le n (2 ^ 48) && multiple && rest) ≡ false → (n ≤ 2 ^ 48) × (multiple ≡ true)
-size-parts n multiple rest e = by (nat_le 1 n) (nat_le n (2 ^ 48)) multiple rest (is_at_most n (2 ^ 48)) e
-  where
-    is_at_most : (a b : ℕ) → nat_le a b ≡ true → a ≤ b
-    is_at_most a b e = grind (arith, nat_tests, e)
-
-    by : (a b c d : Bool) → (b ≡ true → n ≤ 2 ^ 48) → not (a && b && c && d) ≡ false → (n ≤ 2 ^ 48) × (c ≡ true)
-    by true true true d most e = (most refl, refl)
-    by true true false d most e = absurd (cc)
-    by true false c d most e = absurd (cc)
-    by false b c d most e = absurd (cc)
+-- the first three of four
+first-three : (a b c d : Bool) → not (a && b && c && d) ≡ false → (a && b && c) ≡ true
+first-three true true true d e = refl
+first-three true true false d e = absurd (cc)
+first-three true false c d e = absurd (cc)
+first-three false b c d e = absurd (cc)
 
 -- ---- the members
 
@@ -227,8 +213,8 @@ module _ (bank : Given) (few : bank.slots ≤ 32) (m : Members) (elected : IsEle
   accepted = is-accepted sec m.newest X
       (sym (ap (λ (found : Option Sb). option_map_or (members_refusal sec) (option_map (reading_by sec X) found) (Some NoSuperblock)) newest-is) ∙ elected.accepted)
 
-  pub roles-long : length m.roles ≡ (shape_of m.newest).disks
-  roles-long = ap (λ (l : List Role). length l) roles-are ∙ length-tabulate (role_count m.newest) (λ role. holder_from m.newest role 0 X) ∙ count-is m.newest still
+  roles-long : length m.roles ≡ role_count m.newest
+  roles-long = ap (λ (l : List Role). length l) roles-are ∙ length-tabulate (role_count m.newest) (λ role. holder_from m.newest role 0 X)
 
   own-at : (k : ℕ) (sb : Sb) → get_or (take bank.slots m.own) k None ≡ Some sb → (k < bank.slots) × (get_or m.own k None ≡ Some sb)
   own-at k sb e = elim (cases_lt k (length X)) [
@@ -341,8 +327,8 @@ module _ (bank : Given) (few : bank.slots ≤ 32) (m : Members) (elected : IsEle
         one : (a b : Sb) → Some a ≡ Some b → a ≡ b
         one a b e = cc
 
-  sized : (m.newest.size ≤ 2 ^ 48) × (is_multiple m.newest.size m.newest.chunksize ≡ true)
-  sized = size-parts m.newest.size (is_multiple m.newest.size m.newest.chunksize) (not (is_reshaping m.newest) || is_multiple m.newest.size m.newest.new_chunk) (good-size m.newest accepted.fields)
+  sized : is_size m.newest.size m.newest.chunksize ≡ true
+  sized = first-three (nat_le 1 m.newest.size) (nat_le m.newest.size (2 ^ 48)) (is_multiple m.newest.size m.newest.chunksize) (not (is_reshaping m.newest) || is_multiple m.newest.size m.newest.new_chunk) (good-size m.newest accepted.fields)
 
   live-there : (s : ℕ) → is_live m.roles m.spares s ≡ true → (sb : Sb) × (get_or m.own s None ≡ Some sb)
   live-there s is = by (list_any (is_held_by s) m.roles) refl is
@@ -359,15 +345,9 @@ module _ (bank : Given) (few : bank.slots ≤ 32) (m : Members) (elected : IsEle
           spare (record { index = found.index; at = found.at; sb = found.sb; own = found.own })
       by false held is = spare (spare-there m.newest sec 0 X s (sym (ap (λ (l : List ℕ). list_any (λ spare. spare == s) l) spares-are) ∙ is)).0
 
-  pub valid-is : is_valid_shape (shape_of m.newest) ≡ true
-  valid-is = (elected-valid sec X m.lost m elected).old
-
   pub placed-found : IsPlaced bank m
   placed-found = record {
-    still = still;
-    valid = valid-is;
-    multiple = sized.1;
-    short = sized.0;
+    fit = still-fit m.newest still (elected-valid sec X m.lost m elected).old sized;
     roles = roles-long;
     holders = λ role slot is. (let found = held-at role slot is in
         record {

@@ -1,5 +1,5 @@
 -- What runs was made, or found, as it is answered.
-use Rattle.std.proofs.Common.{◌≡◌, ◌⊎◌, inl, inr, ℕ, zero, suc, ◌*◌, ◌<◌, ◌≤◌, Bool, true, false, cond, not, ◌&&◌, nat_lt, List, [], ◌++◌, length, take, get_or, Option, Some, None, IfSome, Result, Ok, Err, IfOk, refl, sym, ◌∙◌, ap, ap₂, subst, arith}
+use Rattle.std.proofs.Common.{◌≡◌, ◌⊎◌, inl, inr, ℕ, zero, suc, ◌*◌, ◌<◌, ◌≤◌, Bool, true, false, cond, not, ◌&&◌, nat_lt, max, List, [], ◌++◌, length, take, get_or, Option, Some, None, IfSome, Result, Ok, Err, IfOk, refl, sym, ◌∙◌, ap, ap₂, subst, arith}
 use Rattle.std.proofs.lemmas.Bool.{cases_lt}
 use Rattle.std.proofs.lemmas.Bool.Decides.{nat_tests}
 use Rattle.md_base.specs.declared.answers.Fault.{Fault}
@@ -14,7 +14,7 @@ use Rattle.bank.specs.declared.bank.Operation.{Operation}
 use Rattle.bank.specs.Given.{Given, sizes, IsFaulted, NeverFalls}
 use Rattle.bank.specs.Tape.{Contents, contents}
 use Rattle.superblocks.specs.declared.members.Members.{Members}
-use Rattle.superblocks.specs.Reading.{Reading, is_reshaping, is_backward, entry_of, shape_of, is_whole, role_state}
+use Rattle.superblocks.specs.Reading.{Reading, is_reshaping, is_backward, entry_of, shape_of, final_shape, is_whole, role_state}
 use Rattle.superblocks.specs.Verdict.{is_role}
 use Rattle.superblocks.specs.Election.{reading_in}
 use Rattle.superblocks.specs.Reads.{HasNoLateRoles, IsNewestLike, has_spare}
@@ -31,7 +31,9 @@ use Rattle.array.specs.declared.spec.CreateSpec.{CreateSpec}
 use Rattle.views.specs.Parts.{Parts}
 use Rattle.views.specs.Placed.{places_of, AreWhole}
 use Rattle.shape_changes.specs.Steady.{AreUnlost}
-use Rattle.views.specs.Lacking.{DoesWithout}
+use Rattle.shape_views.specs.Regions.{DoWithout}
+use Rattle.views.proofs.Fit.{valid, multiple, short}
+use Rattle.views.proofs.Still.{count-still}
 use Rattle.views.specs.Rebuilding.{AreSparesFree}
 use Rattle.array_kept.specs.Kept.{world_in, scope_in}
 use Rattle.array_kept.specs.Calls.{world_for}
@@ -112,7 +114,7 @@ module _ {tells : Type 0} (bank : Given) (tape : List Operation) (backup : Optio
   state-is role lt = ap (λ (l : List Role). get_or l role Missing) new.members.roles ∙ get_or-tabulate spec.shape.disks (λ role. Whole role) role Missing lt
 
   pub new-whole : AreWhole opened.members
-  new-whole role lt = ap (λ (s : Role). not (is_whole s)) (state-is role (omega (arith, lt, ap (λ (s : Shape). s.disks) new.shape)))
+  new-whole role lt = ap (λ (s : Role). not (is_whole s)) (state-is role (omega (arith, lt, count-still opened.members.newest is.still, ap (λ (s : Shape). s.disks) new.shape)))
 
   pub new-unlost : AreUnlost opened.members
   new-unlost role slot held = ap (λ (n : ℕ). has_slot n slot) new.members.lost ∙ none_there slot
@@ -158,7 +160,7 @@ module _ {tells : Type 0} (bank : Given) (tape : List Operation) (backup : Optio
       let law = new-arrays-are-zeros bank backup spec c opened new (opened-told told is) zeros in
       subst (λ (o : Option Reading). IfSome o (IsSound (scope_of bank backup opened.given opened.members.newest.set_uuid) c)) (sym (is.says told))
       (whole-sound (scope_of bank backup opened.given opened.members.newest.set_uuid) (places_of opened.members)
-      (record { valid = new.placed.valid; multiple = new.placed.multiple; short = new.placed.short }) c (reading_in bank.slots opened.members) law.0 law.1.good)
+      (record { valid = valid bank opened.members new.placed; multiple = multiple bank opened.members new.placed; short = short bank opened.members new.placed }) c (reading_in bank.slots opened.members) law.0 law.1.good)
 
   pub new-adoptable : bank.slots ≤ 32 → (tells → AreFlushed bank.start tape opened.given) → (tells → AreInSectors (contents bank.start tape (length tape)) opened.members.own)
       → IsAdoptable tells bank tape (scope_of bank backup opened.given opened.members.newest.set_uuid) opened.members
@@ -180,7 +182,7 @@ slots-failed bank given before after falls was slot known out = by (was.failed s
     by (inr full) = omega (arith, full, falls slot)
 
 does-without : {tells : Type 0} (bank : Given) (tape : List Operation) (backup : Option ℕ) (asked : Option (List ℕ)) (opened : Opened)
-    → IsOpened tells bank (contents bank.start tape (length tape)) backup asked opened → DoesWithout opened.members
+    → IsOpened tells bank (contents bank.start tape (length tape)) backup asked opened → DoWithout opened.members
 does-without bank tape backup asked opened is = elected-does (sizes bank).sectors (take bank.slots opened.members.own) opened.members.lost opened.members is.elected
 
 -- no loss is told where no role is missing
@@ -203,7 +205,7 @@ module _ {B tells : Type 0} (device : B) (bank : Given) (tape : List Operation) 
   same-world : tells → world_in bank tape (scope_of bank backup opened.given opened.members.newest.set_uuid) (length tape) ≡ world_for bank tape made
   same-world told = λ i. world_in bank tape (scope_in bank (sym adopted.uuid i) (sym adopted.given i) (sym adopted.backup_is i)) (sym (adopted.first told) i)
 
-  pub begun : DoesWithout opened.members → IsBegun tells tape backup made
+  pub begun : DoWithout opened.members → IsBegun tells tape backup made
   begun does = record {
     entries = adopted.entries ∙ sym (ap (λ (m : Members). entries_of opener made.first (found_losses (reading_of m))) adopted.members_are);
     first = adopted.first;
@@ -211,12 +213,15 @@ module _ {B tells : Type 0} (device : B) (bank : Given) (tape : List Operation) 
     backup_is = adopted.backup_is;
     uuid = adopted.uuid ∙ sym (ap (λ (m : Members). m.newest.set_uuid) adopted.members_are);
     work = adopted.work ∙ sym (ap found_work adopted.members_are);
-    does = subst (λ (m : Members). DoesWithout m) (sym adopted.members_are) does;
+    does = subst (λ (m : Members). DoWithout m) (sym adopted.members_are) does;
   }
 
   -- no entry is there where no role is missing
   quiet : AreWhole opened.members → made.entries ≡ []
-  quiet whole = adopted.entries ∙ ap (entries_of opener made.first) (none-absent (reading_of opened.members) (shape_of opened.members.newest).disks whole)
+  quiet whole = adopted.entries ∙ ap (entries_of opener made.first) (none-absent (reading_of opened.members) (shape_of opened.members.newest).disks (λ role lt. whole role (wider role (shape_of opened.members.newest).disks (final_shape opened.members.newest).disks lt)))
+    where
+      wider : (role a b : ℕ) → role < a → role < max a b
+      wider role a b lt = omega (arith, lt)
 
   pub created : (spec : CreateSpec) → IsNew bank spec opened → IsOpened tells bank (contents bank.start tape (length tape)) backup (Some spec.uuid) opened
       → (tells → AreZeros spec.shape.disks spec (contents bank.start tape (length tape))) → IsCreated tells bank tape backup spec made

@@ -1,0 +1,27 @@
+-- The shapes in force fit where no reshape is active.
+use Rattle.std.proofs.Common.{◌≡◌, ◌==◌, ◌||◌, true, false, not, cond, Bool, None, Some, sym, ap, subst}
+use Rattle.md_base.specs.declared.places.Shape.{Shape}
+use Rattle.md_base.specs.declared.answers.Refusal.TheVariants.{PositionNotOnUnit}
+use Rattle.md_base.specs.Shapes.{is_valid_shape, is_multiple}
+use Rattle.sb1.specs.declared.sb.Sb.{Sb}
+use Rattle.geometry.specs.Geometry.{is_size}
+use Rattle.superblocks.specs.Reading.{is_reshaping, shape_of, final_shape, list_length}
+use Rattle.superblocks.specs.Verdict.{unit_of}
+use Rattle.shape_views.specs.Regions.{AreShapesFit}
+use Rattle.shape_views.proofs.Stands.{final-still}
+
+module _ (newest : Sb) (still : is_reshaping newest ≡ false) (valid : is_valid_shape (shape_of newest) ≡ true) (size : is_size newest.size (shape_of newest).chunk ≡ true) where
+  final : final_shape newest ≡ shape_of newest
+  final = final-still newest still
+
+  pub still-fit : AreShapesFit newest
+  still-fit = record {
+    valid = record { old = valid; final = subst (λ (s : Shape). is_valid_shape s ≡ true) (sym final) valid };
+    size = size;
+    final_size = subst (λ (s : Shape). is_size newest.size s.chunk ≡ true) (sym final) size;
+    level = ap (λ (s : Shape). s.level) final;
+    unit = ap (λ (b : Bool). cond (not b || is_multiple newest.reshape_position (unit_of newest) || (newest.reshape_position == list_length newest)) None (Some (PositionNotOnUnit newest.reshape_position (unit_of newest)))) still;
+    position = λ active. absurd (cc);
+    delta = λ active. absurd (cc);
+    delta_back = λ active. absurd (cc);
+  }
