@@ -1,4 +1,4 @@
-use Rattle.std.proofs.Common.{◌≡◌, false, subst, ◌∙◌, ap}
+use Rattle.std.proofs.Common.{false, ◌∙◌, ap}
 use Rattle.md_base.specs.declared.places.Shape.{Shape}
 use Rattle.superblocks.specs.Reading.{shape_of}
 use Rattle.safe_updates.specs.First.{write_refusal}
