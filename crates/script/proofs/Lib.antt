@@ -1,3 +1,4 @@
+pub mod AppendLaws
 pub mod Decimals
 pub mod KindLaws
 pub mod LeastLaws
