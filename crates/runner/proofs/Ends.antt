@@ -30,14 +30,14 @@ use Rattle.runner.specs.Replies.{Course, at_rest, course_after, course_of}
 use Rattle.runner.specs.Runs.{status_for, stop_of, IsHalted, AreLinesPerformed, AreLossesFailed, IsEnded}
 use Rattle.runner.specs.Sessions.{counted, IsCourse, IsCourseBehind, taken_whole, IsTaken, IsPerformed, IsShownTo}
 use Rattle.runner.specs.Shown.{report_text, has_refusal}
-use Rattle.runner.specs.States.{running_history, histories_in, course_in, RunsOwn, IsLossSince, AreLossesFrom, IsCallNamed, IsFoundUntold}
+use Rattle.runner.specs.States.{running_history, histories_in, course_in, RunsOwn, IsLossSince, AreLossesFrom, IsCutShort}
 use Rattle.runner.specs.Ended.{AreRising}
 use Rattle.runner.specs.Written.{AreWritesPlaced, IsWritten}
 use Rattle.views.specs.Moving.{Grows}
 use Rattle.runner.proofs.AskLaws.{one, with_reply}
 use Rattle.runner.proofs.Legal.{grows_longer}
 use Rattle.runner.proofs.Writing.{placed-end, quiet-between}
-use Rattle.runner.proofs.Growth.{IsWider, replies_stay, replies_front, shown_stays, courses_stay, course_stays, called_named, called_stays}
+use Rattle.runner.proofs.Growth.{IsWider, replies_stay, replies_front, shown_stays, courses_stay, cut_stays}
 use Rattle.runner.proofs.Losses.{losses-halted, losses-whole, losses-kept, losses-last, losses_add}
 use Rattle.runner.proofs.Turns.{now_are, turn_ended, grown_kept, get_last}
 
@@ -135,18 +135,10 @@ module _ {B bank_tells : Type 0} {given : Given} {backup : Option ℕ} {tape : L
   by_stop (Some WantsMemory) (inl is) = inl (is ∙ sym told_still)
   by_stop (Some WantsMemory) (inr next) = inr (by_first behind next)
     where
-      by_line : (line : Line) → IsFoundUntold (told_by (histories_in session.state)) line (course_in session.state) → IsFoundUntold (told_by (histories_of epochs)) line (course_in session.state)
-      by_line line was = subst (λ (c : Course). IsFoundUntold c line (course_in session.state)) (sym told_still) was
-
       by_first : (ls : List Numbered) → IsCourseBehind (histories_in session.state) ls (told_by (histories_in session.state)) (course_in session.state) → IsCourseBehind (histories_of epochs) ls (told_by (histories_of epochs)) (course_in session.state)
       by_first [] next = absurd next
-      by_first (l ∷ ls) (inl (what, named, is)) = inl (
-        what,
-        subst (λ (c : Course). IsCallNamed (histories_of epochs) c l.line what) (sym told_still) (called_stays (histories_in session.state) (histories_of epochs) (told_by (histories_in session.state)) l.line what ended.grown named),
-        is ∙ sym (course_stays (histories_in session.state) (histories_of epochs) (told_by (histories_in session.state)) l.line what ended.grown (called_named (histories_in session.state) (told_by (histories_in session.state)) l.line what named))
-            ∙ ap (λ (c : Course). course_after (histories_of epochs) c l.line what) (sym told_still),
-      )
-      by_first (l ∷ ls) (inr untold) = inr (by_line l.line untold)
+      by_first (l ∷ ls) cut = subst (λ (c : Course). IsCutShort (histories_of epochs) c l.line (course_in session.state)) (sym told_still)
+          (cut_stays (histories_in session.state) (histories_of epochs) (told_by (histories_in session.state)) l.line (course_in session.state) ended.grown cut)
 
   -- the writes, once the array is halted
   end_written : bank_tells → length first_tape ≤ length tape → IsWritten (setting_of bank_tells given tape tape backup now now) (histories_in session.state) (histories_of epochs) (λ slot. ⊥)
