@@ -8,8 +8,10 @@ use Rattle.flat_history.specs.declared.events.Event.{Event}
 use Rattle.flat_history.specs.declared.events.Event.TheVariants.{Read as IsRead, Shown}
 use Rattle.flat_history.specs.declared.events.Request.TheVariants.{Read as AsksRead, Write as AsksWrite, Flush as AsksFlush, Fail as AsksFail, Add as AsksAdd, Steps as AsksSteps}
 use Rattle.flat_history.specs.Fits.{FitsStop, FitsHalt}
+use Rattle.flat_history.specs.Legal.{call_before}
 use Rattle.flat_history.specs.OneShape.{OneShapeAnswers}
 use Rattle.script.specs.Script.{is_within_limits}
+use Rattle.script.specs.Seeds.{seeded}
 use Rattle.script.specs.declared.lines.Line.{Line}
 use Rattle.script.specs.declared.lines.Line.TheVariants.{Create, Read, Write, Flush, Fail, Add, Step, Wait, Stop, Halt, Detail, Mdstat, Examine, Assemble}
 use Rattle.runner.specs.declared.report.Answered.{Answered}
@@ -61,7 +63,7 @@ short_halt (Shown status) is = absurd is
 short_halt event is = tt
 
 short_shown : (size : ℕ) (event : Event) → IsShown size event → IsShort event
-short_shown size (Shown status) is = (is.2.2.0, is.2.2.1)
+short_shown size (Shown status) is = (is.2, is.3)
 short_shown size event is = absurd is
 
 few_read : (at count : ℕ) → IsTrue (is_within_limits (Read at count)) → count ≤ 128
@@ -70,12 +72,12 @@ few_read at count limits = grind (arith, nat_tests, limits)
 -- an event that fits a line is short
 short_line : (size : ℕ) (before : List Entry) (e : Entry) (line : Line) → IsTrue (is_within_limits line) → FitsLine size before e line → IsShort e.event
 short_line size before e (Create spec) limits is = absurd is
-short_line size before e (Read at count) limits is = short_read size before _ at count e.event (few_read at count limits) is.answers
-short_line size before e (Write at count seed) limits is = short_write size before _ at _ e.event is.answers
-short_line size before e Flush limits is = short_flush size before _ e.event is.answers
-short_line size before e (Fail role) limits is = short_fail size before _ role e.event is.answers
-short_line size before e (Add slot) limits is = short_add size before _ slot e.event is.answers
-short_line size before e (Step most) limits is = short_steps size before _ most e.event is.answers
+short_line size before e (Read at count) limits is = short_read size before (call_before before e) at count e.event (few_read at count limits) is.answers
+short_line size before e (Write at count seed) limits is = short_write size before (call_before before e) at (seeded seed at count) e.event is.answers
+short_line size before e Flush limits is = short_flush size before (call_before before e) e.event is.answers
+short_line size before e (Fail role) limits is = short_fail size before (call_before before e) role e.event is.answers
+short_line size before e (Add slot) limits is = short_add size before (call_before before e) slot e.event is.answers
+short_line size before e (Step most) limits is = short_steps size before (call_before before e) most e.event is.answers
 short_line size before e Wait limits is = absurd is
 short_line size before e Stop limits is = short_stop e.event is
 short_line size before e Halt limits is = short_halt e.event is

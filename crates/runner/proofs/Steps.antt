@@ -260,10 +260,10 @@ module _ {B bank_tells : Type 0} {given : Given} {backup : Option ℕ} {first_ta
         same_text = ap (λ (rs : List LineReply). report_text (histories_in new.state) lines rs) is.same ∙ (shown_still is.none.grown).0
 
 -- where the run stands once all that is told was done
-course_told : {histories : List History} {behind : List Numbered} {told course : Course} (o : Option Stop) → course ≡ told → IsCourse o histories behind told course
-course_told None same = same
-course_told (Some WriteFault) same = same
-course_told (Some WantsMemory) same = inl same
+course_told : (histories : List History) (behind : List Numbered) (told course : Course) (o : Option Stop) → course ≡ told → IsCourse o histories behind told course
+course_told histories behind told course None same = same
+course_told histories behind told course (Some WriteFault) same = same
+course_told histories behind told course (Some WantsMemory) same = inl same
 
 -- nothing was performed yet
 pub performed_none : {B bank_tells : Type 0} {given : Given} {backup : Option ℕ} {tape : List Operation} {start : ℕ → ℕ} (lines : List Numbered) (session : Session B) (bank : B) (epochs : Vec Epoch) → session.state ≡ Idle bank epochs → epochs.items ≡ []
@@ -273,7 +273,7 @@ performed_none {B = B} {bank_tells = bank_tells} {given = given} {backup = backu
   few = omega (arith, ap (λ (l : List LineReply). length l) none);
   replies = subst (λ (rs : List LineReply). AreReplies (setting_of bank_tells given tape tape backup start start) (histories_in session.state) (at_rest 0) (take (length rs) lines) rs) (sym none) tt;
   course = subst (λ (o : Option Stop). IsCourse o (histories_in session.state) (drop (length session.replies.items) lines) (course_of (histories_in session.state) (at_rest 0) (take (length session.replies.items) lines) session.replies.items) (course_in session.state)) (sym going)
-      (course_told o (ap (λ (s : State B). course_in s) idle ∙ ap (λ (l : List Epoch). at_rest (length l)) empty ∙ ap (λ (rs : List LineReply). course_of (histories_in session.state) (at_rest 0) (take (length rs) lines) rs) (sym none)));
+      (course_told _ _ _ _ o (ap (λ (s : State B). course_in s) idle ∙ ap (λ (l : List Epoch). at_rest (length l)) empty ∙ ap (λ (rs : List LineReply). course_of (histories_in session.state) (at_rest 0) (take (length rs) lines) rs) (sym none)));
   losses = subst (λ (s : State B). AreLossesFrom (setting_of bank_tells given tape tape backup start start) [] (histories_in s)) (sym idle) (subst (λ (l : List Epoch). AreLossesFrom (setting_of bank_tells given tape tape backup start start) [] (histories_of l)) (sym empty) tt);
   ends = λ t. subst (λ (rs : List LineReply). AreInOrder (length tape) (length tape) rs) (sym none) (omega arith);
   refused = refused ∙ ap (λ (rs : List LineReply). has_refusal (histories_in session.state) lines rs) (sym none);

@@ -3,7 +3,7 @@ use Rattle.std.proofs.Common.{◌≡◌, ℕ, ◌+◌, ◌*◌, ◌^◌, ◌<◌
 use Rattle.std.proofs.lemmas.List.Sums.{fold-append}
 use Rattle.std.proofs.lemmas.List.{map-append, length-map}
 use Rattle.std.proofs.lemmas.List.Elements.{All-nil, All-cons, All-append, All-push}
-use Rattle.std.specs.Prelude.{slice_get, if◌then◌else◌, vec_capacity, IfOk, IfSome, IsTrue, IsFalse}
+use Rattle.std.specs.Prelude.{slice_get, if◌then◌else◌, vec_capacity, MatchOption, IfOk, IfSome, IsTrue, IsFalse}
 use Rattle.std.specs.Global.{Vec}
 use Rattle.std.specs.List.{All}
 use Rattle.std.specs.Option.{option_and_then, option_map_or}
@@ -289,7 +289,7 @@ module _ {B : Type 0} (setting : Setting) (old new : Parts B) (epochs : Vec Epoc
       there = subst (λ (n : ℕ). slice_get (hs ++ running_history new ∷ []) n ≡ Some (running_history new)) len (get_last hs (running_history new));
       earlier = earlier;
       next = next_number 0 new.entries;
-      waiting = waiting_at old.entries earlier own.script was;
+      waiting = waiting_at (list_size (places_of old.members)) old.entries new.entries earlier own.script was;
       now = ap (λ (n : ℕ). record { opened = k + 1; running = true; calls = next_number 0 new.entries; size = n }) same_size;
     };
   }

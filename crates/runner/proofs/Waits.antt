@@ -37,15 +37,15 @@ pub waited_called : {size place : ℕ} {old new : List Entry} → IsWaitedFor si
 waited_called {size = size} {old = old} was = called_then (waiting_called size old was.between was.earlier was.waiting) (called_once was.asked)
 
 -- the replies to the calls of a wait that goes on
-pub waiting_at : {size : ℕ} {new : List Entry} (old : List Entry) (earlier : List ℕ) → AreByScript (next_number 0 old) old → IsStillWaiting size old earlier new
+pub waiting_at : (size : ℕ) (old new : List Entry) (earlier : List ℕ) → AreByScript (next_number 0 old) old → IsStillWaiting size old earlier new
     → IsWaitingAt size new earlier (next_number 0 old) (next_number 0 new)
-waiting_at old [] own same = ap (λ (l : List Entry). next_number 0 l) same
-waiting_at {size = size} {new = new} old (first ∷ others) own (mid, one, more, rest) =
+waiting_at size old new [] own same = ap (λ (l : List Entry). next_number 0 l) same
+waiting_at size old new (first ∷ others) own (mid, one, more, rest) =
     let so_far = called_own (called_once one) own in
     let later = waiting_called size mid new others rest in (
       subst (λ (l : List Entry). IsReplyAt size l first (next_number 0 old) (Step steps_at_once)) (sym later.grown) (reply_longer later.more (called_apart later so_far) (reply_at one)),
       subst (λ (b : Bool). IsTrue b) (sym (ap (λ (l : List Entry). leaves_more_at l first) later.grown ∙ leaves_longer mid later.more first _ (entry_there one) ∙ leaves_at one)) more,
-      subst (λ (n : ℕ). IsWaitingAt size new others n (next_number 0 new)) (number_more one) (waiting_at mid others so_far rest),
+      subst (λ (n : ℕ). IsWaitingAt size new others n (next_number 0 new)) (number_more one) (waiting_at size mid new others so_far rest),
     )
 
 -- the replies to its calls, over the whole history

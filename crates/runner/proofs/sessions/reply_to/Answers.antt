@@ -12,8 +12,8 @@ is_answer_refused-refused-requires g c = record { named = turn_named _ c.args.st
 pub reply_of-reply-requires : goal.reply_of-reply-requires
 reply_of-reply-requires g c = record { named = turn_named _ c.args.state c.answer-state.result.0 c.args.numbered.line c.answer-state.ensures.answered c.in-Ok.is }
 
-pub returns-in-Ok-clause-replied : goal.returns-in-Ok-clause-replied
-returns-in-Ok-clause-replied g c =
+pub returns-clause-replied : goal.returns-clause-replied
+returns-clause-replied g c =
     let setting = setting_of g.B.Bank.tells (g.B.Bank.given (bank_in c.args.state)) (g.B.Bank.tape (bank_in c.args.state)) (g.B.Bank.tape (bank_in c.answer-state.result.0)) c.args.backup (g.B.Bank.faults_of (bank_in c.args.state)) (g.B.Bank.faults_of (bank_in c.answer-state.result.0)) in
     let made = c.reply_of-reply.ensures in (
       turn_replied setting c.args.state c.answer-state.result.0 c.args.numbered c.reply_of-reply.result c.is_answer_refused-refused.result c.answer-state.ensures.answered c.in-Ok.is made.what made.line made.lane made.end made.at_end

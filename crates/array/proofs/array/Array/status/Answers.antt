@@ -1,4 +1,6 @@
-use Rattle.std.proofs.Common.{◌≡◌, ◌∷◌, [], refl, sym, ◌∙◌, ap, arith}
+use Rattle.std.proofs.Common.{◌≡◌, ◌∷◌, [], length, refl, sym, ◌∙◌, ap, arith}
+use Rattle.layout.proofs.Limits.{limited}
+use Rattle.superblocks.specs.Reading.{shape_of}
 use Rattle.flat_history.specs.Flat.{next_number}
 use Rattle.flat_history.specs.Plain.{entries_of}
 use Rattle.flat_history.specs.declared.events.Event.TheVariants.{Shown}
@@ -24,3 +26,14 @@ invariant_of-self-2 g c =
 pub returns-clause-ended : goal.returns-clause-ended
 returns-clause-ended g c =
     ended-behind (g.B.Bank.tape c.self.inside.bank) c.enter.new.epoch.first c.make_room.new.self.items c.args.who c.ops-end.result [] (Shown c.in-Ok.shown) c.enter.ensures.items c.ops-end.ensures.count
+
+pub returns-clause-few : goal.returns-clause-few
+returns-clause-few g c =
+    let told = c.in-Ok-told.ensures in
+    let kept = c.self.invariant.kept in
+    let roles = told.roles ∙ ap (λ p. p.members.roles) (sym c.self.view_is) in
+    let spares = told.spares ∙ ap (λ p. p.members.spares) (sym c.self.view_is) in
+    let most = (limited (shape_of c.self.inside.members.newest) kept.placed.valid).most in (
+      omega (arith, ap length roles, kept.placed.roles, most),
+      omega (arith, ap length spares, kept.spares),
+    )
