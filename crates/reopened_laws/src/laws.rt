@@ -6,5 +6,4 @@ ghost use Rattle.reopened_laws.specs.Later.{SoundArraysAreFoundLater};
 /// in the same slots or in fewer.
 pub fn sound_arrays_are_found_later()
     ensures { SoundArraysAreFoundLater }
-{
-}
+{}

@@ -38,8 +38,13 @@ returns-in_err-push_run-clause-appended c =
       whole = search rules;
       full =
           let less : vec_capacity c.args.text.now < length (c.args.text.now.items ++ runs_text c.args.at sectors) =
-          omega (arith, c.loop-start.invariant.room, c.in_err-push_run.ensures.appended.full, ap length told,
-              length-append (text ++ run) (runs_text (c.args.at + (start + found.1)) (drop (start + found.1) sectors))) in
+          omega (
+            arith,
+            c.loop-start.invariant.room,
+            c.in_err-push_run.ensures.appended.full,
+            ap length told,
+            length-append (text ++ run) (runs_text (c.args.at + (start + found.1)) (drop (start + found.1) sectors)),
+          ) in
           search (rules, less);
       room = omega (arith, c.loop-start.invariant.room, c.in_err-push_run.ensures.appended.room);
     }
