@@ -30,7 +30,7 @@ use Rattle.runner.specs.Replies.{Course, at_rest, course_after, course_of}
 use Rattle.runner.specs.Runs.{status_for, stop_of, IsHalted, AreLinesPerformed, AreLossesFailed, IsEnded}
 use Rattle.runner.specs.Sessions.{counted, IsCourse, IsCourseBehind, taken_whole, IsTaken, IsPerformed, IsShownTo}
 use Rattle.runner.specs.Shown.{report_text, has_refusal}
-use Rattle.runner.specs.States.{running_history, histories_in, course_in, RunsOwn, IsLossSince, AreLossesFrom, IsCutShort}
+use Rattle.runner.specs.States.{running_history, histories_in, course_in, RunsOwn, AreLossesBehind, AreLossesFrom, IsCutShort}
 use Rattle.runner.specs.Ended.{AreRising}
 use Rattle.runner.specs.Written.{AreWritesPlaced, IsWritten}
 use Rattle.views.specs.Moving.{Grows}
@@ -90,9 +90,9 @@ stop_of_status (Some WriteFault) refused = refl
 stop_of_status (Some WantsMemory) refused = refl
 
 whole_losses : (setting : Setting) (epochs : List Epoch) → AreLossesFrom setting [] (histories_of epochs) → AreLossesFailed setting epochs
-whole_losses setting [] lost = All-nil (λ epoch. All (λ e. IsLossSince setting (history_of epoch) e.event) epoch.entries.items)
+whole_losses setting [] lost = All-nil (λ epoch. AreLossesBehind setting (history_of epoch) [] epoch.entries.items)
 whole_losses setting (epoch ∷ epochs) (one, more) =
-    All-cons (λ epoch. All (λ e. IsLossSince setting (history_of epoch) e.event) epoch.entries.items) epoch epochs (losses-whole setting (history_of epoch) one) (whole_losses setting epochs more)
+    All-cons (λ epoch. AreLossesBehind setting (history_of epoch) [] epoch.entries.items) epoch epochs (losses-whole setting (history_of epoch) one) (whole_losses setting epochs more)
 
 module _ {B bank_tells : Type 0} {given : Given} {backup : Option ℕ} {tape : List Operation} {start now : ℕ → ℕ} {lines : List Numbered} {session : Session B} {bank : B} (first_tape : List Operation) (epochs : List Epoch) (status : ℕ)
     (falls : NeverFalls start now) (performed : IsPerformed (setting_of bank_tells given first_tape tape backup start now) lines session) (ended : IsEnded (setting_of bank_tells given tape tape backup now now) session.state bank epochs) (told : status ≡ status_for session.stopped session.refused) where

@@ -60,7 +60,7 @@ use Rattle.script.specs.declared.lines.Numbered.{Numbered}
 use Rattle.script.specs.declared.reply.Lane.TheVariants.{Script as InScript}
 use Rattle.runner.specs.declared.report.LineReply.{LineReply}
 use Rattle.runner.specs.Sessions.{IsEndNow, IsReplied}
-use Rattle.runner.specs.States.{histories_in, course_in, IsNamed, EndsBetween, IsLossSince, AreLossesFrom, running_history, course_with, answer_at, IsGrown, AreGrown, AreLossesSince, IsTurn, IsNoTurn, IsTurnOrNone, RunsOwn, IsOwnEntry, AreByScript, IsByScript, IsOfScript, AreOfScript}
+use Rattle.runner.specs.States.{histories_in, course_in, IsNamed, EndsBetween, AreLossesBehind, AreLossesFrom, running_history, course_with, answer_at, IsGrown, AreGrown, AreLossesSince, IsTurn, IsNoTurn, IsTurnOrNone, RunsOwn, IsOwnEntry, AreByScript, IsByScript, IsOfScript, AreOfScript}
 use Rattle.runner.specs.Written.{HasWritten, IsWritten, IsWrittenBy}
 use Rattle.runner.specs.Shown.{IsAnswerShort, is_refusal}
 use Rattle.runner.proofs.AskLaws.{one, with_reply, entry_there, replied_at}
@@ -457,7 +457,7 @@ module _ {B : Type 0} (setting : Setting) (bank : B) (olds epochs : Vec Epoch) (
       losses_go : AreGoing (entries_of opener array.first losses)
       losses_go = each-absent (λ e. IsFalse (is_end e.event)) opener array.first (reading_of found.members) (shape_of found.members.newest).disks (λ role lt missing. (refl, refl))
 
-      found_lost : (more : List Entry) → All (λ e. IsLossSince setting (running_history array) e.event) more → array.entries ≡ entries_of opener array.first losses ++ more → AreLossesSince setting [] (running_history array)
+      found_lost : (more : List Entry) → AreLossesBehind setting (running_history array) (entries_of opener array.first losses) more → array.entries ≡ entries_of opener array.first losses ++ more → AreLossesSince setting [] (running_history array)
       found_lost more others entries = losses-found setting (running_history array) (reading_of found.members) array.first more
           (λ role lt missing t. subst (λ (w : World). MissingAtFirst w role) (same_world t) (opened_missing setting.given setting.tape setting.backup asked found is.begun is.opened t role lt missing)) others entries
         where
@@ -471,7 +471,7 @@ module _ {B : Type 0} (setting : Setting) (bank : B) (olds epochs : Vec Epoch) (
         own = opened_own (subst (λ (l : List Entry). AreByScript (next_number 0 l) l) (sym entries) (subst (λ (n : ℕ). AreByScript n (entries_of opener array.first losses ++ first_entry ∷ [])) (sym one_call)
             (All-append (λ e. IsOwnEntry 1 e) (entries_of opener array.first losses) (first_entry ∷ []) (losses_own 1) (All-cons (λ e. IsOwnEntry 1 e) first_entry [] (inl (refl, omega arith)) (All-nil (λ e. IsOwnEntry 1 e))))))
             (subst (λ (l : List Entry). AreGoing l) (sym entries) (All-push (λ e. IsFalse (is_end e.event)) (entries_of opener array.first losses) first_entry losses_go refl));
-        losses = opened_losses (found_lost (first_entry ∷ []) (All-cons (λ e. IsLossSince setting (running_history array) e.event) first_entry [] tt (All-nil (λ e. IsLossSince setting (running_history array) e.event))) entries);
+        losses = opened_losses (found_lost (first_entry ∷ []) (tt, tt) entries);
         grown = opened_grown;
         ends = longer;
         answer = (

@@ -103,8 +103,8 @@ AreGrown [] news = ⊤
 AreGrown (old ∷ olds) [] = ⊥
 AreGrown (old ∷ olds) (new ∷ news) = IsGrown old new × AreGrown olds news
 
--- A role is told lost by a fault only where a slot has failed that held it at the opening or was a spare, by command only where there was such a
--- slot, and as absent or recovering only where it wasn't whole at the opening.
+-- A role is told lost behind this history by a fault only where a slot has failed that held it at the opening, or was a spare there or told added
+-- since, by command only where there was such a slot, and as absent or recovering only where it wasn't whole at the opening.
 abbrev pub IsRoleLossSince : Setting → History → ℕ → LostCause → Type 0
 IsRoleLossSince setting history role Fault =
     (slot : ℕ) × IsFaulted slot setting.before setting.now × (setting.tells → MayHaveHeld (history_world setting history) history.entries role slot)
@@ -127,11 +127,20 @@ IsLossSince setting history (Stepped done left ended) = IfSome ended (IsRefusalS
 IsLossSince setting history (Refused refusal) = IsRefusalSince setting refusal
 IsLossSince setting history event = ⊤
 
+-- the history as it stood with these entries
+abbrev pub with_entries : List Entry → History → History
+with_entries entries history = record { uuid = history.uuid; given = history.given; first = history.first; entries = entries }
+
+-- each loss and refusal that these entries tell has its cause, by what stood before it
+abbrev pub AreLossesBehind : Setting → History → List Entry → List Entry → Type 0
+AreLossesBehind setting history before [] = ⊤
+AreLossesBehind setting history before (e ∷ entries) = IsLossSince setting (with_entries before history) e.event × AreLossesBehind setting history (before ++ e ∷ []) entries
+
 -- more entries stand behind the old ones, and each loss and refusal that they tell has its cause
 pub record AreLossesSince (setting : Setting) (old : List Entry) (new : History) : Type 0 where
   pub more : List Entry
   pub grown : new.entries ≡ old ++ more
-  pub failed : All (λ e. IsLossSince setting new e.event) more
+  pub failed : AreLossesBehind setting new old more
 
 abbrev pub AreLossesFrom : Setting → List History → List History → Type 0
 AreLossesFrom setting [] [] = ⊤
