@@ -2,7 +2,6 @@
 use Rattle.std.proofs.Common.{◌≡◌, ℕ, ◌+◌, ◌-◌, ◌≤◌, inl, inr, Bool, true, false, Option, Some, None, List, [], ◌∷◌, ◌++◌, length, take, drop, refl, sym, ◌∙◌, ap, subst, arith, append-nil, length-append}
 use Rattle.std.specs.Prelude.{MatchOption, slice_get, unwrap_or}
 use Rattle.std.specs.Global.{Vec}
-use Rattle.std.specs.List.{All}
 use Rattle.std.proofs.lemmas.List.{length-map}
 use Rattle.std.proofs.lemmas.List.Elements.{All-nil, All-cons}
 use Rattle.bank.specs.Given.{Given, NeverFalls}
@@ -25,8 +24,7 @@ use Rattle.runner.specs.Asked.{script_who, IsAskedAt}
 use Rattle.runner.specs.Histories.{History, history_of, histories_of, is_end}
 use Rattle.runner.specs.Making.{Setting, setting_of}
 use Rattle.bank.specs.declared.bank.Operation.{Operation}
-use Rattle.script.specs.declared.lines.Line.{Line}
-use Rattle.runner.specs.Replies.{Course, at_rest, course_after, course_of}
+use Rattle.runner.specs.Replies.{Course, at_rest, course_of}
 use Rattle.runner.specs.Runs.{status_for, stop_of, IsHalted, AreLinesPerformed, AreLossesFailed, IsEnded}
 use Rattle.runner.specs.Sessions.{counted, IsCourse, IsCourseBehind, taken_whole, IsTaken, IsPerformed, IsShownTo}
 use Rattle.runner.specs.Shown.{report_text, has_refusal}

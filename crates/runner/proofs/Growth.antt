@@ -43,7 +43,7 @@ use Rattle.runner.specs.declared.report.Answered.{Answered}
 use Rattle.runner.specs.declared.report.Answered.TheVariants.{Inside, Outside as IsOutside}
 use Rattle.runner.specs.declared.report.LineReply.{LineReply}
 use Rattle.runner.specs.Histories.{History, entry_at}
-use Rattle.runner.specs.Examining.{stored_at, IsExamined, IsExaminedBy, IsUnexamined}
+use Rattle.runner.specs.Examining.{IsExaminedBy, IsUnexamined}
 use Rattle.runner.specs.Making.{Setting, held_at, history_world, IsUncreated, IsUnassembled, IsStoredNew, IsStoredAs, BeginsShown}
 use Rattle.runner.specs.Replies.{Course, spec_of, FitsLine, IsMadeBy, IsFoundBy, IsRefusedOutside, course_behind, course_after, course_of, leaves_more, leaves_more_at, IsReplyAt, IsWaitedAt, IsRepliedAt, IsAnsweredInside, IsAnswer, IsEnd, IsReplyTo, AreReplies}
 use Rattle.runner.specs.Shown.{entry_text, answer_text, reply_text, report_text, tells_refusal, is_refusal, has_refusal}

@@ -222,7 +222,7 @@ behind-from setting history before more [] all = tt
 behind-from setting history before more (e ∷ entries) all = (
   loss-later setting history before more e.event (All-head (λ e. IsLossSince setting (with_entries before history) e.event) e entries all),
   subst (λ (l : List Entry). AreLossesBehind setting history l entries) (sym (append_assoc before more (e ∷ [])))
-  (behind-from setting history before (more ++ e ∷ []) entries (All-tail (λ e. IsLossSince setting (with_entries before history) e.event) e entries all)),
+      (behind-from setting history before (more ++ e ∷ []) entries (All-tail (λ e. IsLossSince setting (with_entries before history) e.event) e entries all)),
 )
 
 behind-start : (setting : Setting) (history : History) (before entries : List Entry) → All (λ e. IsLossSince setting (with_entries before history) e.event) entries → AreLossesBehind setting history before entries

@@ -1,5 +1,5 @@
 -- What an array leaves is what the next one opens with.
-use Rattle.std.specs.Prelude.{◌≡◌, ℕ, List, [], ◌∷◌, Option, ⊤}
+use Rattle.std.specs.Prelude.{ℕ, List, [], ◌∷◌, Option, ⊤}
 use Rattle.bank.specs.Given.{Given}
 use Rattle.bank.specs.Tape.{contents, OnlyFlushesBetween}
 use Rattle.bank.specs.declared.bank.Operation.{Operation}

@@ -16,7 +16,7 @@ use Rattle.runner.proofs.Legal.{grows_longer, going_grown, going_asked}
 use Rattle.views.specs.Whole.{list_size}
 use Rattle.views.specs.Placed.{places_of}
 use Rattle.runner.proofs.Told.{told_result, asked_read, asked_write, asked_flush, asked_fail, asked_steps, told_added, told_waited}
-use Rattle.runner.proofs.Losses.{later-of, opening-of, losses-of, losses-given, held-later, held-before, on-lost, on-added, on-given}
+use Rattle.runner.proofs.Losses.{later-of, opening-of, losses-of, losses-given, held-before, on-lost, on-added, on-given}
 use Rattle.runner.proofs.Turns.{turn_of_ask, turn_of_wait, turn_refused, going_read, going_write, going_flush, going_fail, going_add, going_steps}
 use Rattle.runner.proofs.Statuses.{going_detail, going_mdstat, told_detail, told_mdstat}
 use Rattle.runner.specs.Written.{HasWritten}

@@ -1,17 +1,13 @@
-use Rattle.std.proofs.Common.{◌≡◌, rules, refl, List, ℕ, [], ◌∷◌, ◌++◌, length, sym, ap, subst, arith, ◌∙◌}
+use Rattle.std.proofs.Common.{◌≡◌, rules, refl, ℕ, [], ◌∷◌, ◌++◌, length, sym, ap, subst, arith, ◌∙◌}
 use Rattle.std.specs.Prelude.{IsTrue}
 use Rattle.bank.specs.Given.{NeverFalls}
 use Rattle.bank.specs.Tape.{contents}
 use Rattle.views.specs.Moving.{Grows}
 use Rattle.md_base.specs.declared.answers.Fault.{Fault}
 use Rattle.md_base.specs.declared.answers.Who.{Who}
-use Rattle.flat_history.specs.declared.events.Entry.{Entry}
 use Rattle.flat_history.specs.declared.events.Event.TheVariants.{Shown}
 use Rattle.flat_history.specs.Flat.{next_number}
 use Rattle.flat_history.specs.Plain.{entries_of}
-use Rattle.flat_history.specs.Transfers.{last_end_from}
-use Rattle.row_io.specs.Rows.{reading_of}
-use Rattle.array_kept.specs.Adopting.{found_losses}
 use Rattle.array_kept.specs.Calls.{IsEntered, IsEndOf}
 use Rattle.views.specs.Parts.{Parts}
 use Rattle.assemble.specs.Opening.{HasCause}
@@ -29,7 +25,7 @@ use Rattle.superblocks.specs.declared.members.Members.{Members}
 use Rattle.runner.specs.Making.{world_at, AreHeldSince}
 use Rattle.runner.proofs.Found.{opened_accepted, opened_held}
 use Rattle.runner.proofs.Losses.{held-later}
-use Rattle.runner.proofs.Turns.{opening_end, turn_found, turn_idle, no_turn_idle}
+use Rattle.runner.proofs.Turns.{turn_found, turn_idle, no_turn_idle}
 use Rattle.runner.specs.Histories.{histories_of}
 use Rattle.runner.specs.Written.{MayWrite, HasWritten, IsWritten}
 use Rattle.runner.proofs.Writing.{written_idle, idle_flushes, opened_flushes}

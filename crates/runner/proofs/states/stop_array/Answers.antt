@@ -21,7 +21,7 @@ use Rattle.flat_history.specs.Epochs.{IsEpochRight}
 use Rattle.runner.specs.Ended.{IfFilledRight}
 use Rattle.runner.proofs.Legal.{grows_longer, going_grown, former_more, legal_epoch}
 use Rattle.runner.proofs.Told.{told_none, told_once, told_stop}
-use Rattle.runner.proofs.Losses.{later-of, opening-of, losses-of, held-later, held-before, on-lost}
+use Rattle.runner.proofs.Losses.{later-of, opening-of, losses-of, held-before, on-lost}
 use Rattle.runner.proofs.Turns.{turn_ended, turn_asked, no_turn, at_the_end}
 use Rattle.runner.specs.Written.{HasWritten}
 use Rattle.runner.proofs.Writing.{written_ended, written_going}
