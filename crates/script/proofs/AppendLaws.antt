@@ -1,5 +1,5 @@
 -- Texts that are appended one behind another.
-use Rattle.std.proofs.Common.{rules, subst, ◌≡◌, ℕ, ◌+◌, ◌<◌, ◌≤◌, List, ◌++◌, length, refl, sym, ap, ◌∙◌, arith, length-append, append_assoc, Vec, vec_capacity, Result, Ok, Err, OnOk, OnErr}
+use Rattle.std.proofs.Common.{rules, subst, ◌≡◌, ℕ, List, ◌++◌, length, ap, ◌∙◌, arith, length-append, append_assoc, Vec, Result, Ok, Err}
 use Rattle.script.specs.Appends.{Appends}
 
 -- what was appended first, and then another text
