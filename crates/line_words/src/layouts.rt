@@ -1,12 +1,13 @@
 //! The layouts by their names.
 
-ghost use Rattle.std.specs.Prelude.{◌≡◌};
+ghost use Rattle.std.specs.Prelude.{◌≡◌, ◌≤◌, length, IfSome};
 ghost use Rattle.std.specs.Option.{option_copied};
 ghost use Rattle.line_words.specs.Layouts.{layout_name, is_name, layout_named};
 
 /// The name of a layout number, where it has one.
 pub fn layout_name(layout: u32) -> Option<&'static str>
-    ensures { option_copied result ≡ layout_name layout }
+    ensures name { option_copied result ≡ layout_name layout }
+    ensures short { IfSome result (λ name. length name.now ≤ 30) }
 {
     match layout {
         0 => Some("left-asymmetric"),

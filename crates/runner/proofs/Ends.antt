@@ -2,7 +2,6 @@
 use Rattle.std.proofs.Common.{◌≡◌, ℕ, ◌+◌, ◌-◌, ◌≤◌, inl, inr, Bool, true, false, Option, Some, None, List, [], ◌∷◌, ◌++◌, length, take, drop, refl, sym, ◌∙◌, ap, subst, arith, append-nil, length-append}
 use Rattle.std.specs.Prelude.{MatchOption, slice_get, unwrap_or}
 use Rattle.std.specs.Global.{Vec}
-use Rattle.std.specs.List.{All}
 use Rattle.std.proofs.lemmas.List.{length-map}
 use Rattle.std.proofs.lemmas.List.Elements.{All-nil, All-cons}
 use Rattle.bank.specs.Given.{Given, NeverFalls}
@@ -25,19 +24,18 @@ use Rattle.runner.specs.Asked.{script_who, IsAskedAt}
 use Rattle.runner.specs.Histories.{History, history_of, histories_of, is_end}
 use Rattle.runner.specs.Making.{Setting, setting_of}
 use Rattle.bank.specs.declared.bank.Operation.{Operation}
-use Rattle.script.specs.declared.lines.Line.{Line}
-use Rattle.runner.specs.Replies.{Course, at_rest, course_after, course_of}
+use Rattle.runner.specs.Replies.{Course, at_rest, course_of}
 use Rattle.runner.specs.Runs.{status_for, stop_of, IsHalted, AreLinesPerformed, AreLossesFailed, IsEnded}
 use Rattle.runner.specs.Sessions.{counted, IsCourse, IsCourseBehind, taken_whole, IsTaken, IsPerformed, IsShownTo}
 use Rattle.runner.specs.Shown.{report_text, has_refusal}
-use Rattle.runner.specs.States.{running_history, histories_in, course_in, RunsOwn, IsLossSince, AreLossesFrom, IsCallNamed, IsFoundUntold}
+use Rattle.runner.specs.States.{running_history, histories_in, course_in, RunsOwn, AreLossesBehind, AreLossesFrom, IsCutShort}
 use Rattle.runner.specs.Ended.{AreRising}
 use Rattle.runner.specs.Written.{AreWritesPlaced, IsWritten}
 use Rattle.views.specs.Moving.{Grows}
 use Rattle.runner.proofs.AskLaws.{one, with_reply}
 use Rattle.runner.proofs.Legal.{grows_longer}
 use Rattle.runner.proofs.Writing.{placed-end, quiet-between}
-use Rattle.runner.proofs.Growth.{IsWider, replies_stay, replies_front, shown_stays, courses_stay, course_stays, called_named, called_stays}
+use Rattle.runner.proofs.Growth.{IsWider, replies_stay, replies_front, shown_stays, courses_stay, cut_stays}
 use Rattle.runner.proofs.Losses.{losses-halted, losses-whole, losses-kept, losses-last, losses_add}
 use Rattle.runner.proofs.Turns.{now_are, turn_ended, grown_kept, get_last}
 
@@ -90,9 +88,9 @@ stop_of_status (Some WriteFault) refused = refl
 stop_of_status (Some WantsMemory) refused = refl
 
 whole_losses : (setting : Setting) (epochs : List Epoch) → AreLossesFrom setting [] (histories_of epochs) → AreLossesFailed setting epochs
-whole_losses setting [] lost = All-nil (λ epoch. All (λ e. IsLossSince setting (history_of epoch) e.event) epoch.entries.items)
+whole_losses setting [] lost = All-nil (λ epoch. AreLossesBehind setting (history_of epoch) [] epoch.entries.items)
 whole_losses setting (epoch ∷ epochs) (one, more) =
-    All-cons (λ epoch. All (λ e. IsLossSince setting (history_of epoch) e.event) epoch.entries.items) epoch epochs (losses-whole setting (history_of epoch) one) (whole_losses setting epochs more)
+    All-cons (λ epoch. AreLossesBehind setting (history_of epoch) [] epoch.entries.items) epoch epochs (losses-whole setting (history_of epoch) one) (whole_losses setting epochs more)
 
 module _ {B bank_tells : Type 0} {given : Given} {backup : Option ℕ} {tape : List Operation} {start now : ℕ → ℕ} {lines : List Numbered} {session : Session B} {bank : B} (first_tape : List Operation) (epochs : List Epoch) (status : ℕ)
     (falls : NeverFalls start now) (performed : IsPerformed (setting_of bank_tells given first_tape tape backup start now) lines session) (ended : IsEnded (setting_of bank_tells given tape tape backup now now) session.state bank epochs) (told : status ≡ status_for session.stopped session.refused) where
@@ -135,18 +133,10 @@ module _ {B bank_tells : Type 0} {given : Given} {backup : Option ℕ} {tape : L
   by_stop (Some WantsMemory) (inl is) = inl (is ∙ sym told_still)
   by_stop (Some WantsMemory) (inr next) = inr (by_first behind next)
     where
-      by_line : (line : Line) → IsFoundUntold (told_by (histories_in session.state)) line (course_in session.state) → IsFoundUntold (told_by (histories_of epochs)) line (course_in session.state)
-      by_line line was = subst (λ (c : Course). IsFoundUntold c line (course_in session.state)) (sym told_still) was
-
       by_first : (ls : List Numbered) → IsCourseBehind (histories_in session.state) ls (told_by (histories_in session.state)) (course_in session.state) → IsCourseBehind (histories_of epochs) ls (told_by (histories_of epochs)) (course_in session.state)
       by_first [] next = absurd next
-      by_first (l ∷ ls) (inl (what, named, is)) = inl (
-        what,
-        subst (λ (c : Course). IsCallNamed (histories_of epochs) c l.line what) (sym told_still) (called_stays (histories_in session.state) (histories_of epochs) (told_by (histories_in session.state)) l.line what ended.grown named),
-        is ∙ sym (course_stays (histories_in session.state) (histories_of epochs) (told_by (histories_in session.state)) l.line what ended.grown (called_named (histories_in session.state) (told_by (histories_in session.state)) l.line what named))
-            ∙ ap (λ (c : Course). course_after (histories_of epochs) c l.line what) (sym told_still),
-      )
-      by_first (l ∷ ls) (inr untold) = inr (by_line l.line untold)
+      by_first (l ∷ ls) cut = subst (λ (c : Course). IsCutShort (histories_of epochs) c l.line (course_in session.state)) (sym told_still)
+          (cut_stays (histories_in session.state) (histories_of epochs) (told_by (histories_in session.state)) l.line (course_in session.state) ended.grown cut)
 
   -- the writes, once the array is halted
   end_written : bank_tells → length first_tape ≤ length tape → IsWritten (setting_of bank_tells given tape tape backup now now) (histories_in session.state) (histories_of epochs) (λ slot. ⊥)

@@ -3,7 +3,7 @@ use Rattle.std.proofs.Common.{◌≡◌, ℕ, ◌<◌, ◌≤◌, Option, List, 
 use Rattle.std.specs.Prelude.{IfOk, OnErr, IsErr}
 use Rattle.std.specs.Global.{Vec}
 use Rattle.md_base.specs.declared.answers.Refusal.{Refusal}
-use Rattle.md_base.specs.declared.answers.Refusal.TheVariants.{NoSuchSlot, SlotFault}
+use Rattle.md_base.specs.declared.answers.Refusal.TheVariants.{SlotFault}
 use Rattle.bank.specs.Given.{Given, IsFaulted}
 use Rattle.bank.specs.declared.bank.BankFault.{BankFault}
 use Rattle.bank.specs.declared.bank.Operation.{Operation}
@@ -15,10 +15,8 @@ use Rattle.flat_history.specs.Reopened.{OpensAccepted}
 use Rattle.views.specs.Moving.{Grows}
 use Rattle.views.specs.Parts.{Parts}
 use Rattle.script.specs.declared.lines.Line.TheVariants.{Examine}
-use Rattle.runner.specs.declared.report.Answered.{Answered}
 use Rattle.runner.specs.declared.report.Answered.TheVariants.{Outside as IsOutside}
 use Rattle.runner.specs.declared.report.Outside.TheVariants.{Refused}
-use Rattle.runner.specs.declared.states.State.{State}
 use Rattle.runner.specs.declared.states.State.TheVariants.{Idle, Running}
 use Rattle.runner.specs.Ended.{AreFormer, IsGoing}
 use Rattle.runner.specs.Examining.{IsExamined, IsUnexamined, told_of}

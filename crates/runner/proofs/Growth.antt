@@ -43,11 +43,11 @@ use Rattle.runner.specs.declared.report.Answered.{Answered}
 use Rattle.runner.specs.declared.report.Answered.TheVariants.{Inside, Outside as IsOutside}
 use Rattle.runner.specs.declared.report.LineReply.{LineReply}
 use Rattle.runner.specs.Histories.{History, entry_at}
-use Rattle.runner.specs.Examining.{stored_at, IsExamined, IsExaminedBy, IsUnexamined}
+use Rattle.runner.specs.Examining.{IsExaminedBy, IsUnexamined}
 use Rattle.runner.specs.Making.{Setting, held_at, history_world, IsUncreated, IsUnassembled, IsStoredNew, IsStoredAs, BeginsShown}
 use Rattle.runner.specs.Replies.{Course, spec_of, FitsLine, IsMadeBy, IsFoundBy, IsRefusedOutside, course_behind, course_after, course_of, leaves_more, leaves_more_at, IsReplyAt, IsWaitedAt, IsRepliedAt, IsAnsweredInside, IsAnswer, IsEnd, IsReplyTo, AreReplies}
 use Rattle.runner.specs.Shown.{entry_text, answer_text, reply_text, report_text, tells_refusal, is_refusal, has_refusal}
-use Rattle.runner.specs.States.{IsGrown, AreGrown, IsNamed, IsCallFor, IsCallNamed}
+use Rattle.runner.specs.States.{IsGrown, AreGrown, IsNamed, IsWaitingAt, IsCutShort}
 use Rattle.runner.proofs.Causes.{faulted-wider, given-wider, create-later, assemble-later}
 use Rattle.runner.proofs.Worlds.{list-same, alike-later, sound-later, new-later, stored-later}
 
@@ -126,14 +126,41 @@ replied_longer : (size place number : ℕ) (line : Line) (entries more : List En
 replied_longer size place number Wait entries more later (earlier, was) = (earlier, waited_longer size place entries more later earlier number was)
 replied_longer size place number line entries more later was = reply_longer more later was
 
--- the entry of a reply is there, and of a call for the line
-waited_there : (size place : ℕ) (entries : List Entry) (earlier : List ℕ) (number : ℕ) → IsWaitedAt size entries earlier place number → (e : Entry) × (slice_get entries place ≡ Some e) × (number ≤ e.number)
-waited_there size place entries [] number (reply, ended) = (reply.entry, reply.there, omega (arith, reply.numbered))
-waited_there size place entries (first ∷ others) number (reply, going, rest) = let is = waited_there size place entries others (number + 1) rest in (is.0, is.1, omega (arith, is.2))
+-- the entry of a reply is there
+waited_there : (size place : ℕ) (entries : List Entry) (earlier : List ℕ) (number : ℕ) → IsWaitedAt size entries earlier place number → (e : Entry) × (slice_get entries place ≡ Some e)
+waited_there size place entries [] number (reply, ended) = (reply.entry, reply.there)
+waited_there size place entries (first ∷ others) number (reply, going, rest) = waited_there size place entries others (number + 1) rest
 
-replied_there : (size place : ℕ) (entries : List Entry) (line : Line) (number : ℕ) → IsRepliedAt size entries place number line → (e : Entry) × (slice_get entries place ≡ Some e) × IsCallFor line number e.number
+replied_there : (size place : ℕ) (entries : List Entry) (line : Line) (number : ℕ) → IsRepliedAt size entries place number line → (e : Entry) × (slice_get entries place ≡ Some e)
 replied_there size place entries Wait number (earlier, was) = waited_there size place entries earlier number was
-replied_there size place entries line number was = (was.entry, was.there, was.numbered)
+replied_there size place entries line number was = (was.entry, was.there)
+
+-- a wait that was cut short stays so
+waiting_longer : (size : ℕ) (entries more : List Entry) → All (λ e. rest_of_call e more ≡ []) entries
+    → (earlier : List ℕ) (number next : ℕ) → IsWaitingAt size entries earlier number next → IsWaitingAt size (entries ++ more) earlier number next
+waiting_longer size entries more later [] number next same = same
+waiting_longer size entries more later (first ∷ others) number next (reply, going, rest) = (
+  reply_longer more later reply,
+  subst (λ (b : Bool). IsTrue b) (sym (leaves_longer entries more first reply.entry reply.there)) going,
+  waiting_longer size entries more later others (number + 1) next rest,
+)
+
+pub cut_stays : (olds news : List History) (old : Course) (line : Line) (new : Course) → AreGrown olds news → IsCutShort olds old line new → IsCutShort news old line new
+cut_stays olds news old Wait new grown was =
+    let now = history_stays olds news grown was.place was.history was.there in
+    record {
+      running = was.running;
+      place = was.place;
+      latest = was.latest;
+      history = now.0;
+      there = now.1;
+      earlier = was.earlier;
+      next = was.next;
+      waiting = subst (λ (l : List Entry). IsWaitingAt old.size l was.earlier old.calls was.next) (sym now.2.grown)
+          (waiting_longer old.size was.history.entries now.2.more now.2.later was.earlier old.calls was.next was.waiting);
+      now = was.now;
+    }
+cut_stays olds news old line new grown was = absurd was
 
 inside_stays : (olds news : List History) (course : Course) {epoch place : ℕ} {line : Line} → AreGrown olds news → IsAnsweredInside olds course epoch place line → IsAnsweredInside news course epoch place line
 inside_stays olds news course {epoch = epoch} {place = place} {line = line} grown was =
@@ -398,33 +425,12 @@ some_named : (o : Option Entry) → IsSome o → (e : Entry) × (o ≡ Some e)
 some_named None is = absurd (cc)
 some_named (Some e) is = (e, refl)
 
--- an answer names an entry of a call for the line
-pub answer_called : (setting : Setting) (histories : List History) (course : Course) (line : Line) (end : ℕ) (what : Answered) → IsAnswer setting histories course line end what → IsCallNamed histories course line what
-answer_called setting histories course line end (Inside epoch at) is =
-    let entry = replied_there course.size at is.history.entries line course.calls is.replied in
-    subst (λ (o : Option Entry). MatchOption o ⊥ (λ e. IsCallFor line course.calls e.number)) (sym (ap (λ (o : Option History). option_and_then (λ h. slice_get h.entries at) o) is.there ∙ entry.1)) (entry.2)
-answer_called setting histories course line end (IsOutside outside) was = tt
-
--- it is there
-pub called_named : (histories : List History) (course : Course) (line : Line) (what : Answered) → IsCallNamed histories course line what → IsNamed histories what
-called_named histories course line (Inside epoch at) is = by_entry (entry_at histories epoch at) is
-  where
-    by_entry : (o : Option Entry) → MatchOption o ⊥ (λ e. IsCallFor line course.calls e.number) → IsSome o
-    by_entry None is = absurd is
-    by_entry (Some e) is = refl
-called_named histories course line (IsOutside outside) is = tt
-
+-- an answer names an entry that is there
 pub answer_named : (setting : Setting) (histories : List History) (course : Course) (line : Line) (end : ℕ) (what : Answered) → IsAnswer setting histories course line end what → IsNamed histories what
-answer_named setting histories course line end what is = called_named histories course line what (answer_called setting histories course line end what is)
-
--- and stays so
-pub called_stays : (olds news : List History) (course : Course) (line : Line) (what : Answered) → AreGrown olds news → IsCallNamed olds course line what → IsCallNamed news course line what
-called_stays olds news course line (Inside epoch at) grown is = by_entry (entry_at olds epoch at) refl is
-  where
-    by_entry : (o : Option Entry) → entry_at olds epoch at ≡ o → MatchOption o ⊥ (λ e. IsCallFor line course.calls e.number) → MatchOption (entry_at news epoch at) ⊥ (λ e. IsCallFor line course.calls e.number)
-    by_entry None same is = absurd is
-    by_entry (Some e) same is = subst (λ (o : Option Entry). MatchOption o ⊥ (λ e. IsCallFor line course.calls e.number)) (sym (named_stays olds news grown epoch at e same)) is
-called_stays olds news course line (IsOutside outside) grown is = tt
+answer_named setting histories course line end (Inside epoch at) is =
+    let entry = replied_there course.size at is.history.entries line course.calls is.replied in
+    subst (λ (o : Option Entry). IsSome o) (sym (ap (λ (o : Option History). option_and_then (λ h. slice_get h.entries at) o) is.there ∙ entry.1)) refl
+answer_named setting histories course line end (IsOutside outside) is = tt
 
 -- the run stands where it stood
 pub course_stays : (olds news : List History) (course : Course) (line : Line) (what : Answered) → AreGrown olds news → IsNamed olds what → course_after news course line what ≡ course_after olds course line what

@@ -10,6 +10,7 @@ pub mod Legal
 pub mod Losses
 pub mod Marks
 pub mod Reopening
+pub mod Shortness
 pub mod Statuses
 pub mod Steps
 pub mod Texts

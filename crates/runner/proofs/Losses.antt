@@ -1,7 +1,7 @@
 -- What the histories of a run tell of losses.
 use Rattle.std.proofs.Common.{◌≡◌, ◌⊎◌, inl, inr, ℕ, zero, suc, ◌<◌, ◌||◌, not, Bool, true, Option, Some, None, List, [], ◌∷◌, ◌++◌, refl, sym, ◌∙◌, ap, subst, arith, append_assoc, append-nil}
 use Rattle.std.proofs.lemmas.List.Folds.{list_any-append}
-use Rattle.std.proofs.lemmas.List.Elements.{All-nil, All-cons, All-append, All-weaker}
+use Rattle.std.proofs.lemmas.List.Elements.{All-nil, All-cons, All-append, All-head, All-tail}
 use Rattle.std.specs.Prelude.{slice_index_or, MatchOption, IsTrue}
 use Rattle.std.specs.List.{All, list_any}
 use Rattle.bank.specs.Given.{Given, IsFaulted}
@@ -30,7 +30,7 @@ use Rattle.views.specs.Placed.{AreStillHeld}
 use Rattle.views.specs.Moving.{Grows}
 use Rattle.runner.specs.Histories.{History}
 use Rattle.runner.specs.Making.{Setting, world_at, history_world, HeldAtFirst, MissingAtFirst, SpareAtFirst, is_added, IsSpareSince, MayHaveHeld, AreHeldSince}
-use Rattle.runner.specs.States.{running_history, IsRoleLossSince, IsRefusalSince, IsLossSince, AreLossesSince, AreLossesFrom, AreGrown}
+use Rattle.runner.specs.States.{running_history, IsRoleLossSince, IsRefusalSince, IsLossSince, with_entries, AreLossesBehind, AreLossesSince, AreLossesFrom, AreGrown}
 use Rattle.views.specs.Parts.{Parts}
 use Rattle.runner.proofs.AskLaws.{one, entries_of-append}
 use Rattle.runner.proofs.Causes.{faulted-wider}
@@ -52,8 +52,11 @@ pub record IsHistoryLater (old new : History) : Type 0 where
   pub more : List Entry
   pub grown : new.entries ≡ old.entries ++ more
 
+opened-same : (history : History) → IsSameOpening history history
+opened-same history = record { uuid = refl; given = refl; first = refl }
+
 pub later-same : (history : History) → IsHistoryLater history history
-later-same history = record { same = record { uuid = refl; given = refl; first = refl }; more = []; grown = sym (append-nil history.entries) }
+later-same history = record { same = opened-same history; more = []; grown = sym (append-nil history.entries) }
 
 -- so it is behind a call of an array
 pub later-of : {B tells : Type 0} {before after : World} {Had : ℕ → ℕ → Type 0} {f g : ℕ → ℕ} {old new : Parts B} → IsSameArray tells old new before after → AreLossesBy Had f g old.entries new.entries
@@ -172,51 +175,111 @@ loss-wider was now wider old new later (Stepped done left (Some refusal)) loss =
 loss-wider was now wider old new later (Refused refusal) loss = refusal-wider was now wider refusal loss
 loss-wider was now wider old new later event loss = tt
 
-failed-wider : (was now : Setting) → IsWider was now → (old new : History) → IsHistoryLater old new → (entries : List Entry) → All (λ e. IsLossSince was old e.event) entries → All (λ e. IsLossSince now new e.event) entries
-failed-wider was now wider old new later entries failed =
-    All-weaker (λ e. IsLossSince was old e.event) (λ e. IsLossSince now new e.event) (λ e loss. loss-wider was now wider old new later e.event loss) entries failed
+-- the histories before an entry of two that were opened alike
+alike-before : (old new : History) → IsSameOpening old new → (before : List Entry) → IsHistoryLater (with_entries before old) (with_entries before new)
+alike-before old new same before = record { same = record { uuid = same.uuid; given = same.given; first = same.first }; more = []; grown = sym (append-nil before) }
+
+-- the history of an array, as it stood before a call
+before-of : (old new : History) → IsSameOpening old new → IsHistoryLater old (with_entries old.entries new)
+before-of old new same = record { same = record { uuid = same.uuid; given = same.given; first = same.first }; more = []; grown = sym (append-nil old.entries) }
+
+pub opening-of : {B tells : Type 0} {before after : World} {old new : Parts B} → IsSameArray tells old new before after → IsSameOpening (running_history old) (running_history new)
+opening-of same = record { uuid = same.uuid; given = same.given; first = same.first }
+
+pub held-before : {tells : Type 0} {before after : List Operation} (given : Given) (backup : Option ℕ) (old new : History) (members : Members) → Grows tells before after → IsSameOpening old new
+    → (tells → AreHeldSince (world_at given before backup old) old.entries members) → tells → AreHeldSince (world_at given after backup new) old.entries members
+held-before given backup old new members grows same was = held-later given backup old (with_entries old.entries new) members grows (before-of old new same) was
+
+behind-wider : (was now : Setting) → IsWider was now → (old new : History) → IsSameOpening old new → (before entries : List Entry) → AreLossesBehind was old before entries → AreLossesBehind now new before entries
+behind-wider was now wider old new same before [] failed = tt
+behind-wider was now wider old new same before (e ∷ entries) (one, failed) = (
+  loss-wider was now wider (with_entries before old) (with_entries before new) (alike-before old new same before) e.event one,
+  behind-wider was now wider old new same (before ++ e ∷ []) entries failed,
+)
+
+-- what may have held a role by these entries may have held it by more of them
+held-more : (world : World) (before more : List Entry) (role slot : ℕ) → MayHaveHeld world before role slot → MayHaveHeld world (before ++ more) role slot
+held-more world before more role slot (inl held) = inl held
+held-more world before more role slot (inr (inl first)) = inr (inl first)
+held-more world before more role slot (inr (inr told)) = inr (inr (added-more slot before more told))
+
+role-later : (setting : Setting) (history : History) (before more : List Entry) (role : ℕ) (cause : LostCause) → IsRoleLossSince setting (with_entries before history) role cause → IsRoleLossSince setting (with_entries (before ++ more) history) role cause
+role-later setting history before more role Fault (slot, failed, held) = (slot, failed, λ t. held-more (history_world setting history) before more role slot (held t))
+role-later setting history before more role Command held = λ t. let is = held t in (is.0, held-more (history_world setting history) before more role is.0 is.1)
+role-later setting history before more role Absent missing = missing
+role-later setting history before more role Recovering missing = missing
+
+loss-later : (setting : Setting) (history : History) (before more : List Entry) (event : Event) → IsLossSince setting (with_entries before history) event → IsLossSince setting (with_entries (before ++ more) history) event
+loss-later setting history before more (Lost role cause) loss = role-later setting history before more role cause loss
+loss-later setting history before more (SpareLost slot) loss = loss
+loss-later setting history before more (Stepped done left ended) loss = loss
+loss-later setting history before more (Refused refusal) loss = loss
+loss-later setting history before more event loss = tt
+
+-- what has its cause by an earlier history has it by each later one
+behind-from : (setting : Setting) (history : History) (before more entries : List Entry) → All (λ e. IsLossSince setting (with_entries before history) e.event) entries → AreLossesBehind setting history (before ++ more) entries
+behind-from setting history before more [] all = tt
+behind-from setting history before more (e ∷ entries) all = (
+  loss-later setting history before more e.event (All-head (λ e. IsLossSince setting (with_entries before history) e.event) e entries all),
+  subst (λ (l : List Entry). AreLossesBehind setting history l entries) (sym (append_assoc before more (e ∷ [])))
+      (behind-from setting history before (more ++ e ∷ []) entries (All-tail (λ e. IsLossSince setting (with_entries before history) e.event) e entries all)),
+)
+
+behind-start : (setting : Setting) (history : History) (before entries : List Entry) → All (λ e. IsLossSince setting (with_entries before history) e.event) entries → AreLossesBehind setting history before entries
+behind-start setting history before entries all = subst (λ (l : List Entry). AreLossesBehind setting history l entries) (append-nil before) (behind-from setting history before [] entries all)
+
+behind-append : (setting : Setting) (history : History) (before xs ys : List Entry) → AreLossesBehind setting history before xs → AreLossesBehind setting history (before ++ xs) ys → AreLossesBehind setting history before (xs ++ ys)
+behind-append setting history before [] ys one two = subst (λ (l : List Entry). AreLossesBehind setting history l ys) (append-nil before) two
+behind-append setting history before (x ∷ xs) ys (first, one) two = (
+  first,
+  behind-append setting history (before ++ x ∷ []) xs ys one (subst (λ (l : List Entry). AreLossesBehind setting history l ys) (sym (append_assoc before (x ∷ []) xs)) two),
+)
 
 -- ---- one history
 
-module _ (setting : Setting) (history : History) (Had : ℕ → ℕ → Type 0) (since : setting.tells → (role slot : ℕ) → Had role slot → MayHaveHeld (history_world setting history) history.entries role slot) where
-  role-since : (role : ℕ) (cause : LostCause) → IsRoleLossBy Had setting.before setting.now role cause → IsRoleLossSince setting history role cause
+module _ (setting : Setting) (old : List Entry) (history : History) (Had : ℕ → ℕ → Type 0) (since : setting.tells → (role slot : ℕ) → Had role slot → MayHaveHeld (history_world setting history) old role slot) where
+  role-since : (role : ℕ) (cause : LostCause) → IsRoleLossBy Had setting.before setting.now role cause → IsRoleLossSince setting (with_entries old history) role cause
   role-since role Fault (slot, had, failed) = (slot, failed, λ t. since t role slot had)
   role-since role Command (slot, had) = λ t. (slot, since t role slot had)
   role-since role Absent loss = absurd loss
   role-since role Recovering loss = absurd loss
 
-  loss-since : (event : Event) → IsLossBy Had setting.before setting.now event → IsRefusalTold setting event → IsLossSince setting history event
+  loss-since : (event : Event) → IsLossBy Had setting.before setting.now event → IsRefusalTold setting event → IsLossSince setting (with_entries old history) event
   loss-since (Lost role cause) loss told = role-since role cause loss
   loss-since (SpareLost slot) failed told = failed
   loss-since (Stepped done left ended) loss told = told
   loss-since (Refused refusal) loss told = told
   loss-since event loss told = tt
 
-  losses-since : {old : List Entry} → AreLossesBy Had setting.before setting.now old history.entries → HasTold setting old history.entries → AreLossesSince setting old history
-  losses-since was told = record { more = was.more; grown = was.grown; failed = λ k d lt. loss-since (slice_index_or was.more k d).event (was.failed k d lt) (told_more told was.more was.grown k d lt) }
+  losses-since : AreLossesBy Had setting.before setting.now old history.entries → HasTold setting old history.entries → AreLossesSince setting old history
+  losses-since was told = record {
+    more = was.more;
+    grown = was.grown;
+    failed = behind-start setting history old was.more (λ k d lt. loss-since (slice_index_or was.more k d).event (was.failed k d lt) (told_more told was.more was.grown k d lt));
+  }
 
 -- the losses of a call of an array, by which roles are only lost
-pub losses-of : {members : Members} {old : List Entry} (setting : Setting) (new : History) → (setting.tells → AreHeldSince (history_world setting new) new.entries members) → AreLossesOf members setting.before setting.now old new.entries
+pub losses-of : {members : Members} {old : List Entry} (setting : Setting) (new : History) → (setting.tells → AreHeldSince (history_world setting new) old members) → AreLossesOf members setting.before setting.now old new.entries
     → HasTold setting old new.entries → AreLossesSince setting old new
-losses-of {members = members} setting new since was told = losses-since setting new (Held members) (λ t role slot had. (since t).roles role slot had) was told
+losses-of {members = members} {old = old} setting new since was told = losses-since setting old new (Held members) (λ t role slot had. (since t).roles role slot had) was told
 
 -- and by which they may be given to spares
-pub losses-given : {members : Members} {old : List Entry} (setting : Setting) (new : History) → (setting.tells → AreHeldSince (history_world setting new) new.entries members) → AreLossesBy (MayHold members) setting.before setting.now old new.entries
+pub losses-given : {members : Members} {old : List Entry} (setting : Setting) (new : History) → (setting.tells → AreHeldSince (history_world setting new) old members) → AreLossesBy (MayHold members) setting.before setting.now old new.entries
     → HasTold setting old new.entries → AreLossesSince setting old new
-losses-given {members = members} setting new since was told = losses-since setting new (MayHold members) (λ t role slot had. may-held (history_world setting new) new.entries members (since t) role slot had) was told
+losses-given {members = members} {old = old} setting new since was told = losses-since setting old new (MayHold members) (λ t role slot had. may-held (history_world setting new) old members (since t) role slot had) was told
 
 pub losses-none : (setting : Setting) (history : History) → AreLossesSince setting history.entries history
-losses-none setting history = record { more = []; grown = sym (append-nil history.entries); failed = All-nil (λ e. IsLossSince setting history e.event) }
+losses-none setting history = record { more = []; grown = sym (append-nil history.entries); failed = tt }
 
 pub losses-same : (setting : Setting) (old : List Entry) (new : History) → new.entries ≡ old → AreLossesSince setting old new
-losses-same setting old new same = record { more = []; grown = same ∙ sym (append-nil old); failed = All-nil (λ e. IsLossSince setting new e.event) }
+losses-same setting old new same = record { more = []; grown = same ∙ sym (append-nil old); failed = tt }
 
 -- a halt loses nothing
 pub losses-halted : {tells : Type 0} {tape : List Operation} {old : List Entry} (setting : Setting) (who : Who) (new : History) → IsEntered tells tape who old new.entries (Halted ∷ []) → AreLossesSince setting old new
 losses-halted setting who new entered = record {
   more = one who entered.end Halted ∷ [];
   grown = entered.is;
-  failed = All-cons (λ e. IsLossSince setting new e.event) (one who entered.end Halted) [] tt (All-nil (λ e. IsLossSince setting new e.event));
+  failed = (tt, tt);
 }
 
 -- what holds of the entries of each role that isn't whole holds of all that an opening enters
@@ -238,28 +301,30 @@ each-absent P who end r (suc n) each =
 
 -- an opening tells what wasn't whole there
 pub losses-found : (setting : Setting) (new : History) (r : Reading) (end : ℕ) (more : List Entry) → ((role : ℕ) → role < (shape_of r.newest).disks → is_missing r role ≡ true → setting.tells → MissingAtFirst (history_world setting new) role)
-    → All (λ e. IsLossSince setting new e.event) more → new.entries ≡ entries_of opener end (found_losses r) ++ more → AreLossesSince setting [] new
+    → AreLossesBehind setting new (entries_of opener end (found_losses r)) more → new.entries ≡ entries_of opener end (found_losses r) ++ more → AreLossesSince setting [] new
 losses-found setting new r end more missing others is = record {
   more = entries_of opener end (found_losses r) ++ more;
   grown = is;
-  failed = All-append (λ e. IsLossSince setting new e.event) (entries_of opener end (found_losses r)) more (each-absent (λ e. IsLossSince setting new e.event) opener end r (shape_of r.newest).disks (λ role lt is. (missing role lt is, missing role lt is))) others;
+  failed = behind-append setting new [] (entries_of opener end (found_losses r)) more
+      (behind-start setting new [] (entries_of opener end (found_losses r)) (each-absent (λ e. IsLossSince setting (with_entries [] new) e.event) opener end r (shape_of r.newest).disks (λ role lt is. (missing role lt is, missing role lt is)))) others;
 }
 
 pub losses-wider : (was now : Setting) → IsWider was now → (old : List Entry) (new : History) → AreLossesSince was old new → AreLossesSince now old new
-losses-wider was now wider old new lost = record { more = lost.more; grown = lost.grown; failed = failed-wider was now wider new new (later-same new) lost.more lost.failed }
+losses-wider was now wider old new lost = record { more = lost.more; grown = lost.grown; failed = behind-wider was now wider new new (opened-same new) old lost.more lost.failed }
 
 -- one after the other
 pub losses-then : (was next now : Setting) → IsWider was now → IsWider next now → (old : List Entry) (mid new : History) → IsHistoryLater mid new → AreLossesSince was old mid → AreLossesSince next mid.entries new → AreLossesSince now old new
 losses-then was next now wider_was wider_next old mid new later lost more = record {
   more = lost.more ++ more.more;
   grown = more.grown ∙ ap (λ (l : List Entry). l ++ more.more) lost.grown ∙ append_assoc old lost.more more.more;
-  failed = All-append (λ e. IsLossSince now new e.event) lost.more more.more
-      (failed-wider was now wider_was mid new later lost.more lost.failed) (failed-wider next now wider_next new new (later-same new) more.more more.failed);
+  failed = behind-append now new old lost.more more.more
+      (behind-wider was now wider_was mid new later.same old lost.more lost.failed)
+      (subst (λ (l : List Entry). AreLossesBehind now new l more.more) lost.grown (behind-wider next now wider_next new new (opened-same new) mid.entries more.more more.failed));
 }
 
 -- the whole history of an array that began with none
-pub losses-whole : (setting : Setting) (history : History) → AreLossesSince setting [] history → All (λ e. IsLossSince setting history e.event) history.entries
-losses-whole setting history was = subst (λ (l : List Entry). All (λ e. IsLossSince setting history e.event) l) (sym was.grown) was.failed
+pub losses-whole : (setting : Setting) (history : History) → AreLossesSince setting [] history → AreLossesBehind setting history [] history.entries
+losses-whole setting history was = subst (λ (l : List Entry). AreLossesBehind setting history [] l) (sym was.grown) was.failed
 
 -- ---- several histories
 

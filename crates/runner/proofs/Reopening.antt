@@ -3,7 +3,7 @@ use Rattle.std.proofs.Common.{◌≡◌, ℕ, suc, ◌≤◌, Bool, false, inr, 
 use Rattle.std.specs.Prelude.{if◌then◌else◌}
 use Rattle.std.specs.Option.{option_map_or}
 use Rattle.std.proofs.lemmas.List.Elements.{All-head, All-tail}
-use Rattle.bank.specs.Given.{Given, sizes}
+use Rattle.bank.specs.Given.{Given}
 use Rattle.bank.specs.declared.bank.Operation.{Operation}
 use Rattle.flat_history.specs.declared.events.Entry.{Entry}
 use Rattle.flat_history.specs.declared.events.Epoch.{Epoch}
@@ -14,10 +14,10 @@ use Rattle.flat_history.specs.Epochs.{world_of}
 use Rattle.flat_history.specs.Flat.{rest_of_call}
 use Rattle.flat_history.specs.Growing.{EndBy}
 use Rattle.flat_history.specs.OneShape.{ShapeOpening, opening_in, IsOneShapeEvent, AreOneShape}
-use Rattle.flat_history.specs.Reopened.{IsReopened}
-use Rattle.flat_history.proofs.ReopenedLaws.{settled-found, sound-found}
+use Rattle.flat_history.proofs.ReopenedLaws.{settled-found}
 use Rattle.runner.specs.Ended.{IsLegalEpoch, IsSafeEpoch, AreFormer}
-use Rattle.runner.specs.Kept.{IsOpenedAgain, IsListKept, IsSoundKept, AreKept}
+use Rattle.runner.specs.Kept.{IsListKept, IsSoundKept, AreKept}
+use Rattle.reopened_laws.proofs.FewerSound.{sound-found-later}
 use Rattle.runner.proofs.Legal.{next_within}
 
 -- ---- an idle array's history
@@ -36,33 +36,20 @@ entries_keep opening ops before (e ∷ entries) plain =
 
 -- ---- two epochs
 
--- the next epoch begins behind the former one, within the tape
-reopened : (given : Given) (tape : List Operation) (backup : Option ℕ) (former next : Epoch) → former.first ≤ next.first → EndBy next.first former.entries.items → next.first ≤ length tape
-    → IsOpenedAgain tape former next → IsReopened (world_of given tape backup former) former.entries.items (world_of given tape backup next)
-reopened given tape backup former next later made within again = record {
-  start = refl;
-  tape = refl;
-  scope = ap (λ (u : List ℕ). record { uuid = u; given = next.given; backup = backup; sizes = sizes given }) again.uuid
-      ∙ ap (λ (n : ℕ). record { uuid = former.uuid; given = n; backup = backup; sizes = sizes given }) again.slots;
-  later = later;
-  within = within;
-  made = made;
-  flushes = again.flushes;
-}
-
 one_kept : (given : Given) (tape : List Operation) (backup : Option ℕ) (former next : Epoch) → IsLegalEpoch given tape backup former → IsLegalEpoch given tape backup next → IsSafeEpoch given tape backup former
     → former.first ≤ next.first → EndBy next.first former.entries.items → next.first ≤ length tape → IsListKept given tape backup former next
 one_kept given tape backup former next legal opened safe later made within fills room alike again =
     let world = world_of given tape backup former in
     let keeps = entries_keep (opening_in world) (length tape) [] former.entries.items (legal.legal fills) in
     settled-found world (world_of given tape backup next) former.entries.items (length tape) keeps (safe fills room alike).0 within
-    (record { start = refl; tape = refl; array = again.array; later = later; within = within; made = made; flushes = again.flushes }) opened.accepted again.settled
+    (record { start = refl; tape = refl; array = again.again.array; later = later; within = within; made = made; flushes = again.again.flushes }) opened.accepted again.settled
 
 sound_kept : (given : Given) (tape : List Operation) (backup : Option ℕ) (former next : Epoch) → IsLegalEpoch given tape backup next → IsSafeEpoch given tape backup former
     → former.first ≤ next.first → EndBy next.first former.entries.items → next.first ≤ length tape → IsSoundKept given tape backup former next
 sound_kept given tape backup former next opened safe later made within fit room alike again =
-    sound-found (world_of given tape backup former) (world_of given tape backup next) former.entries.items (length tape) fit (safe (inr fit) room alike).1 within
-    (reopened given tape backup former next later made within again) opened.accepted
+    let kept = safe (inr fit) room alike in
+    sound-found-later (world_of given tape backup former) (world_of given tape backup next) former.entries.items (length tape) fit kept.0 kept.1 within
+    (record { start = refl; tape = refl; array = again.array; later = later; within = within; made = made; flushes = again.flushes }) opened.accepted
 
 pub all_kept : (given : Given) (tape : List Operation) (backup : Option ℕ) (epochs : List Epoch) → AreFormer given tape backup (length tape) epochs → AreKept given tape backup epochs
 all_kept given tape backup [] was = tt

@@ -1,14 +1,13 @@
 -- A running array that was asked what it tells of itself.
-use Rattle.std.proofs.Common.{◌≡◌, ℕ, ◌+◌, false, Option, Some, List, [], ◌∷◌, ◌++◌, length, refl, sym, ◌∙◌, ap, subst, arith}
+use Rattle.std.proofs.Common.{◌≡◌, ℕ, ◌+◌, ◌≤◌, false, Option, List, [], ◌∷◌, ◌++◌, length, refl, sym, subst}
 use Rattle.std.proofs.lemmas.List.Elements.{All-nil}
-use Rattle.std.specs.Prelude.{slice_get, MatchOption, ⊤}
-use Rattle.std.specs.List.{All}
+use Rattle.std.specs.Prelude.{MatchOption}
 use Rattle.bank.specs.declared.bank.Operation.{Operation}
 use Rattle.md_base.specs.declared.answers.Who.{Who}
 use Rattle.md_base.specs.declared.status.Status.{Status}
 use Rattle.flat_history.specs.declared.events.Entry.{Entry}
 use Rattle.flat_history.specs.declared.events.Event.{Event}
-use Rattle.flat_history.specs.declared.events.Event.TheVariants.{Shown, Stopped, Halted, Refused, Stepped}
+use Rattle.flat_history.specs.declared.events.Event.TheVariants.{Shown}
 use Rattle.flat_history.specs.OneShape.{IsOfCall}
 use Rattle.views.specs.Parts.{Parts}
 use Rattle.views.specs.Status.{IsStatusFor}
@@ -34,9 +33,11 @@ shown_at {tells = tells} {tape = tape} {old = old} {new = new} size place line w
     record { inner = []; event = Shown status; end = now.end; own = All-nil (λ e. IsOfCall (script_who old) e); inside = none-inside; is = now.is; fits = fits (old ++ []) (one (script_who old) now.end (Shown status)) refl; at_end = at_end }
 
 module _ {B : Type 0} {tells : Type 0} {tape : List Operation} (array : Parts B) (new : List Entry) (place : ℕ) (who : Who) (status : Status) (script : who ≡ script_who array.entries)
-    (entered : IsEntered tells tape who array.entries new (Shown status ∷ [])) (told : IsStatusFor array status) (at_end : place + 1 ≡ length new) where
+    (entered : IsEntered tells tape who array.entries new (Shown status ∷ [])) (told : IsStatusFor array status) (at_end : place + 1 ≡ length new)
+    (roles : length status.roles ≤ 16) (spares : length status.spares ≤ 32) where
   fits : (e : Entry) → e.event ≡ Shown status → IsShown (list_size (places_of array.members)) e.event
-  fits e is = subst (λ (event : Event). IsShown (list_size (places_of array.members)) event) (sym is) (told.length, told.visible)
+  fits e is = subst (λ (event : Event). IsShown (list_size (places_of array.members)) event) (sym is)
+      (told.length, told.visible, roles, spares)
 
   pub shown_detail : IsAskedAt (list_size (places_of array.members)) Detail array.entries new place
   shown_detail = shown_at (list_size (places_of array.members)) place Detail who status script entered at_end (λ before e is. fits e is)

@@ -27,7 +27,7 @@ use Rattle.runner.specs.Making.{Setting, setting_of}
 use Rattle.runner.proofs.Legal.{grows_longer}
 use Rattle.runner.specs.Replies.{Course, at_rest, course_after, course_of, IsAnswer, IsEnd, IsReplyTo, AreReplies, AreInOrder}
 use Rattle.runner.specs.Shown.{reply_text, report_text, has_refusal}
-use Rattle.runner.specs.States.{histories_in, course_in, RunsOwn, IsOfScript, AreOfScript, AreLossesFrom, AreGrown, EndsBetween, IsNextCourse, IsCourseOrNext}
+use Rattle.runner.specs.States.{histories_in, course_in, RunsOwn, IsOfScript, AreOfScript, AreLossesFrom, AreGrown, EndsBetween, IsCutShort, IsCourseShort}
 use Rattle.runner.specs.Sessions.{counted, IsEndNow, IsUnreplied, IsReplyMore, IsStep, IsCourse, taken_whole, IsTaken, IsStopCause, IsCourseBehind, IsPerformed, IsShownTo}
 use Rattle.runner.proofs.Growth.{IsWider, answer_wider, replies_stay, replies_more, course_more, courses_stay, shown_stays, text_more, refusal_more}
 use Rattle.runner.specs.Written.{AreWritesPlaced}
@@ -184,11 +184,11 @@ module _ {B bank_tells : Type 0} {given : Given} {backup : Option ℕ} {first_ta
       first_behind : drop (length old.replies.items) lines ≡ numbered ∷ drop (suc (length old.replies.items)) lines
       first_behind = drop-cons lines (length old.replies.items) nothing lt ∙ ap (λ (l : Numbered). l ∷ drop (suc (length old.replies.items)) lines) here
 
-      by_course : IsCourseOrNext (histories_in new.state) (course_in old.state) numbered.line (course_in new.state)
+      by_course : IsCourseShort (histories_in new.state) (course_in old.state) numbered.line (course_in new.state)
           → (course_in new.state ≡ told_before (histories_in new.state)) ⊎ IsCourseBehind (histories_in new.state) (drop (length old.replies.items) lines) (told_before (histories_in new.state)) (course_in new.state)
       by_course (inl is) = inl (is ∙ course_still none.grown)
       by_course (inr next) = inr (subst (λ (ls : List Numbered). IsCourseBehind (histories_in new.state) ls (told_before (histories_in new.state)) (course_in new.state)) (sym first_behind)
-          (subst (λ (c : Course). IsNextCourse (histories_in new.state) c numbered.line (course_in new.state)) (course_still none.grown) next))
+          (subst (λ (c : Course). IsCutShort (histories_in new.state) c numbered.line (course_in new.state)) (course_still none.grown) next))
 
   module _ {tells : Type 0} {first before : List ℕ} {first_faults before_faults : ℕ} (after : List ℕ) (after_faults : ℕ) (shown : IsShownTo tells lines old first before first_faults before_faults) where
     taken_before : tells → before ≡ first ++ report_text (histories_in old.state) lines old.replies.items
@@ -259,31 +259,50 @@ module _ {B bank_tells : Type 0} {given : Given} {backup : Option ℕ} {first_ta
         same_text : report_text (histories_in new.state) lines new.replies.items ≡ report_text (histories_in old.state) lines old.replies.items
         same_text = ap (λ (rs : List LineReply). report_text (histories_in new.state) lines rs) is.same ∙ (shown_still is.none.grown).0
 
+-- where the run stands once all that is told was done
+course_told : (histories : List History) (behind : List Numbered) (told course : Course) (o : Option Stop) → course ≡ told → IsCourse o histories behind told course
+course_told histories behind told course None same = same
+course_told histories behind told course (Some WriteFault) same = same
+course_told histories behind told course (Some WantsMemory) same = inl same
+
 -- nothing was performed yet
 pub performed_none : {B bank_tells : Type 0} {given : Given} {backup : Option ℕ} {tape : List Operation} {start : ℕ → ℕ} (lines : List Numbered) (session : Session B) (bank : B) (epochs : Vec Epoch) → session.state ≡ Idle bank epochs → epochs.items ≡ []
-    → session.replies.items ≡ [] → session.refused ≡ false → session.stopped ≡ None → IsPerformed (setting_of bank_tells given tape tape backup start start) lines session
-performed_none {B = B} {bank_tells = bank_tells} {given = given} {backup = backup} {tape = tape} {start = start} lines session bank epochs idle empty none refused going = record {
+    → session.replies.items ≡ [] → session.refused ≡ false → (o : Option Stop) → session.stopped ≡ o → IsPerformed (setting_of bank_tells given tape tape backup start start) lines session
+performed_none {B = B} {bank_tells = bank_tells} {given = given} {backup = backup} {tape = tape} {start = start} lines session bank epochs idle empty none refused o going = record {
   own = subst (λ (s : State B). RunsOwn s) (sym idle) (subst (λ (l : List Epoch). AreOfScript (histories_of l)) (sym empty) (All-nil IsOfScript));
   few = omega (arith, ap (λ (l : List LineReply). length l) none);
   replies = subst (λ (rs : List LineReply). AreReplies (setting_of bank_tells given tape tape backup start start) (histories_in session.state) (at_rest 0) (take (length rs) lines) rs) (sym none) tt;
   course = subst (λ (o : Option Stop). IsCourse o (histories_in session.state) (drop (length session.replies.items) lines) (course_of (histories_in session.state) (at_rest 0) (take (length session.replies.items) lines) session.replies.items) (course_in session.state)) (sym going)
-      (ap (λ (s : State B). course_in s) idle ∙ ap (λ (l : List Epoch). at_rest (length l)) empty ∙ ap (λ (rs : List LineReply). course_of (histories_in session.state) (at_rest 0) (take (length rs) lines) rs) (sym none));
+      (course_told _ _ _ _ o (ap (λ (s : State B). course_in s) idle ∙ ap (λ (l : List Epoch). at_rest (length l)) empty ∙ ap (λ (rs : List LineReply). course_of (histories_in session.state) (at_rest 0) (take (length rs) lines) rs) (sym none)));
   losses = subst (λ (s : State B). AreLossesFrom (setting_of bank_tells given tape tape backup start start) [] (histories_in s)) (sym idle) (subst (λ (l : List Epoch). AreLossesFrom (setting_of bank_tells given tape tape backup start start) [] (histories_of l)) (sym empty) tt);
   ends = λ t. subst (λ (rs : List LineReply). AreInOrder (length tape) (length tape) rs) (sym none) (omega arith);
   refused = refused ∙ ap (λ (rs : List LineReply). has_refusal (histories_in session.state) lines rs) (sym none);
   written = λ t. placed-none (setting_of bank_tells given tape tape backup start start) (histories_in session.state) session.stopped lines session.replies.items (ap (λ (s : State B). histories_in s) idle ∙ ap histories_of empty) (omega arith);
 }
 
--- and nothing was shown
-pub shown_none : {B : Type 0} (tells : Type 0) (lines : List Numbered) (session : Session B) (taken : List ℕ) (faults : ℕ) → session.replies.items ≡ [] → session.shown ≡ 0 → session.stopped ≡ None → IsShownTo tells lines session taken taken faults faults
-shown_none tells lines session taken faults none shown going = record {
-  taken = λ t. subst (λ (o : Option Stop). IsTaken o taken taken (report_text (histories_in session.state) lines session.replies.items)) (sym going)
-      (subst (λ (rs : List LineReply). taken ≡ taken ++ report_text (histories_in session.state) lines rs) (sym none) (sym (append-nil taken)));
-  shown = subst (λ (o : Option Stop). session.shown ≡ counted (length (report_text (histories_in session.state) lines (taken_whole o session.replies.items)))) (sym going)
-      (subst (λ (rs : List LineReply). session.shown ≡ counted (length (report_text (histories_in session.state) lines rs))) (sym none) shown);
-  cause = subst (λ (o : Option Stop). IsStopCause o faults faults) (sym going) tt;
-  never_falls = omega arith;
-}
+-- and nothing was shown, where the run goes on, and where memory was short before its first line
+module _ {B : Type 0} (tells : Type 0) (lines : List Numbered) (session : Session B) (taken : List ℕ) (faults : ℕ) (none : session.replies.items ≡ []) (shown : session.shown ≡ 0) where
+  none_taken : taken ≡ taken ++ report_text (histories_in session.state) lines session.replies.items
+  none_taken = subst (λ (rs : List LineReply). taken ≡ taken ++ report_text (histories_in session.state) lines rs) (sym none) (sym (append-nil taken))
+
+  none_shown : session.shown ≡ counted (length (report_text (histories_in session.state) lines session.replies.items))
+  none_shown = subst (λ (rs : List LineReply). session.shown ≡ counted (length (report_text (histories_in session.state) lines rs))) (sym none) shown
+
+  pub shown_none : session.stopped ≡ None → IsShownTo tells lines session taken taken faults faults
+  shown_none going = record {
+    taken = λ t. subst (λ (o : Option Stop). IsTaken o taken taken (report_text (histories_in session.state) lines session.replies.items)) (sym going) none_taken;
+    shown = subst (λ (o : Option Stop). session.shown ≡ counted (length (report_text (histories_in session.state) lines (taken_whole o session.replies.items)))) (sym going) none_shown;
+    cause = subst (λ (o : Option Stop). IsStopCause o faults faults) (sym going) tt;
+    never_falls = omega arith;
+  }
+
+  pub shown_short : session.stopped ≡ Some WantsMemory → IsShownTo tells lines session taken taken faults faults
+  shown_short short = record {
+    taken = λ t. subst (λ (o : Option Stop). IsTaken o taken taken (report_text (histories_in session.state) lines session.replies.items)) (sym short) none_taken;
+    shown = subst (λ (o : Option Stop). session.shown ≡ counted (length (report_text (histories_in session.state) lines (taken_whole o session.replies.items)))) (sym short) none_shown;
+    cause = subst (λ (o : Option Stop). IsStopCause o faults faults) (sym short) tt;
+    never_falls = omega arith;
+  }
 
 -- a line that went on has one reply more
 pub one_reply : {B : Type 0} (tells : Type 0) (setting : Setting) (old new : Session B) (numbered : Numbered) (before after : List ℕ) (o : Option Stop) → o ≡ None → IsStep tells setting old new numbered before after o

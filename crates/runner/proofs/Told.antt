@@ -2,7 +2,7 @@
 use Rattle.std.proofs.Common.{◌≡◌, ◌≢◌, ℕ, ◌+◌, Bool, true, false, Option, Some, None, List, [], ◌∷◌, ◌++◌, length, drop, Result, Ok, Err, refl, sym, ◌∙◌, ap, subst, append_assoc, append-nil}
 use Rattle.std.proofs.Math.Seq.{drop-append_seam}
 use Rattle.std.proofs.lemmas.List.Elements.{All-nil, All-append, All-push, All-weaker}
-use Rattle.std.specs.Prelude.{slice_get, nat_lt, MatchBool, MatchOption, IfOk, IfSome, ⊤}
+use Rattle.std.specs.Prelude.{nat_lt, MatchBool, IfOk, IfSome, ⊤}
 use Rattle.std.specs.List.{All}
 use Rattle.bank.specs.Given.{Given, IsFaulted}
 use Rattle.md_base.specs.declared.answers.Who.{Who}
@@ -10,11 +10,11 @@ use Rattle.md_base.specs.declared.answers.NoMemory.{NoMemory}
 use Rattle.md_base.specs.declared.answers.Fault.{Fault}
 use Rattle.md_base.specs.declared.answers.Fault.TheVariants.{Refused as IsRefusedWith, NoMemory as WantsMemory}
 use Rattle.md_base.specs.declared.answers.Refusal.{Refusal}
-use Rattle.md_base.specs.declared.answers.Refusal.TheVariants.{TooManyMissing, NotResynced, BackupFault, NoSuchRole, SlotTaken, SlotTooSmall, SlotFault, Nothing, NoSuchSlot}
+use Rattle.md_base.specs.declared.answers.Refusal.TheVariants.{TooManyMissing, NotResynced, BackupFault, NoSuchRole, SlotFault, Nothing}
 use Rattle.superblocks.specs.declared.members.Members.{Members}
 use Rattle.flat_history.specs.declared.events.Entry.{Entry}
 use Rattle.flat_history.specs.declared.events.Event.{Event}
-use Rattle.flat_history.specs.declared.events.Event.TheVariants.{Read, Wrote, Flushed, Failed, Added, Stepped, Stopped, Refused}
+use Rattle.flat_history.specs.declared.events.Event.TheVariants.{Added, Stepped, Refused}
 use Rattle.flat_history.specs.declared.events.Request.{Request}
 use Rattle.flat_history.specs.declared.events.Request.TheVariants.{Read as AsksRead, Write as AsksWrite, Flush as AsksFlush, Fail as AsksFail, Add as AsksAdd, Steps as AsksSteps}
 use Rattle.flat_history.specs.Flat.{visible_of}

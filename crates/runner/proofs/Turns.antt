@@ -1,9 +1,9 @@
 -- What one line does to a run, by the answer that it got.
-use Rattle.std.proofs.Common.{◌≡◌, ℕ, ◌+◌, ◌*◌, ◌^◌, ◌<◌, fold, Bool, true, false, Option, Some, None, List, [], ◌∷◌, ◌++◌, length, length-append, refl, sym, ◌∙◌, ap, subst, arith, append-nil, Result, Ok, Err, ◌⊎◌, inl, inr, ◌≤◌}
+use Rattle.std.proofs.Common.{◌≡◌, ℕ, ◌+◌, ◌*◌, ◌^◌, ◌<◌, fold, Bool, true, false, Option, Some, None, List, [], ◌∷◌, ◌++◌, length, length-append, refl, sym, ◌∙◌, ap, subst, arith, append-nil, Result, Ok, Err, inl, inr, ◌≤◌}
 use Rattle.std.proofs.lemmas.List.Sums.{fold-append}
 use Rattle.std.proofs.lemmas.List.{map-append, length-map}
 use Rattle.std.proofs.lemmas.List.Elements.{All-nil, All-cons, All-append, All-push}
-use Rattle.std.specs.Prelude.{slice_get, if◌then◌else◌, vec_capacity, MatchOption, IfOk, IfSome, IsFalse}
+use Rattle.std.specs.Prelude.{slice_get, if◌then◌else◌, vec_capacity, MatchOption, IfOk, IfSome, IsTrue, IsFalse}
 use Rattle.std.specs.Global.{Vec}
 use Rattle.std.specs.List.{All}
 use Rattle.std.specs.Option.{option_and_then, option_map_or}
@@ -55,19 +55,20 @@ use Rattle.runner.specs.Making.{Setting, held_at, history_world, MissingAtFirst,
 use Rattle.runner.specs.Replies.{Course, at_rest, begun, with_calls, IsEnd, course_behind, course_after, steps_at_once, IsRepliedAt, IsAnsweredInside, IsRefusedOutside, spec_of}
 use Rattle.superblocks.specs.Reading.{shape_of}
 use Rattle.script.specs.Seeds.{seeded}
+use Rattle.script.specs.Script.{is_within_limits}
 use Rattle.script.specs.declared.lines.Numbered.{Numbered}
 use Rattle.script.specs.declared.reply.Lane.TheVariants.{Script as InScript}
 use Rattle.runner.specs.declared.report.LineReply.{LineReply}
-use Rattle.runner.specs.Sessions.{IsEndNow, IsReplied, IsUnreplied}
-use Rattle.runner.specs.States.{histories_in, course_in, IsNamed, EndsBetween, IsLossSince, AreLossesFrom, running_history, course_with, answer_at, IsGrown, AreGrown, AreLossesSince, IsTurn, IsNoTurn, IsTurnOrNone, RunsOwn, IsOwnEntry, AreByScript, IsByScript, IsOfScript, AreOfScript}
-use Rattle.runner.specs.Written.{MayWrite, HasWritten, IsWritten, IsWrittenBy}
-use Rattle.runner.specs.Shown.{is_refusal}
-use Rattle.runner.proofs.Writing.{written-untold}
+use Rattle.runner.specs.Sessions.{IsEndNow, IsReplied}
+use Rattle.runner.specs.States.{histories_in, course_in, IsNamed, EndsBetween, AreLossesBehind, AreLossesFrom, running_history, course_with, answer_at, IsGrown, AreGrown, AreLossesSince, IsTurn, IsNoTurn, IsTurnOrNone, RunsOwn, IsOwnEntry, AreByScript, IsByScript, IsOfScript, AreOfScript}
+use Rattle.runner.specs.Written.{HasWritten, IsWritten, IsWrittenBy}
+use Rattle.runner.specs.Shown.{IsAnswerShort, is_refusal}
 use Rattle.runner.proofs.AskLaws.{one, with_reply, entry_there, replied_at}
 use Rattle.runner.proofs.Ending.{gone_once, ended_once}
 use Rattle.runner.proofs.Called.{HasCalled, called_none, called_once, called_own, called_grown, number_more}
-use Rattle.runner.proofs.Growth.{answer_named, answer_called}
-use Rattle.runner.proofs.Waits.{size_same, waiting_called, waited_called, last_waited, waited_reply}
+use Rattle.runner.proofs.Growth.{answer_named}
+use Rattle.runner.proofs.Shortness.{answer_short}
+use Rattle.runner.proofs.Waits.{size_same, waiting_at, waiting_called, waited_called, waited_reply}
 use Rattle.runner.proofs.Losses.{losses-kept, losses-last, losses-same, losses-came, losses-found, each-absent}
 use Rattle.runner.proofs.Found.{found_world, found_history, opened_missing, stored_made, stored_found}
 
@@ -276,22 +277,22 @@ module _ {B : Type 0} (setting : Setting) (old new : Parts B) (epochs : Vec Epoc
 
   -- memory was short for one of the calls of a wait
   no_turn_waiting : (earlier : List ℕ) → IsStillWaiting (list_size (places_of old.members)) old.entries earlier new.entries → IsNoTurn setting (Running old epochs) (Running new epochs) Wait
-  no_turn_waiting earlier was = by_last (last_waited (list_size (places_of old.members)) old.entries new.entries earlier was)
-    where
-      by_last : ((new.entries ≡ old.entries) ⊎ ((mid : List Entry) × (place : ℕ) × IsAskedAt (list_size (places_of old.members)) (Step steps_at_once) mid new.entries place × (next_number 0 old.entries ≤ next_number 0 mid)))
-          → IsNoTurn setting (Running old epochs) (Running new epochs) Wait
-      by_last (inl same) = no_turn Wait same
-      by_last (inr (mid, place, asked, le)) = record {
-        own = called_own_still (waiting_called (list_size (places_of old.members)) old.entries new.entries earlier was) (gone_waiting (list_size (places_of old.members)) old.entries new.entries earlier was own.going);
-        losses = losses-last setting hs (running_history old) (running_history new) lost;
-        grown = called_grown_still (waiting_called (list_size (places_of old.members)) old.entries new.entries earlier was);
-        course = inr (inl (
-          Inside k place,
-          subst (λ (o : Option Entry). MatchOption o ⊥ (λ e. next_number 0 old.entries ≤ e.number))
-              (sym (ap (λ (n : ℕ). entry_at (hs ++ running_history new ∷ []) n place) (sym len) ∙ entry_last hs (running_history new) asked)) le,
-          course_asked Wait asked (going_steps steps_at_once asked),
-        ));
-      }
+  no_turn_waiting earlier was = record {
+    own = called_own_still (waiting_called (list_size (places_of old.members)) old.entries new.entries earlier was) (gone_waiting (list_size (places_of old.members)) old.entries new.entries earlier was own.going);
+    losses = losses-last setting hs (running_history old) (running_history new) lost;
+    grown = called_grown_still (waiting_called (list_size (places_of old.members)) old.entries new.entries earlier was);
+    course = inr record {
+      running = refl;
+      place = k;
+      latest = refl;
+      history = running_history new;
+      there = subst (λ (n : ℕ). slice_get (hs ++ running_history new ∷ []) n ≡ Some (running_history new)) len (get_last hs (running_history new));
+      earlier = earlier;
+      next = next_number 0 new.entries;
+      waiting = waiting_at (list_size (places_of old.members)) old.entries new.entries earlier own.script was;
+      now = ap (λ (n : ℕ). record { opened = k + 1; running = true; calls = next_number 0 new.entries; size = n }) same_size;
+    };
+  }
 
   pub turn_of_wait : (r : Result ℕ NoMemory) → (setting.tells → setting.began ≤ length setting.tape) → IsEndOf setting.tells new.first new.entries setting.tape
       → IsWaited (list_size (places_of old.members)) old.entries new.entries r → IsTurnOrNone setting (Running old epochs) (Running new epochs) Wait (answer_at k r)
@@ -456,7 +457,7 @@ module _ {B : Type 0} (setting : Setting) (bank : B) (olds epochs : Vec Epoch) (
       losses_go : AreGoing (entries_of opener array.first losses)
       losses_go = each-absent (λ e. IsFalse (is_end e.event)) opener array.first (reading_of found.members) (shape_of found.members.newest).disks (λ role lt missing. (refl, refl))
 
-      found_lost : (more : List Entry) → All (λ e. IsLossSince setting (running_history array) e.event) more → array.entries ≡ entries_of opener array.first losses ++ more → AreLossesSince setting [] (running_history array)
+      found_lost : (more : List Entry) → AreLossesBehind setting (running_history array) (entries_of opener array.first losses) more → array.entries ≡ entries_of opener array.first losses ++ more → AreLossesSince setting [] (running_history array)
       found_lost more others entries = losses-found setting (running_history array) (reading_of found.members) array.first more
           (λ role lt missing t. subst (λ (w : World). MissingAtFirst w role) (same_world t) (opened_missing setting.given setting.tape setting.backup asked found is.begun is.opened t role lt missing)) others entries
         where
@@ -470,7 +471,7 @@ module _ {B : Type 0} (setting : Setting) (bank : B) (olds epochs : Vec Epoch) (
         own = opened_own (subst (λ (l : List Entry). AreByScript (next_number 0 l) l) (sym entries) (subst (λ (n : ℕ). AreByScript n (entries_of opener array.first losses ++ first_entry ∷ [])) (sym one_call)
             (All-append (λ e. IsOwnEntry 1 e) (entries_of opener array.first losses) (first_entry ∷ []) (losses_own 1) (All-cons (λ e. IsOwnEntry 1 e) first_entry [] (inl (refl, omega arith)) (All-nil (λ e. IsOwnEntry 1 e))))))
             (subst (λ (l : List Entry). AreGoing l) (sym entries) (All-push (λ e. IsFalse (is_end e.event)) (entries_of opener array.first losses) first_entry losses_go refl));
-        losses = opened_losses (found_lost (first_entry ∷ []) (All-cons (λ e. IsLossSince setting (running_history array) e.event) first_entry [] tt (All-nil (λ e. IsLossSince setting (running_history array) e.event))) entries);
+        losses = opened_losses (found_lost (first_entry ∷ []) (tt, tt) entries);
         grown = opened_grown;
         ends = longer;
         answer = (
@@ -500,16 +501,6 @@ module _ {B : Type 0} (setting : Setting) (bank : B) (olds epochs : Vec Epoch) (
           one_call : next_number 0 (entries_of opener array.first losses ++ first_entry ∷ []) ≡ 1
           one_call = fold-append (number_after 0) 0 (entries_of opener array.first losses) (first_entry ∷ [])
 
-      -- memory was short for its status
-      pub no_turn_found : array.entries ≡ found.entries → IsNoTurn setting (Idle bank olds) (Running array epochs) (Assemble asked)
-      no_turn_found kept = record {
-        own = opened_own (subst (λ (l : List Entry). AreByScript (next_number 0 array.entries) l) (sym (kept ∙ found_entries)) (losses_own (next_number 0 array.entries)))
-            (subst (λ (l : List Entry). AreGoing l) (sym (kept ∙ found_entries)) losses_go);
-        losses = opened_losses (found_lost [] (All-nil (λ e. IsLossSince setting (running_history array) e.event)) (kept ∙ found_entries ∙ sym (append-nil (entries_of opener array.first losses))));
-        grown = opened_grown;
-        course = inr (inr (refl, (list_size (places_of array.members), opened_course 0 (list_size (places_of array.members)) (ap (λ (l : List Entry). next_number 0 l) kept ∙ found_number) refl)));
-      }
-
 -- ---- the reply
 
 -- an answer is a turn, which names its entry
@@ -520,15 +511,9 @@ module _ {B : Type 0} {what : Answered} {r : Result Answered NoMemory} (setting 
   pub turn_named : IsNamed (histories_in new) what
   turn_named = answer_named setting (histories_in new) (course_in old) line (length setting.tape) what turn.answer
 
-  -- memory was short for its text
-  pub turn_unreplied : (setting.tells → IsWritten setting (histories_in old) (histories_in new) (MayWrite setting.given setting.backup line)) → IsUnreplied setting old new line
-  turn_unreplied written = record {
-    own = turn.own;
-    losses = turn.losses;
-    grown = turn.grown;
-    course = inr (inl (what, answer_called setting (histories_in new) (course_in old) line (length setting.tape) what turn.answer, turn.course));
-    written = written;
-  }
+  -- its text is short
+  pub turn_short : IsTrue (is_within_limits line) → IsAnswerShort (histories_in new) what
+  turn_short limits = answer_short setting (histories_in new) (course_in old) line (length setting.tape) what limits turn.answer
 
 -- it is shown in a reply
 pub turn_replied : {B : Type 0} {what : Answered} {r : Result Answered NoMemory} (setting : Setting) (old new : State B) (numbered : Numbered) (reply : LineReply) (refused : Bool) → IsTurnOrNone setting old new numbered.line r → r ≡ Ok what → reply.what ≡ what
@@ -543,14 +528,4 @@ turn_replied setting old new numbered reply refused answered is told line lane e
   refusal = refusal ∙ ap (λ (w : Answered). is_refusal (histories_in new) numbered.line w) (sym told);
   written = λ t. subst (λ (w : Answered). IsWritten setting (histories_in old) (histories_in new) (HasWritten setting.given setting.backup numbered.line w)) (sym told)
       (subst (λ (r : Result Answered NoMemory). IsWrittenBy setting (histories_in old) (histories_in new) numbered.line r) is (written t));
-}
-
--- a reply that is not kept
-pub unreplied_of : {B : Type 0} (setting : Setting) (old new : State B) (numbered : Numbered) (reply : LineReply) (refused : Bool) → IsReplied setting old new numbered reply refused → IsUnreplied setting old new numbered.line
-unreplied_of setting old new numbered reply refused was = record {
-  own = was.turn.own;
-  losses = was.turn.losses;
-  grown = was.turn.grown;
-  course = inr (inl (reply.what, answer_called setting (histories_in new) (course_in old) numbered.line (length setting.tape) reply.what was.turn.answer, was.turn.course));
-  written = λ t. written-untold setting (histories_in old) (histories_in new) numbered.line reply.what (was.written t);
 }

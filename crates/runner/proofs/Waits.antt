@@ -1,5 +1,5 @@
 -- The calls of a wait, one after another.
-use Rattle.std.proofs.Common.{◌≡◌, ◌⊎◌, inl, inr, ℕ, ◌*◌, ◌≤◌, Bool, true, false, Option, List, [], ◌∷◌, ◌++◌, refl, sym, ◌∙◌, ap, subst, arith}
+use Rattle.std.proofs.Common.{◌≡◌, ℕ, ◌*◌, Bool, true, false, Option, List, [], ◌∷◌, ◌++◌, refl, sym, ◌∙◌, ap, subst}
 use Rattle.std.specs.Prelude.{IsTrue, IsFalse}
 use Rattle.std.specs.Option.{option_map_or}
 use Rattle.md_base.specs.declared.places.Shape.{Shape}
@@ -13,7 +13,7 @@ use Rattle.views.specs.Placed.{places_of}
 use Rattle.script.specs.declared.lines.Line.TheVariants.{Step, Wait}
 use Rattle.runner.specs.Asked.{IsAskedAt, IsStillWaiting, IsWaitedFor}
 use Rattle.runner.specs.Replies.{steps_at_once, leaves_more, leaves_more_at, IsReplyAt, IsWaitedAt, IsRepliedAt}
-use Rattle.runner.specs.States.{AreByScript}
+use Rattle.runner.specs.States.{AreByScript, IsWaitingAt}
 use Rattle.runner.proofs.AskLaws.{entry_there, reply_at}
 use Rattle.runner.proofs.Called.{HasCalled, called_none, called_then, called_once, called_apart, called_own, number_more}
 use Rattle.runner.proofs.Growth.{reply_longer, leaves_longer}
@@ -36,16 +36,17 @@ waiting_called size old new (first ∷ others) (mid, one, more, rest) = called_t
 pub waited_called : {size place : ℕ} {old new : List Entry} → IsWaitedFor size old new place → HasCalled old new
 waited_called {size = size} {old = old} was = called_then (waiting_called size old was.between was.earlier was.waiting) (called_once was.asked)
 
--- the last of the calls so far, if there was one
-pub last_waited : (size : ℕ) (old new : List Entry) (earlier : List ℕ) → IsStillWaiting size old earlier new
-    → (new ≡ old) ⊎ ((before : List Entry) × (place : ℕ) × IsAskedAt size (Step steps_at_once) before new place × (next_number 0 old ≤ next_number 0 before))
-last_waited size old new [] same = inl same
-last_waited size old new (first ∷ others) (mid, one, more, rest) = inr (by_last (last_waited size mid new others rest))
-  where
-    by_last : ((new ≡ mid) ⊎ ((before : List Entry) × (place : ℕ) × IsAskedAt size (Step steps_at_once) before new place × (next_number 0 mid ≤ next_number 0 before)))
-        → (before : List Entry) × (place : ℕ) × IsAskedAt size (Step steps_at_once) before new place × (next_number 0 old ≤ next_number 0 before)
-    by_last (inl same) = (old, first, subst (λ (l : List Entry). IsAskedAt size (Step steps_at_once) old l first) (sym same) one, omega arith)
-    by_last (inr (before, place, asked, le)) = (before, place, asked, omega (arith, le, number_more one))
+-- the replies to the calls of a wait that goes on
+pub waiting_at : (size : ℕ) (old new : List Entry) (earlier : List ℕ) → AreByScript (next_number 0 old) old → IsStillWaiting size old earlier new
+    → IsWaitingAt size new earlier (next_number 0 old) (next_number 0 new)
+waiting_at size old new [] own same = ap (λ (l : List Entry). next_number 0 l) same
+waiting_at size old new (first ∷ others) own (mid, one, more, rest) =
+    let so_far = called_own (called_once one) own in
+    let later = waiting_called size mid new others rest in (
+      subst (λ (l : List Entry). IsReplyAt size l first (next_number 0 old) (Step steps_at_once)) (sym later.grown) (reply_longer later.more (called_apart later so_far) (reply_at one)),
+      subst (λ (b : Bool). IsTrue b) (sym (ap (λ (l : List Entry). leaves_more_at l first) later.grown ∙ leaves_longer mid later.more first _ (entry_there one) ∙ leaves_at one)) more,
+      subst (λ (n : ℕ). IsWaitingAt size new others n (next_number 0 new)) (number_more one) (waiting_at size mid new others so_far rest),
+    )
 
 -- the replies to its calls, over the whole history
 waited_at : {size place : ℕ} {between new : List Entry} (old : List Entry) (earlier : List ℕ) → AreByScript (next_number 0 old) old → IsStillWaiting size old earlier between

@@ -1,5 +1,5 @@
 -- What an array leaves is what the next one opens with.
-use Rattle.std.specs.Prelude.{◌≡◌, ℕ, List, [], ◌∷◌, Option, ⊤}
+use Rattle.std.specs.Prelude.{ℕ, List, [], ◌∷◌, Option, ⊤}
 use Rattle.bank.specs.Given.{Given}
 use Rattle.bank.specs.Tape.{contents, OnlyFlushesBetween}
 use Rattle.bank.specs.declared.bank.Operation.{Operation}
@@ -12,18 +12,16 @@ use Rattle.flat_history.specs.Transfers.{last_end_from}
 use Rattle.flat_history.specs.World.{opening_list}
 use Rattle.runner.specs.Ended.{IfFilledRight}
 
--- The next epoch is of the same array, in the same slots, behind nothing but flushes.
-pub record IsOpenedAgain (tape : List Operation) (former next : Epoch) : Type 0 where
-  pub uuid : next.uuid ≡ former.uuid
-  pub slots : next.given ≡ former.given
-  pub flushes : OnlyFlushesBetween tape (last_end_from former.first former.entries.items) next.first
-
--- The former epoch ends with a flush or a stop, and the next one is of the same array, behind nothing but flushes: in the same slots, or in
--- fewer, where by what they hold those that lack, as failed ones do, have no part in it any more.
-pub record IsFoundAgain (given : Given) (tape : List Operation) (backup : Option ℕ) (former next : Epoch) : Type 0 where
-  pub settled : EndsSettled former.entries.items
+-- The next epoch is of the same array, behind nothing but flushes: in the same slots, or in fewer, where by what they hold those that lack, as
+-- failed ones do, have no part in it any more.
+pub record IsOpenedAgain (given : Given) (tape : List Operation) (backup : Option ℕ) (former next : Epoch) : Type 0 where
   pub array : IsSameArray (world_of given tape backup former).scope (world_of given tape backup next).scope (contents given.start tape next.first)
   pub flushes : OnlyFlushesBetween tape (last_end_from former.first former.entries.items) next.first
+
+-- the former epoch ends with a flush or a stop, and the next one is so
+pub record IsFoundAgain (given : Given) (tape : List Operation) (backup : Option ℕ) (former next : Epoch) : Type 0 where
+  pub settled : EndsSettled former.entries.items
+  pub again : IsOpenedAgain given tape backup former next
 
 -- Where what the former epoch filled in is right and it is found again, the next one opens with the list that the former left, sector by
 -- sector, also where members were lost.
@@ -32,12 +30,12 @@ IsListKept given tape backup former next =
     IfFilledRight given tape backup former (IsFoundAgain given tape backup former next
     → OpensWith (world_of given tape backup next) (opening_list (world_of given tape backup former)) former.entries.items)
 
--- Where the former epoch opened fit, with room for its events and superblocks that are alike, and is opened again, the next one opens
--- sound, however the former ended.
+-- Where the former epoch opened fit, with room for its events and superblocks that are alike, and is opened again, perhaps in fewer slots, the
+-- next one opens sound, however the former ended.
 abbrev pub IsSoundKept : Given → List Operation → Option ℕ → Epoch → Epoch → Type 0
 IsSoundKept given tape backup former next =
     OpensFit (world_of given tape backup former) → HasRoomForEvents (world_of given tape backup former) → OpensAlike (world_of given tape backup former)
-    → IsOpenedAgain tape former next → OpensSound (world_of given tape backup next)
+    → IsOpenedAgain given tape backup former next → OpensSound (world_of given tape backup next)
 
 -- so it is of each epoch and the next one
 abbrev pub AreKept : Given → List Operation → Option ℕ → List Epoch → Type 0

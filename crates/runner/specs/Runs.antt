@@ -17,7 +17,7 @@ use Rattle.runner.specs.Replies.{Course, at_rest, course_of, AreReplies, AreInOr
 use Rattle.runner.specs.Sessions.{IsCourse, counted, taken_whole, IsTaken}
 use Rattle.runner.specs.Shown.{report_text, has_refusal}
 use Rattle.runner.specs.Source.{IsTextOf}
-use Rattle.runner.specs.States.{histories_in, bank_in, course_in, AreOfScript, AreGrown, IsLossSince, AreLossesFrom}
+use Rattle.runner.specs.States.{histories_in, bank_in, course_in, AreOfScript, AreGrown, AreLossesBehind, AreLossesFrom}
 use Rattle.runner.specs.Written.{AreWritesPlaced, AreQuiet}
 
 -- The statuses: 0 done, 1 done with refusals, 2 bad words, 3 a bad line, 4 the source failed, 5 the sink failed, 6 memory was short.
@@ -89,9 +89,9 @@ pub record IsScriptBad (tells : Type 0) (old new : List ℕ) (line : ℕ) : Type
   pub read : IsTextOf tells old new text
   pub bad : script_of text ≡ Err line
 
--- each loss and each refusal that is told has its cause
+-- each loss and each refusal that is told has its cause, by the entries before it
 abbrev pub AreLossesFailed : Setting → List Epoch → Type 0
-AreLossesFailed setting epochs = All (λ epoch. All (λ e. IsLossSince setting (history_of epoch) e.event) epoch.entries.items) epochs
+AreLossesFailed setting epochs = All (λ epoch. AreLossesBehind setting (history_of epoch) [] epoch.entries.items) epochs
 
 -- the first mark of the epoch behind this one, or the end of the tape behind the last
 abbrev pub mark_behind : ℕ → List History → ℕ → ℕ

@@ -17,7 +17,7 @@ use Rattle.runner.specs.Histories.{History}
 use Rattle.runner.specs.Making.{Setting}
 use Rattle.runner.specs.Replies.{Course, at_rest, course_of, IsEnd, AreReplies, AreInOrder}
 use Rattle.runner.specs.Shown.{reply_text, report_text, is_refusal, has_refusal}
-use Rattle.runner.specs.States.{histories_in, course_in, RunsOwn, AreLossesFrom, AreGrown, IsNextCourse, IsCourseOrNext, IsTurn}
+use Rattle.runner.specs.States.{histories_in, course_in, RunsOwn, AreLossesFrom, AreGrown, IsCutShort, IsCourseShort, IsTurn}
 use Rattle.runner.specs.Written.{MayWrite, HasWritten, AreWritesPlaced, IsWritten}
 
 -- so many bytes, as far as a u64 can count
@@ -39,12 +39,12 @@ pub record IsReplied {B : Type 0} (setting : Setting) (old new : State B) (numbe
   pub refusal : refused ≡ is_refusal (histories_in new) numbered.line reply.what
   pub written : setting.tells → IsWritten setting (histories_in old) (histories_in new) (HasWritten setting.given setting.backup numbered.line reply.what)
 
--- no reply was made, for want of memory: the line was not performed, or it was the last one
+-- no reply was made, for want of memory: nothing of the line was entered, but for some calls of a wait
 pub record IsUnreplied {B : Type 0} (setting : Setting) (old new : State B) (line : Line) : Type 0 where
   pub own : RunsOwn new
   pub losses : AreLossesFrom setting (histories_in old) (histories_in new)
   pub grown : AreGrown (histories_in old) (histories_in new)
-  pub course : IsCourseOrNext (histories_in new) (course_in old) line (course_in new)
+  pub course : IsCourseShort (histories_in new) (course_in old) line (course_in new)
   pub written : setting.tells → IsWritten setting (histories_in old) (histories_in new) (MayWrite setting.given setting.backup line)
 
 abbrev pub IsRepliedOrNot : {B : Type 0} → Setting → State B → State B → Numbered → List ℕ → Result Made NoMemory → Type 0
@@ -83,13 +83,12 @@ IsStep tells setting old new numbered old_taken new_taken (Some WantsMemory) = I
 
 -- ---- several lines
 
--- where the run stands once the first of these lines was performed
+-- where the run stands once some calls of the first of these lines were made, which is a wait
 abbrev pub IsCourseBehind : List History → List Numbered → Course → Course → Type 0
 IsCourseBehind histories [] told course = ⊥
-IsCourseBehind histories (line ∷ lines) told course = IsNextCourse histories told line.line course
+IsCourseBehind histories (line ∷ lines) told course = IsCutShort histories told line.line course
 
--- where it stands after these replies: the first of the lines behind them may have been performed besides, where memory was short
--- for its reply
+-- where it stands after these replies: no line was performed without its reply, but where memory was short in a wait, its first calls
 abbrev pub IsCourse : Option Stop → List History → List Numbered → Course → Course → Type 0
 IsCourse None histories behind told course = course ≡ told
 IsCourse (Some WriteFault) histories behind told course = course ≡ told

@@ -1,14 +1,14 @@
 -- What an array tells of itself.
-use Rattle.std.specs.Prelude.{◌≡◌, ℕ, List, slice_get, MatchOption}
+use Rattle.std.specs.Prelude.{◌≡◌, ℕ, ◌≤◌, List, length, slice_get, MatchOption}
 use Rattle.flat_history.specs.declared.events.Entry.{Entry}
 use Rattle.flat_history.specs.declared.events.Event.{Event}
 use Rattle.flat_history.specs.declared.events.Event.TheVariants.{Shown}
 use Rattle.views.specs.Parts.{Parts}
 use Rattle.views.specs.Status.{IsStatusFor}
 
--- the event tells a list of so many sectors, of which all can be read
+-- the event tells a list of so many sectors, of which all can be read, of at most 16 roles and 32 spares
 abbrev pub IsShown : ℕ → Event → Type 0
-IsShown size (Shown status) = (status.length ≡ size) × (status.visible ≡ size)
+IsShown size (Shown status) = (status.length ≡ size) × (status.visible ≡ size) × (length status.roles ≤ 16) × (length status.spares ≤ 32)
 IsShown size event = ⊥
 
 -- the event tells the array as it is

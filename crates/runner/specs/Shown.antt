@@ -1,9 +1,9 @@
 -- The text of the replies, and whether one of them is a refusal.
-use Rattle.std.specs.Prelude.{ℕ, Bool, true, false, ◌||◌, List, [], ◌∷◌, ◌++◌, Some, codes}
+use Rattle.std.specs.Prelude.{ℕ, ◌≤◌, Bool, true, false, ◌||◌, List, [], ◌∷◌, ◌++◌, length, Some, MatchOption, codes, ⊤}
 use Rattle.std.specs.Option.{option_map_or}
 use Rattle.md_base.specs.declared.answers.Refusal.TheVariants.{Nothing}
 use Rattle.flat_history.specs.declared.events.Event.{Event}
-use Rattle.flat_history.specs.declared.events.Event.TheVariants.{Refused as IsRefused, Shown, Stepped}
+use Rattle.flat_history.specs.declared.events.Event.TheVariants.{Read as IsRead, Refused as IsRefused, Shown, Stepped}
 use Rattle.script.specs.declared.lines.Line.{Line}
 use Rattle.script.specs.declared.lines.Line.TheVariants.{Wait, Detail, Mdstat}
 use Rattle.script.specs.declared.lines.Numbered.{Numbered}
@@ -66,3 +66,23 @@ abbrev pub has_refusal : List History → List Numbered → List LineReply → B
 has_refusal histories lines [] = false
 has_refusal histories [] (reply ∷ replies) = false
 has_refusal histories (line ∷ lines) (reply ∷ replies) = is_refusal histories line.line reply.what || has_refusal histories lines replies
+
+-- ---- how long a text may be
+
+-- what an event tells at most: 128 sectors, and in a status 16 roles and 32 spares
+abbrev pub IsShort : Event → Type 0
+IsShort (IsRead at body) = length body ≤ 128
+IsShort (Shown status) = (length status.roles ≤ 16) × (length status.spares ≤ 32)
+IsShort event = ⊤
+
+-- so does the entry that an answer names
+abbrev pub IsAnswerShort : List History → Answered → Type 0
+IsAnswerShort histories (Inside epoch at) = MatchOption (entry_at histories epoch at) ⊥ (λ e. IsShort e.event)
+IsAnswerShort histories (IsOutside outside) = ⊤
+
+-- the bytes that its text takes at most, and a whole reply
+abbrev pub longest_answer : ℕ
+longest_answer = 142000
+
+abbrev pub longest_reply : ℕ
+longest_reply = 143000

@@ -1,5 +1,5 @@
 -- The bank of a run with or without an array on it, and what a line does to it.
-use Rattle.std.specs.Prelude.{◌≡◌, ◌⊎◌, ℕ, ◌+◌, ◌<◌, ◌≤◌, ◌^◌, ◌++◌, true, List, [], ◌∷◌, length, vec_capacity, Option, MatchOption, Result, Ok, Err, IfSome, IsSome, IsFalse, ⊤}
+use Rattle.std.specs.Prelude.{◌≡◌, ◌⊎◌, ℕ, ◌+◌, ◌<◌, ◌≤◌, ◌^◌, ◌++◌, true, List, [], ◌∷◌, length, slice_get, vec_capacity, Option, Some, MatchOption, Result, Ok, Err, IfSome, IsSome, IsTrue, ⊤}
 use Rattle.std.specs.List.{All}
 use Rattle.md_base.specs.declared.answers.NoMemory.{NoMemory}
 use Rattle.md_base.specs.declared.answers.Refusal.{Refusal}
@@ -15,14 +15,14 @@ use Rattle.views.specs.Parts.{Parts}
 use Rattle.views.specs.Whole.{list_size}
 use Rattle.views.specs.Placed.{places_of}
 use Rattle.script.specs.declared.lines.Line.{Line}
-use Rattle.script.specs.declared.lines.Line.TheVariants.{Wait, Assemble}
+use Rattle.script.specs.declared.lines.Line.TheVariants.{Step, Wait}
 use Rattle.runner.specs.declared.report.Answered.{Answered}
 use Rattle.runner.specs.declared.report.Answered.TheVariants.{Inside, Outside}
 use Rattle.runner.specs.declared.states.State.{State}
 use Rattle.runner.specs.declared.states.State.TheVariants.{Idle, Running}
 use Rattle.runner.specs.Histories.{History, histories_of, entry_at, AreGoing, EndsOnce}
 use Rattle.runner.specs.Making.{Setting, history_world, MayHaveHeld, MissingAtFirst}
-use Rattle.runner.specs.Replies.{Course, at_rest, begun, course_after, IsAnswer}
+use Rattle.runner.specs.Replies.{Course, at_rest, with_calls, course_after, steps_at_once, leaves_more_at, IsReplyAt, IsAnswer}
 
 -- the history of an array that runs
 abbrev pub running_history : {B : Type 0} → Parts B → History
@@ -103,8 +103,8 @@ AreGrown [] news = ⊤
 AreGrown (old ∷ olds) [] = ⊥
 AreGrown (old ∷ olds) (new ∷ news) = IsGrown old new × AreGrown olds news
 
--- A role is told lost by a fault only where a slot has failed that held it at the opening or was a spare, by command only where there was such a
--- slot, and as absent or recovering only where it wasn't whole at the opening.
+-- A role is told lost behind this history by a fault only where a slot has failed that held it at the opening, or was a spare there or told added
+-- since, by command only where there was such a slot, and as absent or recovering only where it wasn't whole at the opening.
 abbrev pub IsRoleLossSince : Setting → History → ℕ → LostCause → Type 0
 IsRoleLossSince setting history role Fault =
     (slot : ℕ) × IsFaulted slot setting.before setting.now × (setting.tells → MayHaveHeld (history_world setting history) history.entries role slot)
@@ -127,11 +127,20 @@ IsLossSince setting history (Stepped done left ended) = IfSome ended (IsRefusalS
 IsLossSince setting history (Refused refusal) = IsRefusalSince setting refusal
 IsLossSince setting history event = ⊤
 
+-- the history as it stood with these entries
+abbrev pub with_entries : List Entry → History → History
+with_entries entries history = record { uuid = history.uuid; given = history.given; first = history.first; entries = entries }
+
+-- each loss and refusal that these entries tell has its cause, by what stood before it
+abbrev pub AreLossesBehind : Setting → History → List Entry → List Entry → Type 0
+AreLossesBehind setting history before [] = ⊤
+AreLossesBehind setting history before (e ∷ entries) = IsLossSince setting (with_entries before history) e.event × AreLossesBehind setting history (before ++ e ∷ []) entries
+
 -- more entries stand behind the old ones, and each loss and refusal that they tell has its cause
 pub record AreLossesSince (setting : Setting) (old : List Entry) (new : History) : Type 0 where
   pub more : List Entry
   pub grown : new.entries ≡ old ++ more
-  pub failed : All (λ e. IsLossSince setting new e.event) more
+  pub failed : AreLossesBehind setting new old more
 
 abbrev pub AreLossesFrom : Setting → List History → List History → Type 0
 AreLossesFrom setting [] [] = ⊤
@@ -139,34 +148,37 @@ AreLossesFrom setting [] (new ∷ news) = AreLossesSince setting [] new × AreLo
 AreLossesFrom setting (old ∷ olds) [] = ⊥
 AreLossesFrom setting (old ∷ olds) (new ∷ news) = AreLossesSince setting old.entries new × AreLossesFrom setting olds news
 
--- the call of this number may be the last of a line's, where the script has made so many calls before it
-abbrev pub IsCallFor : Line → ℕ → ℕ → Type 0
-IsCallFor Wait calls number = calls ≤ number
-IsCallFor line calls number = number ≡ calls
-
 -- the entry that an answer names is there
 abbrev pub IsNamed : List History → Answered → Type 0
 IsNamed histories (Inside epoch at) = IsSome (entry_at histories epoch at)
 IsNamed histories (Outside outside) = ⊤
 
--- an array was found, and has not told its status
-abbrev pub IsFoundUntold : Course → Line → Course → Type 0
-IsFoundUntold old (Assemble uuid) new = IsFalse old.running × ((size : ℕ) × (new ≡ begun old.opened 0 size))
-IsFoundUntold old line new = ⊥
+-- The first calls of a wait, from this number on and before that one: each has its reply at one of these places, and leaves more to do.
+abbrev pub IsWaitingAt : ℕ → List Entry → List ℕ → ℕ → ℕ → Type 0
+IsWaitingAt size entries [] number next = next ≡ number
+IsWaitingAt size entries (first ∷ others) number next =
+    IsReplyAt size entries first number (Step steps_at_once) × IsTrue (leaves_more_at entries first) × IsWaitingAt size entries others (number + 1) next
 
--- an answer names an entry of a call of the line
-abbrev pub IsCallNamed : List History → Course → Line → Answered → Type 0
-IsCallNamed histories course line (Inside epoch at) = MatchOption (entry_at histories epoch at) ⊥ (λ e. IsCallFor line course.calls e.number)
-IsCallNamed histories course line (Outside outside) = ⊤
+-- the array that runs was asked by a wait, for which memory was short after so many of its calls
+pub record IsWaitCut (histories : List History) (old new : Course) : Type 0 where
+  pub running : IsTrue old.running
+  pub place : ℕ
+  pub latest : place + 1 ≡ old.opened
+  pub history : History
+  pub there : slice_get histories place ≡ Some history
+  pub earlier : List ℕ
+  pub next : ℕ
+  pub waiting : IsWaitingAt old.size history.entries earlier old.calls next
+  pub now : new ≡ with_calls next old
 
--- where the run stands after some answer to a line, or with an array that it found
-abbrev pub IsNextCourse : List History → Course → Line → Course → Type 0
-IsNextCourse histories old line new =
-    ((what : Answered) × IsCallNamed histories old line what × (new ≡ course_after histories old line what)) ⊎ IsFoundUntold old line new
+-- a line that was cut short is a wait
+abbrev pub IsCutShort : List History → Course → Line → Course → Type 0
+IsCutShort histories old Wait new = IsWaitCut histories old new
+IsCutShort histories old line new = ⊥
 
--- where the run stood before a line, or where it stands after it
-abbrev pub IsCourseOrNext : List History → Course → Line → Course → Type 0
-IsCourseOrNext histories old line new = (new ≡ old) ⊎ IsNextCourse histories old line new
+-- where the run stands after a line for which memory was short: where it stood, but behind some calls of a wait
+abbrev pub IsCourseShort : List History → Course → Line → Course → Type 0
+IsCourseShort histories old line new = (new ≡ old) ⊎ IsCutShort histories old line new
 
 -- an answer stands for a moment between these marks
 abbrev pub EndsBetween : ℕ → ℕ → List History → Answered → Type 0
@@ -182,12 +194,12 @@ pub record IsTurn {B : Type 0} (setting : Setting) (old new : State B) (line : L
   pub answer : IsAnswer setting (histories_in new) (course_in old) line (length setting.tape) what
   pub course : course_in new ≡ course_after (histories_in new) (course_in old) line what
 
--- memory was short: nothing was entered, but the array that the line asks for may run
+-- memory was short: nothing was entered, but for the calls of a wait before the one that it was short for
 pub record IsNoTurn {B : Type 0} (setting : Setting) (old new : State B) (line : Line) : Type 0 where
   pub own : RunsOwn new
   pub losses : AreLossesFrom setting (histories_in old) (histories_in new)
   pub grown : AreGrown (histories_in old) (histories_in new)
-  pub course : IsCourseOrNext (histories_in new) (course_in old) line (course_in new)
+  pub course : IsCourseShort (histories_in new) (course_in old) line (course_in new)
 
 abbrev pub IsTurnOrNone : {B : Type 0} → Setting → State B → State B → Line → Result Answered NoMemory → Type 0
 IsTurnOrNone setting old new line (Ok what) = IsTurn setting old new line what

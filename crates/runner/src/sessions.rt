@@ -1,12 +1,13 @@
 //! The lines of a script performed one after another, each reply shown before the next line.
 
-ghost use Rattle.std.specs.Prelude.{◌≡◌, ◌≤◌, ◌||◌, ℕ, [], ◌++◌, length, slice_index, Some, None, OnOk, IsTrue, IsSome};
+ghost use Rattle.std.specs.Prelude.{◌≡◌, ◌≤◌, ◌||◌, ℕ, [], ◌++◌, length, slice_index, vec_capacity, Some, None, IsTrue, IsSome};
 ghost use Rattle.std.specs.List.{AllPass};
 ghost use Rattle.bank.specs.Given.{NeverFalls};
 ghost use Rattle.views.specs.Moving.{Grows};
 ghost use Rattle.text_io.specs.Causes.{HasRisen};
 ghost use Rattle.script.specs.Script.{is_within_limits};
-ghost use Rattle.runner.specs.Shown.{outside_text, entry_text, answer_text, reply_text, is_refused_outside, is_refusal, tells_refusal};
+ghost use Rattle.script.specs.Appends.{Appends, AppendsFew};
+ghost use Rattle.runner.specs.Shown.{longest_answer, longest_reply, IsShort, IsAnswerShort, outside_text, entry_text, answer_text, reply_text, is_refused_outside, is_refusal, tells_refusal};
 ghost use Rattle.runner.specs.States.{histories_in, bank_in, RunsOwn, IsFitBank, IsNamed};
 ghost use Rattle.runner.specs.Sessions.{IsEndNow, IsRepliedOrNot, IsStep, IsStopCause, IsPerformed, IsShownTo};
 ghost use Rattle.runner.specs.Ended.{IsRunKept};
@@ -26,6 +27,9 @@ use script::{
 use status_text::{push_detail, push_examined, push_mdstat};
 use std::alloc::{AllocError, Global};
 use text_io::Sink;
+
+// The bytes that the text of a reply takes at most: 128 sectors, each shown by its bytes.
+const LONGEST_REPLY: usize = 143_000;
 
 /// Why no later line was performed.
 #[derive(Clone, Copy, Debug, PartialEq, Eq)]
@@ -72,7 +76,9 @@ fn is_refused(line: Line, event: &Event) -> bool
 
 // Appends the text of an entry that answers a line.
 fn push_entry(text: &mut Vec<u8>, line: Line, event: &Event) -> Result<(), AllocError>
-    ensures { OnOk result (text.new.items ≡ text.old.items ++ entry_text line event.now) }
+    requires { IsShort event.now }
+    ensures appended { Appends text.old text.new result (entry_text line event.now) }
+    ensures short { AppendsFew longest_answer text.old text.new result }
 {
     match (line, event) {
         (Line::Wait, _) => push_waited(text, event),
@@ -83,7 +89,8 @@ fn push_entry(text: &mut Vec<u8>, line: Line, event: &Event) -> Result<(), Alloc
 }
 
 fn push_outside(text: &mut Vec<u8>, outside: &Outside) -> Result<(), AllocError>
-    ensures { OnOk result (text.new.items ≡ text.old.items ++ outside_text outside.now) }
+    ensures appended { Appends text.old text.new result (outside_text outside.now) }
+    ensures short { AppendsFew 500 text.old text.new result }
 {
     match outside {
         Outside::Created => push_created(text),
@@ -101,7 +108,9 @@ fn push_answer<B: Bank>(
     what: &Answered,
 ) -> Result<(), AllocError>
     requires named { IsNamed (histories_in state.now) what.now }
-    ensures { OnOk result (text.new.items ≡ text.old.items ++ answer_text (histories_in state.now) line what.now) }
+    requires short { IsAnswerShort (histories_in state.now) what.now }
+    ensures appended { Appends text.old text.new result (answer_text (histories_in state.now) line what.now) }
+    ensures short { AppendsFew longest_answer text.old text.new result }
 {
     match what {
         Answered::Inside { epoch, at } => {
@@ -145,24 +154,38 @@ fn reply_of<B: Bank>(state: &State<B>, line: u64, what: Answered) -> LineReply
     }
 }
 
-// Puts the text of a reply, with its newline, in place of what the buffer held.
-fn put_text<B: Bank>(
+// Appends the text of a reply, with its newline.
+fn push_reply<B: Bank>(
     text: &mut Vec<u8>,
     state: &State<B>,
     line: Line,
     reply: &LineReply,
 ) -> Result<(), AllocError>
     requires named { IsNamed (histories_in state.now) reply.now.what }
-    ensures { OnOk result (text.new.items ≡ reply_text (histories_in state.now) line reply.now) }
+    requires short { IsAnswerShort (histories_in state.now) reply.now.what }
+    ensures appended { Appends text.old text.new result (reply_text (histories_in state.now) line reply.now) }
+    ensures short { AppendsFew longest_reply text.old text.new result }
 {
-    text.clear();
     push_lane(text, reply.lane)?;
     push_answer(text, state, line, &reply.what)?;
-    text.push(b'\n')?;
-    Ok(())
+    text.extend_from_slice(b"\n")
 }
 
-// Performs one line, and puts the text of its reply into the buffer.
+// Puts the text of a reply in place of what the buffer held, which has room for every reply.
+fn put_text<B: Bank>(text: &mut Vec<u8>, state: &State<B>, line: Line, reply: &LineReply)
+    requires named { IsNamed (histories_in state.now) reply.now.what }
+    requires short { IsAnswerShort (histories_in state.now) reply.now.what }
+    requires room { longest_reply ≤ vec_capacity text.old }
+    ensures text { text.new.items ≡ reply_text (histories_in state.now) line reply.now }
+    ensures room { longest_reply ≤ vec_capacity text.new }
+{
+    text.clear();
+    if push_reply(text, state, line, reply).is_err() {
+        unreachable!()
+    }
+}
+
+// Performs one line, and puts the text of its reply into the buffer, which takes no memory.
 fn reply_to<B: Bank>(
     alloc: Global,
     state: State<B>,
@@ -174,6 +197,8 @@ fn reply_to<B: Bank>(
     requires bank { IsFitBank (B.given (bank_in state)) backup }
     requires own { RunsOwn state }
     requires former { IsRunKept B.tells (B.given (bank_in state)) (B.tape (bank_in state)) backup state }
+    requires room { longest_reply ≤ vec_capacity text.old }
+    ensures room { longest_reply ≤ vec_capacity text.new }
     ensures former { IsRunKept B.tells (B.given (bank_in state)) (B.tape (bank_in result.0)) backup result.0 }
     ensures replied { IsRepliedOrNot (setting_of B.tells (B.given (bank_in state)) (B.tape (bank_in state)) (B.tape (bank_in result.0)) backup (B.faults_of (bank_in state)) (B.faults_of (bank_in result.0))) state result.0 numbered text.new.items result.1 }
     ensures never_falls { NeverFalls (B.faults_of (bank_in state)) (B.faults_of (bank_in result.0)) }
@@ -187,13 +212,11 @@ fn reply_to<B: Bank>(
     };
     let refused = is_answer_refused(&state, numbered.line, &what);
     let reply = reply_of(&state, numbered.number, what);
-    match put_text(text, &state, numbered.line, &reply) {
-        Ok(()) => (state, Ok(Made { reply, refused })),
-        Err(_) => (state, Err(NoMemory {})),
-    }
+    put_text(text, &state, numbered.line, &reply);
+    (state, Ok(Made { reply, refused }))
 }
 
-// Performs one line and shows its reply.
+// Performs one line and shows its reply. The room for the reply is taken first.
 fn perform_line<B: Bank, K: Sink>(
     alloc: Global,
     session: Session<B>,
@@ -205,6 +228,8 @@ fn perform_line<B: Bank, K: Sink>(
     requires bank { IsFitBank (B.given (bank_in session.state)) backup }
     requires own { RunsOwn session.state }
     requires former { IsRunKept B.tells (B.given (bank_in session.state)) (B.tape (bank_in session.state)) backup session.state }
+    requires room { longest_reply ≤ vec_capacity session.buffer }
+    ensures room { longest_reply ≤ vec_capacity result.buffer }
     ensures former { IsRunKept B.tells (B.given (bank_in session.state)) (B.tape (bank_in result.state)) backup result.state }
     ensures step { IsStep K.tells (setting_of B.tells (B.given (bank_in session.state)) (B.tape (bank_in session.state)) (B.tape (bank_in result.state)) backup (B.faults_of (bank_in session.state)) (B.faults_of (bank_in result.state))) session result numbered (K.taken out.old) (K.taken out.new) result.stopped }
     ensures cause { IsStopCause result.stopped (K.faults_of out.old) (K.faults_of out.new) }
@@ -247,16 +272,7 @@ fn perform_line<B: Bank, K: Sink>(
         reply,
         refused: is_refused,
     } = made;
-    if replies.push(reply).is_err() {
-        return Session {
-            state,
-            replies,
-            buffer,
-            shown,
-            refused,
-            stopped: short,
-        };
-    }
+    replies.push_reserved(reply);
     let refused = refused | is_refused;
     let text = buffer.as_slice();
     let len = text.len() as u64;
@@ -284,7 +300,7 @@ fn perform_line<B: Bank, K: Sink>(
 }
 
 /// Performs the lines on a bank, the replies being shown one by one, up to the first that can't be shown or for which
-/// memory is short.
+/// memory is short. The room for a reply is taken before its line is performed.
 pub fn perform<B: Bank, K: Sink>(
     alloc: Global,
     bank: B,
@@ -302,10 +318,20 @@ pub fn perform<B: Bank, K: Sink>(
     ensures grows { Grows B.tells (B.tape bank) (B.tape (bank_in result.state)) }
     ensures given { B.given (bank_in result.state) ≡ B.given bank }
 {
+    let Ok(buffer) = Vec::with_capacity(alloc, LONGEST_REPLY) else {
+        return Session {
+            state: State::Idle(bank, Vec::new(alloc)),
+            replies: Vec::new(alloc),
+            buffer: Vec::new(alloc),
+            shown: 0,
+            refused: false,
+            stopped: Some(Stop::NoMemory),
+        };
+    };
     let mut session = Session {
         state: State::Idle(bank, Vec::new(alloc)),
         replies: Vec::new(alloc),
-        buffer: Vec::new(alloc),
+        buffer,
         shown: 0,
         refused: false,
         stopped: None,

@@ -257,7 +257,7 @@ fn create_array<B: Bank>(
     }
 }
 
-// Opens the array that a line asks for.
+// Opens the array that a line asks for. Where memory is short for its status it is given up again, which makes no device call.
 fn assemble_array<B: Bank>(
     alloc: Global,
     bank: B,
@@ -288,7 +288,10 @@ fn assemble_array<B: Bank>(
                     State::Running(array, epochs),
                     Ok(Answered::Outside(Outside::Assembled { epoch, status })),
                 ),
-                Err(fault) => (State::Running(array, epochs), Err(fault)),
+                Err(fault) => {
+                    let (bank, _) = array.halt(who);
+                    (State::Idle(bank, epochs), Err(fault))
+                }
             };
         }
         Err(left) => left,
@@ -336,7 +339,7 @@ fn answer_idle<B: Bank>(
     }
 }
 
-/// The answer to one line. Where memory is short, nothing was entered, but an array may have been opened.
+/// The answer to one line. Where memory is short, nothing was entered and no array opened, but a wait may have made some calls.
 pub fn answer<B: Bank>(
     alloc: Global,
     state: State<B>,

@@ -1,3 +1,4 @@
+pub mod AppendLaws
 pub mod KindLaws
 pub mod RunLaws
 pub mod ScriptLaws

@@ -1,3 +1,4 @@
+pub mod Appends
 pub mod Grammar
 pub mod Looks
 pub mod Script

@@ -153,6 +153,11 @@ event_text Halted = codes "halted"
 event_text (Refused refusal) = refusal_text refusal
 event_text event = []
 
+-- how many sectors the text shows
+abbrev pub sectors_read : Event → ℕ
+sectors_read (Read x body) = length body
+sectors_read event = 0
+
 -- ---- work that is waited for
 
 -- `left K`, and the refusal that ended the work

@@ -1,8 +1,9 @@
 //! The text of a reply.
 
-ghost use Rattle.std.specs.Prelude.{◌≡◌, ℕ, ◌+◌, ◌<◌, ◌≤◌, [], ◌∷◌, ◌++◌, length, drop, map, slice_index_or, OnOk, codes, decimal};
+ghost use Rattle.std.specs.Prelude.{◌≡◌, ℕ, ◌+◌, ◌*◌, ◌<◌, ◌≤◌, [], ◌∷◌, ◌++◌, length, drop, map, slice_index_or, codes, decimal};
+ghost use Rattle.script.specs.Appends.{Appends, AppendsFew};
 ghost use Rattle.script.specs.Looks.{kind_seen};
-ghost use Rattle.script.specs.Texts.{assembled_text, busy_word, created_text, ending_text, event_text, field_word, is_same, kind_of, kind_text, kinds, lane_text, layout_text, refusal_text, refused, run_text, runs, runs_text, shape_text, shown_text, worker_refusal_text, waited_text, worker_text, Hex};
+ghost use Rattle.script.specs.Texts.{assembled_text, busy_word, created_text, ending_text, event_text, field_word, is_same, kind_of, kind_text, kinds, lane_text, layout_text, refusal_text, refused, run_text, runs, runs_text, sectors_read, shape_text, shown_text, worker_refusal_text, waited_text, worker_text, Hex};
 
 use crate::seeds::seed_contents;
 use flat_history::Event;
@@ -12,7 +13,8 @@ use std::alloc::AllocError;
 
 /// Appends `created`.
 pub fn push_created(text: &mut Vec<u8>) -> Result<(), AllocError>
-    ensures { OnOk result (text.new.items ≡ text.old.items ++ created_text) }
+    ensures appended { Appends text.old text.new result created_text }
+    ensures short { AppendsFew 7 text.old text.new result }
 {
     text.extend_from_slice(b"created")
 }
@@ -20,7 +22,8 @@ pub fn push_created(text: &mut Vec<u8>) -> Result<(), AllocError>
 /// Appends the reply of a call whose last entry has this event, without the newline.
 /// Events that are no reply of a line append nothing.
 pub fn push_event(text: &mut Vec<u8>, event: &Event) -> Result<(), AllocError>
-    ensures { OnOk result (text.new.items ≡ text.old.items ++ event_text event.now) }
+    ensures appended { Appends text.old text.new result (event_text event.now) }
+    ensures short { AppendsFew (200 + 1100 * sectors_read event.now) text.old text.new result }
 {
     match event {
         Event::Read { at, body } => push_read(text, *at, body),
@@ -40,7 +43,8 @@ pub fn push_event(text: &mut Vec<u8>, event: &Event) -> Result<(), AllocError>
 
 /// Appends `refused NUMBER NAME VALUES`.
 pub fn push_refusal(text: &mut Vec<u8>, refusal: &Refusal) -> Result<(), AllocError>
-    ensures { OnOk result (text.new.items ≡ text.old.items ++ refusal_text refusal.now) }
+    ensures appended { Appends text.old text.new result (refusal_text refusal.now) }
+    ensures short { AppendsFew 100 text.old text.new result }
 {
     match *refusal {
         Refusal::PastEnd(visible) => push_refused(text, 1, "PastEnd", &[visible]),
@@ -79,7 +83,8 @@ pub fn push_refusal(text: &mut Vec<u8>, refusal: &Refusal) -> Result<(), AllocEr
 
 /// Appends the reply of `wait` whose last call has this event.
 pub fn push_waited(text: &mut Vec<u8>, event: &Event) -> Result<(), AllocError>
-    ensures { OnOk result (text.new.items ≡ text.old.items ++ waited_text event.now) }
+    ensures appended { Appends text.old text.new result (waited_text event.now) }
+    ensures short { AppendsFew 140 text.old text.new result }
 {
     match event {
         Event::Stepped { left, ended, .. } => push_left(text, "waited left ", *left, ended),
@@ -93,7 +98,8 @@ pub fn push_waited(text: &mut Vec<u8>, event: &Event) -> Result<(), AllocError>
 
 /// Appends the worker's reply whose last call has this event, behind `worker: `.
 pub fn push_worker(text: &mut Vec<u8>, event: &Event) -> Result<(), AllocError>
-    ensures { OnOk result (text.new.items ≡ text.old.items ++ worker_text event.now) }
+    ensures appended { Appends text.old text.new result (worker_text event.now) }
+    ensures short { AppendsFew 140 text.old text.new result }
 {
     match event {
         Event::Stepped { left, ended, .. } => push_left(text, "left ", *left, ended),
@@ -104,7 +110,8 @@ pub fn push_worker(text: &mut Vec<u8>, event: &Event) -> Result<(), AllocError>
 
 /// Appends the reply of a worker that was refused, behind `worker: `.
 pub fn push_worker_refusal(text: &mut Vec<u8>, refusal: &Refusal) -> Result<(), AllocError>
-    ensures { OnOk result (text.new.items ≡ text.old.items ++ worker_refusal_text refusal.now) }
+    ensures appended { Appends text.old text.new result (worker_refusal_text refusal.now) }
+    ensures short { AppendsFew 140 text.old text.new result }
 {
     match *refusal {
         Refusal::Nothing => push_left(text, "left ", 0, &None),
@@ -123,7 +130,8 @@ pub enum Lane {
 
 /// Appends what stands before a reply of this lane.
 pub fn push_lane(text: &mut Vec<u8>, lane: Lane) -> Result<(), AllocError>
-    ensures { OnOk result (text.new.items ≡ text.old.items ++ lane_text lane) }
+    ensures appended { Appends text.old text.new result (lane_text lane) }
+    ensures short { AppendsFew 8 text.old text.new result }
 {
     match lane {
         Lane::Script => Ok(()),
@@ -135,7 +143,8 @@ pub fn push_lane(text: &mut Vec<u8>, lane: Lane) -> Result<(), AllocError>
 
 /// Appends the reply of `assemble`.
 pub fn push_assembled(text: &mut Vec<u8>, status: &Status) -> Result<(), AllocError>
-    ensures { OnOk result (text.new.items ≡ text.old.items ++ assembled_text status.now) }
+    ensures appended { Appends text.old text.new result (assembled_text status.now) }
+    ensures short { AppendsFew 240 text.old text.new result }
 {
     match status.target {
         Some(target) => push_shown(text, &target, status),
@@ -144,16 +153,18 @@ pub fn push_assembled(text: &mut Vec<u8>, status: &Status) -> Result<(), AllocEr
 }
 
 fn push_shown(text: &mut Vec<u8>, shape: &Shape, status: &Status) -> Result<(), AllocError>
-    ensures { OnOk result (text.new.items ≡ text.old.items ++ shown_text shape.now status.now) }
+    ensures appended { Appends text.old text.new result (shown_text shape.now status.now) }
+    ensures short { AppendsFew 240 text.old text.new result }
 {
-    text.extend_from_slice(b"assembled ")?;
+    push_words(text, "assembled ")?;
     push_shape(text, shape, status.size)?;
     push_counted(text, " visible ", status.visible)?;
     push_counted(text, " left ", status.left)
 }
 
 fn push_shape(text: &mut Vec<u8>, shape: &Shape, size: u64) -> Result<(), AllocError>
-    ensures { OnOk result (text.new.items ≡ text.old.items ++ shape_text shape.now size) }
+    ensures appended { Appends text.old text.new result (shape_text shape.now size) }
+    ensures short { AppendsFew 160 text.old text.new result }
 {
     push_counted(text, "level ", u64::from(shape.level))?;
     push_counted(text, " disks ", u64::from(shape.disks))?;
@@ -163,8 +174,16 @@ fn push_shape(text: &mut Vec<u8>, shape: &Shape, size: u64) -> Result<(), AllocE
     push_layout(text, shape.layout)
 }
 
+fn push_words(text: &mut Vec<u8>, words: &str) -> Result<(), AllocError>
+    ensures appended { Appends text.old text.new result words.now }
+    ensures short { AppendsFew (length words.now) text.old text.new result }
+{
+    text.extend_from_slice(words.as_bytes())
+}
+
 fn push_number(text: &mut Vec<u8>, number: u64) -> Result<(), AllocError>
-    ensures { OnOk result (text.new.items ≡ text.old.items ++ decimal number) }
+    ensures appended { Appends text.old text.new result (decimal number) }
+    ensures short { AppendsFew 20 text.old text.new result }
 {
     let mut buffer = itoa::Buffer::new();
     text.extend_from_slice(buffer.format(number).as_bytes())
@@ -172,7 +191,8 @@ fn push_number(text: &mut Vec<u8>, number: u64) -> Result<(), AllocError>
 
 // A word or two and a number.
 fn push_counted(text: &mut Vec<u8>, words: &str, count: u64) -> Result<(), AllocError>
-    ensures { OnOk result (text.new.items ≡ text.old.items ++ words.now ++ decimal count) }
+    ensures appended { Appends text.old text.new result (words.now ++ decimal count) }
+    ensures short { AppendsFew (length words.now + 20) text.old text.new result }
 {
     text.extend_from_slice(words.as_bytes())?;
     push_number(text, count)
@@ -184,8 +204,8 @@ fn push_refused(
     name: &str,
     values: &[u64],
 ) -> Result<(), AllocError>
-    ensures { OnOk result
-        (text.new.items ≡ text.old.items ++ refused number name.now (map decimal values.now)) }
+    ensures appended { Appends text.old text.new result (refused number name.now (map decimal values.now)) }
+    ensures short { AppendsFew (30 + length name.now + 21 * length values.now) text.old text.new result }
 {
     push_counted(text, "refused ", number)?;
     text.push(b' ')?;
@@ -210,8 +230,8 @@ fn push_pair(
 }
 
 fn push_worded(text: &mut Vec<u8>, number: u64, name: &str, word: &str) -> Result<(), AllocError>
-    ensures { OnOk result
-        (text.new.items ≡ text.old.items ++ refused number name.now (word.now ∷ [])) }
+    ensures appended { Appends text.old text.new result (refused number name.now (word.now ∷ [])) }
+    ensures short { AppendsFew (31 + length name.now + length word.now) text.old text.new result }
 {
     push_refused(text, number, name, &[])?;
     text.push(b' ')?;
@@ -219,7 +239,8 @@ fn push_worded(text: &mut Vec<u8>, number: u64, name: &str, word: &str) -> Resul
 }
 
 fn busy_name(kind: BusyKind) -> &'static str
-    ensures { result.now ≡ busy_word kind }
+    ensures word { result.now ≡ busy_word kind }
+    ensures short { length result.now ≤ 7 }
 {
     match kind {
         BusyKind::Reshape => "reshape",
@@ -230,7 +251,8 @@ fn busy_name(kind: BusyKind) -> &'static str
 }
 
 fn field_name(field: ShapeField) -> &'static str
-    ensures { result.now ≡ field_word field }
+    ensures word { result.now ≡ field_word field }
+    ensures short { length result.now ≤ 7 }
 {
     match field {
         ShapeField::Level => "level",
@@ -243,7 +265,8 @@ fn field_name(field: ShapeField) -> &'static str
 }
 
 fn push_layout(text: &mut Vec<u8>, layout: u32) -> Result<(), AllocError>
-    ensures { OnOk result (text.new.items ≡ text.old.items ++ layout_text layout) }
+    ensures appended { Appends text.old text.new result (layout_text layout) }
+    ensures short { AppendsFew 30 text.old text.new result }
 {
     match layout_name(layout) {
         Some(name) => text.extend_from_slice(name.as_bytes()),
@@ -252,8 +275,8 @@ fn push_layout(text: &mut Vec<u8>, layout: u32) -> Result<(), AllocError>
 }
 
 fn push_wrote(text: &mut Vec<u8>, at: u64, body: &Sectors) -> Result<(), AllocError>
-    ensures { OnOk result (text.new.items ≡ text.old.items
-        ++ (codes "wrote " ++ decimal at ++ codes " " ++ decimal (length body.now))) }
+    ensures appended { Appends text.old text.new result (codes "wrote " ++ decimal at ++ codes " " ++ decimal (length body.now)) }
+    ensures short { AppendsFew 50 text.old text.new result }
 {
     push_counted(text, "wrote ", at)?;
     push_counted(text, " ", body.count() as u64)
@@ -265,8 +288,8 @@ fn push_stepped(
     left: u64,
     ended: &Option<Refusal>,
 ) -> Result<(), AllocError>
-    ensures { OnOk result (text.new.items ≡ text.old.items
-        ++ (codes "stepped " ++ decimal done ++ codes " left " ++ decimal left ++ ending_text ended.now)) }
+    ensures appended { Appends text.old text.new result (codes "stepped " ++ decimal done ++ codes " left " ++ decimal left ++ ending_text ended.now) }
+    ensures short { AppendsFew 160 text.old text.new result }
 {
     push_counted(text, "stepped ", done)?;
     push_left(text, " left ", left, ended)
@@ -278,8 +301,8 @@ fn push_left(
     left: u64,
     ended: &Option<Refusal>,
 ) -> Result<(), AllocError>
-    ensures { OnOk result
-        (text.new.items ≡ text.old.items ++ (words.now ++ decimal left ++ ending_text ended.now)) }
+    ensures appended { Appends text.old text.new result (words.now ++ decimal left ++ ending_text ended.now) }
+    ensures short { AppendsFew (length words.now + 121) text.old text.new result }
 {
     push_counted(text, words, left)?;
     match ended {
@@ -292,8 +315,8 @@ fn push_left(
 }
 
 fn push_read(text: &mut Vec<u8>, at: u64, body: &Sectors) -> Result<(), AllocError>
-    ensures { OnOk result (text.new.items ≡ text.old.items
-        ++ (codes "read " ++ decimal at ++ codes " " ++ decimal (length body.now) ++ codes ":" ++ runs_text at body.now)) }
+    ensures appended { Appends text.old text.new result (codes "read " ++ decimal at ++ codes " " ++ decimal (length body.now) ++ codes ":" ++ runs_text at body.now) }
+    ensures short { AppendsFew (70 + 1100 * length body.now) text.old text.new result }
 {
     push_counted(text, "read ", at)?;
     push_counted(text, " ", body.count() as u64)?;
@@ -360,8 +383,8 @@ fn push_run(
     sector: &[u8; 512],
     count: u64,
 ) -> Result<(), AllocError>
-    ensures { OnOk result
-        (text.new.items ≡ text.old.items ++ run_text (kind_seen look sector.now, count)) }
+    ensures appended { Appends text.old text.new result (run_text (kind_seen look sector.now, count)) }
+    ensures short { AppendsFew 1100 text.old text.new result }
 {
     text.push(b' ')?;
     match look {
@@ -373,15 +396,18 @@ fn push_run(
 }
 
 fn push_hex(text: &mut Vec<u8>, sector: &[u8; 512]) -> Result<(), AllocError>
-    ensures { OnOk result (text.new.items ≡ text.old.items ++ kind_text (Hex sector.now)) }
+    ensures appended { Appends text.old text.new result (kind_text (Hex sector.now)) }
+    ensures short { AppendsFew 1030 text.old text.new result }
 {
     text.extend_from_slice(b"hex ")?;
-    let digits = hex::encode(*text.allocator(), sector.as_slice())?;
-    text.extend_from_slice(digits.as_bytes())
+    let mut digits = [0; 1024];
+    let _ = hex::encode_to_slice(sector.as_slice(), &mut digits);
+    text.extend_from_slice(&digits)
 }
 
 fn push_runs(text: &mut Vec<u8>, at: u64, sectors: &[[u8; 512]]) -> Result<(), AllocError>
-    ensures { OnOk result (text.new.items ≡ text.old.items ++ runs_text at sectors.now) }
+    ensures appended { Appends text.old text.new result (runs_text at sectors.now) }
+    ensures short { AppendsFew (1100 * length sectors.now) text.old text.new result }
 {
     let mut start = 0;
     while start < sectors.len() {

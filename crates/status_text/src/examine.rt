@@ -1,8 +1,8 @@
 //! The text of `examine`.
 
-ghost use Rattle.std.specs.Prelude.{Some};
+ghost use Rattle.std.specs.Prelude.{length, Some};
 ghost use Rattle.uuid.specs.Text.{hyphenated_text, lower};
-ghost use Rattle.status_text.specs.Appends.{Appends};
+ghost use Rattle.script.specs.Appends.{Appends, AppendsFew};
 ghost use Rattle.status_text.specs.Texts.{entry_text, examined_text, fields_text, found_text, owner_text};
 
 use crate::words::{clean_name, push_counted, push_number, push_words};
@@ -13,14 +13,16 @@ use uuid::Uuid;
 
 /// Appends what was found in a slot, in one line, less its end.
 pub fn push_examined(text: &mut Vec<u8>, slot: u32, found: &Option<Sb>) -> Result<(), AllocError>
-    ensures { Appends text.old text.new result (examined_text slot found.now) }
+    ensures appended { Appends text.old text.new result (examined_text slot found.now) }
+    ensures short { AppendsFew 500 text.old text.new result }
 {
     push_counted(text, "slot ", u64::from(slot))?;
     push_found(text, found)
 }
 
 fn push_found(text: &mut Vec<u8>, found: &Option<Sb>) -> Result<(), AllocError>
-    ensures { Appends text.old text.new result (found_text found.now) }
+    ensures appended { Appends text.old text.new result (found_text found.now) }
+    ensures short { AppendsFew 450 text.old text.new result }
 {
     match found {
         Some(sb) => push_superblock(text, sb),
@@ -29,7 +31,8 @@ fn push_found(text: &mut Vec<u8>, found: &Option<Sb>) -> Result<(), AllocError>
 }
 
 fn push_superblock(text: &mut Vec<u8>, sb: &Sb) -> Result<(), AllocError>
-    ensures { Appends text.old text.new result (found_text (Some sb.now)) }
+    ensures appended { Appends text.old text.new result (found_text (Some sb.now)) }
+    ensures short { AppendsFew 450 text.old text.new result }
 {
     push_owner(text, sb)?;
     push_fields(text, sb)?;
@@ -38,7 +41,8 @@ fn push_superblock(text: &mut Vec<u8>, sb: &Sb) -> Result<(), AllocError>
 }
 
 fn push_owner(text: &mut Vec<u8>, sb: &Sb) -> Result<(), AllocError>
-    ensures { Appends text.old text.new result (owner_text sb.now) }
+    ensures appended { Appends text.old text.new result (owner_text sb.now) }
+    ensures short { AppendsFew 110 text.old text.new result }
 {
     push_words(text, " array ")?;
     push_uuid(text, sb.set_uuid)?;
@@ -47,8 +51,10 @@ fn push_owner(text: &mut Vec<u8>, sb: &Sb) -> Result<(), AllocError>
     push_entry(text, entry_of(sb, sb.dev_number))
 }
 
+#[tactic(auto, using(crate::proofs::UuidLaws::uuid_length))]
 fn push_uuid(text: &mut Vec<u8>, uuid: [u8; 16]) -> Result<(), AllocError>
-    ensures { Appends text.old text.new result (hyphenated_text lower uuid) }
+    ensures appended { Appends text.old text.new result (hyphenated_text lower uuid) }
+    ensures short { AppendsFew 36 text.old text.new result }
 {
     let mut buffer = Uuid::encode_buffer();
     push_words(
@@ -60,7 +66,8 @@ fn push_uuid(text: &mut Vec<u8>, uuid: [u8; 16]) -> Result<(), AllocError>
 }
 
 fn push_entry(text: &mut Vec<u8>, entry: u16) -> Result<(), AllocError>
-    ensures { Appends text.old text.new result (entry_text entry) }
+    ensures appended { Appends text.old text.new result (entry_text entry) }
+    ensures short { AppendsFew 20 text.old text.new result }
 {
     match entry {
         0xffff => push_words(text, "spare"),
@@ -70,7 +77,8 @@ fn push_entry(text: &mut Vec<u8>, entry: u16) -> Result<(), AllocError>
 }
 
 fn push_fields(text: &mut Vec<u8>, sb: &Sb) -> Result<(), AllocError>
-    ensures { Appends text.old text.new result (fields_text sb.now) }
+    ensures appended { Appends text.old text.new result (fields_text sb.now) }
+    ensures short { AppendsFew 230 text.old text.new result }
 {
     push_counted(text, " events ", sb.events)?;
     push_counted(text, " level ", u64::from(sb.level))?;

@@ -1,7 +1,7 @@
 //! The text of `mdstat`.
 
-ghost use Rattle.std.specs.Prelude.{◌≡◌, count_by};
-ghost use Rattle.status_text.specs.Appends.{Appends};
+ghost use Rattle.std.specs.Prelude.{◌+◌, length, ◌≡◌, count_by};
+ghost use Rattle.script.specs.Appends.{Appends, AppendsFew};
 ghost use Rattle.status_text.specs.Texts.{is_whole, left_in_brief, marks, mdstat_text, reshape_in_brief, roles_in_brief};
 
 use crate::words::{push_counted, push_progress, push_words};
@@ -10,7 +10,8 @@ use std::alloc::AllocError;
 
 /// Appends the state of an array in one line, less its end.
 pub fn push_mdstat(text: &mut Vec<u8>, status: &Status) -> Result<(), AllocError>
-    ensures { Appends text.old text.new result (mdstat_text status.now) }
+    ensures appended { Appends text.old text.new result (mdstat_text status.now) }
+    ensures short { AppendsFew (250 + length status.now.roles) text.old text.new result }
 {
     push_counted(text, "md: raid", u64::from(status.shape.level))?;
     push_roles(text, status.roles.as_slice())?;
@@ -21,7 +22,8 @@ pub fn push_mdstat(text: &mut Vec<u8>, status: &Status) -> Result<(), AllocError
 }
 
 fn push_roles(text: &mut Vec<u8>, roles: &[Role]) -> Result<(), AllocError>
-    ensures { Appends text.old text.new result (roles_in_brief roles.now) }
+    ensures appended { Appends text.old text.new result (roles_in_brief roles.now) }
+    ensures short { AppendsFew (60 + length roles.now) text.old text.new result }
 {
     push_counted(text, " [", roles.len() as u64)?;
     push_counted(text, "/", count_whole(roles) as u64)?;
@@ -47,7 +49,8 @@ fn is_whole(role: Role) -> bool
 }
 
 fn push_marks(text: &mut Vec<u8>, roles: &[Role]) -> Result<(), AllocError>
-    ensures { Appends text.old text.new result (marks roles.now) }
+    ensures appended { Appends text.old text.new result (marks roles.now) }
+    ensures short { AppendsFew (length roles.now) text.old text.new result }
 {
     for role in roles {
         push_words(text, if is_whole(*role) { "U" } else { "_" })?;
@@ -56,7 +59,8 @@ fn push_marks(text: &mut Vec<u8>, roles: &[Role]) -> Result<(), AllocError>
 }
 
 fn push_reshape(text: &mut Vec<u8>, status: &Status) -> Result<(), AllocError>
-    ensures { Appends text.old text.new result (reshape_in_brief status.now.target status.now) }
+    ensures appended { Appends text.old text.new result (reshape_in_brief status.now.target status.now) }
+    ensures short { AppendsFew 60 text.old text.new result }
 {
     match status.target {
         Some(_) => {
@@ -68,7 +72,8 @@ fn push_reshape(text: &mut Vec<u8>, status: &Status) -> Result<(), AllocError>
 }
 
 fn push_left(text: &mut Vec<u8>, left: u64) -> Result<(), AllocError>
-    ensures { Appends text.old text.new result (left_in_brief left) }
+    ensures appended { Appends text.old text.new result (left_in_brief left) }
+    ensures short { AppendsFew 26 text.old text.new result }
 {
     if left == 0 {
         Ok(())

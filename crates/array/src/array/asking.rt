@@ -195,6 +195,7 @@ impl<B: Bank> Array<B> {
         requires caller { who.caller ≢ 254 }
         ensures entered { IfOk result (λ status. IsEntered B.tells (B.tape self.old.bank) who self.old.entries self.new.entries (Shown status ∷ [])) }
         ensures told { IfOk result (λ status. IsStatusFor self.old status) }
+        ensures few { IfOk result (λ status. (length status.roles ≤ 16) × (length status.spares ≤ 32)) }
         ensures unchanged { IfErr result (λ none. self.new ≡ self.old) }
         ensures bank { self.new.bank ≡ self.old.bank }
         ensures members { self.new.members ≡ self.old.members }

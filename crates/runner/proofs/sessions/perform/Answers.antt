@@ -40,13 +40,14 @@ returns-then-is_some-clause-shown g c =
 
 pub loop-i-init : goal.loop-i-init
 loop-i-init g c =
-    let session : Session g.row.B.Denot = record { state = Idle c.args.bank c.new.result; replies = c.new-2.result; buffer = c.new-3.result; shown = 0; refused = false; stopped = None } in
+    let session : Session g.row.B.Denot = record { state = Idle c.args.bank c.new-2.result; replies = c.new-3.result; buffer = c.in-Ok.buffer; shown = 0; refused = false; stopped = None } in
     record {
       going = refl;
-      count = ap (λ (l : List LineReply). length l) c.new-2.ensures.items;
-      performed = performed_none c.args.lines.now session c.args.bank c.new.result refl c.new.ensures.items c.new-2.ensures.items refl refl;
-      shown = shown_none g.K.Sink.tells c.args.lines.now session (g.K.Sink.taken c.args.out.now) (g.K.Sink.faults_of c.args.out.now) c.new-2.ensures.items refl refl;
-      former = λ t. former_none (g.B.Bank.given c.args.bank) (g.B.Bank.tape c.args.bank) c.args.backup (length (g.B.Bank.tape c.args.bank)) c.new.result.items c.new.ensures.items;
+      room = omega (arith, c.in-Ok.ensures.exact);
+      count = ap (λ (l : List LineReply). length l) c.new-3.ensures.items;
+      performed = performed_none c.args.lines.now session c.args.bank c.new-2.result refl c.new-2.ensures.items c.new-3.ensures.items refl None refl;
+      shown = shown_none g.K.Sink.tells c.args.lines.now session (g.K.Sink.taken c.args.out.now) (g.K.Sink.faults_of c.args.out.now) c.new-3.ensures.items refl refl;
+      former = λ t. former_none (g.B.Bank.given c.args.bank) (g.B.Bank.tape c.args.bank) c.args.backup (length (g.B.Bank.tape c.args.bank)) c.new-2.result.items c.new-2.ensures.items;
       never_falls = λ s. omega arith;
       grows = grows-none (g.B.Bank.tape c.args.bank);
       given = refl;
@@ -63,6 +64,7 @@ loop-i-preserved g c =
     let going : c.perform_line-session.result.stopped ≡ None = search rules in
     record {
       going = going;
+      room = did.room;
       count = one_reply g.K.Sink.tells (setting_of g.B.Bank.tells (g.B.Bank.given c.args.bank) (g.B.Bank.tape (bank_in c.loop-i.session.state)) (g.B.Bank.tape (bank_in c.perform_line-session.result.state)) c.args.backup (g.B.Bank.faults_of (bank_in c.loop-i.session.state)) (g.B.Bank.faults_of (bank_in c.perform_line-session.result.state))) c.loop-i.session c.perform_line-session.result line
           (g.K.Sink.taken c.loop-i.out) (g.K.Sink.taken c.perform_line-session.new.out) c.perform_line-session.result.stopped going each ∙ ap (λ (n : ℕ). n + 1) was.count;
       former = subst (λ (given : Given). IsRunKept g.B.Bank.tells given (g.B.Bank.tape (bank_in c.perform_line-session.result.state)) c.args.backup c.perform_line-session.result.state) was.given did.former;

@@ -1,9 +1,10 @@
 -- The lines so far were performed, and each reply was shown.
-use Rattle.std.proofs.Common.{◌≡◌, length, None}
+use Rattle.std.proofs.Common.{◌≡◌, ◌≤◌, length, vec_capacity, None}
 use Rattle.bank.specs.Given.{NeverFalls}
 use Rattle.views.specs.Moving.{Grows}
 use Rattle.runner.specs.Ended.{IsRunKept}
 use Rattle.runner.specs.Making.{setting_of}
+use Rattle.runner.specs.Shown.{longest_reply}
 use Rattle.runner.specs.States.{bank_in}
 use Rattle.runner.specs.Sessions.{IsPerformed, IsShownTo}
 use Rattle.runner.proofs.sessions.perform.Given as goal
@@ -11,6 +12,7 @@ use Rattle.runner.proofs.sessions.perform.Given as goal
 abbrev pub invariant-loop-i : goal.invariant-loop-i
 invariant-loop-i g l = record {
   going : l.session.stopped ≡ None;
+  room : longest_reply ≤ vec_capacity l.session.buffer;
   count : length l.session.replies.items ≡ l.i;
   performed : IsPerformed (setting_of g.B.Bank.tells (g.B.Bank.given l.fn.bank) (g.B.Bank.tape l.fn.bank) (g.B.Bank.tape (bank_in l.session.state)) l.backup (g.B.Bank.faults_of l.fn.bank) (g.B.Bank.faults_of (bank_in l.session.state))) l.lines l.session;
   shown : IsShownTo g.K.Sink.tells l.lines l.session (g.K.Sink.taken l.fn.out) (g.K.Sink.taken l.out) (g.K.Sink.faults_of l.fn.out) (g.K.Sink.faults_of l.out);

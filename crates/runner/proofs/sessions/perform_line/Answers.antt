@@ -1,5 +1,4 @@
-use Rattle.std.proofs.Common.{take, ◌+◌, ◌≡◌, ℕ, [], ◌++◌, ◌∷◌, length, List, Bool, Result, inl, refl, ◌∙◌, ap, subst, arith}
-use Rattle.std.specs.Prelude.{if◌then◌else◌}
+use Rattle.std.proofs.Common.{take, ◌+◌, ◌≡◌, ℕ, [], ◌++◌, ◌∷◌, length, List, Result, inl, refl, ◌∙◌, ap, subst, arith}
 use Rattle.md_base.specs.declared.answers.NoMemory.{NoMemory}
 use Rattle.runner.specs.declared.report.LineReply.{LineReply}
 use Rattle.runner.specs.declared.sessions.Made.{Made}
@@ -9,7 +8,7 @@ use Rattle.runner.specs.States.{histories_in, bank_in}
 use Rattle.runner.specs.Sessions.{counted, IsRepliedOrNot}
 use Rattle.runner.proofs.Causes.{grows-none}
 use Rattle.runner.proofs.Losses.{losses-kept}
-use Rattle.runner.proofs.Turns.{grown_kept, unreplied_of}
+use Rattle.runner.proofs.Turns.{grown_kept}
 use Rattle.runner.specs.Written.{MayWrite}
 use Rattle.runner.proofs.Writing.{written-nothing}
 use Rattle.runner.proofs.sessions.perform_line.Goals as goal
@@ -26,26 +25,13 @@ returns-then-is_err-clause-step g c =
       shown = refl;
     }
 
-pub returns-then-is_err-2-clause-step : goal.returns-then-is_err-2-clause-step
-returns-then-is_err-2-clause-step g c =
-    let setting = setting_of g.B.Bank.tells (g.B.Bank.given (bank_in c.args.session.state)) (g.B.Bank.tape (bank_in c.args.session.state)) (g.B.Bank.tape (bank_in c.reply_to-state.result.0)) c.args.backup (g.B.Bank.faults_of (bank_in c.args.session.state)) (g.B.Bank.faults_of (bank_in c.reply_to-state.result.0)) in
-    let made : Made = c.in-Ok.made in
-    let replied = subst (λ (r : Result Made NoMemory). IsRepliedOrNot setting c.args.session.state c.reply_to-state.result.0 c.args.numbered c.reply_to-state.new.text.items r) c.in-Ok.is c.reply_to-state.ensures.replied in
-    record {
-      none = unreplied_of setting c.args.session.state c.reply_to-state.result.0 c.args.numbered made.reply made.refused replied.0;
-      same = c.push.ensures.items ∙ ap (λ (b : Bool). if b then c.reserve.new.self.items ++ made.reply ∷ [] else c.reserve.new.self.items) c.if-is_err-2.ensures.negation ∙ c.reserve.ensures.items;
-      refused = refl;
-      taken = refl;
-      shown = refl;
-    }
-
 pub returns-in-Ok-push-clause-step : goal.returns-in-Ok-push-clause-step
 returns-in-Ok-push-clause-step g c =
     let setting = setting_of g.B.Bank.tells (g.B.Bank.given (bank_in c.args.session.state)) (g.B.Bank.tape (bank_in c.args.session.state)) (g.B.Bank.tape (bank_in c.reply_to-state.result.0)) c.args.backup (g.B.Bank.faults_of (bank_in c.args.session.state)) (g.B.Bank.faults_of (bank_in c.reply_to-state.result.0)) in
     let made : Made = c.in-Ok.made in
     let replied = subst (λ (r : Result Made NoMemory). IsRepliedOrNot setting c.args.session.state c.reply_to-state.result.0 c.args.numbered c.reply_to-state.new.text.items r) c.in-Ok.is c.reply_to-state.ensures.replied in
-    let items : c.push.new.self.items ≡ c.args.session.replies.items ++ made.reply ∷ [] =
-    c.push.ensures.items ∙ ap (λ (b : Bool). if b then c.reserve.new.self.items ++ made.reply ∷ [] else c.reserve.new.self.items) c.if-is_err-2.ensures.negation ∙ ap (λ (l : List LineReply). l ++ made.reply ∷ []) c.reserve.ensures.items in
+    let items : c.push_reserved.new.self.items ≡ c.args.session.replies.items ++ made.reply ∷ [] =
+    c.push_reserved.ensures.items ∙ ap (λ (l : List LineReply). l ++ made.reply ∷ []) c.reserve.ensures.items in
     let piece : c.as_slice-text.result.now ≡ reply_text (histories_in c.reply_to-state.result.0) c.args.numbered.line made.reply = c.as_slice-text.ensures.value ∙ replied.1 in
     record {
       reply = record { made = made; replied = replied.0; more = items; refused = refl };
@@ -58,8 +44,8 @@ returns-in-Err-clause-step g c =
     let setting = setting_of g.B.Bank.tells (g.B.Bank.given (bank_in c.args.session.state)) (g.B.Bank.tape (bank_in c.args.session.state)) (g.B.Bank.tape (bank_in c.reply_to-state.result.0)) c.args.backup (g.B.Bank.faults_of (bank_in c.args.session.state)) (g.B.Bank.faults_of (bank_in c.reply_to-state.result.0)) in
     let made : Made = c.in-Ok.made in
     let replied = subst (λ (r : Result Made NoMemory). IsRepliedOrNot setting c.args.session.state c.reply_to-state.result.0 c.args.numbered c.reply_to-state.new.text.items r) c.in-Ok.is c.reply_to-state.ensures.replied in
-    let items : c.push.new.self.items ≡ c.args.session.replies.items ++ made.reply ∷ [] =
-    c.push.ensures.items ∙ ap (λ (b : Bool). if b then c.reserve.new.self.items ++ made.reply ∷ [] else c.reserve.new.self.items) c.if-is_err-2.ensures.negation ∙ ap (λ (l : List LineReply). l ++ made.reply ∷ []) c.reserve.ensures.items in
+    let items : c.push_reserved.new.self.items ≡ c.args.session.replies.items ++ made.reply ∷ [] =
+    c.push_reserved.ensures.items ∙ ap (λ (l : List LineReply). l ++ made.reply ∷ []) c.reserve.ensures.items in
     let piece : c.as_slice-text.result.now ≡ reply_text (histories_in c.reply_to-state.result.0) c.args.numbered.line made.reply = c.as_slice-text.ensures.value ∙ replied.1 in
     record {
       reply = record { made = made; replied = replied.0; more = items; refused = refl };

@@ -1,21 +1,18 @@
-use Rattle.std.proofs.Common.{rules, refl, List, ℕ, [], ◌∷◌, ◌++◌, length, sym, ap, subst, arith, ◌∙◌}
+use Rattle.std.proofs.Common.{◌≡◌, rules, refl, ℕ, [], ◌∷◌, ◌++◌, length, sym, ap, subst, arith, ◌∙◌}
 use Rattle.std.specs.Prelude.{IsTrue}
 use Rattle.bank.specs.Given.{NeverFalls}
 use Rattle.bank.specs.Tape.{contents}
 use Rattle.views.specs.Moving.{Grows}
 use Rattle.md_base.specs.declared.answers.Fault.{Fault}
 use Rattle.md_base.specs.declared.answers.Who.{Who}
-use Rattle.flat_history.specs.declared.events.Entry.{Entry}
 use Rattle.flat_history.specs.declared.events.Event.TheVariants.{Shown}
+use Rattle.flat_history.specs.Flat.{next_number}
 use Rattle.flat_history.specs.Plain.{entries_of}
-use Rattle.flat_history.specs.Transfers.{last_end_from}
-use Rattle.row_io.specs.Rows.{reading_of}
-use Rattle.array_kept.specs.Adopting.{found_losses}
 use Rattle.array_kept.specs.Calls.{IsEntered, IsEndOf}
 use Rattle.views.specs.Parts.{Parts}
 use Rattle.assemble.specs.Opening.{HasCause}
 use Rattle.script.specs.declared.lines.Line.TheVariants.{Assemble as AsksAssemble}
-use Rattle.runner.specs.Ended.{IsGoing}
+use Rattle.runner.specs.Ended.{IsGoing, IsRunKept}
 use Rattle.runner.specs.Making.{setting_of}
 use Rattle.runner.specs.States.{running_history, IsTurn, IsNoTurn}
 use Rattle.runner.specs.declared.report.Answered.{Answered}
@@ -28,7 +25,7 @@ use Rattle.superblocks.specs.declared.members.Members.{Members}
 use Rattle.runner.specs.Making.{world_at, AreHeldSince}
 use Rattle.runner.proofs.Found.{opened_accepted, opened_held}
 use Rattle.runner.proofs.Losses.{held-later}
-use Rattle.runner.proofs.Turns.{opening_end, turn_found, turn_idle, no_turn_idle, no_turn_found}
+use Rattle.runner.proofs.Turns.{turn_found, turn_idle, no_turn_idle}
 use Rattle.runner.specs.Histories.{histories_of}
 use Rattle.runner.specs.Written.{MayWrite, HasWritten, IsWritten}
 use Rattle.runner.proofs.Writing.{written_idle, idle_flushes, opened_flushes}
@@ -57,12 +54,9 @@ returns-in-Ok-status-clause-answered g c =
 
 pub returns-in-Err-status-clause-answered : goal.returns-in-Err-status-clause-answered
 returns-in-Err-status-clause-answered g c =
-    let yes : IsTrue c.has_room.result = search rules in
-    let found = c.in-Ok.array in
-    let did = c.in-Ok.ensures in
-    subst (λ (a : Parts g.row.B.Denot). IsNoTurn (setting_of g.B.Bank.tells (g.B.Bank.given c.args.bank) (g.B.Bank.tape c.args.bank) (g.B.Bank.tape a.bank) c.args.backup (g.B.Bank.faults_of c.args.bank) (g.B.Bank.faults_of a.bank)) (IsIdle c.args.bank c.args.epochs) (IsRunning a c.has_room.new.epochs) (AsksAssemble c.args.uuid)) (sym c.in-Err-status.ensures.unchanged)
-    (no_turn_found (setting_of g.B.Bank.tells (g.B.Bank.given c.args.bank) (g.B.Bank.tape c.args.bank) (g.B.Bank.tape found.bank) c.args.backup (g.B.Bank.faults_of c.args.bank) (g.B.Bank.faults_of found.bank)) c.args.bank c.args.epochs c.has_room.new.epochs c.has_room.ensures.same c.requires.own found
-    (c.has_room.ensures.room yes) (c.has_room.ensures.few yes) (grows_longer (flushes-grow did.tape)) found c.args.uuid did.assembled refl refl refl refl)
+    let gone : c.halt-bank.result.0 ≡ c.in-Ok.array.bank = c.halt-bank.ensures.bank ∙ ap (λ (a : Parts g.row.B.Denot). a.bank) c.in-Err-status.ensures.unchanged in
+    subst (λ (b : g.row.B.Denot). IsNoTurn (setting_of g.B.Bank.tells (g.B.Bank.given c.args.bank) (g.B.Bank.tape c.args.bank) (g.B.Bank.tape b) c.args.backup (g.B.Bank.faults_of c.args.bank) (g.B.Bank.faults_of b)) (IsIdle c.args.bank c.args.epochs) (IsIdle b c.has_room.new.epochs) (AsksAssemble c.args.uuid)) (sym gone)
+    (no_turn_idle (setting_of g.B.Bank.tells (g.B.Bank.given c.args.bank) (g.B.Bank.tape c.args.bank) (g.B.Bank.tape c.in-Ok.array.bank) c.args.backup (g.B.Bank.faults_of c.args.bank) (g.B.Bank.faults_of c.in-Ok.array.bank)) c.args.bank c.args.epochs c.has_room.new.epochs c.has_room.ensures.same c.requires.own c.in-Ok.array.bank (AsksAssemble c.args.uuid))
 
 pub returns-in-Refused-clause-answered : goal.returns-in-Refused-clause-answered
 returns-in-Refused-clause-answered g c =
@@ -101,13 +95,9 @@ returns-in-Ok-status-clause-former g c =
 
 pub returns-in-Err-status-clause-former : goal.returns-in-Err-status-clause-former
 returns-in-Err-status-clause-former g c =
-    let did = c.in-Ok.ensures in
-    let begun = did.assembled.begun in
-    subst (λ (a : Parts g.row.B.Denot). IsGoing g.B.Bank.tells (g.B.Bank.given c.args.bank) (g.B.Bank.tape a.bank) c.args.backup a c.has_room.new.epochs.items) (sym c.in-Err-status.ensures.unchanged)
-    (going_begun (g.B.Bank.given c.args.bank) c.args.backup c.args.epochs.items c.has_room.new.epochs.items c.in-Ok.array c.has_room.ensures.same (flushes-grow did.tape) begun.backup_is begun.first
-    (λ t. opened_accepted (g.B.Bank.given c.args.bank) (g.B.Bank.tape c.in-Ok.array.bank) c.args.backup c.args.uuid c.in-Ok.array begun did.assembled.opened t begun.uuid)
-    (λ t. opened_held (g.B.Bank.given c.args.bank) (g.B.Bank.tape c.in-Ok.array.bank) c.args.backup c.args.uuid c.in-Ok.array begun did.assembled.opened t begun.uuid)
-    (λ t. ap (λ (l : List Entry). last_end_from c.in-Ok.array.first l) begun.entries ∙ opening_end c.in-Ok.array.first (found_losses (reading_of c.in-Ok.array.members)) ∙ begun.first t) c.requires.former)
+    let gone : c.halt-bank.result.0 ≡ c.in-Ok.array.bank = c.halt-bank.ensures.bank ∙ ap (λ (a : Parts g.row.B.Denot). a.bank) c.in-Err-status.ensures.unchanged in
+    subst (λ (b : g.row.B.Denot). IsRunKept g.B.Bank.tells (g.B.Bank.given c.args.bank) (g.B.Bank.tape b) c.args.backup (IsIdle b c.has_room.new.epochs)) (sym gone)
+    (idle_grown (g.B.Bank.given c.args.bank) c.args.backup c.args.epochs.items c.has_room.new.epochs.items c.has_room.ensures.same (flushes-grow c.in-Ok.ensures.tape) c.requires.former)
 
 pub returns-in-Refused-clause-former : goal.returns-in-Refused-clause-former
 returns-in-Refused-clause-former g c = idle_grown (g.B.Bank.given c.args.bank) c.args.backup c.args.epochs.items c.has_room.new.epochs.items c.has_room.ensures.same (flushes-grow c.in-Err.ensures.left_tape) c.requires.former
@@ -121,7 +111,8 @@ returns-in-Ok-status-clause-grows g c =
 
 pub returns-in-Err-status-clause-grows : goal.returns-in-Err-status-clause-grows
 returns-in-Err-status-clause-grows g c =
-    subst (λ (b : g.row.B.Denot). Grows g.B.Bank.tells (g.B.Bank.tape c.args.bank) (g.B.Bank.tape b)) (sym c.in-Err-status.ensures.bank) (flushes-grow c.in-Ok.ensures.tape)
+    let gone : c.halt-bank.result.0 ≡ c.in-Ok.array.bank = c.halt-bank.ensures.bank ∙ ap (λ (a : Parts g.row.B.Denot). a.bank) c.in-Err-status.ensures.unchanged in
+    subst (λ (b : g.row.B.Denot). Grows g.B.Bank.tells (g.B.Bank.tape c.args.bank) (g.B.Bank.tape b)) (sym gone) (flushes-grow c.in-Ok.ensures.tape)
 
 pub returns-in-Refused-clause-grows : goal.returns-in-Refused-clause-grows
 returns-in-Refused-clause-grows g c = flushes-grow c.in-Err.ensures.left_tape
@@ -138,7 +129,8 @@ returns-in-Ok-status-clause-never_falls g c =
 
 pub returns-in-Err-status-clause-never_falls : goal.returns-in-Err-status-clause-never_falls
 returns-in-Err-status-clause-never_falls g c =
-    subst (λ (b : g.row.B.Denot). NeverFalls (g.B.Bank.faults_of c.args.bank) (g.B.Bank.faults_of b)) (sym c.in-Err-status.ensures.bank) c.in-Ok.ensures.counts.never_falls
+    let gone : c.halt-bank.result.0 ≡ c.in-Ok.array.bank = c.halt-bank.ensures.bank ∙ ap (λ (a : Parts g.row.B.Denot). a.bank) c.in-Err-status.ensures.unchanged in
+    subst (λ (b : g.row.B.Denot). NeverFalls (g.B.Bank.faults_of c.args.bank) (g.B.Bank.faults_of b)) (sym gone) c.in-Ok.ensures.counts.never_falls
 
 pub returns-then-not-has_room-clause-written : goal.returns-then-not-has_room-clause-written
 returns-then-not-has_room-clause-written g c told =
@@ -160,14 +152,11 @@ returns-in-Ok-status-clause-written g c told =
 
 pub returns-in-Err-status-clause-written : goal.returns-in-Err-status-clause-written
 returns-in-Err-status-clause-written g c told =
-    let found = c.in-Ok.array in
-    let did = c.in-Ok.ensures in
-    let begun = did.assembled.begun in
+    let gone : c.halt-bank.result.0 ≡ c.in-Ok.array.bank = c.halt-bank.ensures.bank ∙ ap (λ (a : Parts g.row.B.Denot). a.bank) c.in-Err-status.ensures.unchanged in
     let given = g.B.Bank.given c.args.bank in
-    let May = MayWrite given c.args.backup (AsksAssemble c.args.uuid) in
-    subst (λ (a : Parts g.row.B.Denot). IsWritten (setting_of g.B.Bank.tells given (g.B.Bank.tape c.args.bank) (g.B.Bank.tape a.bank) c.args.backup (g.B.Bank.faults_of c.args.bank) (g.B.Bank.faults_of a.bank)) (histories_of c.args.epochs.items) (histories_of c.has_room.new.epochs.items ++ running_history a ∷ []) May) (sym c.in-Err-status.ensures.unchanged)
-    (opened_flushes (setting_of g.B.Bank.tells given (g.B.Bank.tape c.args.bank) (g.B.Bank.tape found.bank) c.args.backup (g.B.Bank.faults_of c.args.bank) (g.B.Bank.faults_of found.bank)) (g.B.Bank.tape c.args.bank) refl c.args.epochs.items c.has_room.new.epochs.items c.has_room.ensures.same (running_history found) May
-    (begun.first told) (ap (λ (l : List Entry). last_end_from found.first l) begun.entries ∙ opening_end found.first (found_losses (reading_of found.members)) ∙ begun.first told) (did.tape told))
+    subst (λ (b : g.row.B.Denot). IsWritten (setting_of g.B.Bank.tells given (g.B.Bank.tape c.args.bank) (g.B.Bank.tape b) c.args.backup (g.B.Bank.faults_of c.args.bank) (g.B.Bank.faults_of b)) (histories_of c.args.epochs.items) (histories_of c.has_room.new.epochs.items) (MayWrite given c.args.backup (AsksAssemble c.args.uuid))) (sym gone)
+    (idle_flushes (setting_of g.B.Bank.tells given (g.B.Bank.tape c.args.bank) (g.B.Bank.tape c.in-Ok.array.bank) c.args.backup (g.B.Bank.faults_of c.args.bank) (g.B.Bank.faults_of c.in-Ok.array.bank)) (g.B.Bank.tape c.args.bank) refl c.args.epochs.items c.has_room.new.epochs.items c.has_room.ensures.same
+    (MayWrite given c.args.backup (AsksAssemble c.args.uuid)) (c.in-Ok.ensures.tape told))
 
 pub returns-in-Refused-clause-written : goal.returns-in-Refused-clause-written
 returns-in-Refused-clause-written g c told =
@@ -182,3 +171,15 @@ returns-in-NoMemory-clause-written g c told =
     let given = g.B.Bank.given c.args.bank in
     idle_flushes (setting_of g.B.Bank.tells given (g.B.Bank.tape c.args.bank) (g.B.Bank.tape left) c.args.backup (g.B.Bank.faults_of c.args.bank) (g.B.Bank.faults_of left)) (g.B.Bank.tape c.args.bank) refl c.args.epochs.items c.has_room.new.epochs.items c.has_room.ensures.same
     (MayWrite given c.args.backup (AsksAssemble c.args.uuid)) (c.in-Err.ensures.left_tape told)
+
+pub returns-in-Err-status-clause-given : goal.returns-in-Err-status-clause-given
+returns-in-Err-status-clause-given g c =
+    let gone : c.halt-bank.result.0 ≡ c.in-Ok.array.bank = c.halt-bank.ensures.bank ∙ ap (λ (a : Parts g.row.B.Denot). a.bank) c.in-Err-status.ensures.unchanged in
+    subst (λ (b : g.row.B.Denot). g.B.Bank.given b ≡ g.B.Bank.given c.args.bank) (sym gone) c.in-Ok.ensures.given
+
+pub halt-bank-requires : goal.halt-bank-requires
+halt-bank-requires g c =
+    record {
+      next = ap (λ (w : Who). w.number) c.script_call-who.ensures ∙ ap (λ (a : Parts g.row.B.Denot). next_number 0 a.entries) (sym c.in-Err-status.ensures.unchanged) ∙ ap (λ (w : Who). next_number w.caller c.status.new.self.entries) (sym c.script_call-who.ensures);
+      caller = λ is. omega (arith, is, ap (λ (w : Who). w.caller) c.script_call-who.ensures);
+    }

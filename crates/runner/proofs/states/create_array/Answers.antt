@@ -17,9 +17,8 @@ use Rattle.runner.proofs.Legal.{grows_longer, idle_grown, going_begun}
 use Rattle.runner.proofs.Found.{opened_accepted, opened_held}
 use Rattle.runner.proofs.Turns.{turn_created, turn_idle, no_turn_idle}
 use Rattle.runner.specs.declared.report.Answered.TheVariants.{Outside as IsOutside}
-use Rattle.runner.specs.declared.report.Outside.TheVariants.{Created, Refused}
+use Rattle.runner.specs.declared.report.Outside.TheVariants.{Created}
 use Rattle.md_base.specs.declared.answers.Refusal.{Refusal}
-use Rattle.md_base.specs.declared.answers.Refusal.TheVariants.{UuidInUse}
 use Rattle.md_base.specs.declared.answers.Fault.TheVariants.{Refused as IsRefusedWith}
 use Rattle.runner.specs.Histories.{histories_of}
 use Rattle.runner.specs.States.{running_history}

@@ -14,9 +14,7 @@ use Rattle.runner.proofs.Legal.{former_halted}
 use Rattle.runner.proofs.Losses.{losses-halted}
 use Rattle.runner.proofs.Turns.{turn_ended}
 use Rattle.flat_history.specs.declared.events.Event.TheVariants.{Halted}
-use Rattle.runner.specs.Written.{HasWritten, IsWritten}
-use Rattle.runner.specs.States.{histories_in}
-use Rattle.runner.specs.declared.states.State.TheVariants.{Idle, Running}
+use Rattle.runner.specs.Written.{HasWritten}
 use Rattle.runner.proofs.Writing.{entered_end, written_ended}
 use Rattle.runner.proofs.states.halt_array.Goals as goal
 

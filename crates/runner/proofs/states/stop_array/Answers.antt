@@ -21,7 +21,7 @@ use Rattle.flat_history.specs.Epochs.{IsEpochRight}
 use Rattle.runner.specs.Ended.{IfFilledRight}
 use Rattle.runner.proofs.Legal.{grows_longer, going_grown, former_more, legal_epoch}
 use Rattle.runner.proofs.Told.{told_none, told_once, told_stop}
-use Rattle.runner.proofs.Losses.{later-of, losses-of, held-later, on-lost}
+use Rattle.runner.proofs.Losses.{later-of, opening-of, losses-of, held-before, on-lost}
 use Rattle.runner.proofs.Turns.{turn_ended, turn_asked, no_turn, at_the_end}
 use Rattle.runner.specs.Written.{HasWritten}
 use Rattle.runner.proofs.Writing.{written_ended, written_going}
@@ -41,7 +41,7 @@ returns-in-Ok-clause-answered g c =
     let grew = behind_grew c.script_call-who.result did.stopped in
     let asked = asked_stop (list_size (places_of array.members)) (c.len.result - 1) c.script_call-who.result c.script_call-who.ensures did.stopped (omega (arith, grew, c.len.ensures)) in
     subst (λ (what : Answered). IsTurn setting (IsRunning array c.args.epochs) (IsIdle c.in-Ok.ended.0 c.push_reserved.new.self) AsksStop what) (sym c.inside-what.ensures)
-    (turn_ended setting array epoch c.in-Ok.ended.0 c.args.epochs c.push_reserved.new.self items c.requires.own (losses-of setting (history_of epoch) (held-later (g.B.Bank.given array.bank) c.args.backup (running_history array) (history_of epoch) array.members did.grows (record { same = record { uuid = did.uuid; given = did.slots; first = did.first }; more = did.losses.more; grown = did.losses.grown }) c.requires.former.held) did.losses (told_once setting asked.0 (told_stop setting asked.0.event asked.0.fits))) did.uuid did.slots did.first AsksStop (c.len.result - 1) asked.0
+    (turn_ended setting array epoch c.in-Ok.ended.0 c.args.epochs c.push_reserved.new.self items c.requires.own (losses-of setting (history_of epoch) (held-before (g.B.Bank.given array.bank) c.args.backup (running_history array) (history_of epoch) array.members did.grows (record { uuid = did.uuid; given = did.slots; first = did.first }) c.requires.former.held) did.losses (told_once setting asked.0 (told_stop setting asked.0.event asked.0.fits))) did.uuid did.slots did.first AsksStop (c.len.result - 1) asked.0
     (λ t. at_the_end setting array.entries epoch.entries.items asked.0 epoch.first t (grows_longer did.grows t) did.ended) (ap (λ (e : Event). is_end e) (asked.1)))
 
 pub last_place-requires : goal.last_place-requires
@@ -55,7 +55,7 @@ returns-in-NoMemory-clause-answered g c =
     let did = c.in-Err.ensures in
     let setting = setting_of g.B.Bank.tells (g.B.Bank.given array.bank) (g.B.Bank.tape array.bank) (g.B.Bank.tape left.bank) c.args.backup (g.B.Bank.faults_of array.bank) (g.B.Bank.faults_of left.bank) in
     let same = did.left_same in
-    no_turn setting array left c.args.epochs c.requires.own (losses-of setting (running_history left) (held-later (g.B.Bank.given array.bank) c.args.backup (running_history array) (running_history left) array.members did.left_grows (later-of did.left_same did.left_losses) c.requires.former.held) did.left_losses (told_none setting (subst (λ (f : Fault). IsUnsettled c.script_call-who.result array.entries left.entries f) c.in-NoMemory.is did.refused))) same.uuid same.given same.first same.shape same.size AsksStop
+    no_turn setting array left c.args.epochs c.requires.own (losses-of setting (running_history left) (held-before (g.B.Bank.given array.bank) c.args.backup (running_history array) (running_history left) array.members did.left_grows (opening-of did.left_same) c.requires.former.held) did.left_losses (told_none setting (subst (λ (f : Fault). IsUnsettled c.script_call-who.result array.entries left.entries f) c.in-NoMemory.is did.refused))) same.uuid same.given same.first same.shape same.size AsksStop
     (subst (λ (f : Fault). IsUnsettled c.script_call-who.result array.entries left.entries f) c.in-NoMemory.is did.refused)
 
 pub returns-in-Refused-clause-answered : goal.returns-in-Refused-clause-answered
@@ -70,7 +70,7 @@ returns-in-Refused-clause-answered g c =
     (subst (λ (f : Fault). IsUnsettled c.script_call-who.result array.entries left.entries f) c.in-Refused.is did.refused)
     (subst (λ (f : Fault). IsFaultFor size 0 AreTooMany array.members left.members f) c.in-Refused.is did.caused) c.last_place.ensures in
     subst (λ (what : Answered). IsTurn setting (IsRunning array c.args.epochs) (IsRunning left c.args.epochs) AsksStop what) (sym c.inside-what-in-Refused.ensures)
-    (turn_asked setting array left c.args.epochs c.requires.own (losses-of setting (running_history left) (held-later (g.B.Bank.given array.bank) c.args.backup (running_history array) (running_history left) array.members did.left_grows (later-of did.left_same did.left_losses) c.requires.former.held) did.left_losses (told_once setting asked.0 (told_stop setting asked.0.event asked.0.fits))) same.uuid same.given same.first same.shape same.size AsksStop c.last_place.result asked.0 (λ t. at_the_end setting array.entries left.entries asked.0 left.first t (grows_longer did.left_grows t) did.left_ended) (ap (λ (e : Event). is_end e) (asked.1)))
+    (turn_asked setting array left c.args.epochs c.requires.own (losses-of setting (running_history left) (held-before (g.B.Bank.given array.bank) c.args.backup (running_history array) (running_history left) array.members did.left_grows (opening-of did.left_same) c.requires.former.held) did.left_losses (told_once setting asked.0 (told_stop setting asked.0.event asked.0.fits))) same.uuid same.given same.first same.shape same.size AsksStop c.last_place.result asked.0 (λ t. at_the_end setting array.entries left.entries asked.0 left.first t (grows_longer did.left_grows t) did.left_ended) (ap (λ (e : Event). is_end e) (asked.1)))
 
 pub returns-in-Ok-clause-former : goal.returns-in-Ok-clause-former
 returns-in-Ok-clause-former g c =

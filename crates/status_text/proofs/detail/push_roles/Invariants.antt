@@ -1,4 +1,4 @@
-use Rattle.std.proofs.Common.{◌≡◌, ◌≤◌, ◌++◌, drop, vec_capacity}
+use Rattle.std.proofs.Common.{◌≡◌, ◌+◌, ◌*◌, ◌≤◌, length, ◌++◌, drop, vec_capacity}
 use Rattle.status_text.specs.Texts.{role_lines}
 use Rattle.status_text.proofs.detail.push_roles.Given as goal
 
@@ -6,5 +6,6 @@ use Rattle.status_text.proofs.detail.push_roles.Given as goal
 abbrev pub invariant-loop-role : goal.invariant-loop-role
 invariant-loop-role l = record {
   whole : l.text.items ++ role_lines l.role (drop l.role l.roles) ≡ l.fn.text.items ++ role_lines 0 l.roles;
+  few : length l.text.items ≤ length l.fn.text.items + 70 * l.role;
   room : vec_capacity l.fn.text ≤ vec_capacity l.text;
 }

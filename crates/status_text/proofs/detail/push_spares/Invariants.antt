@@ -1,4 +1,4 @@
-use Rattle.std.proofs.Common.{◌≡◌, ◌≤◌, ◌++◌, drop, vec_capacity}
+use Rattle.std.proofs.Common.{◌≡◌, ◌+◌, ◌*◌, ◌≤◌, length, ◌++◌, drop, vec_capacity}
 use Rattle.status_text.specs.Texts.{spare_lines}
 use Rattle.status_text.proofs.detail.push_spares.Given as goal
 
@@ -6,5 +6,6 @@ use Rattle.status_text.proofs.detail.push_spares.Given as goal
 abbrev pub invariant-loop-slot : goal.invariant-loop-slot
 invariant-loop-slot l = record {
   whole : l.text.items ++ spare_lines (drop l.slot-index l.slots) ≡ l.fn.text.items ++ spare_lines l.slots;
+  few : length l.text.items ≤ length l.fn.text.items + 40 * l.slot-index;
   room : vec_capacity l.fn.text ≤ vec_capacity l.text;
 }

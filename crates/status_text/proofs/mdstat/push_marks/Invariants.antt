@@ -1,4 +1,4 @@
-use Rattle.std.proofs.Common.{◌≡◌, ◌≤◌, ◌++◌, drop, vec_capacity}
+use Rattle.std.proofs.Common.{◌≡◌, ◌+◌, ◌≤◌, length, ◌++◌, drop, vec_capacity}
 use Rattle.status_text.specs.Texts.{marks}
 use Rattle.status_text.proofs.mdstat.push_marks.Given as goal
 
@@ -6,5 +6,6 @@ use Rattle.status_text.proofs.mdstat.push_marks.Given as goal
 abbrev pub invariant-loop-role : goal.invariant-loop-role
 invariant-loop-role l = record {
   whole : l.text.items ++ marks (drop l.role-index l.roles) ≡ l.fn.text.items ++ marks l.roles;
+  few : length l.text.items ≤ length l.fn.text.items + l.role-index;
   room : vec_capacity l.fn.text ≤ vec_capacity l.text;
 }

@@ -1,5 +1,6 @@
-use Rattle.std.proofs.Common.{◌≡◌, ◌∷◌, ◌++◌, [], List, refl, sym, ◌∙◌, ap, ap₂, arith}
+use Rattle.std.proofs.Common.{◌≡◌, ◌∷◌, ◌++◌, [], List, length, refl, sym, ◌∙◌, ap, ap₂, arith}
 use Rattle.md_base.specs.declared.status.Status.{Status}
+use Rattle.views.proofs.Fit.{few}
 use Rattle.flat_history.specs.Flat.{next_number}
 use Rattle.flat_history.specs.Plain.{entries_of}
 use Rattle.flat_history.specs.declared.events.Entry.{Entry}
@@ -52,3 +53,14 @@ returns-clause-entered g c =
       at_end = c.ops-end.ensures.count;
       is = c.enter.ensures.items ∙ ap₂ (λ (l : List Entry) (s : Status). l ++ entries_of c.args.who c.ops-end.result (Shown s ∷ [])) c.make_room.ensures.items same;
     })
+
+pub returns-clause-few : goal.returns-clause-few
+returns-clause-few g c =
+    let told = c.in-Ok-told.ensures in
+    let kept = c.self.invariant.kept in
+    let roles = told.roles ∙ ap (λ p. p.members.roles) (sym c.self.view_is) in
+    let spares = told.spares ∙ ap (λ p. p.members.spares) (sym c.self.view_is) in
+    let most = few (g.B.Bank.given c.self.inside.bank) c.self.inside.members kept.placed in (
+      omega (arith, ap length roles, most),
+      omega (arith, ap length spares, kept.spares),
+    )
