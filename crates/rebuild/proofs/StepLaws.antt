@@ -1,5 +1,5 @@
 -- Which step of a rebuild is the next one, and what it leaves as it is.
-use Rattle.std.proofs.Common.{◌≡◌, inl, inr, ℕ, ◌<◌, ◌≤◌, Bool, true, false, nat_lt, cond, Option, Some, None, Result, Ok, Err, List, [], ◌∷◌, ◌++◌, refl, sym, ◌∙◌, ap, subst, append-nil, arith}
+use Rattle.std.proofs.Common.{◌≡◌, inl, inr, ℕ, ◌<◌, ◌≤◌, max, Bool, true, false, nat_lt, cond, Option, Some, None, Result, Ok, Err, List, [], ◌∷◌, ◌++◌, refl, sym, ◌∙◌, ap, subst, append-nil, arith}
 use Rattle.std.proofs.lemmas.Bool.Decides.{nat_tests}
 use Rattle.std.proofs.lemmas.List.Elements.{All-weaker}
 use Rattle.std.specs.Prelude.{fold, IsSome, unwrap_or, OnOk, MatchOption}
@@ -12,7 +12,7 @@ use Rattle.md_base.specs.declared.answers.Fault.TheVariants.{Refused as IsRefuse
 use Rattle.md_base.specs.declared.status.Role.{Role}
 use Rattle.md_base.specs.declared.status.Role.TheVariants.{Whole, Recovering, Missing}
 use Rattle.superblocks.specs.declared.members.Members.{Members}
-use Rattle.superblocks.specs.Reading.{shape_of, role_state}
+use Rattle.superblocks.specs.Reading.{shape_of, final_shape, role_state}
 use Rattle.superblocks.specs.Reads.{has_spare}
 use Rattle.row_io.specs.Rows.{reading_of}
 use Rattle.flat_history.specs.declared.events.Entry.{Entry}
@@ -41,12 +41,18 @@ recovered-by (Whole slot) is = absurd (cc)
 recovered-by (Recovering slot) is = (slot, refl)
 recovered-by Missing is = absurd (cc)
 
--- the lowest role that recovers is recovered
+-- the lowest role that recovers is one of the array's disks, and is recovered
+pub found-below : (members : Members) (role : ℕ) → first_recovering members ≡ Some role → role < (shape_of members.newest).disks
+found-below members role is = (lowest-found (shape_of members.newest).disks (λ role. recovers (role_state (reading_of members) role)) role is).0
+
 pub found-recovered : (members : Members) (role : ℕ) → first_recovering members ≡ Some role → IsRecovered members role
 found-recovered members role is =
     let found = lowest-found (shape_of members.newest).disks (λ role. recovers (role_state (reading_of members) role)) role is in
     let held = recovered-by (role_state (reading_of members) role) found.1 in
-    (found.0, held.0, held.1)
+    (wider (shape_of members.newest).disks (final_shape members.newest).disks found.0, held.0, held.1)
+  where
+    wider : (a b : ℕ) → role < a → role < max a b
+    wider a b lt = omega (arith, lt)
 
 module _ (work : Work) (members : Members) where
   pub role-recovered : (role : ℕ) → first_recovering members ≡ Some role → rebuilt_role members ≡ role

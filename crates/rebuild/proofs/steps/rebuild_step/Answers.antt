@@ -6,7 +6,7 @@ use Rattle.views.specs.Status.{left_of}
 use Rattle.array_kept.specs.Calls.{IsHeldOrGiven}
 use Rattle.views.specs.Rebuilding.{Held}
 use Rattle.rebuild.specs.Steps.{first_recovering, first_vacant, first_spare, IsRebuildNext, IsHeldOrNext, rebuild_kind}
-use Rattle.rebuild.proofs.StepLaws.{losses-wider, not-taking, given-to, found-recovered, role-recovered, kind-filled, kind-ended, kind-taken, IsTaking, takes-next, entered-as, kept-stepped, not-end, at-end}
+use Rattle.rebuild.proofs.StepLaws.{losses-wider, not-taking, given-to, found-below, found-recovered, role-recovered, kind-filled, kind-ended, kind-taken, IsTaking, takes-next, entered-as, kept-stepped, not-end, at-end}
 use Rattle.rebuild.proofs.steps.rebuild_step.Goals as goal
 
 -- the lowest role that recovers, by what was found
@@ -15,7 +15,7 @@ found is same some = ap first_recovering (sym same) ∙ sym is ∙ some
 
 pub rebuilt-requires : goal.rebuilt-requires
 rebuilt-requires g c =
-    let below = (found-recovered c.args.array.now.members c.in-Some.role (found c.first_recovering.ensures c.members.ensures c.in-Some.is)).0 in
+    let below = found-below c.args.array.now.members c.in-Some.role (found c.first_recovering.ensures c.members.ensures c.in-Some.is) in
     omega (arith, below, c.disks-disks.ensures.disks, c.disks-disks.ensures.few)
 
 pub fill_stripe-requires-clause-pending : goal.fill_stripe-requires-clause-pending
