@@ -109,7 +109,16 @@ pub fn together<B: Bank + Drop + Send, F: Fn(u64, u64) -> u64 + Sync, R: Threads
     let ((a, first), ((b, second), (c, worked))) = join(
         rt,
         move || lane(rt, service, first_pass, first, one),
-        move || lane_and_worker(rt, service, second_pass, second, two, worker_pass, pace, left),
+        move || lane_and_worker(
+            rt,
+            service,
+            second_pass,
+            second,
+            two,
+            worker_pass,
+            pace,
+            left,
+        ),
     );
     let _ = passes.push(a);
     let _ = passes.push(b);

@@ -95,8 +95,14 @@ fn counts(worked: &Worked) -> (u64, u64, Option<u64>) {
 fn is_joined(joined: &Joined<MemoryBank>) -> bool {
     is_answered(&joined.first, 6)
         && is_answered(&joined.second, 8)
-        && joined.first.iter().all(|reply| stands(&joined.array, reply, 1))
-        && joined.second.iter().all(|reply| stands(&joined.array, reply, 2))
+        && joined
+            .first
+            .iter()
+            .all(|reply| stands(&joined.array, reply, 1))
+        && joined
+            .second
+            .iter()
+            .all(|reply| stands(&joined.array, reply, 2))
         && stands(&joined.array, &joined.worked.last, 255)
 }
 

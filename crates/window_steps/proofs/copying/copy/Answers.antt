@@ -145,7 +145,7 @@ loop-done-preserved g c =
     let tape2 = g.B.Bank.tape c.copy_part-part.new.bank in
     let moved : IsMoved given n new = moved-from given given1 n n new was.given refl did.moved in
     let kept : g.B.Bank.tells → AreOtherRowsKept (IsOfStripeFrom c.args.shape.now c.args.stripe c.loop-done.done c.copy_part-part.result.done) (reading_of new) (present given tape1) (present given tape2) =
-        λ told. subst (λ (b : Given). AreOtherRowsKept (IsOfStripeFrom c.args.shape.now c.args.stripe c.loop-done.done c.copy_part-part.result.done) (reading_of new) (present b tape1) (present b tape2)) was.given (did.others told) in
+    λ told. subst (λ (b : Given). AreOtherRowsKept (IsOfStripeFrom c.args.shape.now c.args.stripe c.loop-done.done c.copy_part-part.result.done) (reading_of new) (present b tape1) (present b tape2)) was.given (did.others told) in
     record {
       moved = moved-then given m n new was.moved moved;
       failed = since-then m n new c.loop-done.spares c.copy_part-part.result.spares _ (g.B.Bank.faults_of c.args.bank.now) (g.B.Bank.faults_of c.loop-done.bank) (g.B.Bank.faults_of c.copy_part-part.new.bank)
