@@ -223,8 +223,8 @@ fn push_pair(
     first: u64,
     second: u64,
 ) -> Result<(), AllocError>
-    ensures { OnOk result
-        (text.new.items ≡ text.old.items ++ refused number name.now (decimal first ∷ decimal second ∷ [])) }
+    ensures appended { Appends text.old text.new result (refused number name.now (decimal first ∷ decimal second ∷ [])) }
+    ensures short { AppendsFew (72 + length name.now) text.old text.new result }
 {
     push_refused(text, number, name, &[first, second])
 }
