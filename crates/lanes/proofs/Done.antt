@@ -134,15 +134,15 @@ module _ {tells : Type 0} (old mid new : Carried) (requests : List Request) (rep
       let more = goes.seen.begins.entries in
       subst (λ (l : List Entry). All (StandsIn new.caller l) replies) (sym more.1)
       (subst (λ (c : ℕ). All (StandsIn c (mid.seen.entries ++ more.0)) replies) (sym goes.caller)
-        (All-weaker (StandsIn mid.caller mid.seen.entries) (StandsIn mid.caller (mid.seen.entries ++ more.0))
-          (λ r s. stands-on mid.caller mid.seen.entries more.0 r s) replies was.told))
+      (All-weaker (StandsIn mid.caller mid.seen.entries) (StandsIn mid.caller (mid.seen.entries ++ more.0))
+      (λ r s. stands-on mid.caller mid.seen.entries more.0 r s) replies was.told))
 
   fits-still : AreReplied new.sectors new.seen.entries (done_of requests replies)
   fits-still =
       let more = goes.seen.begins.entries in
       subst (λ (l : List Entry). AreReplied new.sectors l (done_of requests replies)) (sym more.1)
       (subst (λ (n : ℕ). AreReplied n (mid.seen.entries ++ more.0) (done_of requests replies)) (sym goes.sectors)
-        (still-replied mid.sectors mid.seen.entries more.0 (done_of requests replies) was.fits))
+      (still-replied mid.sectors mid.seen.entries more.0 (done_of requests replies) was.fits))
 
   pub done-short : (rest : List Request) → new.mine ≡ mid.mine → AreDone old new (requests ++ request ∷ rest) (replies ++ Short ∷ [])
   done-short rest same =
@@ -169,9 +169,9 @@ module _ {tells : Type 0} (old mid new : Carried) (requests : List Request) (rep
     told-new =
         subst (λ (l : List Entry). MatchOption (slice_get l at) ⊥ (λ e. (e.caller ≡ new.caller) × (e.event ≡ event))) (sym behind)
         (subst (λ (n : ℕ). MatchOption (slice_get ((k.found.entries ++ k.called.inner) ++ k.called.reply ∷ []) n) ⊥ (λ e. (e.caller ≡ new.caller) × (e.event ≡ event))) (sym place-is)
-          (subst (λ (found : Option Entry). MatchOption found ⊥ (λ e. (e.caller ≡ new.caller) × (e.event ≡ event)))
-            (sym (reads (k.found.entries ++ k.called.inner) k.called.reply))
-            (k.called.last.0 ∙ sym goes.caller, k.event_is)))
+        (subst (λ (found : Option Entry). MatchOption found ⊥ (λ e. (e.caller ≡ new.caller) × (e.event ≡ event)))
+        (sym (reads (k.found.entries ++ k.called.inner) k.called.reply))
+        (k.called.last.0 ∙ sym goes.caller, k.event_is)))
 
     fits-new : MatchOption (slice_get new.seen.entries at) ⊥ (λ e. IsReplyTo new.sectors (take at new.seen.entries) e request)
     fits-new =

@@ -108,7 +108,7 @@ turn-more answered carried answers left more most old mid new worked reply done 
           (done-one (carried old) (carried mid) (carried new) (map (λ (t : Turn). AsksSteps t.0) turns) (map (λ (t : Turn). t.1) turns) (AsksSteps most) was.made all goes reply entered);
       asked = subst (λ (l : List Turn). AreTurns answers 0 left (l ++ next ∷ [])) (sym turns-is)
           (asked-more answers last more is before 0 left next (subst (λ (l : List Turn). AreTurns answers 0 left l) turns-is was.asked)
-            (subst (λ (n : ℕ). answers n more most) (let count = was.count in let long = ap (λ (l : List Turn). length l) turns-is in omega (arith, count, long)) asked));
+          (subst (λ (n : ℕ). answers n more most) (let count = was.count in let long = ap (λ (l : List Turn). length l) turns-is in omega (arith, count, long)) asked));
       count = (let count = was.count in let long = length-append turns (next ∷ []) in omega (arith, count, long));
       done = (let so-far = was.done in let sum = sum_by-append (λ (t : Turn). done_in t.1) turns (next ∷ []) in omega (arith, so-far, tells-done, sum));
       last = (turns, most, refl);

@@ -38,10 +38,11 @@ fn steps_left(reply: &Reply) -> Option<u64>
 {
     match reply {
         Reply::Done {
-            event:
-                Event::Stepped {
-                    left, ended: None, ..
-                },
+            event: Event::Stepped {
+                left,
+                ended: None,
+                ..
+            },
             ..
         } => if *left == 0 { None } else { Some(*left) },
         _ => None,

@@ -96,4 +96,4 @@ module _ {B : Type 0} (tells : Type 0) (given : B → Given) (tape : B → List 
   own held =
       subst₂ (λ (s x : Parts B). HasCalled (sectors_of x) s.entries x.entries pass'.caller (own_requests pass')) (sym start') (sym seen)
       (subst (λ (c : ℕ). HasCalled (sectors_of k.after) k.start.entries k.after.entries c (own_requests pass')) (sym same)
-        (k.made (subst (λ (x : Parts B). length x.entries ≤ most_entries) seen held)))
+      (k.made (subst (λ (x : Parts B). length x.entries ≤ most_entries) seen held)))

@@ -18,5 +18,5 @@ invariant-loop-request g l =
     × (vec_len l.replies + into_iter_len l.request-iterator ≤ vec_capacity l.replies)
     × All IsAskable (into_iter_items l.request-iterator)
     × ((made : List Reply) × (l.replies.items ≡ l.fn.replies.items ++ made)
-        × AreCalls g.S.Service.answered l.fn.pass l.yielded made l.pass
-        × AreDone (g.S.Service.carried l.fn.pass) (g.S.Service.carried l.pass) l.yielded made × AllEntered made)
+    × AreCalls g.S.Service.answered l.fn.pass l.yielded made l.pass
+    × AreDone (g.S.Service.carried l.fn.pass) (g.S.Service.carried l.pass) l.yielded made × AllEntered made)

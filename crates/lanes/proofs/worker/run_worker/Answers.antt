@@ -14,7 +14,7 @@ loop-turns-init g c =
       turn.later,
       turn.own,
       first-turn g.S.Service.answered g.S.Service.carried (goal.F-post g (asked_by c.args.pace.now)) c.args.left turn.asked.0 c.args.pass c.take_turn-pass.result.0
-      c.take_turn-pass.result.1 c.steps_done-done.result turn.asked.1 turn.asked.2 turn.later turn.asked.3 is,
+          c.take_turn-pass.result.1 c.steps_done-done.result turn.asked.1 turn.asked.2 turn.later turn.asked.3 is,
       omega arith,
       omega arith,
       omega (arith, is, most),
@@ -36,8 +36,8 @@ loop-turns-preserved g c =
       on (g.S.Service.carried c.args.pass) (g.S.Service.carried c.loop-turns.pass) (g.S.Service.carried c.take_turn-next.result.0) was.1 turn.later,
       turn.own,
       turn-more g.S.Service.answered g.S.Service.carried (goal.F-post g (asked_by c.args.pace.now)) c.args.left c.in-Some.left turn.asked.0 c.args.pass c.loop-turns.pass
-      c.take_turn-next.result.0 (record { turns = c.loop-turns.turns; done = c.loop-turns.done; last = c.loop-turns.last })
-      c.take_turn-next.result.1 c.steps_done-done-in-loop-turns.result more was.3 turn.asked.1 turn.asked.2 turn.later turn.asked.3 is,
+          c.take_turn-next.result.0 (record { turns = c.loop-turns.turns; done = c.loop-turns.done; last = c.loop-turns.last })
+          c.take_turn-next.result.1 c.steps_done-done-in-loop-turns.result more was.3 turn.asked.1 turn.asked.2 turn.later turn.asked.3 is,
       omega arith,
       omega (arith, test),
       omega (arith, is, most, bound),
