@@ -226,7 +226,7 @@ struct Words {
     late: Arc<AtomicU64, Global>,
 }
 
-fn words(alloc: Global) -> Result<Words, Fail> {
+fn new_words(alloc: Global) -> Result<Words, Fail> {
     Ok(Words {
         inside: Arc::new(alloc, AtomicU64::new(0))?,
         open: Arc::new(alloc, AtomicU64::new(0))?,
@@ -273,7 +273,7 @@ fn passes_doors(
 // Who runs the worker behind the lanes, or them behind it, waits in vain.
 #[test]
 fn a_worker_beside_lanes(rt: HostRuntime) -> Result<(), Fail> {
-    let words = words(rt.alloc())?;
+    let words = new_words(rt.alloc())?;
     assert!(rt; passes_doors(&rt, rt.alloc(), &words)?);
     assert!(rt; words.late.load(Ordering::SeqCst) == 0);
     Ok(())
