@@ -1,10 +1,13 @@
 //! Lanes and workers over arrays in memory.
+ghost use Rattle.std.specs.Prelude.{◌≡◌, IfOk};
+ghost use Rattle.std.specs.List.{All};
+ghost use Rattle.shared_array.specs.Replies.{IsAskable};
 
 use crate::{Doors, Full, Joined, Ticket, together, wait_for, work_alone};
 use array::Array;
 use array_samples::{SPEC, bank_of, created, fail, found, next_call, write};
 use assemble::create;
-use bank::MemoryBank;
+use bank::{Bank, MemoryBank};
 use flat_history::{Event, Request};
 use lanes::{Pace, Worked, run_lane, run_worker};
 use md_base::{Refusal, Sectors};
@@ -30,12 +33,16 @@ fn dirty(alloc: Global) -> Result<Array<MemoryBank>, Fail> {
 }
 
 // A sector of one byte is written at a place and read again, and the array flushed.
-fn requests_at(alloc: Global, at: u32, byte: u8) -> Result<Vec<Request>, Fail> {
+fn requests_at(alloc: Global, at: u32, byte: u8) -> Result<Vec<Request>, Fail>
+    ensures { IfOk result (λ requests. All IsAskable requests.items) }
+{
     let at = at as u64;
     let body = Sectors::copy_of(alloc, &[byte; 512])?;
+    let write = Request::Write { at, body };
+    let read = Request::Read { at, count: 1 };
     let mut requests = Vec::with_capacity(alloc, 3)?;
-    requests.push(Request::Write { at, body })?;
-    requests.push(Request::Read { at, count: 1 })?;
+    requests.push(write)?;
+    requests.push(read)?;
     requests.push(Request::Flush)?;
     Ok(requests)
 }
@@ -197,8 +204,8 @@ fn the_end_of_a_worker(rt: HostRuntime) -> Result<(), Fail> {
 
 // The replies of a lane of three requests for which memory is always short.
 fn short_lane(rt: &impl Wait, alloc: Global) -> Result<Vec<Reply>, Fail> {
-    let mut replies = Vec::with_capacity(alloc, 3)?;
     let requests = requests_at(alloc, 0, 1)?;
+    let mut replies = Vec::with_capacity(alloc, requests.len())?;
     let _ = run_lane(rt, &Full {}, Ticket { caller: 1 }, requests, &mut replies);
     Ok(replies)
 }
@@ -242,6 +249,9 @@ fn behind_doors(alloc: Global, words: &Words) -> Result<Array<Doors>, Fail> {
         open: Arc::try_clone(&words.open)?,
         late: Arc::try_clone(&words.late)?,
     };
+    if bank.slots() > 32 {
+        return Err(Fail::from("too many slots"));
+    }
     match create(alloc, bank, None, SPEC) {
         Ok(array) => Ok(array),
         Err(_) => Err(Fail::from("not made")),
@@ -255,13 +265,17 @@ fn passes_doors(
     alloc: Global,
     words: &Words,
 ) -> Result<bool, Fail> {
-    let pace = Pace::new(|_, _| {
-        words.open.store(1, Ordering::SeqCst);
-        if !wait_for(&words.inside) {
-            words.late.store(1, Ordering::SeqCst);
-        }
-        1
-    });
+    let pace = Pace::new(
+        |_, _| -> u64
+            ensures { result ≡ 1 }
+        {
+            words.open.store(1, Ordering::SeqCst);
+            if !wait_for(&words.inside) {
+                words.late.store(1, Ordering::SeqCst);
+            }
+            1
+        },
+    );
     let first = requests_at(alloc, 0, 77)?;
     let second = requests_at(alloc, 40, 8)?;
     match together(rt, alloc, behind_doors(alloc, words)?, first, second, &pace) {
