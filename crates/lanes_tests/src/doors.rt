@@ -7,7 +7,7 @@ use std::sync::atomic::{AtomicU64, Ordering};
 use std::thread;
 
 // How often a thread looks at a word.
-const LOOKS: u64 = 20_000_000;
+const LOOKS: u64 = 4_000_000;
 
 /// Waits until the word is set, and answers whether it was before the thread had looked long enough.
 pub fn wait_for(word: &AtomicU64) -> bool {

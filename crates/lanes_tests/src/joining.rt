@@ -1,7 +1,9 @@
 //! Two lanes and a worker at once, from the start of the sharing to its end.
-ghost use Rattle.std.specs.Prelude.{◌≡◌, ◌≢◌, ◌+◌, ◌≤◌, vec_len, vec_capacity};
+ghost use Rattle.std.specs.Prelude.{◌≡◌, ◌≢◌, ◌+◌, ◌≤◌, [], ◌∷◌, vec_len, vec_capacity};
 ghost use Rattle.std.specs.List.{All};
+ghost use Rattle.std.specs.Thread.{IsSend, IsSync};
 ghost use Rattle.shared_array.specs.Replies.{IsAskable};
+ghost use Rattle.turn_lock.specs.Passes.{AreNew};
 ghost use Rattle.lanes.specs.Pace.{AnswersSteps, asked_by};
 
 use array::Array;
@@ -69,6 +71,50 @@ fn lane_and_worker<B: Bank + Drop + Send, F: Fn(u64, u64) -> u64 + Sync, R: Thre
     )
 }
 
+// The passes of the callers 1, 2 and 255, and the empty row that they were in.
+fn taken<B: Bank + Drop>(
+    shared: &Shared<B>,
+    passes: Vec<Pass<B>>,
+) -> ((Pass<B>, Pass<B>, Pass<B>), Vec<Pass<B>>)
+    requires new { (array : _) × AreNew shared.now.lock.table.shared.table_id array (1 ∷ 2 ∷ 255 ∷ []) passes.items }
+    ensures locks { (result.0.0.seat.table_id ≡ shared.now.lock.table.shared.table_id) × (result.0.1.seat.table_id ≡ shared.now.lock.table.shared.table_id) × (result.0.2.seat.table_id ≡ shared.now.lock.table.shared.table_id) }
+    ensures callers { (result.0.0.caller ≡ 1) × (result.0.1.caller ≡ 2) × (result.0.2.caller ≡ 255) }
+    ensures empty { result.1.items ≡ [] }
+    ensures room { vec_len result.1 + 3 ≤ vec_capacity result.1 }
+{
+    let _ = shared;
+    let mut passes = passes;
+    let Some(third) = passes.pop() else {
+        unreachable!()
+    };
+    let Some(second) = passes.pop() else {
+        unreachable!()
+    };
+    let Some(first) = passes.pop() else {
+        unreachable!()
+    };
+    ((first, second, third), passes)
+}
+
+// The array, once the three passes are back.
+fn closed<B: Bank + Drop>(
+    shared: Shared<B>,
+    row: Vec<Pass<B>>,
+    passes: (Pass<B>, Pass<B>, Pass<B>),
+) -> Array<B>
+    requires three { shared.lock.table.shared.key.callers.items ≡ 1 ∷ 2 ∷ 255 ∷ [] }
+    requires locks { (passes.0.seat.table_id ≡ shared.lock.table.shared.table_id) × (passes.1.seat.table_id ≡ shared.lock.table.shared.table_id) × (passes.2.seat.table_id ≡ shared.lock.table.shared.table_id) }
+    requires empty { row.items ≡ [] }
+    requires room { vec_len row + 3 ≤ vec_capacity row }
+{
+    let mut row = row;
+    let (first, second, third) = passes;
+    let _ = row.push(first);
+    let _ = row.push(second);
+    let _ = row.push(third);
+    shared.close(row)
+}
+
 /// Two lanes, as the callers 1 and 2, and a worker, as caller 255, at once. Where memory is short the array comes back.
 pub fn together<B: Bank + Drop + Send, F: Fn(u64, u64) -> u64 + Sync, R: Threads + Wait + Sync>(
     rt: &R,
@@ -85,46 +131,46 @@ pub fn together<B: Bank + Drop + Send, F: Fn(u64, u64) -> u64 + Sync, R: Threads
 {
     let mut array = array;
     let number = array.next_number(0);
-    if array.status(Who { caller: 0, number }).is_err() {
-        return Err(array);
-    }
-    let left = array.left();
+    let left = match array.status(Who { caller: 0, number }) {
+        Ok(status) => status.left,
+        Err(_) => return Err(array),
+    };
     let Ok(one) = Vec::with_capacity(alloc, first.len()) else {
         return Err(array);
     };
     let Ok(two) = Vec::with_capacity(alloc, second.len()) else {
         return Err(array);
     };
-    let (shared, mut passes) = Shared::start(alloc, array, &[1, 2, 255])?;
-    let Some(worker_pass) = passes.pop() else {
-        unreachable!()
-    };
-    let Some(second_pass) = passes.pop() else {
-        unreachable!()
-    };
-    let Some(first_pass) = passes.pop() else {
-        unreachable!()
-    };
+    let (shared, passes) = Shared::start(alloc, array, &[1, 2, 255])?;
+    let ((first_pass, second_pass, worker_pass), row) = taken(&shared, passes);
     let service = &shared;
     let ((a, first), ((b, second), (c, worked))) = join(
         rt,
         move || lane(rt, service, first_pass, first, one),
-        move || lane_and_worker(
-            rt,
-            service,
-            second_pass,
-            second,
-            two,
-            worker_pass,
-            pace,
-            left,
-        ),
+        move || -> ((Pass<B>, Vec<Reply>), (Pass<B>, Worked))
+            requires bounds { IsSend B.row × IsSync F.row × IsSync R.row }
+            requires locks { (second_pass.seat.table_id ≡ service.now.lock.table.shared.table_id) × (worker_pass.seat.table_id ≡ service.now.lock.table.shared.table_id) }
+            requires callers { (second_pass.caller ≢ 254) × (worker_pass.caller ≢ 254) }
+            requires askable { All IsAskable second.items }
+            requires room { vec_len two + vec_len second ≤ vec_capacity two }
+            requires callable { F.IsAlwaysCallable (asked_by pace.now) }
+            requires answers { AnswersSteps (F.post (asked_by pace.now)) }
+            ensures { (result.0.0.seat.table_id ≡ second_pass.seat.table_id) × (result.1.0.seat.table_id ≡ worker_pass.seat.table_id) }
+        {
+            lane_and_worker(
+                rt,
+                service,
+                second_pass,
+                second,
+                two,
+                worker_pass,
+                pace,
+                left,
+            )
+        },
     );
-    let _ = passes.push(a);
-    let _ = passes.push(b);
-    let _ = passes.push(c);
     Ok(Joined {
-        array: shared.close(passes),
+        array: closed(shared, row, (a, b, c)),
         first,
         second,
         worked,
@@ -143,10 +189,10 @@ pub fn work_alone<B: Bank + Drop, F: Fn(u64, u64) -> u64, R: Wait>(
 {
     let mut array = array;
     let number = array.next_number(0);
-    if array.status(Who { caller: 0, number }).is_err() {
-        return Err(array);
-    }
-    let left = array.left();
+    let left = match array.status(Who { caller: 0, number }) {
+        Ok(status) => status.left,
+        Err(_) => return Err(array),
+    };
     let (shared, mut passes) = Shared::start(alloc, array, &[255])?;
     let Some(pass) = passes.pop() else {
         unreachable!()
