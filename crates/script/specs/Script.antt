@@ -98,7 +98,7 @@ abbrev pub may_follow : Lane → Lane → Bool
 may_follow A Script = false
 may_follow B Script = false
 may_follow B A = false
-may_follow former lane = true
+may_follow before lane = true
 
 -- lines in turn, behind one of this lane; the last ends its block
 abbrev pub are_in_turn : Lane → List Numbered → Bool
