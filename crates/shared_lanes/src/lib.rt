@@ -1,8 +1,8 @@
 //! An array that several callers share, one at a time.
 #![tactic(auto)]
 
-mod lanes;
 mod serving;
+mod sharing;
 
-pub use self::lanes::{Pass, Shared};
 pub use serving::Answering;
+pub use sharing::{Pass, Shared};

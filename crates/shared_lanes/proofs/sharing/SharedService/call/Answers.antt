@@ -1,6 +1,6 @@
 use Rattle.shared_lanes.proofs.Answered.{answered}
 use Rattle.shared_lanes.proofs.Carried.{goes-on, replied}
-use Rattle.shared_lanes.proofs.lanes.SharedService.call.Goals as goal
+use Rattle.shared_lanes.proofs.sharing.SharedService.call.Goals as goal
 
 pub returns-clause-answered : goal.returns-clause-answered
 returns-clause-answered g c =
