@@ -20,11 +20,13 @@ use Rattle.array_kept.specs.Calls.{world_for}
 use Rattle.flat_history.proofs.OneShapeGoing.{begins-open}
 use Rattle.superblocks.specs.Reading.{shape_of}
 use Rattle.md_base.specs.Shapes.{data_disks, is_multiple}
+use Rattle.layout.proofs.Limits.{limited}
 use Rattle.row_io.specs.Rows.{present}
 use Rattle.list_io.specs.Buffers.{IsTouched}
 use Rattle.std.specs.Prelude.{IsTrue}
 use Rattle.views.proofs.LackingLaws.{lost-since, shape-without}
 use Rattle.views.proofs.Still.{count-still, without-still}
+use Rattle.views.proofs.Fit.{valid}
 use Rattle.calls_kept.proofs.TouchedLaws.{holds-fetched}
 use Rattle.views.proofs.MemberLaws.{list-few}
 use Rattle.views.proofs.LackingLists.{row-sector}
@@ -80,6 +82,22 @@ returns-in-Some-clause-ended g c =
 
 pub returns-in-Some-clause-caused : goal.returns-in-Some-clause-caused
 returns-in-Some-clause-caused g c = rw (← c.self.view_is) c.in-Some.ensures.why
+
+-- ---- the shape has at most so many roles
+
+pub vacant_roles-before-requires-clause-few : goal.vacant_roles-before-requires-clause-few
+vacant_roles-before-requires-clause-few g c =
+    let a = c.self.inside in
+    let most = (limited (shape_of a.members.newest) (valid (g.B.Bank.given a.bank) a.members c.self.invariant.kept.placed)).most in
+    let disks = ap (λ (s : Shape). s.disks) c.shape_in-shape.ensures in
+    omega (arith, most, disks)
+
+pub newly_vacant-roles-requires-clause-few : goal.newly_vacant-roles-requires-clause-few
+newly_vacant-roles-requires-clause-few g c =
+    let a = c.self.inside in
+    let most = (limited (shape_of a.members.newest) (valid (g.B.Bank.given a.bank) a.members c.self.invariant.kept.placed)).most in
+    let disks = ap (λ (s : Shape). s.disks) c.shape_in-shape.ensures in
+    omega (arith, most, disks)
 
 -- ---- it is read by the one shape
 
