@@ -27,6 +27,7 @@ use Rattle.views.specs.declared.work.Work.{Work}
 use Rattle.views.specs.Parts.{Parts}
 use Rattle.views.specs.Whole.{list_size}
 use Rattle.views.specs.Placed.{places_of}
+use Rattle.views.proofs.Still.{count-still}
 use Rattle.array.specs.declared.spec.CreateSpec.{CreateSpec}
 use Rattle.assemble.specs.Opening.{scope_of, IsOpened}
 use Rattle.assemble.specs.Running.{opened_of, IsBegun, IsCreated, IsAssembled}
@@ -166,7 +167,7 @@ pub stored_made : {B tells : Type 0} (given : Given) (tape : List Operation) (ba
 stored_made given tape backup spec made is t = record {
   found = reading_in given.slots made.members;
   stored = opened_stored given tape backup (Some spec.uuid) made is.begun is.opened t;
-  whole = λ role lt. turned (is_whole (role_state (reading_in given.slots made.members) role)) (is.whole role lt);
+  whole = λ role lt. turned (is_whole (role_state (reading_in given.slots made.members) role)) (is.whole role (subst (λ (n : ℕ). role < n) (sym (count-still made.members.newest is.opened.still)) lt));
   shape = is.new.shape;
   size = is.new.size;
   events = is.new.events;
