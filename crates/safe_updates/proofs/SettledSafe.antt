@@ -1,38 +1,32 @@
 -- Where the members are flushed, and lost slots are named, the list alone is told.
-use Rattle.std.proofs.Common.{◌≡◌, ◌⊎◌, inl, inr, ℕ, ◌+◌, ◌<◌, Bool, true, false, List, [], ◌∷◌, refl, sym, ◌∙◌, ap, subst, arith}
+use Rattle.std.proofs.Common.{◌≡◌, ◌⊎◌, inl, inr, ℕ, ◌+◌, Bool, true, false, List, [], ◌∷◌, refl, sym, ◌∙◌, ap, subst, arith}
 use Rattle.md_base.specs.Sectors.{Sector}
 use Rattle.bank.specs.declared.bank.Operation.{Operation}
 use Rattle.bank.specs.Given.{Given}
 use Rattle.bank.specs.Tape.{IsIn, disk}
-use Rattle.layout.specs.Layout.{place}
-use Rattle.layout.proofs.Places.{place-role_below, place-row_below}
 use Rattle.superblocks.specs.declared.members.Members.{Members}
-use Rattle.superblocks.specs.Reading.{Scope, Reading, is_clean, is_reshaping, shape_of, final_shape, data_offset_of}
+use Rattle.superblocks.specs.Reading.{Scope, Reading, is_clean, shape_of, final_shape, data_offset_of}
 use Rattle.row_io.specs.Rows.{reading_of, present, IsTolerated}
 use Rattle.row_io.proofs.Losses.{holder-of}
-use Rattle.list_io.proofs.FullLaws.{data_here, full-data}
 use Rattle.views.specs.Placed.{IsPlaced}
 use Rattle.shape_views.specs.Regions.{DoWithout}
-use Rattle.views.proofs.Fit.{valid, multiple}
-use Rattle.views.specs.Lacking.{AreHoldersFlushed, ListStands, RowsStand}
+use Rattle.views.specs.Lacking.{AreHoldersFlushed}
+use Rattle.views.specs.Under.{StandsUnder, RowsStandUnder}
+use Rattle.shape_views.specs.Regions.{place_by}
 use Rattle.shape_views.specs.Views.{Ledger, AreHeldAllowed, AreSectionsAllowed, IsSettled}
 use Rattle.shape_changes.specs.Steady.{IsSafeNow, IsNamedNow, settled_ledger}
 use Rattle.views.proofs.Still.{flushed-is-settled}
-use Rattle.safe_updates.proofs.StillHeld.{AreRowsAllowed, held-still, sections-still}
 
--- a sector that a slot holds has the list's value alone
-holds-alone : (given : Given) (m : Members) (tape : List Operation) (list : ℕ → Sector) → IsPlaced given m → AreHoldersFlushed (reading_of m) given tape → ListStands m (present given tape) list
-    → AreRowsAllowed (reading_of m) (λ x. list x ∷ []) (disk given.start tape)
-holds-alone given m tape list placed flushed stands x slot lt holds v may =
-    let shape = shape_of m.newest in
-    let role = (place shape x).role in
-    let row = (place shape x).row in
-    let below : row < m.newest.size = place-row_below shape (valid given m placed) x m.newest.size (multiple given m placed) lt in
+-- a sector that a slot holds has the list's value alone, where no active section covers it
+holds-alone : (scope : Scope) (given : Given) (m : Members) (tape : List Operation) (list : ℕ → Sector) → IsPlaced given m → AreHoldersFlushed (reading_of m) given tape
+    → StandsUnder scope m (present given tape) (disk given.start tape) list → AreHeldAllowed scope m (λ x. list x ∷ []) (disk given.start tape)
+holds-alone scope given m tape list placed flushed stands header may x slot outside holds v is =
+    let role = (place_by m.newest x).role in
+    let row = (place_by m.newest x).row in
     let own = holder-of (reading_of m) role row slot holds in
     inl (only (present given tape slot (data_offset_of (reading_of m) slot + row)) (subst (λ (values : List Sector). IsIn values v)
-    (flushed role slot (data_offset_of (reading_of m) slot + row) own (λ e. absurd (let far = placed.behind role slot own in omega (arith, e, far)))) may)
-    ∙ stands row below role slot (place-role_below shape (valid given m placed) x) (data_here shape role row x (valid given m placed) refl) holds
-    ∙ full-data shape list role row x (valid given m placed) refl)
+    (flushed role slot (data_offset_of (reading_of m) slot + row) own (λ e. absurd (let far = placed.behind role slot own in omega (arith, e, far)))) is)
+    ∙ stands.outside header may x slot (record { within = outside.within; outside = outside.outside }) holds)
   where
     only : (w : Sector) → (v ≡ w) ⊎ ⊥ → v ≡ w
     only w (inl same) = same
@@ -40,9 +34,9 @@ holds-alone given m tape list placed flushed stands x slot lt holds v may =
 
 -- ---- the law
 
-module _ (sound : Type 0) (scope : Scope) (given : Given) (told : Ledger) (unsynced : Bool) (m : Members) (tape : List Operation) (list : ℕ → Sector) (placed : IsPlaced given m) (still : is_reshaping m.newest ≡ false)
-    (flushed : AreHoldersFlushed (reading_of m) given tape) (stands : ListStands m (present given tape) list) (dirty : is_clean m.newest ≡ false → unsynced ≡ true)
-    (rows : is_clean m.newest ≡ true → DoWithout m → sound → RowsStand m (present given tape) list) (named : IsNamedNow sound scope given told m (disk given.start tape)) where
+module _ (sound : Type 0) (scope : Scope) (given : Given) (told : Ledger) (unsynced : Bool) (m : Members) (tape : List Operation) (list : ℕ → Sector) (placed : IsPlaced given m)
+    (flushed : AreHoldersFlushed (reading_of m) given tape) (stands : StandsUnder scope m (present given tape) (disk given.start tape) list) (dirty : is_clean m.newest ≡ false → unsynced ≡ true)
+    (rows : is_clean m.newest ≡ true → DoWithout m → sound → RowsStandUnder scope m (present given tape) (disk given.start tape) list) (named : IsNamedNow sound scope given told m (disk given.start tape)) where
   abbrev Former : Members
   Former = named.steady.former
 
@@ -78,6 +72,9 @@ module _ (sound : Type 0) (scope : Scope) (given : Given) (told : Ledger) (unsyn
     live = placed.live;
   }
 
+  stands-here : StandsUnder scope Here (present given tape) (disk given.start tape) list
+  stands-here = record { outside = stands.outside; sections = stands.sections }
+
   without-here : DoWithout Former → DoWithout m
   without-here does = record {
     old = subst (λ (r : Reading). IsTolerated r (shape_of r.newest)) same does.old;
@@ -86,7 +83,7 @@ module _ (sound : Type 0) (scope : Scope) (given : Given) (told : Ledger) (unsyn
 
   settled-here : is_clean Former.newest ≡ true → DoWithout Former → sound → IsSettled scope Here (λ x. list x ∷ []) (disk given.start tape)
   settled-here clean does premise =
-      flushed-is-settled scope given Here tape (λ x. list x ∷ []) list placed-here still flushed
+      flushed-is-settled scope given Here tape (λ x. list x ∷ []) list placed-here flushed
       (rows (ap (λ (r : Reading). is_clean r.newest) (sym same) ∙ clean) (without-here does) premise) (λ x lt. inl refl)
 
   pub settled-safe : IsSafeNow sound scope given (settled_ledger unsynced list told) m (disk given.start tape)
@@ -99,11 +96,28 @@ module _ (sound : Type 0) (scope : Scope) (given : Given) (told : Ledger) (unsyn
       gone = named.steady.right.gone;
       unclean = λ is. dirty (ap (λ (r : Reading). is_clean r.newest) (sym same) ∙ is);
       reshaping = named.steady.right.reshaping;
-      held = subst (λ (n : Members). AreHeldAllowed scope n (λ x. list x ∷ []) (disk given.start tape)) (sym former-is)
-          (held-still scope Here (λ x. list x ∷ []) (disk given.start tape) still (holds-alone given m tape list placed flushed stands));
-      sections = subst (λ (n : Members). AreSectionsAllowed scope n (λ x. list x ∷ []) (disk given.start tape)) (sym former-is)
-          (sections-still scope Here (λ x. list x ∷ []) (disk given.start tape) still);
+      held = subst (λ (n : Members). AreHeldAllowed scope n (λ x. list x ∷ []) (disk given.start tape)) (sym former-is) (holds-alone scope given Here tape list placed-here flushed stands-here);
+      sections = subst (λ (n : Members). AreSectionsAllowed scope n (λ x. list x ∷ []) (disk given.start tape)) (sym former-is) stands.sections;
       settled = λ clean does premise. subst (λ (n : Members). IsSettled scope n (λ x. list x ∷ []) (disk given.start tape)) (sym former-is) (settled-here clean does premise);
     };
     numbers = named.steady.numbers;
   })
+
+-- where it is clean, no write is unsettled
+pub clean-settled : {sound : Type 0} {scope : Scope} {given : Given} {m : Members} {d : ℕ → ℕ → List Sector} (told : Ledger) (dirty unsynced : Bool) (list : ℕ → Sector) → is_clean m.newest ≡ true
+    → IsNamedNow sound scope given (settled_ledger dirty list told) m d → IsSafeNow sound scope given (settled_ledger unsynced list told) m d
+clean-settled {m = m} told dirty unsynced list clean named = inl (record {
+  former = named.steady.former;
+  since = named.steady.since;
+  right = record {
+    placed = named.steady.right.placed;
+    sized = named.steady.right.sized;
+    gone = named.steady.right.gone;
+    unclean = λ is. absurd (let same = ap (λ (n : Members). is_clean n.newest) named.steady.since.since in let clash = sym clean ∙ same ∙ is in cc);
+    reshaping = named.steady.right.reshaping;
+    held = named.steady.right.held;
+    sections = named.steady.right.sections;
+    settled = named.steady.right.settled;
+  };
+  numbers = named.steady.numbers;
+})

@@ -1,5 +1,5 @@
 -- What slots hold of the list of an array of one shape is allowed, by the definitions for one shape or two.
-use Rattle.std.proofs.Common.{◌≡◌, ℕ, ◌+◌, ◌<◌, false, List, Some, refl, sym, ◌∙◌, subst}
+use Rattle.std.proofs.Common.{◌≡◌, ℕ, ◌+◌, ◌<◌, false, List, Some, refl, sym, subst}
 use Rattle.md_base.specs.declared.places.Shape.{Shape}
 use Rattle.md_base.specs.Sectors.{Sector}
 use Rattle.bank.specs.Tape.{IsIn}
@@ -8,11 +8,11 @@ use Rattle.superblocks.specs.declared.members.Members.{Members}
 use Rattle.superblocks.specs.Reading.{Scope, Reading, is_reshaping, shape_of, data_offset_of}
 use Rattle.row_io.specs.Rows.{reading_of, held_slot}
 use Rattle.shape_views.specs.Regions.{backup_of}
-use Rattle.shape_views.specs.Views.{Disk, AreHeldAllowed, AreSectionsAllowed}
+use Rattle.shape_views.specs.Views.{Disk, AreHeldAllowed}
 use Rattle.shape_views.proofs.Stands.{for-still}
 use Rattle.views.specs.Whole.{list_size}
 use Rattle.views.specs.Placed.{places_by}
-use Rattle.views.proofs.Still.{length-still, open-still, outside-still}
+use Rattle.views.proofs.Still.{length-still, outside-still}
 
 -- each sector of the list that a slot holds may have only allowed values there
 abbrev pub AreRowsAllowed : Reading → (ℕ → List Sector) → Disk → Type 0
@@ -32,7 +32,3 @@ module _ (scope : Scope) (m : Members) (values : ℕ → List Sector) (d : Disk)
   pub still-held : (header : Sector) → IsIn (d (backup_of scope) 0) header → AreHeldAllowed scope m values d → AreRowsAllowed (reading_of m) values d
   still-held header may allowed x slot lt = subst (Allows x slot) (for-still m.newest still x)
       (allowed header may x slot (outside-still m.newest still scope m header x refl (subst (λ (n : ℕ). x < n) (sym (length-still m still)) lt)))
-
-  -- no section is active
-  pub sections-still : AreSectionsAllowed scope m values d
-  sections-still header may span active = absurd (let none = open-still m.newest still scope header in let clash = sym active ∙ none in cc)

@@ -12,6 +12,7 @@ ghost use Rattle.shape_changes.specs.Marking.{AreOthersPresent};
 ghost use Rattle.safe_updates.specs.Named.{AreNamedMissing, AreDataKept};
 ghost use Rattle.views.specs.Moving.{Grows, IsMoved};
 ghost use Rattle.shape_changes.specs.Safety.{HasLiveSlot, HasRoomLeft, IsRisen};
+ghost use Rattle.views.specs.Under.{IsRestKept};
 ghost use Rattle.views.specs.Lacking.{HaveFailedSince, AreHoldersFlushed, IsNamed, AreUnnamed};
 ghost use Rattle.bank.specs.Tape.{EachMark, disk};
 ghost use Rattle.flat_history.specs.World.{World};
@@ -86,6 +87,7 @@ pub fn mark_members<B: Bank>(members: &mut Members, bank: &mut B, clean: bool) -
     ensures flushed { B.tells → AreHoldersFlushed (reading_of members.old) (B.given bank.old) (B.tape bank.old) → AreHoldersFlushed (reading_of members.old) (B.given bank.old) (B.tape bank.new) }
     ensures clean { is_clean members.new.newest ≡ clean }
     ensures missing { HasLiveSlot members.new → AreNamedMissing members.new }
+    ensures rest { B.tells → IsRestKept members.old (disk (B.given bank.old).start (B.tape bank.old)) (disk (B.given bank.old).start (B.tape bank.new)) }
     ensures data { let start = (B.given bank.old).start in EachMark B.tells start (B.tape bank.old) (B.tape bank.new) (AreDataKept (disk start (B.tape bank.old))) }
     ensures rise { IsRisen B.tells members.old members.new (B.tape bank.old) (B.tape bank.new) }
     ensures safe { B.tells → (world : World) → (told : Ledger) → HasRoomLeft members.old (B.tape bank.old) (B.tape bank.new)
@@ -121,6 +123,7 @@ pub fn name_missing<B: Bank>(members: &mut Members, bank: &mut B) -> u32
     ensures kept { AreWhole members.old → members.new ≡ members.old }
     ensures tape { AreWhole members.old → B.tells → B.tape bank.new ≡ B.tape bank.old }
     ensures missing { HasLiveSlot members.new → AreNamedMissing members.new }
+    ensures rest { B.tells → IsRestKept members.old (disk (B.given bank.old).start (B.tape bank.old)) (disk (B.given bank.old).start (B.tape bank.new)) }
     ensures data { let start = (B.given bank.old).start in EachMark B.tells start (B.tape bank.old) (B.tape bank.new) (AreDataKept (disk start (B.tape bank.old))) }
     ensures rise { IsRisen B.tells members.old members.new (B.tape bank.old) (B.tape bank.new) }
     ensures safe { B.tells → (world : World) → (told : Ledger) → HasRoomLeft members.old (B.tape bank.old) (B.tape bank.new)

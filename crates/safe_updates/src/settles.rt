@@ -1,9 +1,10 @@
 //! A flush of the members, and the clean mark behind it.
 
-ghost use Rattle.std.specs.Prelude.{◌≡◌, ◌<◌, ◌≤◌, ℕ, List, length, true, false, Some, None, MatchOption, ⊤};
+ghost use Rattle.std.specs.Prelude.{◌≡◌, ◌<◌, ◌≤◌, ℕ, length, true, false, Some, None, MatchOption, ⊤};
 ghost use Rattle.bank.specs.Given.{NeverFalls};
+ghost use Rattle.bank.specs.Tape.{disk};
 ghost use Rattle.md_base.specs.Sectors.{Sector};
-ghost use Rattle.superblocks.specs.Reading.{is_clean, is_reshaping, role_count, role_state, holder};
+ghost use Rattle.superblocks.specs.Reading.{is_clean, role_count, role_state, holder};
 ghost use Rattle.row_io.specs.Rows.{reading_of, present};
 ghost use Rattle.views.specs.Placed.{AreWhole, IsPlaced};
 ghost use Rattle.shape_changes.specs.Steady.{AreUnlost, IsSafeOver, IsNamedOver, KeepsSafe, AreGoneTold, IsUncleanTold, AreWritesAllowed, settled_ledger};
@@ -11,7 +12,8 @@ ghost use Rattle.views.specs.Rebuilding.{AreSparesFree};
 ghost use Rattle.shape_changes.specs.Marking.{AreOthersPresent};
 ghost use Rattle.views.specs.Moving.{Grows, IsMoved};
 ghost use Rattle.shape_changes.specs.Safety.{HasLiveSlot, HasRoomLeft, IsRisen};
-ghost use Rattle.views.specs.Lacking.{HaveFailedSince, AreHoldersFlushed, AreTooMany, ListStands, RowsStand};
+ghost use Rattle.views.specs.Lacking.{HaveFailedSince, AreHoldersFlushed, AreTooMany};
+ghost use Rattle.views.specs.Under.{StandsUnder, RowsStandUnder, IsRestKept};
 ghost use Rattle.flat_history.specs.World.{World};
 ghost use Rattle.flat_history.specs.Sound.{OpensFit};
 ghost use Rattle.shape_views.specs.Views.{Ledger};
@@ -46,6 +48,7 @@ fn flush_naming<B: Bank>(members: &mut Members, bank: &mut B) -> u32
     ensures others { B.tells → AreOthersPresent (present (B.given bank.old) (B.tape bank.old)) (present (B.given bank.old) (B.tape bank.new)) }
     ensures flushed { B.tells → AreHoldersFlushed (reading_of members.new) (B.given bank.old) (B.tape bank.new) }
     ensures clean { is_clean members.new.newest ≡ is_clean members.old.newest }
+    ensures rest { B.tells → IsRestKept members.old (disk (B.given bank.old).start (B.tape bank.old)) (disk (B.given bank.old).start (B.tape bank.new)) }
     ensures kept { AreWhole members.new → members.new ≡ members.old }
     ensures rise { IsRisen B.tells members.old members.new (B.tape bank.old) (B.tape bank.new) }
     ensures safe { B.tells → (world : World) → (told : Ledger) → HasRoomLeft members.old (B.tape bank.old) (B.tape bank.new)
@@ -82,7 +85,6 @@ fn unmarked(members: &Members) -> Option<Refusal>
 pub fn settle<B: Bank>(members: &mut Members, bank: &mut B, unsynced: bool) -> Settled
     requires slots { (B.given bank.old).slots ≤ 32 }
     requires placed { IsPlaced (B.given bank.old) members.old }
-    requires still { is_reshaping members.old.newest ≡ false }
     requires unlost { AreUnlost members.old }
     requires free { AreSparesFree (B.given bank.old) members.old }
     ensures moved { IsMoved (B.given bank.old) members.old members.new }
@@ -95,13 +97,13 @@ pub fn settle<B: Bank>(members: &mut Members, bank: &mut B, unsynced: bool) -> S
     ensures stays { unsynced ≡ true → is_clean members.new.newest ≡ is_clean members.old.newest }
     ensures rise { IsRisen B.tells members.old members.new (B.tape bank.old) (B.tape bank.new) }
     ensures safe { B.tells → (world : World) → (told : Ledger) → HasRoomLeft members.old (B.tape bank.old) (B.tape bank.new)
-        → AreGoneTold told members.new → IsUncleanTold told members.old → (list : ℕ → Sector) → (DoWithout members.old → ListStands members.old (present (B.given bank.old) (B.tape bank.old)) list)
-        → (unsynced ≡ false → DoWithout members.old → OpensFit world → RowsStand members.old (present (B.given bank.old) (B.tape bank.old)) list)
+        → AreGoneTold told members.new → IsUncleanTold told members.old → (list : ℕ → Sector) → (DoWithout members.old → StandsUnder world.scope members.old (present (B.given bank.old) (B.tape bank.old)) (disk (B.given bank.old).start (B.tape bank.old)) list)
+        → (unsynced ≡ false → DoWithout members.old → OpensFit world → RowsStandUnder world.scope members.old (present (B.given bank.old) (B.tape bank.old)) (disk (B.given bank.old).start (B.tape bank.old)) list)
         → AreWritesAllowed members.old told.values list → IsSafeOver world (B.given bank.old) told members.old (B.tape bank.old)
         → KeepsSafe world (B.given bank.old) told members.new (B.tape bank.old) (B.tape bank.new) }
     ensures settled { result.refusal ≡ None → B.tells → (world : World) → (told : Ledger) → HasRoomLeft members.old (B.tape bank.old) (B.tape bank.new)
-        → AreGoneTold told members.new → IsUncleanTold told members.old → (DoWithout members.old → unsynced ≡ true → is_clean members.old.newest ≡ false) → (list : ℕ → Sector) → (DoWithout members.old → ListStands members.old (present (B.given bank.old) (B.tape bank.old)) list)
-        → (unsynced ≡ false → DoWithout members.old → OpensFit world → RowsStand members.old (present (B.given bank.old) (B.tape bank.old)) list)
+        → AreGoneTold told members.new → IsUncleanTold told members.old → (DoWithout members.old → unsynced ≡ true → is_clean members.old.newest ≡ false) → (list : ℕ → Sector) → (DoWithout members.old → StandsUnder world.scope members.old (present (B.given bank.old) (B.tape bank.old)) (disk (B.given bank.old).start (B.tape bank.old)) list)
+        → (unsynced ≡ false → DoWithout members.old → OpensFit world → RowsStandUnder world.scope members.old (present (B.given bank.old) (B.tape bank.old)) (disk (B.given bank.old).start (B.tape bank.old)) list)
         → AreWritesAllowed members.old told.values list → IsSafeOver world (B.given bank.old) told members.old (B.tape bank.old)
         → IsSafeOver world (B.given bank.old) (settled_ledger unsynced list told) members.new (B.tape bank.new) }
     ensures given { B.given bank.new ≡ B.given bank.old }

@@ -30,3 +30,4 @@ pub mod Gives
 pub mod GivenMembers
 pub mod GivenPlan
 pub mod Still
+pub mod Under

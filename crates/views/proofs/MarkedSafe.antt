@@ -1,20 +1,21 @@
 -- Marks and flushes of a call that keep an array safe.
-use Rattle.std.proofs.Common.{◌≡◌, ℕ, ◌<◌, ◌≤◌, Bool, true, List, length, length-append, take, take_all, le_refl, ◌++◌, sym, ◌∙◌, ap, subst, arith, false}
+use Rattle.std.proofs.Common.{◌≡◌, ℕ, ◌≤◌, Bool, true, List, length, length-append, take, take_all, le_refl, ◌++◌, sym, ◌∙◌, ap, subst, arith}
 use Rattle.std.specs.Prelude.{⊤}
 use Rattle.md_base.specs.Sectors.{Sector}
 use Rattle.bank.specs.declared.bank.Operation.{Operation}
 use Rattle.bank.specs.Given.{Given}
 use Rattle.bank.specs.Tape.{EachMark, disk}
 use Rattle.superblocks.specs.declared.members.Members.{Members}
-use Rattle.superblocks.specs.Reading.{Scope, is_clean, is_reshaping}
+use Rattle.superblocks.specs.Reading.{Scope, is_clean}
 use Rattle.row_io.specs.Rows.{reading_of, present, members_without}
 use Rattle.views.specs.Placed.{IsPlaced}
 use Rattle.shape_changes.specs.Steady.{AreUnlost, IsSteady, IsSafeNow, IsSafeStretch, AreGoneTold, IsUncleanTold, AreWritesAllowed}
-use Rattle.views.specs.Lacking.{DoesWithout, AreHoldersFlushed, RowsStand}
+use Rattle.views.specs.Lacking.{AreHoldersFlushed}
+use Rattle.views.specs.Under.{RowsStandUnder}
 use Rattle.views.specs.Flushing.{OnlyFlushesAdded}
 use Rattle.shape_views.specs.Views.{Ledger, IsSettled}
 use Rattle.shape_changes.specs.Kinds.{IsMarkable}
-use Rattle.views.proofs.Still.{told-same, length-still, flushed-is-settled}
+use Rattle.views.proofs.Still.{told-same, flushed-is-settled}
 use Rattle.views.proofs.LiveLeft.{without-left, left-steady}
 use Rattle.shape_changes.proofs.Steady.{safe-is-seen, losing-stays-safe, flushes-stay-safe}
 use Rattle.shape_views.specs.Regions.{DoWithout}
@@ -52,12 +53,12 @@ same-markable sound scope given told clean old new d placed unlost same gone unc
 }
 
 -- A clean mark behind a flush: the rows stand as the list, where the array can do without the roles that it misses.
-pub settled-markable : (sound : Type 0) (scope : Scope) (given : Given) (told : Ledger) (old new : Members) (tape : List Operation) (list : ℕ → Sector) → IsPlaced given old → is_reshaping old.newest ≡ false → AreHoldersFlushed (reading_of old) given tape
-    → AreGoneTold told new → AreWritesAllowed old told.values list → (DoWithout old → sound → RowsStand old (present given tape) list) → IsMarkable sound scope true told old new (disk given.start tape)
-settled-markable sound scope given told old new tape list placed still flushed gone allowed rows = record {
+pub settled-markable : (sound : Type 0) (scope : Scope) (given : Given) (told : Ledger) (old new : Members) (tape : List Operation) (list : ℕ → Sector) → IsPlaced given old → AreHoldersFlushed (reading_of old) given tape
+    → AreGoneTold told new → AreWritesAllowed old told.values list → (DoWithout old → sound → RowsStandUnder scope old (present given tape) (disk given.start tape) list) → IsMarkable sound scope true told old new (disk given.start tape)
+settled-markable sound scope given told old new tape list placed flushed gone allowed rows = record {
   gone = gone;
   unclean = λ dirty. absurd (cc);
-  settled = λ clean does premise. flushed-is-settled scope given old tape told.values list placed still flushed (rows does premise) (λ x lt. allowed x (subst (λ (n : ℕ). x < n) (sym (length-still old still)) lt));
+  settled = λ clean does premise. flushed-is-settled scope given old tape told.values list placed flushed (rows does premise) allowed;
 }
 
 -- ---- flushes

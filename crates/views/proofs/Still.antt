@@ -1,6 +1,5 @@
 -- Members of one shape by the definitions for one shape or two: they are placed, and the list and its rows lie alike.
-use Rattle.std.proofs.Common.{◌≡◌, ◌⊎◌, inl, inr, ℕ, ◌+◌, ◌*◌, ◌^◌, ◌<◌, ◌≤◌, ◌==◌, ◌&&◌, ◌||◌, nat_le, max, Bool, true, false, not, cond, drop, ◌/◌, ◌%◌, List, [], ◌∷◌, Option, Some, None, refl, sym, ◌∙◌, ap, subst, arith}
-use Rattle.std.specs.Prelude.{find}
+use Rattle.std.proofs.Common.{◌≡◌, ◌⊎◌, inl, inr, ℕ, ◌+◌, ◌<◌, ◌||◌, max, Bool, true, false, not, cond, ◌/◌, ◌%◌, List, [], ◌∷◌, Option, Some, None, refl, sym, ◌∙◌, ap, subst, arith}
 use Rattle.std.proofs.lemmas.Bool.Decides.{nat_tests}
 use Rattle.std.proofs.lemmas.Nat.{mod_below}
 use Rattle.std.proofs.Math.Nat.{div-add-mod'}
@@ -8,25 +7,22 @@ use Rattle.md_base.specs.Sectors.{Sector}
 use Rattle.md_base.specs.declared.places.Shape.{Shape}
 use Rattle.md_base.specs.declared.places.Place.{Place}
 use Rattle.md_base.specs.declared.places.Span.{Span}
-use Rattle.md_base.specs.declared.answers.Refusal.TheVariants.{BackupAbsent, PositionNotOnUnit}
-use Rattle.md_base.specs.Shapes.{has_slot, is_level, is_layout, is_valid_shape, is_multiple}
+use Rattle.md_base.specs.declared.answers.Refusal.TheVariants.{BackupAbsent}
 use Rattle.bank.specs.Given.{Given}
-use Rattle.bank.specs.declared.bank.Operation.{Operation}
 use Rattle.bank.specs.Tape.{Contents, IsIn, IsDrawn, disk}
 use Rattle.sb1.specs.declared.sb.Sb.{Sb}
 use Rattle.layout.specs.Layout.{place}
 use Rattle.layout.proofs.Places.{chunk_some, data_some, place-sector, place-sector_below, place-row_below, sector_at}
-use Rattle.geometry.specs.Geometry.{is_size, window}
+use Rattle.geometry.specs.Geometry.{window}
 use Rattle.superblocks.specs.declared.members.Members.{Members}
-use Rattle.superblocks.specs.Reading.{Scope, is_seen, is_backup, is_reshaping, is_backward, shape_of, final_shape, role_count, list_length, next_window, role_state, holder, data_offset_of}
-use Rattle.superblocks.specs.Verdict.{is_bad_size, judged_fields, unit_of}
+use Rattle.superblocks.specs.Reading.{Scope, is_reshaping, is_backward, shape_of, final_shape, role_count, list_length, next_window, role_state, holder, data_offset_of}
 use Rattle.superblock_reads.proofs.SaidSlots.{role-known}
 use Rattle.row_io.specs.Rows.{reading_of, present, held_slot, is_missing, IsTolerated}
 use Rattle.row_io.proofs.Losses.{holder-of}
 use Rattle.list_io.specs.Full.{RowStands}
-use Rattle.flat_history.specs.Stands.{shape_for, has_room, backup_absent, covers, reach_of}
+use Rattle.flat_history.specs.Stands.{has_room, backup_absent, covers, reach_of}
 use Rattle.flat_history.specs.ActiveSection.{section_for}
-use Rattle.shape_views.specs.Regions.{header_in, open_by, place_by, AreShapesFit, ArePlaced, DoWithout}
+use Rattle.shape_views.specs.Regions.{backup_of, header_in, open_by, place_by, ArePlaced, DoWithout}
 use Rattle.shape_views.specs.Views.{Disk, Ledger, IsOutside, IsSettled}
 use Rattle.shape_views.specs.Windows.{IsOfRegion}
 use Rattle.shape_views.proofs.Stands.{for-still, final-still, list-still}
@@ -35,7 +31,7 @@ use Rattle.shape_changes.specs.Steady.{IsMoreTold, AreGoneTold}
 use Rattle.shape_changes.proofs.Stretch.{seen-own}
 use Rattle.views.specs.Whole.{list_size}
 use Rattle.views.specs.Placed.{places_of, IsPlaced}
-use Rattle.views.specs.Lacking.{DoesWithout, AreHoldersFlushed, RowsStand}
+use Rattle.views.specs.Lacking.{DoesWithout}
 use Rattle.views.specs.Still.{HeldIsPlaced, FlushedIsSettled}
 use Rattle.views.proofs.Fit.{valid, multiple}
 
@@ -150,13 +146,18 @@ still-settled scope given m values d placed still s c drawn row lt =
     (subst (λ (s' : Shape). RowStands (reading_of m) c s' s.list (place s' x).row) (for-still m.newest still x) (s.rows c drawn x out))
 
 pub flushed-is-settled : FlushedIsSettled
-flushed-is-settled scope given members tape values list placed still flushed stand allowed = settled-still scope given members values (disk given.start tape) list placed still allowed (λ c drawn row lt.
-    let stands = stand row lt in
-    record {
-      whole = stands.whole;
-      sectors = λ role slot below sound held. here c drawn row role slot held ∙ stands.sectors role slot below sound held;
-      parity = λ role slot below parity held. here c drawn row role slot held ∙ stands.parity role slot below parity held;
-    })
+flushed-is-settled scope given members tape values list placed flushed stand allowed = record {
+  list = list;
+  allowed = allowed;
+  rows = λ c drawn x out.
+      let row = (place_by members.newest x).row in
+      let stands = stand (header_in scope c) (drawn (backup_of scope) 0) x (record { within = out.within; outside = out.outside }) in
+      record {
+        whole = stands.whole;
+        sectors = λ role slot below sound held. here c drawn row role slot held ∙ stands.sectors role slot below sound held;
+        parity = λ role slot below parity held. here c drawn row role slot held ∙ stands.parity role slot below parity held;
+      };
+}
   where
     alone : (v w : Sector) (values : List Sector) → values ≡ w ∷ [] → IsIn values v → v ≡ w
     alone v w values is may = only (subst (λ (l : List Sector). IsIn l v) is may)

@@ -10,3 +10,4 @@ pub mod Numbers
 pub mod Rebuilding
 pub mod Refusals
 pub mod Still
+pub mod Under

@@ -1,11 +1,11 @@
--- What the definitions of arrays of one shape or two say of an array of one shape.
+-- When members are placed, when their rows are settled, and what right views are worth.
 use Rattle.std.specs.Prelude.{◌≡◌, ℕ, ◌<◌, ◌≤◌, false, List, length, None}
 use Rattle.md_base.specs.Sectors.{Sector}
 use Rattle.bank.specs.declared.bank.Operation.{Operation}
 use Rattle.bank.specs.Given.{Given}
 use Rattle.bank.specs.Tape.{IsIn, disk}
 use Rattle.superblocks.specs.declared.members.Members.{Members}
-use Rattle.superblocks.specs.Reading.{Scope, is_reshaping}
+use Rattle.superblocks.specs.Reading.{Scope, list_length}
 use Rattle.flat_history.specs.Stands.{backup_absent}
 use Rattle.row_io.specs.Rows.{reading_of, present}
 use Rattle.flat_history.specs.World.{World, may_hold}
@@ -14,20 +14,20 @@ use Rattle.shape_views.specs.Regions.{ArePlaced}
 use Rattle.shape_views.specs.Views.{Disk, Ledger, IsSettled}
 use Rattle.shape_changes.specs.Held.{IsHeldBy}
 use Rattle.shape_changes.specs.Steady.{AreViewsRight}
-use Rattle.views.specs.Whole.{list_size}
-use Rattle.views.specs.Placed.{places_of, IsPlaced}
-use Rattle.views.specs.Lacking.{AreHoldersFlushed, RowsStand}
+use Rattle.views.specs.Placed.{IsPlaced}
+use Rattle.views.specs.Lacking.{AreHoldersFlushed}
+use Rattle.views.specs.Under.{RowsStandUnder}
 
 -- Members whose superblocks are held are placed, where the backup that a reshape needs is there.
 abbrev pub HeldIsPlaced : Type 0
 HeldIsPlaced = (scope : Scope) (given : Given) (members : Members) (d : Disk) → IsPlaced given members → backup_absent scope members.newest ≡ None → IsHeldBy scope members d
     → ArePlaced scope given members
 
--- Where the holders of roles are flushed and the rows of an array of one shape stand as a list of allowed values, they are settled.
+-- Where the holders of roles are flushed and the rows stand as a list of allowed values, whichever header a stop leaves in the backup, they are settled.
 abbrev pub FlushedIsSettled : Type 0
 FlushedIsSettled = (scope : Scope) (given : Given) (members : Members) (tape : List Operation) (values : ℕ → List Sector) (list : ℕ → Sector) → IsPlaced given members
-    → is_reshaping members.newest ≡ false → AreHoldersFlushed (reading_of members) given tape → RowsStand members (present given tape) list
-    → ((x : ℕ) → x < list_size (places_of members) → IsIn (values x) (list x)) → IsSettled scope members values (disk given.start tape)
+    → AreHoldersFlushed (reading_of members) given tape → RowsStandUnder scope members (present given tape) (disk given.start tape) list
+    → ((x : ℕ) → x < list_length members.newest → IsIn (values x) (list x)) → IsSettled scope members values (disk given.start tape)
 
 -- Where each view of what a stop may leave is right, no reshape is told, and the epoch opened fit, each image that assembles is sound.
 abbrev pub ViewsAreSound : Type 0

@@ -14,6 +14,7 @@ use Rattle.views.proofs.MarkLaws.{few-planned}
 use Rattle.shape_changes.proofs.Kept.{give_of-same}
 use Rattle.views.proofs.MovedLaws.{moved-less}
 use Rattle.views.proofs.Fit.{few}
+use Rattle.views.proofs.Under.{rest-touched}
 use Rattle.safe_updates.proofs.SparesLaws.{spare-left, spare-stays, free-told}
 use Rattle.views.proofs.MarkedLaws.{grows-marks, others-updated, failed-marked}
 use Rattle.views.proofs.LackingLaws.{since-failed, holders-updated}
@@ -102,3 +103,7 @@ returns-clause-data g c =
 
 pub holders-held-requires-clause-few : goal.holders-held-requires-clause-few
 holders-held-requires-clause-few g c = let most = few (g.B.Bank.given c.args.bank.now) c.args.members.now c.requires.placed in omega (arith, most)
+
+pub returns-clause-rest : goal.returns-clause-rest
+returns-clause-rest g c = λ tell. rest-touched c.args.members.now c.args.clean (disk (g.B.Bank.given c.args.bank.now).start (g.B.Bank.tape c.args.bank.now)) (disk (g.B.Bank.given c.args.bank.now).start (g.B.Bank.tape c.mark-lost.new.bank))
+    (c.mark-lost.ensures.marked.update.end tell).touched

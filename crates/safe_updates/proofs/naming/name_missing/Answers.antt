@@ -57,3 +57,6 @@ returns-clause-kept g c = λ whole. none-vacant c.args.members.now whole (c.has_
 
 pub returns-clause-tape : goal.returns-clause-tape
 returns-clause-tape g c = λ whole tell. none-vacant c.args.members.now whole (c.has_unnamed.ensures.some c.if-not-has_unnamed.false)
+
+pub returns-then-not-has_unnamed-clause-rest : goal.returns-then-not-has_unnamed-clause-rest
+returns-then-not-has_unnamed-clause-rest g c = λ tell s k v why may. may

@@ -1,6 +1,6 @@
-use Rattle.std.proofs.Common.{refl, sym, ◌∙◌, ap, subst, arith}
+use Rattle.std.proofs.Common.{refl, sym, ◌∙◌, ap, subst, arith, inl, inr, ⊎_elim}
 use Rattle.bank.specs.Given.{Given}
-use Rattle.bank.specs.Tape.{Contents}
+use Rattle.bank.specs.Tape.{Contents, disk}
 use Rattle.superblocks.specs.Reading.{is_clean}
 use Rattle.row_io.specs.Rows.{present, reading_of}
 use Rattle.views.specs.Placed.{AreWhole, AreLost, IsPlaced}
@@ -16,6 +16,8 @@ use Rattle.views.proofs.MarkedSafe.{lost-safe, added-longer}
 use Rattle.views.proofs.SafeStretch.{safe-then, over-at, keeps-from}
 use Rattle.shape_changes.proofs.Risen.{risen-lost, risen-then, room-then}
 use Rattle.views.proofs.Fit.{few}
+use Rattle.views.proofs.Under.{flushed-fewer, idle-without}
+use Rattle.views.specs.Under.{IsRestKept, IsIdle}
 use Rattle.safe_updates.proofs.Widest.{widest, widest-force, lost-all}
 use Rattle.safe_updates.proofs.settles.flush_naming.Goals as goal
 
@@ -182,3 +184,17 @@ lose_slots-requires-clause-few g c = let most = few (g.B.Bank.given c.args.bank.
 pub returns-clause-grows : goal.returns-clause-grows
 returns-clause-grows g c =
     grows-then (record { more = λ told. let added = c.flush_members-failed.ensures.tape told in (added.0, added.2) }) c.name_missing.ensures.grows
+
+pub returns-clause-rest : goal.returns-clause-rest
+returns-clause-rest g c = λ tell s k v why may.
+    let m = c.args.members.now in
+    let given = g.B.Bank.given c.args.bank.now in
+    let given1 = g.B.Bank.given c.flush_members-failed.new.bank in
+    let tape0 = g.B.Bank.tape c.args.bank.now in
+    let tape1 = g.B.Bank.tape c.flush_members-failed.new.bank in
+    let tape2 = g.B.Bank.tape c.name_missing.new.bank in
+    let did1 = c.flush_members-failed.ensures in
+    let rest : IsRestKept c.lose_slots.new.members (disk given.start tape1) (disk given.start tape2) =
+    subst (λ (b : Given). IsRestKept c.lose_slots.new.members (disk b.start tape1) (disk b.start tape2)) did1.given (c.name_missing.ensures.rest tell) in
+    flushed-fewer given.start tape0 tape1 (did1.tape tell) s k v (rest s k v (⊎_elim (λ other. inl other) (λ idle. inr (
+    subst (λ (n : Members). IsIdle n s) (sym c.lose_slots.ensures) (idle-without m c.flush_members-failed.result s idle))) why) may)

@@ -1,22 +1,23 @@
-use Rattle.std.proofs.Common.{◌≡◌, ◌||◌, Bool, true, false, refl, sym, ◌∙◌, ap, subst}
+use Rattle.std.proofs.Common.{◌≡◌, inl, ◌||◌, Bool, true, false, refl, sym, ◌∙◌, ap, subst}
 use Rattle.std.specs.Prelude.{Option, Some, None, MatchOption, is_some}
 use Rattle.md_base.specs.declared.answers.Refusal.{Refusal}
 use Rattle.bank.specs.Given.{Given}
 use Rattle.bank.specs.Tape.{disk}
 use Rattle.flat_history.specs.Sound.{OpensFit}
 use Rattle.shape_views.specs.Regions.{DoWithout}
-use Rattle.views.specs.Lacking.{AreTooMany, RowsStand}
-use Rattle.shape_changes.specs.Marking.{AreOthersPresent}
+use Rattle.views.specs.Lacking.{AreTooMany}
 use Rattle.views.specs.Rebuilding.{AreSparesFree}
 use Rattle.shape_changes.specs.Kinds.{IsMarkable}
-use Rattle.shape_changes.specs.Steady.{IsNamedOver}
+use Rattle.shape_changes.specs.Steady.{IsNamedOver, IsSafeNow, settled_ledger}
+use Rattle.shape_views.specs.Views.{Ledger}
 use Rattle.views.proofs.HeldRows.{without-before}
-use Rattle.views.proofs.LackingLists.{list-moved, rows-moved}
+use Rattle.views.proofs.Under.{under-moved, rows-under-moved}
+use Rattle.views.specs.Under.{RowsStandUnder}
 use Rattle.views.proofs.LiveLeft.{without-left, holder-left}
 use Rattle.views.proofs.MarkedSafe.{settled-markable}
 use Rattle.shape_changes.proofs.Risen.{risen-then, room-first, room-then}
 use Rattle.views.proofs.SafeStretch.{gone-before, safe-then, allowed-later, grows-longer, over-at, keeps-from}
-use Rattle.safe_updates.proofs.SettledSafe.{settled-safe}
+use Rattle.safe_updates.proofs.SettledSafe.{settled-safe, clean-settled}
 use Rattle.superblocks.specs.declared.members.Members.{Members}
 use Rattle.row_io.specs.Rows.{reading_of, present}
 use Rattle.views.proofs.MovedLaws.{moved-then, moved-from}
@@ -80,10 +81,10 @@ returns-then-is_some-unsynced-clause-settled g c = λ none tell world told room 
     let did1 = c.flush_naming-named.ensures in
     let does1 = without-none m1 c.too_many-refusal.result c.too_many-refusal.ensures none in
     let does = without-before given m m1 did1.moved does1 in
-    settled-safe (OpensFit world) world.scope given told c.args.unsynced m1 tape1 list did1.moved.placed (did1.moved.reshape.reshaping ∙ c.requires.still) (did1.flushed tell)
-    (list-moved given m m1 (present given tape0) (present given tape1) list did1.moved c.requires.placed (did1.others tell) (stands does))
+    let moves = under-moved world.scope given m m1 (present given tape0) (present given tape1) (disk given.start tape0) (disk given.start tape1) list did1.moved c.requires.placed (did1.others tell) (did1.rest tell) now in
+    settled-safe (OpensFit world) world.scope given told c.args.unsynced m1 tape1 list did1.moved.placed (did1.flushed tell) (moves (stands does))
     (λ is. still c.is_some.result c.args.unsynced c.is_clean.result c.if-is_some-unsynced.true (c.is_some.ensures ∙ ap (λ (o : Option Refusal). is_some o) none) (c.is_clean.ensures ∙ is))
-    (λ clean does_without premise. rows-moved given m m1 (present given tape0) (present given tape1) list did1.moved c.requires.placed (did1.others tell)
+    (λ clean does_without premise. rows-under-moved world.scope given m m1 (present given tape0) (present given tape1) (disk given.start tape0) (disk given.start tape1) list did1.moved c.requires.placed (did1.others tell) (did1.rest tell)
     (rows (synced c.args.unsynced (λ is. sym (did1.clean ∙ dirty does is) ∙ clean)) does premise))
     (did1.named tell world told room gone unclean now (without-left given m1 did1.moved.placed did1.moved.unlost does1))
   where
@@ -118,8 +119,8 @@ returns-clause-safe g c = λ tell world told room gone unclean list stands rows 
     let moved2 = moved-from given given1 m1 m1 m2 did1.given refl did2.moved in
     let kept = did1.safe tell world told (room-first m tape0 tape1 tape2 room (grows-longer did2.grows tell)) (gone-before given m1 m2 did1.moved.placed moved2 told gone) unclean now in
     let markable : IsMarkable (OpensFit world) world.scope true told m1 m2 (disk given.start tape1) =
-    settled-markable (OpensFit world) world.scope given told m1 m2 tape1 list did1.moved.placed (did1.moved.reshape.reshaping ∙ c.requires.still) (did1.flushed tell) gone (allowed-later given m m1 did1.moved told.values list allowed)
-    (λ does premise. rows-moved given m m1 (present given tape0) (present given tape1) list did1.moved c.requires.placed (did1.others tell)
+    settled-markable (OpensFit world) world.scope given told m1 m2 tape1 list did1.moved.placed (did1.flushed tell) gone (allowed-later given m m1 did1.moved told.values list allowed)
+    (λ does premise. rows-under-moved world.scope given m m1 (present given tape0) (present given tape1) (disk given.start tape0) (disk given.start tape1) list did1.moved c.requires.placed (did1.others tell) (did1.rest tell)
     (rows (second c.is_some.result c.args.unsynced c.is_clean.result c.if-is_some-unsynced.false) (without-before given m m1 did1.moved does) premise)) in
     safe-then (OpensFit world) world.scope given told m1 m2 tape0 tape1 tape2 kept
     (keeps-from world given given1 told m2 tape1 tape2 did1.given
@@ -140,30 +141,27 @@ returns-clause-settled g c = λ none tell world told room gone unclean dirty lis
     let did1 = c.flush_naming-named.ensures in
     let did2 = c.mark_members-marked.ensures in
     let moved2 = moved-from given given1 m1 m1 m2 did1.given refl did2.moved in
-    let others2 = subst (λ (b : Given). AreOthersPresent (present b tape1) (present b tape2)) did1.given (did2.others tell) in
-    let kept = did1.safe tell world told (room-first m tape0 tape1 tape2 room (grows-longer did2.grows tell)) (gone-before given m1 m2 did1.moved.placed moved2 told gone) unclean now in
+    let room1 = room-first m tape0 tape1 tape2 room (grows-longer did2.grows tell) in
+    let gone1 = gone-before given m1 m2 did1.moved.placed moved2 told gone in
     let does1 = without-none m1 c.too_many-refusal.result c.too_many-refusal.ensures (none-there c.too_many-refusal.result c.is_some.result c.args.unsynced c.is_clean.result c.is_some.ensures c.if-is_some-unsynced.false) in
     let does = without-before given m m1 did1.moved does1 in
-    let stands1 = list-moved given m m1 (present given tape0) (present given tape1) list did1.moved c.requires.placed (did1.others tell) (stands does) in
-    let rows1 : OpensFit world → RowsStand m1 (present given tape1) list =
-    λ premise. rows-moved given m m1 (present given tape0) (present given tape1) list did1.moved c.requires.placed (did1.others tell)
+    let moves = under-moved world.scope given m m1 (present given tape0) (present given tape1) (disk given.start tape0) (disk given.start tape1) list did1.moved c.requires.placed (did1.others tell) (did1.rest tell) now in
+    let rows1 : OpensFit world → RowsStandUnder world.scope m1 (present given tape1) (disk given.start tape1) list =
+    λ premise. rows-under-moved world.scope given m m1 (present given tape0) (present given tape1) (disk given.start tape0) (disk given.start tape1) list did1.moved c.requires.placed (did1.others tell) (did1.rest tell)
     (rows (second c.is_some.result c.args.unsynced c.is_clean.result c.if-is_some-unsynced.false) does premise) in
-    let markable : IsMarkable (OpensFit world) world.scope true told m1 m2 (disk given.start tape1) =
-    settled-markable (OpensFit world) world.scope given told m1 m2 tape1 list did1.moved.placed (did1.moved.reshape.reshaping ∙ c.requires.still) (did1.flushed tell) gone (allowed-later given m m1 did1.moved told.values list allowed) (λ does_without premise. rows1 premise) in
+    let alone : Ledger = settled_ledger true list told in
+    let safe1 : IsSafeNow (OpensFit world) world.scope given alone m1 (disk given.start tape1) =
+    settled-safe (OpensFit world) world.scope given told true m1 tape1 list did1.moved.placed (did1.flushed tell) (moves (stands does)) (λ is. refl) (λ clean does_without premise. rows1 premise)
+    (did1.named tell world told room1 gone1 unclean now (without-left given m1 did1.moved.placed did1.moved.unlost does1)) in
+    let markable : IsMarkable (OpensFit world) world.scope true alone m1 m2 (disk given.start tape1) =
+    settled-markable (OpensFit world) world.scope given alone m1 m2 tape1 list did1.moved.placed (did1.flushed tell) gone (λ x lt. inl refl) (λ does_without premise. rows1 premise) in
     let held = c.unmarked.ensures.left none in
-    settled-safe (OpensFit world) world.scope given told c.args.unsynced m2 tape2 list moved2.placed (moved2.reshape.reshaping ∙ did1.moved.reshape.reshaping ∙ c.requires.still)
-    (holders-fewer given m1 m2 tape2 moved2.held (holders-at (reading_of m1) given1 given tape2 (sym did1.given) (did2.flushed tell (holders-at (reading_of m1) given given1 tape1 did1.given (did1.flushed tell)))))
-    (list-moved given m1 m2 (present given tape1) (present given tape2) list moved2 did1.moved.placed others2 stands1)
-    (λ is. absurd (never (sym did2.clean ∙ is)))
-    (λ clean does_without premise. rows-moved given m1 m2 (present given tape1) (present given tape2) list moved2 did1.moved.placed others2 (rows1 premise))
-    (subst (λ (b : Given). IsNamedOver world b told m2 tape2) did1.given
-    (did2.named tell world told (room-then tape2 tell room did1.rise)
-    (subst (λ (b : Given). IsMarkable (OpensFit world) world.scope true told m1 m2 (disk b.start tape1)) (sym did1.given) markable)
-    (over-at world given given1 told m1 tape1 did1.given kept.next) (holder-left given m2 held.0 held.1 moved2.placed moved2.unlost held.2)))
+    clean-settled told true c.args.unsynced list did2.clean
+    (subst (λ (b : Given). IsNamedOver world b alone m2 tape2) did1.given
+    (did2.named tell world alone (room-then tape2 tell room did1.rise)
+    (subst (λ (b : Given). IsMarkable (OpensFit world) world.scope true alone m1 m2 (disk b.start tape1)) (sym did1.given) markable)
+    (over-at world given given1 alone m1 tape1 did1.given safe1) (holder-left given m2 held.0 held.1 moved2.placed moved2.unlost held.2)))
   where
-    never : true ≡ false → ⊥
-    never e = absurd (cc)
-
     none-there : (o : Option Refusal) (a b d : Bool) → a ≡ is_some o → ((a || b) || d) ≡ false → o ≡ None
     none-there o true b d is e = absurd (cc)
     none-there None false b d is e = refl

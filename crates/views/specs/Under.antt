@@ -1,0 +1,29 @@
+-- How the list stands on members of one shape or two, whichever header a stop leaves in the backup.
+use Rattle.std.specs.Prelude.{◌≡◌, ◌≢◌, ◌⊎◌, ℕ, true, false, [], ◌∷◌}
+use Rattle.md_base.specs.Sectors.{Sector}
+use Rattle.md_base.specs.Shapes.{has_slot}
+use Rattle.bank.specs.Tape.{Contents, IsIn}
+use Rattle.superblocks.specs.declared.members.Members.{Members}
+use Rattle.superblocks.specs.Reading.{Scope}
+use Rattle.superblocks.specs.Outcome.{live_set}
+use Rattle.shape_views.specs.Regions.{backup_of, open_by}
+use Rattle.shape_views.specs.Views.{Disk, AreSectionsAllowed}
+use Rattle.shape_views.specs.Windows.{ListStands, RowsStand}
+use Rattle.shape_changes.specs.Marking.{marking}
+
+-- Each sector that no active section covers stands as the list, and an active section has the list's sectors alone.
+pub record StandsUnder (scope : Scope) (members : Members) (c : Contents) (d : Disk) (list : ℕ → Sector) : Type 0 where
+  pub outside : (header : Sector) → IsIn (d (backup_of scope) 0) header → ListStands (open_by scope members.newest header) members c list
+  pub sections : AreSectionsAllowed scope members (λ x. list x ∷ []) d
+
+-- and the row of each sector that none covers stands so
+abbrev pub RowsStandUnder : Scope → Members → Contents → Disk → (ℕ → Sector) → Type 0
+RowsStandUnder scope members c d list = (header : Sector) → IsIn (d (backup_of scope) 0) header → RowsStand (open_by scope members.newest header) members c list
+
+-- the slot has no part in the array, or is lost
+abbrev pub IsIdle : Members → ℕ → Type 0
+IsIdle members slot = (has_slot (live_set members (marking members false)) slot ≡ false) ⊎ (has_slot members.lost slot ≡ true)
+
+-- nothing but superblocks of slots that aren't idle is written: a stop may leave nothing new of the rest
+abbrev pub IsRestKept : Members → Disk → Disk → Type 0
+IsRestKept members d e = (s k : ℕ) (v : Sector) → (k ≢ 8) ⊎ IsIdle members s → IsIn (e s k) v → IsIn (d s k) v
