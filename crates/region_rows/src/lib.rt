@@ -1,0 +1,4 @@
+//! Reads of the list of an array in a reshape, split by region.
+#![tactic(auto)]
+
+pub mod stretches;
