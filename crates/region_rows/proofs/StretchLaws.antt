@@ -1,5 +1,5 @@
 -- The rows of a shape whose parity is to be relied on, and the shape that places a sector.
-use Rattle.std.proofs.Common.{◌≡◌, ◌⊎◌, inl, inr, ℕ, ◌+◌, ◌*◌, ◌/◌, ◌%◌, ◌<◌, ◌≤◌, nat_le, nat_lt, min, Bool, true, false, cond, if◌then◌else◌, refl, sym, ◌∙◌, ap, subst, arith}
+use Rattle.std.proofs.Common.{◌≡◌, ◌⊎◌, inl, inr, ℕ, ◌+◌, ◌*◌, ◌/◌, ◌%◌, ◌^◌, ◌<◌, ◌≤◌, nat_le, nat_lt, min, Bool, true, false, cond, if◌then◌else◌, refl, sym, ◌∙◌, ap, subst, arith}
 use Rattle.std.proofs.lemmas.Bool.{cases_lt}
 use Rattle.std.proofs.lemmas.Bool.Decides.{nat_tests}
 use Rattle.std.proofs.lemmas.Nat.{mul-le, div-add-mod'}
@@ -15,7 +15,8 @@ use Rattle.superblocks.specs.Reading.{is_reshaping, is_backward, shape_of, final
 use Rattle.flat_history.specs.Stands.{shape_at, shape_for}
 use Rattle.shape_views.specs.Regions.{AreShapesFit}
 use Rattle.views.specs.Placed.{IsInForce}
-use Rattle.views.proofs.Fit.{force-valid, force-multiple}
+use Rattle.views.proofs.Fit.{force-valid, force-multiple, fit-short}
+use Rattle.layout.proofs.Limits.{limited}
 use Rattle.views.proofs.Stripes.{stripes-multiple}
 use Rattle.region_rows.specs.Stretches.{relied_rows}
 
@@ -86,6 +87,14 @@ list-short newest shape (inr same) = subst (λ (s : Shape). list_length newest �
   where
     upper : (a b : ℕ) → min a b ≤ b
     upper a b = omega arith
+
+-- and that is below what the calls on lists take
+pub data-few : (newest : Sb) (fit : AreShapesFit newest) (shape : Shape) → IsInForce newest shape → data_disks shape * newest.size < 2 ^ 53
+data-few newest fit shape force =
+    let most = (limited shape (force-valid newest fit shape force)).most in
+    let few : data_disks shape ≤ 16 = omega (arith, most) in
+    let all = mul-le (data_disks shape) newest.size 16 (2 ^ 48) few (fit-short newest fit) in
+    omega (arith, all)
 
 -- whole stripes are no longer than what they are of
 pub stripes-short : (n chunk disks : ℕ) → disks * (n / (chunk * disks) * chunk) ≤ n

@@ -5,7 +5,7 @@ use Rattle.md_base.specs.declared.places.Span.{Span}
 use Rattle.md_base.specs.declared.answers.Refusal.{Refusal}
 use Rattle.md_base.specs.declared.answers.Refusal.TheVariants.{NotResynced as Unsynced}
 use Rattle.md_base.specs.Sectors.{Sector}
-use Rattle.md_base.specs.Shapes.{stripe_sectors}
+use Rattle.md_base.specs.Shapes.{stripe_sectors, tolerance}
 use Rattle.sb1.specs.declared.sb.Sb.{Sb}
 use Rattle.bank.specs.Tape.{Contents}
 use Rattle.superblocks.specs.declared.members.Members.{Members}
@@ -15,7 +15,7 @@ use Rattle.list_io.specs.Full.{RowStands}
 use Rattle.flat_history.specs.Stands.{shape_for}
 use Rattle.shape_views.specs.Regions.{place_by}
 use Rattle.shape_views.specs.Windows.{IsShown}
-use Rattle.views.specs.Lacking.{LacksTooMany}
+use Rattle.views.specs.Lacking.{lacking, LacksTooMany}
 
 -- each sector from this one up to that one is placed by this shape
 abbrev pub IsStretch : Sb → Shape → ℕ → ℕ → Type 0
@@ -34,7 +34,11 @@ abbrev pub IsUnrelied : ℕ → Members → ℕ → Type 0
 IsUnrelied relied m x =
     (is_missing (reading_of m) (place_by m.newest x).role ≡ true) × (relied_rows m.newest relied (shape_for m.newest x) ≤ (place_by m.newest x).row)
 
--- why a read of so many sectors from this one on isn't done: too many roles of the shape of one of them are missing, or one of them can't be had
+-- so it is, or more roles of its shape are missing than that tolerates
+abbrev pub IsLacked : ℕ → Members → ℕ → Type 0
+IsLacked relied m x = (tolerance (shape_for m.newest x) < lacking (shape_for m.newest x) m) ⊎ IsUnrelied relied m x
+
+-- why a read from this sector up to that one isn't done: more roles of the shape of one of them are missing than that tolerates, or one of them can't be had
 abbrev pub IsListUnread : ℕ → ℕ → ℕ → Members → Refusal → Type 0
-IsListUnread relied first count m refusal = (x : ℕ) × (first ≤ x) × (x < first + count)
+IsListUnread relied from to m refusal = (x : ℕ) × (from ≤ x) × (x < to)
     × (LacksTooMany (shape_for m.newest x) m refusal ⊎ ((refusal ≡ Unsynced (place_by m.newest x).role) × IsUnrelied relied m x))
