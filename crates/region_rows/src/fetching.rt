@@ -92,6 +92,7 @@ fn read_stretches<B: Bank>(
     ensures lost { (lost : ℕ) × (members.new ≡ members_without lost members.old) }
     ensures failed { HaveFailedSince members.old members.new 0 (B.faults_of bank.old) (B.faults_of bank.new) }
     ensures kept { AreWhole members.new → members.new ≡ members.old }
+    ensures from { first ≤ result }
     ensures within { result ≤ first + length into.old / 512 }
     ensures unread { result < first + length into.old / 512 → (x : ℕ) × (result ≤ x) × (x < first + length into.old / 512) × IsLacked relied members.new x }
     ensures holds { B.tells → (hidden : Option Span) → (list : ℕ → Sector) → ListStands hidden members.old (present (B.given bank.old) (B.tape bank.old)) list
