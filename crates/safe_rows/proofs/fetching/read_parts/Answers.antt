@@ -1,4 +1,4 @@
-use Rattle.std.proofs.Common.{◌≡◌, inl, inr, ℕ, ◌+◌, ◌-◌, ◌*◌, ◌/◌, ◌<◌, ◌++◌, false, length, refl, sym, ◌∙◌, ap, subst, arith}
+use Rattle.std.proofs.Common.{◌≡◌, inl, inr, ℕ, ◌+◌, ◌-◌, ◌*◌, ◌/◌, ◌<◌, ◌++◌, false, length, sym, ◌∙◌, ap, subst, arith}
 use Rattle.std.proofs.lemmas.Bool.{cases_lt}
 use Rattle.std.proofs.lemmas.Bool.Decides.{nat_tests}
 use Rattle.std.specs.Prelude.{OnOk, Result, Ok, Err}
@@ -10,8 +10,6 @@ use Rattle.list_io.specs.Calls.{IsAsked, IsListed}
 use Rattle.list_io.proofs.LossLaws.{lost_then, rows_by}
 use Rattle.list_io.proofs.ListLaws.{asked_more, followed, present_same}
 use Rattle.views.specs.Lacking.{IsAskedBeyond}
-use Rattle.list_io.specs.Buffers.{IsTouched}
-use Rattle.layout.specs.Layout.{place}
 use Rattle.md_base.specs.Shapes.{data_disks}
 use Rattle.views.proofs.Fit.{has-rows, force-valid}
 use Rattle.views.proofs.Stripes.{row-beyond}
