@@ -17,7 +17,6 @@ use Rattle.row_io.proofs.Lacks.{lacking-missing}
 use Rattle.list_io.specs.Calls.{IsListed}
 use Rattle.list_io.specs.Full.{DataStands, RowStands}
 use Rattle.list_io.proofs.ListLaws.{listed_since, lacks_by}
-use Rattle.views.specs.Lacking.{DataStandsAmong, RowsStandAmong}
 use Rattle.views.specs.Placed.{AreWhole, IsPlaced, IsInForce}
 use Rattle.views.proofs.Fit.{force-valid, force-multiple, force-disks}
 
@@ -40,8 +39,8 @@ sector-back front back n i len =
 -- ---- what was read
 
 module _ (given : Given) (shape : Shape) (old mid new : Members) (lost lost' : ℕ) (between : mid ≡ members_without lost old) (after : new ≡ members_without lost' mid) (was : IsPlaced given old)
-    (force : IsInForce old.newest shape) (c c' : Contents) (still : c' ≡ c) (among : ℕ → Type 0) (list : ℕ → Sector) (stands : DataStandsAmong shape among old c list)
-    (x : ℕ) (has : among (place shape x).row) (within : x < data_disks shape * old.newest.size) (v : Sector) where
+    (force : IsInForce old.newest shape) (c c' : Contents) (still : c' ≡ c) (list : ℕ → Sector) (x : ℕ) (stands : DataStands (reading_of old) c shape list (place shape x).row)
+    (within : x < data_disks shape * old.newest.size) (v : Sector) where
   valid : is_valid_shape shape ≡ true
   valid = force-valid old.newest was.fit shape force
 
@@ -50,9 +49,6 @@ module _ (given : Given) (shape : Shape) (old mid new : Members) (lost lost' : �
 
   below : (place shape x).row < old.newest.size
   below = row-within old.newest.size (force-multiple old.newest was.fit shape force) within
-
-  data_there : DataStands (reading_of old) c shape list (place shape x).row
-  data_there = stands (place shape x).row has below
 
   -- where no role is missing in the end, each sector is held
   held-in_whole : AreWhole new → is_held (reading_of mid) (place shape x).role (place shape x).row ≡ false → ⊥
@@ -66,14 +62,15 @@ module _ (given : Given) (shape : Shape) (old mid new : Members) (lost lost' : �
       absurd (let both = sym there ∙ missing in cc)
 
   -- one of the mended rows
-  pub listed-mended : (mended : ℕ) → is_multiple mended shape.chunk ≡ true → x < data_disks shape * mended → AreWhole new ⊎ RowsStandAmong shape (λ row. among row × (row < mended)) old c list
+  pub listed-mended : (mended : ℕ) → is_multiple mended shape.chunk ≡ true → x < data_disks shape * mended
+      → ((place shape x).row < mended → AreWhole new ⊎ RowStands (reading_of old) c shape list (place shape x).row)
       → IsListed shape true (reading_of old) (reading_of mid) c x v → v ≡ list x
-  listed-mended mended multiple lt fills listed = listed list data_there (λ on lacks. by fills lacks)
+  listed-mended mended multiple lt fills listed = listed list stands (λ on lacks. by (fills (row-within mended multiple lt)) lacks)
     where
-      by : AreWhole new ⊎ RowsStandAmong shape (λ row. among row × (row < mended)) old c list → is_held (reading_of mid) (place shape x).role (place shape x).row ≡ false → RowStands (reading_of old) c shape list (place shape x).row
+      by : AreWhole new ⊎ RowStands (reading_of old) c shape list (place shape x).row → is_held (reading_of mid) (place shape x).role (place shape x).row ≡ false → RowStands (reading_of old) c shape list (place shape x).row
       by (inl whole) lacks = absurd (held-in_whole whole lacks)
-      by (inr rows) lacks = rows (place shape x).row (has, row-within mended multiple lt) below
+      by (inr row) lacks = row
 
   -- one behind them, of which nothing was filled in
   pub listed-beyond : IsListed shape false (reading_of mid) (reading_of new) c' x v → v ≡ list x
-  listed-beyond listed = listed_since shape false (reading_of new) c c' x v old lost mid between still listed list data_there (λ on. absurd (cc))
+  listed-beyond listed = listed_since shape false (reading_of new) c c' x v old lost mid between still listed list stands (λ on. absurd (cc))

@@ -4,6 +4,7 @@ ghost use Rattle.std.specs.Prelude.{◌≡◌, ◌⊎◌, ◌+◌, ◌*◌, ◌/
 ghost use Rattle.bank.specs.Given.{NeverFalls};
 ghost use Rattle.md_base.specs.Sectors.{Sector, IsWhole};
 ghost use Rattle.md_base.specs.Shapes.{is_multiple, data_disks};
+ghost use Rattle.layout.specs.Layout.{place};
 ghost use Rattle.parity.specs.Rows.{sector_of};
 ghost use Rattle.superblocks.specs.Reading.{is_clean};
 ghost use Rattle.row_io.specs.Rows.{reading_of, present};
@@ -14,6 +15,7 @@ ghost use Rattle.views.specs.Rebuilding.{AreSparesFree};
 ghost use Rattle.shape_changes.specs.Marking.{AreOthersPresent};
 ghost use Rattle.views.specs.Moving.{Grows, IsMoved};
 ghost use Rattle.list_io.specs.Buffers.{IsTouched};
+ghost use Rattle.list_io.specs.Full.{DataStands, RowStands};
 ghost use Rattle.views.specs.Lacking.{HaveFailedSince, IsAskedBeyond, IsUnread, DataStandsAmong, RowsStandAmong};
 ghost use Rattle.safe_updates.specs.First.{read_refusal};
 ghost use Rattle.flat_history.specs.World.{World};
@@ -35,8 +37,9 @@ pub struct Fetched {
     pub refusal: Option<Refusal>,
 }
 
-// Reads sectors of the list, from `first` on: each from the slot that holds it, or, in one of the mended rows, filled in.
-fn read_parts<B: Bank>(
+/// Reads sectors of the list, from `first` on, which are placed by this shape: each from the slot that holds it, or, in one of the
+/// mended rows, filled in from its row. It names no role.
+pub fn read_parts<B: Bank>(
     members: &mut Members,
     bank: &mut B,
     shape: &Shape,
@@ -55,10 +58,10 @@ fn read_parts<B: Bank>(
     requires stripes { IsTrue (is_multiple mended shape.now.chunk) }
     ensures lost { AreLost shape.now members.old members.new result.lost (B.faults_of bank.old) (B.faults_of bank.new) }
     ensures answer { IsAnswer shape.now false (reading_of members.new) (IsAskedBeyond shape.now mended first (length into.old / 512)) result.answer }
-    ensures sectors { OnOk result.answer (B.tells → (list : ℕ → Sector)
-        → DataStandsAmong shape.now (IsTouched shape.now first (length into.old / 512)) members.old (present (B.given bank.old) (B.tape bank.old)) list
-        → AreWhole members.new ⊎ RowsStandAmong shape.now (λ row. IsTouched shape.now first (length into.old / 512) row × (row < mended)) members.old (present (B.given bank.old) (B.tape bank.old)) list
-        → (i : ℕ) → i < length into.old / 512 → sector_of into.new i ≡ list (first + i)) }
+    ensures sectors { OnOk result.answer (B.tells → (list : ℕ → Sector) → (i : ℕ) → i < length into.old / 512 → let row = (place shape.now (first + i)).row in
+        DataStands (reading_of members.old) (present (B.given bank.old) (B.tape bank.old)) shape.now list row
+        → (row < mended → AreWhole members.new ⊎ RowStands (reading_of members.old) (present (B.given bank.old) (B.tape bank.old)) shape.now list row)
+        → sector_of into.new i ≡ list (first + i)) }
     ensures tape { B.tells → B.tape bank.new ≡ B.tape bank.old }
     ensures given { B.given bank.new ≡ B.given bank.old }
 {

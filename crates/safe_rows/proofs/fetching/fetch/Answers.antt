@@ -1,11 +1,14 @@
-use Rattle.std.proofs.Common.{◌≡◌, ◌/◌, ◌^◌, ◌≤◌, List, length, inl, inr, refl, sym, ◌∙◌, subst, arith}
+use Rattle.std.proofs.Common.{◌≡◌, ◌+◌, ◌/◌, ◌^◌, ◌<◌, ◌≤◌, List, length, inl, inr, refl, sym, ◌∙◌, subst, arith}
 use Rattle.bank.specs.declared.bank.Operation.{Operation}
 use Rattle.bank.specs.Given.{Given}
 use Rattle.superblocks.specs.declared.members.Members.{Members}
 use Rattle.views.specs.Placed.{AreWhole, IsPlaced, AreLost}
 use Rattle.views.specs.Rebuilding.{AreSparesFree}
 use Rattle.views.proofs.MovedLaws.{moved-lost, moved-then, lost-none, moved-from, grows-none, grows-then}
-use Rattle.views.proofs.Fit.{force-valid, short}
+use Rattle.views.proofs.Fit.{force-valid, force-multiple, short}
+use Rattle.layout.specs.Layout.{place}
+use Rattle.layout.proofs.Places.{place-row_below}
+use Rattle.list_io.specs.Buffers.{IsTouched}
 use Rattle.layout.proofs.Limits.{limited}
 use Rattle.md_base.specs.Shapes.{data_disks}
 use Rattle.std.proofs.lemmas.Nat.{mul-le}
@@ -120,10 +123,15 @@ returns-then-is_err-clause-holds g c = λ none.
     (sym c.is_err.ensures.value ∙ c.if-is_err.true) did.answer (sym c.unread-refusal.ensures ∙ none))
 
 pub returns-clause-holds : goal.returns-clause-holds
-returns-clause-holds g c = λ ok told list stands fills.
-    let n = c.read_parts-read.new.members in
-    not-err c.read_parts-read.result.answer (sym c.is_err.ensures.value ∙ c.if-is_err.false) c.read_parts-read.ensures.sectors told list stands
-    (elim fills [ inl whole ↦ inl (c.name_missing-spares.ensures.moved.whole whole) | inr rows ↦ inr rows ])
+returns-clause-holds g c = λ ok told list stands fills i lt.
+    let m = c.args.members.now in
+    let shape = c.args.shape.now in
+    let x = c.args.first + i in
+    let touch : IsTouched shape c.args.first (length c.args.into.now / 512) (place shape x).row = (x, omega arith, omega (arith, lt), refl) in
+    let below : (place shape x).row < m.newest.size = place-row_below shape (force-valid m.newest c.requires.placed.fit shape c.requires.shape) x m.newest.size
+    (force-multiple m.newest c.requires.placed.fit shape c.requires.shape) (omega (arith, lt, c.requires.within)) in
+    not-err c.read_parts-read.result.answer (sym c.is_err.ensures.value ∙ c.if-is_err.false) c.read_parts-read.ensures.sectors told list i lt (stands (place shape x).row touch below)
+    (λ low. elim fills [ inl whole ↦ inl (c.name_missing-spares.ensures.moved.whole whole) | inr rows ↦ inr (rows (place shape x).row (touch, low) below) ])
 
 pub returns-clause-kept : goal.returns-clause-kept
 returns-clause-kept g c = λ whole.

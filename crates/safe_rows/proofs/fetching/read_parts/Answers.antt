@@ -1,4 +1,4 @@
-use Rattle.std.proofs.Common.{◌≡◌, inl, inr, ℕ, ◌+◌, ◌-◌, ◌*◌, ◌/◌, ◌<◌, ◌++◌, false, length, refl, sym, ◌∙◌, ap, subst, arith}
+use Rattle.std.proofs.Common.{◌≡◌, inl, inr, ℕ, ◌+◌, ◌-◌, ◌*◌, ◌/◌, ◌<◌, ◌++◌, false, length, sym, ◌∙◌, ap, subst, arith}
 use Rattle.std.proofs.lemmas.Bool.{cases_lt}
 use Rattle.std.proofs.lemmas.Bool.Decides.{nat_tests}
 use Rattle.std.specs.Prelude.{OnOk, Result, Ok, Err}
@@ -10,8 +10,6 @@ use Rattle.list_io.specs.Calls.{IsAsked, IsListed}
 use Rattle.list_io.proofs.LossLaws.{lost_then, rows_by}
 use Rattle.list_io.proofs.ListLaws.{asked_more, followed, present_same}
 use Rattle.views.specs.Lacking.{IsAskedBeyond}
-use Rattle.list_io.specs.Buffers.{IsTouched}
-use Rattle.layout.specs.Layout.{place}
 use Rattle.md_base.specs.Shapes.{data_disks}
 use Rattle.views.proofs.Fit.{has-rows, force-valid}
 use Rattle.views.proofs.Stripes.{row-beyond}
@@ -54,7 +52,7 @@ at-done (Err cause) fine held = absurd (cc)
 
 pub returns-clause-sectors : goal.returns-clause-sectors
 returns-clause-sectors g c =
-    followed c.args.shape.now false (reading_of c.read_list-rest.new.members) _ c.read_list-rest.result.answer (λ few beyond told list stands fills i lt.
+    followed c.args.shape.now false (reading_of c.read_list-rest.new.members) _ c.read_list-rest.result.answer (λ few beyond told list i lt stands fills.
     let given = g.B.Bank.given c.args.bank.now in
     let shape = c.args.shape.now in
     let m = c.args.members.now in
@@ -73,13 +71,11 @@ returns-clause-sectors g c =
     let back = c.read_list-rest.new.into in
     let front_len : length front ≡ 512 * split = c.read_list-read.auto.into ∙ cut.front_len in
     let within : c.args.first + i < data_disks shape * m.newest.size = omega (arith, lt, c.requires.within) in
-    let among = IsTouched shape c.args.first (length c.args.into.now / 512) in
-    let has : among (place shape (c.args.first + i)).row = (c.args.first + i, omega arith, omega (arith, lt), refl) in
     elim (cases_lt i split) [
       | inl early ↦
           sector-front front back split i front_len early
           ∙ listed-mended given shape m mid new c.read_list-read.result.lost c.read_list-rest.result.lost one.lost.members two.lost.members c.requires.placed c.requires.shape c0 c1
-          (present_same one.given (one.tape told)) among list stands (c.args.first + i) has within (sector_of front i) c.args.mended c.requires.stripes
+          (present_same one.given (one.tape told)) list (c.args.first + i) stands within (sector_of front i) c.args.mended c.requires.stripes
           (grind (arith, nat_tests, early, size, reach, all)) fills
           (at-done c.read_list-read.result.answer (sym c.is_err.ensures.value ∙ c.if-is_err.false) one.sectors told i (omega (arith, early, cut.front_len)))
       | inr late ↦
@@ -87,6 +83,6 @@ returns-clause-sectors g c =
           let there : c.args.first + split + (i - split) ≡ c.args.first + i = omega (arith, late) in
           ap (λ (k : ℕ). sector_of (front ++ back) k) (sym here) ∙ sector-back front back split (i - split) front_len
           ∙ listed-beyond given shape m mid new c.read_list-read.result.lost c.read_list-rest.result.lost one.lost.members two.lost.members c.requires.placed c.requires.shape c0 c1
-          (present_same one.given (one.tape told)) among list stands (c.args.first + i) has within (sector_of back (i - split))
+          (present_same one.given (one.tape told)) list (c.args.first + i) stands within (sector_of back (i - split))
           (subst (λ (k : ℕ). IsListed shape false (reading_of mid) (reading_of new) c1 k (sector_of back (i - split))) there (beyond told (i - split) (omega (arith, late, lt, cut.back_len))))
     ]) c.read_list-rest.ensures.answer c.read_list-rest.ensures.sectors

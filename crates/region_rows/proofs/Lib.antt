@@ -1,0 +1,3 @@
+pub mod StretchLaws
+pub mod UnreadLaws
+pub mod StretchReads

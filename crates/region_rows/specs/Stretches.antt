@@ -1,0 +1,44 @@
+-- Stretches of the list that are placed by one shape, and how far the parity of their rows is to be relied on.
+use Rattle.std.specs.Prelude.{◌≡◌, ◌⊎◌, ℕ, ◌+◌, ◌*◌, ◌/◌, ◌<◌, ◌≤◌, nat_le, true, if◌then◌else◌, Option}
+use Rattle.md_base.specs.declared.places.Shape.{Shape}
+use Rattle.md_base.specs.declared.places.Span.{Span}
+use Rattle.md_base.specs.declared.answers.Refusal.{Refusal}
+use Rattle.md_base.specs.declared.answers.Refusal.TheVariants.{NotResynced as Unsynced}
+use Rattle.md_base.specs.Sectors.{Sector}
+use Rattle.md_base.specs.Shapes.{stripe_sectors, tolerance}
+use Rattle.sb1.specs.declared.sb.Sb.{Sb}
+use Rattle.bank.specs.Tape.{Contents}
+use Rattle.superblocks.specs.declared.members.Members.{Members}
+use Rattle.superblocks.specs.Reading.{list_length}
+use Rattle.row_io.specs.Rows.{reading_of, is_missing}
+use Rattle.list_io.specs.Full.{RowStands}
+use Rattle.flat_history.specs.Stands.{shape_for}
+use Rattle.shape_views.specs.Regions.{place_by}
+use Rattle.shape_views.specs.Windows.{IsShown}
+use Rattle.views.specs.Lacking.{lacking, LacksTooMany}
+
+-- each sector from this one up to that one is placed by this shape
+abbrev pub IsStretch : Sb → Shape → ℕ → ℕ → Type 0
+IsStretch newest shape from to = (x : ℕ) → from ≤ x → x < to → shape_for newest x ≡ shape
+
+-- the rows of this shape whose parity is to be relied on, where it is up to this sector of the list: those of the stripes below it, or all
+abbrev pub relied_rows : Sb → ℕ → Shape → ℕ
+relied_rows newest relied shape = if nat_le (list_length newest) relied then newest.size else relied / stripe_sectors shape * shape.chunk
+
+-- of the sectors below this one, each that isn't hidden stands in a row that stands as the list
+abbrev pub RowsStandTo : Option Span → ℕ → Members → Contents → (ℕ → Sector) → Type 0
+RowsStandTo hidden relied m c list = (x : ℕ) → x < relied → IsShown hidden m.newest x → RowStands (reading_of m) c (shape_for m.newest x) list (place_by m.newest x).row
+
+-- this sector lies on a missing role, in a row whose parity isn't to be relied on
+abbrev pub IsUnrelied : ℕ → Members → ℕ → Type 0
+IsUnrelied relied m x =
+    (is_missing (reading_of m) (place_by m.newest x).role ≡ true) × (relied_rows m.newest relied (shape_for m.newest x) ≤ (place_by m.newest x).row)
+
+-- so it is, or more roles of its shape are missing than that tolerates
+abbrev pub IsLacked : ℕ → Members → ℕ → Type 0
+IsLacked relied m x = (tolerance (shape_for m.newest x) < lacking (shape_for m.newest x) m) ⊎ IsUnrelied relied m x
+
+-- why a read from this sector up to that one isn't done: more roles of the shape of one of them are missing than that tolerates, or one of them can't be had
+abbrev pub IsListUnread : ℕ → ℕ → ℕ → Members → Refusal → Type 0
+IsListUnread relied from to m refusal = (x : ℕ) × (from ≤ x) × (x < to)
+    × (LacksTooMany (shape_for m.newest x) m refusal ⊎ ((refusal ≡ Unsynced (place_by m.newest x).role) × IsUnrelied relied m x))

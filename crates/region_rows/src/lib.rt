@@ -1,0 +1,5 @@
+//! Reads of the list of an array in a reshape, split by region.
+#![tactic(auto)]
+
+pub mod fetching;
+pub mod stretches;
