@@ -32,7 +32,7 @@ use Rattle.flat_history.specs.World.{World, opening_list}
 use Rattle.flat_history.specs.Flat.{covers, sector_at, behind, now, visible_of, values_after}
 use Rattle.flat_history.specs.Plain.{entries_of, loses_role}
 use Rattle.flat_history.specs.OneShape.{opening_in, is_gone_now, gone_count_now, keeps_shape_event, IsCallOpen, IsOneShapeRefusal, AreTooManyLost, IsNoRoleNow, is_spare_now, is_lost}
-use Rattle.flat_history.proofs.OneShapeGrowing.{one, IsOneShapeCall, call-faults, call-fails, too_many_missing}
+use Rattle.history_laws.proofs.OneShapeGrowing.{one, IsOneShapeCall, call-faults, call-fails, too_many_missing}
 use Rattle.views.specs.declared.work.Work.{Work}
 use Rattle.views.specs.Rebuilding.{AreRebuilt, HasNoRebuilt}
 use Rattle.views.specs.Whole.{list_size}

@@ -27,7 +27,7 @@ use Rattle.flat_history.specs.Losses.{was_dirty, is_resync_end, is_unsynced, uns
 use Rattle.flat_history.specs.Sound.{LosesNoRole, OpensFit, FillsRight}
 use Rattle.flat_history.specs.OneShape.{ShapeOpening, opening_in, is_resyncing, is_unsettled, KeepShape, IsCallOpen, adds_slot, is_used_now}
 use Rattle.flat_history.proofs.OneShapeLegal.{opening-grown, entries-keep}
-use Rattle.flat_history.proofs.OneShapeGrowing.{IsOneShapeCall}
+use Rattle.history_laws.proofs.OneShapeGrowing.{IsOneShapeCall}
 use Rattle.flat_history.proofs.OneShapeGone.{keep-both}
 use Rattle.flat_history.proofs.SoundLaws.{fit-before}
 use Rattle.views.specs.declared.work.Work.{Work}

@@ -25,7 +25,7 @@ use Rattle.flat_history.specs.Plain.{entries_of, loses_role}
 use Rattle.flat_history.specs.World.{World, opening_list}
 use Rattle.flat_history.specs.OneShape.{ShapeOpening, IsOneShapeEvent, AreOneShape, is_lost, is_gone_now, gives_role, is_gone_by, is_unsettled, is_written, keeps_shape_event, KeepShape}
 use Rattle.flat_history.proofs.OneShapeGone.{gone-or_lost, losses-gone}
-use Rattle.flat_history.proofs.OneShapeGrowing.{gone-more}
+use Rattle.history_laws.proofs.OneShapeGrowing.{gone-more}
 use Rattle.array_kept.specs.Kept.{ledger_now}
 use Rattle.views.specs.declared.work.Work.{Work}
 use Rattle.views.specs.Numbers.{is_carried}

@@ -20,10 +20,10 @@ use Rattle.flat_history.specs.Transfers.{IsReadOver}
 use Rattle.flat_history.specs.Plain.{entries_of}
 use Rattle.flat_history.specs.OneShape.{ShapeOpening, opening_in, IsOneShapeLegal, KeepShape}
 use Rattle.flat_history.specs.Epochs.{HasRoomForEvents, OpensAlike, IsEpochRight, world_of}
-use Rattle.flat_history.proofs.NumberLaws.{safe-throughout}
+use Rattle.history_laws.proofs.NumberLaws.{safe-throughout}
 use Rattle.flat_history.proofs.SoundLaws.{stays-throughout}
 use Rattle.flat_history.proofs.OneShapeLegal.{one_shape-legal, found-in}
-use Rattle.flat_history.proofs.OneShapeGrowing.{IsOneShapeCall}
+use Rattle.history_laws.proofs.OneShapeGrowing.{IsOneShapeCall}
 use Rattle.views.specs.Rows.{row_sector}
 use Rattle.views.specs.Placed.{AreWhole}
 use Rattle.views.specs.declared.work.Work.{Work}

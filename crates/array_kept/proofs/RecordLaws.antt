@@ -12,7 +12,7 @@ use Rattle.flat_history.specs.Growing.{EndBy}
 use Rattle.flat_history.specs.Plain.{entries_of}
 use Rattle.flat_history.specs.OneShape.{is_lost, is_gone_now}
 use Rattle.flat_history.proofs.OneShapeGone.{never-gone, gone-or_lost}
-use Rattle.flat_history.proofs.OneShapeGrowing.{gone-more}
+use Rattle.history_laws.proofs.OneShapeGrowing.{gone-more}
 use Rattle.views.specs.Placed.{AreWhole}
 use Rattle.array_kept.specs.Kept.{AreTold}
 use Rattle.flat_history.specs.Sound.{LosesNoRole}

@@ -25,7 +25,7 @@ use Rattle.flat_history.specs.Growing.{grown, EndBy}
 use Rattle.flat_history.specs.Epochs.{HasRoomForEvents, OpensAlike}
 use Rattle.flat_history.specs.OneShape.{ShapeOpening, is_lost, is_gone_now, is_unsettled, KeepShape}
 use Rattle.flat_history.specs.Plain.{entries_of}
-use Rattle.flat_history.proofs.GrowingLaws.{calls-owe}
+use Rattle.history_laws.proofs.GrowingLaws.{calls-owe}
 use Rattle.flat_history.proofs.OneShapeGone.{losses-gone, never-gone_by}
 use Rattle.flat_history.proofs.OneShapeLegal.{opening-grown as shape-grown}
 use Rattle.shape_changes.specs.Safety.{HasLiveSlot, HasRoomLeft, IsRisen}

@@ -5,7 +5,7 @@ ghost use Rattle.flat_history.specs.Created.{first_entries};
 ghost use Rattle.assemble.specs.Making.{created_sb};
 
 use array::CreateSpec;
-use safe_updates::device_uuid;
+use safe_additions::device_uuid;
 use sb1::Sb;
 
 // The role entries: device n has role n, no other one below 128 has a role, and the last 256 entries are given.

@@ -26,8 +26,8 @@ use Rattle.flat_history.specs.Losses.{was_dirty, is_resync_end, is_unsynced}
 use Rattle.flat_history.specs.Plain.{loses_role, entries_of}
 use Rattle.flat_history.specs.OneShape.{ShapeOpening, opening_in, gives_role, is_gone_with, is_gone_now, is_spare_after, is_spare_now, is_resyncing, gone_count_now, IsOneShapeEvent, AreOneShape, IsOneShapeLegal, IsOneShapeRefusal, IsOneShapeStep, IsIdleStep, GoesOnBehind, IsOfCall, IsCallOpen, adds_slot, is_used_now}
 use Rattle.flat_history.proofs.OneShapeLegal.{opening-grown}
-use Rattle.flat_history.proofs.OneShapeGrowing.{one, IsOneShapeCall, AreFaults, others-enter, call-one_shape, call-faults, gone-more}
-use Rattle.flat_history.proofs.OneShapeGoing.{open-more, open-numbered, going-on}
+use Rattle.history_laws.proofs.OneShapeGrowing.{one, IsOneShapeCall, AreFaults, others-enter, call-one_shape, call-faults, gone-more}
+use Rattle.history_laws.proofs.OneShapeGoing.{open-more, open-numbered, going-on}
 use Rattle.call_entries.proofs.CallLaws.{AreLossEvents, GivesNone, ends-losses}
 use Rattle.call_entries.proofs.LosingLaws.{entries-both}
 use Rattle.call_entries.proofs.LeftLaws.{fold-left}

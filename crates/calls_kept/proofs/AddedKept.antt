@@ -28,7 +28,7 @@ use Rattle.flat_history.specs.Plain.{entries_of}
 use Rattle.flat_history.specs.Sound.{OpensFit, LosesNoRole}
 use Rattle.flat_history.specs.Legal.{told_left}
 use Rattle.flat_history.specs.World.{World, opening_list}
-use Rattle.flat_history.proofs.OneShapeGrowing.{one, IsOneShapeCall, call-faults}
+use Rattle.history_laws.proofs.OneShapeGrowing.{one, IsOneShapeCall, call-faults}
 use Rattle.views.specs.declared.work.Work.{Work}
 use Rattle.views.specs.Whole.{list_size}
 use Rattle.views.specs.Placed.{places_of}

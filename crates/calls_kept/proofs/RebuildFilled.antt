@@ -30,7 +30,7 @@ use Rattle.flat_history.specs.Legal.{told_left}
 use Rattle.flat_history.specs.Plain.{entries_of}
 use Rattle.flat_history.specs.OneShape.{opening_in, IsCallOpen}
 use Rattle.flat_history.specs.Sound.{OpensFit, LosesNoRole}
-use Rattle.flat_history.proofs.OneShapeGrowing.{one, IsOneShapeCall, call-faults}
+use Rattle.history_laws.proofs.OneShapeGrowing.{one, IsOneShapeCall, call-faults}
 use Rattle.views.specs.declared.work.Work.{Work}
 use Rattle.call_entries.specs.Losing.{losses_of}
 use Rattle.flat_history.specs.Transfers.{last_end_from}

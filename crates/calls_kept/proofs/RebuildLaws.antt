@@ -22,7 +22,7 @@ use Rattle.flat_history.specs.Plain.{entries_of}
 use Rattle.flat_history.specs.Transfers.{last_end_from}
 use Rattle.flat_history.specs.OneShape.{ShapeOpening, opening_in, IsIdleStep, IsCallOpen}
 use Rattle.flat_history.specs.Sound.{OpensFit}
-use Rattle.flat_history.proofs.OneShapeGrowing.{one, IsOneShapeCall, call-faults, inner-of, call-ends}
+use Rattle.history_laws.proofs.OneShapeGrowing.{one, IsOneShapeCall, call-faults, inner-of, call-ends}
 use Rattle.views.specs.declared.work.Work.{Work}
 use Rattle.views.specs.Placed.{AreWhole}
 use Rattle.views.specs.Moving.{Grows}

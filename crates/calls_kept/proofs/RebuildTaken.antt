@@ -19,7 +19,7 @@ use Rattle.flat_history.specs.World.{World, opening_list}
 use Rattle.flat_history.specs.Flat.{now}
 use Rattle.flat_history.specs.Plain.{entries_of}
 use Rattle.flat_history.specs.OneShape.{opening_in, IsCallOpen}
-use Rattle.flat_history.proofs.OneShapeGrowing.{one}
+use Rattle.history_laws.proofs.OneShapeGrowing.{one}
 use Rattle.views.specs.declared.work.Work.{Work}
 use Rattle.call_entries.specs.Losing.{losses_of}
 use Rattle.views.specs.Placed.{is_vacant, IsPlaced}

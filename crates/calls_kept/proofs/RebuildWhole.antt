@@ -28,7 +28,7 @@ use Rattle.flat_history.specs.Plain.{entries_of}
 use Rattle.flat_history.specs.OneShape.{opening_in, is_gone_now, gives_role, is_unsettled, KeepShape, IsCallOpen, is_gone_with, is_spare_now}
 use Rattle.flat_history.specs.Sound.{OpensFit, FillsRight}
 use Rattle.flat_history.specs.Transfers.{last_end_from}
-use Rattle.flat_history.proofs.OneShapeGrowing.{one, IsOneShapeCall, call-faults, gone-more}
+use Rattle.history_laws.proofs.OneShapeGrowing.{one, IsOneShapeCall, call-faults, gone-more}
 use Rattle.views.specs.declared.work.Work.{Work}
 use Rattle.call_entries.specs.Losing.{losses_of}
 use Rattle.views.specs.Placed.{is_vacant, IsPlaced}

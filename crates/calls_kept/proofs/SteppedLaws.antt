@@ -11,7 +11,7 @@ use Rattle.flat_history.specs.declared.events.StepKind.{StepKind}
 use Rattle.flat_history.specs.Legal.{told_left}
 use Rattle.flat_history.specs.Plain.{entries_of}
 use Rattle.flat_history.specs.OneShape.{ShapeOpening, IsIdleStep}
-use Rattle.flat_history.proofs.OneShapeGrowing.{IsOneShapeCall}
+use Rattle.history_laws.proofs.OneShapeGrowing.{IsOneShapeCall}
 use Rattle.views.specs.declared.work.Work.{Work}
 use Rattle.call_entries.specs.Losing.{losses_of}
 use Rattle.views.specs.Moving.{IsMoved}

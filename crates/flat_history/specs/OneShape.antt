@@ -26,7 +26,6 @@ use Rattle.flat_history.specs.World.{World, until, reading_at, opening_list}
 use Rattle.flat_history.specs.Losses.{was_dirty, is_gone, gone_count, unsettles, settles, is_resync_end, is_unsynced, is_unclean}
 use Rattle.flat_history.specs.Legal.{IsNumbered, IsInnerOrLast, IsOfOpening, IsAbsentAtFirst, IsFailed, IsFailedByCall, call_before, known_left, KeepsLeft, level_at, IsLegal}
 use Rattle.flat_history.specs.Reshaped.{IsReshaped}
-use Rattle.flat_history.specs.Growing.{BeginAnother}
 use Rattle.flat_history.specs.Fits.{Fits, WhereAsked, IsIdle, IsNoRole, IsTaken, IsDataEnd, slot_length, AreTornOf, IsReadRefused, is_lost_event, is_step_event}
 use Rattle.flat_history.specs.Plain.{loses_role}
 
@@ -260,12 +259,6 @@ abbrev pub OneShapeHistoriesAreLegal : Type 0
 OneShapeHistoriesAreLegal = (world : World) (opening : ShapeOpening) (entries : List Entry) → IsFoundAs world opening
     → IsOneShapeLegal opening (length world.tape) entries → IsLegal world entries × IsReshaped world entries
 
--- A history with a new call behind it is legal where the history is, and the call is by itself; the tape has grown meanwhile.
-abbrev pub OneShapeHistoriesGrow : Type 0
-OneShapeHistoriesGrow = (opening : ShapeOpening) (ops more : ℕ) (entries added : List Entry) → ops ≤ more
-    → BeginAnother (last_of entries) added → IsOneShapeLegal opening ops entries → AreOneShape opening more entries added
-    → IsOneShapeLegal opening more (entries ++ added)
-
 -- ---- a call that goes on
 
 -- what may stand in a call of steps before its last entry
@@ -288,16 +281,6 @@ pub record IsCallOpen (entries : List Entry) (who : Who) : Type 0 where
   pub is : entries ≡ before ++ call
   pub own : All (λ e. IsOfCall who e × GoesOnBehind e.event) call
   pub number : who.number ≡ next_number who.caller before
-
--- An entry of such a call is numbered rightly.
-abbrev pub OpenCallsAreNumbered : Type 0
-OpenCallsAreNumbered = (entries : List Entry) (who : Who) (e : Entry) → IsCallOpen entries who → IsOfCall who e → IsNumbered entries e
-
--- A history with more entries of such a call behind it is legal where the history is, and they are.
-abbrev pub OneShapeHistoriesGoOn : Type 0
-OneShapeHistoriesGoOn = (opening : ShapeOpening) (ops more : ℕ) (entries added : List Entry) (who : Who) → ops ≤ more
-    → IsCallOpen entries who → All (λ e. IsOfCall who e) added → IsOneShapeLegal opening ops entries → AreOneShape opening more entries added
-    → IsOneShapeLegal opening more (entries ++ added)
 
 -- ---- what a bank says is gone or unclean
 

@@ -16,7 +16,7 @@ use Rattle.superblocks.specs.Updating.{planned_newest}
 use Rattle.shape_views.specs.Regions.{AreShapesFit}
 use Rattle.shape_views.proofs.Alike.{shape-alike, final-alike, length-alike}
 use Rattle.shape_changes.specs.Kinds.{IsTaking}
-use Rattle.shape_changes.specs.Flushed.{IsBeginning}
+use Rattle.shape_ends.specs.Flushed.{IsBeginning}
 use Rattle.shape_changes.specs.Updates.{planned_view}
 use Rattle.shape_changes.proofs.PlannedRoles.{says-shared}
 use Rattle.shape_changes.proofs.KeptSafe.{fits-alike}

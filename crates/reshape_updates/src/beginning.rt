@@ -22,7 +22,7 @@ ghost use Rattle.shape_changes.specs.Steady.{IsSafeOver, AreGoneTold};
 ghost use Rattle.shape_changes.specs.Updates.{planned_view, IsLessView};
 ghost use Rattle.shape_changes.specs.Changing.{IsChanged, IsSafeChange};
 ghost use Rattle.shape_changes.specs.Giving.{IsToldOf};
-ghost use Rattle.shape_changes.specs.Flushed.{IsBeginning};
+ghost use Rattle.shape_ends.specs.Flushed.{IsBeginning};
 ghost use Rattle.shape_ends.specs.Ends.{IsCleared, IsBegun};
 ghost use Rattle.shape_ends.specs.Plans.{AreGivenFit};
 ghost use Rattle.reshape_updates.specs.Beginning.{goes_back, map_with_reshape, first_position, with_reshape, HasBegun, give_where, new_give, beginning};

@@ -8,7 +8,7 @@ use Rattle.flat_history.specs.declared.events.Epoch.{Epoch}
 use Rattle.flat_history.specs.Epochs.{world_of}
 use Rattle.flat_history.specs.OneShape.{ShapeOpening, opening_in, IsOneShapeLegal}
 use Rattle.flat_history.proofs.OneShapeLegal.{opening-grown, found-in, one_shape-legal}
-use Rattle.flat_history.proofs.OneShapeGrowing.{one_shape-later}
+use Rattle.history_laws.proofs.OneShapeGrowing.{one_shape-later}
 use Rattle.array_kept.specs.Calls.{IsEndOf, world_for}
 use Rattle.views.specs.Moving.{Grows}
 use Rattle.views.specs.Parts.{Parts}

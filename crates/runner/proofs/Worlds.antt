@@ -29,7 +29,7 @@ use Rattle.flat_history.specs.Opened.{IsSound, OpensSound}
 use Rattle.flat_history.specs.Reopened.{OpensAccepted}
 use Rattle.flat_history.specs.Sound.{FillsRight, LeavesSound, StaysSound}
 use Rattle.flat_history.specs.Growing.{grown, EndBy}
-use Rattle.flat_history.proofs.GrowingLaws.{marks-stay-safe}
+use Rattle.history_laws.proofs.GrowingLaws.{marks-stay-safe}
 use Rattle.flat_history.proofs.SoundLaws.{fit-before, leaves-later, leaves-flushed}
 use Rattle.flat_history.proofs.StretchLaws.{bounds-serve}
 use Rattle.array.specs.declared.spec.CreateSpec.{CreateSpec}

@@ -1,12 +1,4 @@
 pub mod SparesLaws
-pub mod SaidReads
-pub mod AddedLooks
-pub mod AddedNamed
-pub mod AddedSafe
-pub mod AddedSaid
-pub mod AddedStarts
-pub mod AddedUpdates
-pub mod AddedViews
 pub mod RolesNamed
 pub mod NamedAll
 pub mod RefusingLaws
@@ -15,7 +7,9 @@ pub mod StillHeld
 pub mod MissingLaws
 pub mod GivenAway
 pub mod GivenMoved
+pub mod GivenPlan
 pub mod GivingDone
 pub mod MadeWhole
 pub mod WholeFlushed
 pub mod Widest
+pub mod Under

@@ -42,11 +42,11 @@ use Rattle.views.proofs.MarkLaws.{roles-kept, role_from-found, held-holder, hold
 use Rattle.shape_changes.proofs.Kept.{give_of-same, still-missing, kept-less}
 use Rattle.shape_changes.proofs.Without.{state-without, any-held}
 use Rattle.views.proofs.Gives.{give-here, give-other}
-use Rattle.views.proofs.GivenPlan.{given-state, given-less}
+use Rattle.safe_updates.proofs.GivenPlan.{given-state, given-less}
 use Rattle.views.proofs.GivenMembers.{IsReceiver, W, state-here, state-other, holder-then, offset-same, rows-other, placed-given}
 use Rattle.shape_changes.specs.Updates.{planned_view, IsLessView}
 use Rattle.shape_changes.specs.Changing.{IsChanged}
-use Rattle.shape_changes.specs.Making.{IsMakable}
+use Rattle.role_changes.specs.Making.{IsMakable}
 use Rattle.shape_changes.proofs.ChangeViews.{placed-less}
 use Rattle.shape_changes.proofs.KeptSafe.{planned-fits, planned-backup, told-plan, steady-right}
 use Rattle.shape_changes.proofs.LessViews.{less-right}

@@ -1,8 +1,6 @@
-//! Updates of the superblocks, each safe at every moment: marks, names of lost slots, roles that are given, slots that are added.
+//! Updates of the superblocks, each safe at every moment: marks, names of lost slots, roles that are given.
 #![tactic(auto)]
 
-pub mod adding;
-pub mod device;
 pub mod flushes;
 pub mod giving;
 pub mod marks;
@@ -11,7 +9,6 @@ pub mod refusing;
 pub mod roles;
 pub mod settles;
 
-pub use device::device_uuid;
 pub use flushes::{flush_members, flush_slots};
 pub use marks::mark;
 pub use roles::is_spare;

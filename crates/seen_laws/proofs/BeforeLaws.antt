@@ -12,7 +12,7 @@ use Rattle.flat_history.specs.Transfers.{last_end_from}
 use Rattle.flat_history.specs.Growing.{BeginAnother}
 use Rattle.flat_history.specs.OneShape.{IsOfCall}
 use Rattle.flat_history.specs.Seen.{Seen}
-use Rattle.flat_history.proofs.OneShapeGrowing.{none-another}
+use Rattle.history_laws.proofs.OneShapeGrowing.{none-another}
 use Rattle.seen_laws.specs.Callers.{IsWhole, RepliesFrom, IsBefore, CallsComeLater, SeenGoesOn, ShorterIsBefore}
 use Rattle.seen_laws.proofs.PlaceLaws.{last-behind, ends, goes-on, call-apart}
 

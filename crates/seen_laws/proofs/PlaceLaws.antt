@@ -13,7 +13,7 @@ use Rattle.flat_history.specs.Flat.{last_of, next_number}
 use Rattle.flat_history.specs.Growing.{BeginAnother}
 use Rattle.flat_history.specs.OneShape.{IsOfCall}
 use Rattle.flat_history.specs.Seen.{ends_call, reply_places}
-use Rattle.flat_history.proofs.OneShapeGrowing.{next-begins}
+use Rattle.history_laws.proofs.OneShapeGrowing.{next-begins}
 use Rattle.seen_laws.specs.Callers.{IsReplyTo, AreReplied, HasCalled, IsCalled, NoneHasCalled, CallsAreCounted, CallsAreOnesOwn}
 
 -- ---- the last entry

@@ -1,4 +1,3 @@
-pub mod Begin
 pub mod CalledLaws
 pub mod Carried
 pub mod ChangeSafe
@@ -8,14 +7,11 @@ pub mod FillingSafe
 pub mod FitChanges
 pub mod FitFields
 pub mod FitKinds
-pub mod GivenSafe
 pub mod HeldAlike
 pub mod HeldKept
 pub mod Kept
 pub mod KeptSafe
 pub mod LessViews
-pub mod MadeSafe
-pub mod PastWindows
 pub mod PlacedLess
 pub mod PlannedRoles
 pub mod PlansLose

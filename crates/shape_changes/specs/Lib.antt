@@ -9,5 +9,3 @@ pub mod Changing
 pub mod Called
 pub mod Kinds
 pub mod Giving
-pub mod Making
-pub mod Flushed

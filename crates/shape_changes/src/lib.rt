@@ -3,13 +3,11 @@
 #![tactic(auto)]
 
 ghost use Rattle.std.specs.Prelude.{⊤};
-ghost use Rattle.shape_changes.specs.Updates.{PlannedIsRead, LessStaysRight, UpdatesAreSeenRight, AlikeStands, EndsPlaceAll, PastWindowsArePlain, ZeroingStaysRight, PlansLoseRoles};
+ghost use Rattle.shape_changes.specs.Updates.{PlannedIsRead, LessStaysRight, UpdatesAreSeenRight, AlikeStands, EndsPlaceAll, PlansLoseRoles};
 ghost use Rattle.shape_changes.specs.Changing.{ChangeStaysSafe, SpentStaysSpent, SafeChangeStaysSafe};
 ghost use Rattle.shape_changes.specs.Called.{UpdateIsChange};
 ghost use Rattle.shape_changes.specs.Kinds.{KeptStaysSafe, MarkStaysSafe, RecordStaysSafe, TakingIsFit, DroppingIsFit, FitUpdateIsFitChange};
-ghost use Rattle.shape_changes.specs.Giving.{PlacedLessIsRight, GivingStaysSafe};
-ghost use Rattle.shape_changes.specs.Flushed.{BeginStaysSafe, FlushedChangeStaysSafe};
-ghost use Rattle.shape_changes.specs.Making.{MakingStaysSafe};
+ghost use Rattle.shape_changes.specs.Giving.{PlacedLessIsRight};
 ghost use Rattle.shape_changes.specs.Held.{HeldStays};
 ghost use Rattle.shape_changes.specs.Steady.{HeldIsRead, SafeIsSeen, LosingStaysSafe, FlushesStaySafe, WritesStaySafe, FillingStaysSafe};
 
@@ -36,16 +34,6 @@ pub fn alike_lists_stand()
 /// At its first position a reshape places all by the old shape, and at its last by the new one.
 pub fn ends_place_all()
     ensures { EndsPlaceAll }
-{}
-
-/// Behind a window its section isn't active.
-pub fn past_windows_are_plain()
-    ensures { PastWindowsArePlain }
-{}
-
-/// Rows past the end of the list may be written, once the reshape has gone through.
-pub fn written_rows_past_the_end_stay_right()
-    ensures { ZeroingStaysRight ⊤ }
 {}
 
 /// A plan in which more slots are named lost has no more.
@@ -91,29 +79,9 @@ pub fn a_view_placed_alike_is_right()
     ensures { PlacedLessIsRight ⊤ }
 {}
 
-/// A vacant role is given to a spare, which recovers it from the first row on.
-pub fn giving_stays_safe()
-    ensures { GivingStaysSafe ⊤ }
-{}
-
 /// The clauses of a call that updates the superblocks are what these laws start from.
 pub fn an_update_is_a_change()
     ensures { UpdateIsChange ⊤ }
-{}
-
-/// A reshape begins, by the ledger before it or by one of a shorter list.
-pub fn beginning_stays_safe()
-    ensures { BeginStaysSafe ⊤ }
-{}
-
-/// Behind a flush a reshape ends, a level is taken over, or a recovery offset moves on.
-pub fn a_flushed_change_stays_safe()
-    ensures { FlushedChangeStaysSafe ⊤ }
-{}
-
-/// A recovering slot is made whole.
-pub fn making_whole_stays_safe()
-    ensures { MakingStaysSafe ⊤ }
 {}
 
 /// What is fit so makes a change that fits the superblocks that are held.

@@ -25,7 +25,7 @@ use Rattle.shape_ends.specs.Copies.{FitHeadersArePlain, IsCopyRun, IsRightAndFit
 use Rattle.shape_views.proofs.UnderWay.{is-reshaping, window-is, under-way}
 use Rattle.shape_views.proofs.WindowLaws.{fewer-right, copying-right, updating-right}
 use Rattle.shape_views.proofs.Stands.{span-order, moved-stands, moved-rows-stand, moved-placed, flushed-right}
-use Rattle.shape_changes.proofs.PastWindows.{begins-apart}
+use Rattle.shape_ends.proofs.PastWindows.{begins-apart}
 use Rattle.shape_ends.proofs.FitLaws.{backup-is, names-parts, fewer-fit, copying-fit, updating-fit, flushed-fit, moved-tails, updates-fit}
 use Rattle.shape_ends.proofs.FitLaws as fits
 

@@ -32,7 +32,7 @@ use Rattle.shape_views.proofs.WindowLaws.{IsUnread, at-rows, kept-at, unread-set
 use Rattle.shape_views.proofs.Stands.{data-at, flushed-settled, flushed-right}
 use Rattle.shape_changes.proofs.LessViews.{does-without, less-settled, less-clean, held-same, offset-same, less-right}
 use Rattle.shape_views.proofs.SoundViews.{fit-views-sound}
-use Rattle.shape_changes.proofs.PastWindows.{zeroing-unread}
+use Rattle.shape_ends.proofs.PastWindows.{zeroing-unread}
 use Rattle.shape_ends.proofs.Tails.{no-tail, first, listed, same-row, new-there, row-within, tail-written}
 
 -- ---- headers

@@ -1,9 +1,11 @@
+pub mod Begin
 pub mod CopyRuns
 pub mod EndLaws
 pub mod FitLaws
 pub mod GrownLaws
 pub mod GrownStanding
 pub mod LessPlaced
+pub mod PastWindows
 pub mod PlanPlaced
 pub mod PlanRoles
 pub mod RunFits

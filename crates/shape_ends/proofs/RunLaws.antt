@@ -13,7 +13,7 @@ use Rattle.shape_ends.specs.Runs.{IsWindowRun, IsWindowStanding, IsRightThrougho
 use Rattle.shape_views.proofs.WindowLaws.{at-rows, fewer-right, storing-right, naming-right, copying-right}
 use Rattle.shape_views.proofs.Stands.{moved-stands, moved-rows-stand, moved-placed, flushed-right}
 use Rattle.shape_changes.proofs.LessViews.{updates-seen}
-use Rattle.shape_changes.proofs.PastWindows.{past-windows-plain}
+use Rattle.shape_ends.proofs.PastWindows.{past-windows-plain}
 
 module _ (sound : Type 0) (scope : Scope) (given : Given) (told : Ledger) (m : Members) (span : Span) (plain header : Sector) (start stored kept named alone copied flushed : Disk)
     (run : IsWindowRun scope told m span plain header start stored kept named alone copied flushed) (right : IsViewRight sound scope given told m start) where

@@ -1,6 +1,7 @@
 pub mod Copies
 pub mod Ends
 pub mod Fits
+pub mod Flushed
 pub mod Grown
 pub mod Plans
 pub mod Runs

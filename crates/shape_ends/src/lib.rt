@@ -3,6 +3,8 @@
 #![tactic(auto)]
 
 ghost use Rattle.std.specs.Prelude.{⊤};
+ghost use Rattle.shape_changes.specs.Updates.{PastWindowsArePlain, ZeroingStaysRight};
+ghost use Rattle.shape_ends.specs.Flushed.{BeginStaysSafe, FlushedChangeStaysSafe};
 ghost use Rattle.shape_ends.specs.Runs.{WindowsStayRight, RecordsAreSeenRight};
 ghost use Rattle.shape_ends.specs.Fits.{NextHeadersFit, FewerStayFit, StoringStaysFit, NamingStaysFit, CopyingStaysFit, UpdatingStaysFit, PuttingStaysFit, ZeroingStaysFit, LessStaysFit, FlushedIsFit, MovedTailsStand, ViewsLeaveSound, UpdatesAreSeenFit, WindowsStayFit, RecordsAreSeenFit};
 ghost use Rattle.shape_ends.specs.Copies.{FitHeadersArePlain, CopiesStayFit, MovedIsRightAndFit, CopiesAreSeenFit, UpdatedIsRightAndFit};
@@ -244,4 +246,24 @@ pub fn planned_members_are_placed()
 /// An update leaves a view right and fit, and no section active.
 pub fn updated_members_are_right_and_fit()
     ensures { UpdatedIsRightAndFit ⊤ }
+{}
+
+/// Behind a window its section isn't active.
+pub fn past_windows_are_plain()
+    ensures { PastWindowsArePlain }
+{}
+
+/// Rows past the end of the list may be written, once the reshape has gone through.
+pub fn written_rows_past_the_end_stay_right()
+    ensures { ZeroingStaysRight ⊤ }
+{}
+
+/// A reshape begins, by the ledger before it or by one of a shorter list.
+pub fn beginning_stays_safe()
+    ensures { BeginStaysSafe ⊤ }
+{}
+
+/// Behind a flush a reshape ends, a level is taken over, or a recovery offset moves on.
+pub fn a_flushed_change_stays_safe()
+    ensures { FlushedChangeStaysSafe ⊤ }
 {}

@@ -33,7 +33,7 @@ use Rattle.flat_history.specs.Flat.{values_of}
 use Rattle.flat_history.specs.Losses.{gone_count, is_gone}
 use Rattle.flat_history.specs.CrashSafe.{made_by, StandsFor, MayBeJudgedBy, IsRefusedRightly, IsJudged}
 use Rattle.flat_history.specs.Sound.{OpensFit}
-use Rattle.flat_history.proofs.OneShapeGrowing.{few_missing}
+use Rattle.flat_history.proofs.GoneCounts.{few_missing}
 use Rattle.shape_views.specs.Regions.{backup_of, header_in, open_by, place_by, DoWithout, refusal_for}
 use Rattle.shape_views.specs.Views.{Disk, IsOutside, IsSettled, IsSeenRight, IsJudgedBy, ledger_of, ViewsAreSafe}
 use Rattle.shape_views.proofs.Alike.{for-both, found-none, found-some, any-both, valid-for, row-below, role-in-shape, role-below}

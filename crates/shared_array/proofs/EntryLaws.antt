@@ -21,7 +21,7 @@ use Rattle.flat_history.specs.Flat.{last_of}
 use Rattle.flat_history.specs.Fits.{is_step_event, is_lost_event}
 use Rattle.flat_history.specs.Plain.{entries_of}
 use Rattle.flat_history.specs.OneShape.{GoesOnBehind, IsOfCall, IsCallOpen}
-use Rattle.flat_history.proofs.OneShapeGoing.{open-more}
+use Rattle.history_laws.proofs.OneShapeGoing.{open-more}
 use Rattle.views.specs.declared.work.Work.{Work}
 use Rattle.call_entries.specs.Losing.{losses_of}
 use Rattle.views.specs.Parts.{Parts}

@@ -17,8 +17,6 @@ pub mod PutLists
 pub mod Stripes
 pub mod AddedMembers
 pub mod AddedRows
-pub mod Ready
-pub mod Planned
 pub mod MarkEnds
 pub mod LiveLeft
 pub mod MarkedSafe
@@ -28,6 +26,4 @@ pub mod MendedParts
 pub mod FilledParts
 pub mod Gives
 pub mod GivenMembers
-pub mod GivenPlan
 pub mod Still
-pub mod Under

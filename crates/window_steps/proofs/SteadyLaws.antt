@@ -25,7 +25,7 @@ use Rattle.shape_changes.specs.Safety.{HasLiveSlot}
 use Rattle.shape_changes.specs.Steady.{IsSteady, IsMoreTold, AreHolders, AreUnlost}
 use Rattle.shape_changes.specs.Updates.{IsAtEnd, IsPastPlace}
 use Rattle.shape_changes.proofs.HeldKept.{AreNoNewer, held-fewer}
-use Rattle.shape_changes.proofs.PastWindows.{zeroing-right}
+use Rattle.shape_ends.proofs.PastWindows.{zeroing-right}
 use Rattle.shape_changes.proofs.Since.{since-more}
 use Rattle.shape_changes.proofs.Spent.{live-holder}
 use Rattle.shape_changes.proofs.Steady.{losing-stays-safe, views-fewer}

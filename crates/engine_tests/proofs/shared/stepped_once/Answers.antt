@@ -1,4 +1,4 @@
-use Rattle.flat_history.proofs.OneShapeGoing.{begins-open}
+use Rattle.history_laws.proofs.OneShapeGoing.{begins-open}
 use Rattle.engine_tests.proofs.shared.stepped_once.Goals as goal
 
 pub step-requires-clause-open : goal.step-requires-clause-open

@@ -19,7 +19,7 @@ use Rattle.shape_changes.specs.Changing.{IsChanged}
 use Rattle.shape_changes.specs.Kinds.{IsTaking}
 use Rattle.layout.proofs.Limits.{limited}
 use Rattle.shape_changes.specs.Updates.{IsLessView, planned_view}
-use Rattle.shape_changes.proofs.Begin.{begin-safe}
+use Rattle.shape_ends.proofs.Begin.{begin-safe}
 use Rattle.shape_changes.proofs.CalledLaws.{changed-by}
 use Rattle.shape_changes.proofs.ChangeSafe.{told-changed, risen-changed}
 use Rattle.shape_changes.proofs.ChangeViews.{new-less, later-says, later-fits}

@@ -22,7 +22,7 @@ use Rattle.shape_changes.proofs.ChangeSafe.{told-changed, risen-changed}
 use Rattle.shape_changes.proofs.PlansLose.{plans-lose}
 use Rattle.shape_ends.proofs.LessPlaced.{less-placed}
 use Rattle.shape_changes.specs.Kinds.{IsDropping}
-use Rattle.shape_changes.proofs.Begin.{flushed-change-safe}
+use Rattle.shape_ends.proofs.Begin.{flushed-change-safe}
 use Rattle.shape_changes.proofs.ChangeSafe.{safe-change}
 use Rattle.shape_changes.proofs.ChangeViews.{new-less, later-says, later-fits}
 use Rattle.shape_changes.proofs.FitKinds.{dropping-is-fit, dropping-live}

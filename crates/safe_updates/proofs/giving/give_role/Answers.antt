@@ -19,8 +19,8 @@ use Rattle.safe_updates.proofs.GivingDone.{given-left, losses-done}
 use Rattle.shape_changes.specs.Changing.{IsChanged}
 use Rattle.shape_changes.proofs.CalledLaws.{changed-by}
 use Rattle.shape_changes.proofs.ChangeSafe.{told-changed, risen-changed}
-use Rattle.shape_changes.proofs.GivenSafe.{giving-stays-safe}
-use Rattle.views.proofs.GivenPlan.{gives-live, receiver-of, spare-receives}
+use Rattle.role_changes.proofs.GivenSafe.{giving-stays-safe}
+use Rattle.safe_updates.proofs.GivenPlan.{gives-live, receiver-of, spare-receives}
 use Rattle.superblocks.specs.declared.members.Members.{Members}
 use Rattle.views.specs.Placed.{IsPlaced}
 use Rattle.safe_updates.proofs.MadeWhole.{role-within}

@@ -32,11 +32,11 @@ use Rattle.safe_updates.proofs.GivenMoved.{moved-given, failed-given, holders-mo
 use Rattle.safe_updates.proofs.GivingDone.{given-left, losses-done}
 use Rattle.safe_updates.proofs.MadeWhole.{holder-receives, held-already, IsMoreBack, back-same, back-given, makable}
 use Rattle.shape_changes.specs.Changing.{IsChanged, IsSafeChange}
-use Rattle.shape_changes.specs.Making.{IsMade}
+use Rattle.role_changes.specs.Making.{IsMade}
 use Rattle.shape_changes.proofs.CalledLaws.{changed-by}
 use Rattle.shape_changes.proofs.ChangeSafe.{told-changed, told-marks, risen-changed, one-stretch, change-named}
-use Rattle.shape_changes.proofs.MadeSafe.{making-safe}
-use Rattle.views.proofs.GivenPlan.{gives-live}
+use Rattle.role_changes.proofs.MadeSafe.{making-safe}
+use Rattle.safe_updates.proofs.GivenPlan.{gives-live}
 use Rattle.safe_updates.proofs.giving.make_whole.Given.{Over}
 use Rattle.safe_updates.proofs.giving.make_whole.Goals.{After-without}
 use Rattle.safe_updates.proofs.giving.make_whole.Goals as goal

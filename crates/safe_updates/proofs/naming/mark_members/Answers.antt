@@ -14,7 +14,7 @@ use Rattle.views.proofs.MarkLaws.{few-planned}
 use Rattle.shape_changes.proofs.Kept.{give_of-same}
 use Rattle.views.proofs.MovedLaws.{moved-less}
 use Rattle.views.proofs.Fit.{few}
-use Rattle.views.proofs.Under.{rest-touched}
+use Rattle.safe_updates.proofs.Under.{rest-touched}
 use Rattle.safe_updates.proofs.SparesLaws.{spare-left, spare-stays, free-told}
 use Rattle.views.proofs.MarkedLaws.{grows-marks, others-updated, failed-marked}
 use Rattle.views.proofs.LackingLaws.{since-failed, holders-updated}

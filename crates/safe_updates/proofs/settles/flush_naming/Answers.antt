@@ -16,7 +16,7 @@ use Rattle.views.proofs.MarkedSafe.{lost-safe, added-longer}
 use Rattle.views.proofs.SafeStretch.{safe-then, over-at, keeps-from}
 use Rattle.shape_changes.proofs.Risen.{risen-lost, risen-then, room-then}
 use Rattle.views.proofs.Fit.{few}
-use Rattle.views.proofs.Under.{flushed-fewer, idle-without}
+use Rattle.safe_updates.proofs.Under.{flushed-fewer, idle-without}
 use Rattle.views.specs.Under.{IsRestKept, IsIdle}
 use Rattle.safe_updates.proofs.Widest.{widest, widest-force, lost-all}
 use Rattle.safe_updates.proofs.settles.flush_naming.Goals as goal

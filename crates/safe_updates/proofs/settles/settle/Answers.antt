@@ -11,7 +11,7 @@ use Rattle.shape_changes.specs.Kinds.{IsMarkable}
 use Rattle.shape_changes.specs.Steady.{IsNamedOver, IsSafeNow, settled_ledger}
 use Rattle.shape_views.specs.Views.{Ledger}
 use Rattle.views.proofs.HeldRows.{without-before}
-use Rattle.views.proofs.Under.{under-moved, rows-under-moved}
+use Rattle.safe_updates.proofs.Under.{under-moved, rows-under-moved}
 use Rattle.views.specs.Under.{RowsStandUnder}
 use Rattle.views.proofs.LiveLeft.{without-left, holder-left}
 use Rattle.views.proofs.MarkedSafe.{settled-markable}

@@ -19,7 +19,7 @@ use Rattle.flat_history.specs.declared.events.StepKind.TheVariants.{RebuildEnded
 use Rattle.flat_history.specs.OneShape.{IsCallOpen}
 use Rattle.flat_history.specs.Plain.{entries_of}
 use Rattle.flat_history.specs.Transfers.{last_end_from}
-use Rattle.flat_history.proofs.OneShapeGrowing.{one}
+use Rattle.history_laws.proofs.OneShapeGrowing.{one}
 use Rattle.views.specs.Whole.{list_size}
 use Rattle.views.specs.Placed.{places_of}
 use Rattle.call_entries.specs.Losing.{losses_of}

@@ -10,7 +10,7 @@ use Rattle.array_kept.specs.Calls.{world_for}
 use Rattle.flat_history.specs.OneShape.{opening_in, IsOneShapeLegal}
 use Rattle.flat_history.specs.declared.events.Entry.{Entry}
 use Rattle.flat_history.specs.Flat.{next_number}
-use Rattle.flat_history.proofs.OneShapeGoing.{begins-open}
+use Rattle.history_laws.proofs.OneShapeGoing.{begins-open}
 use Rattle.array_kept.proofs.ReadyLaws.{kept-legal, epoch-right, scope-same}
 use Rattle.array_kept.proofs.DegradedLaws.{kept-halted}
 use Rattle.array.proofs.array.Array.halt.Goals as goal

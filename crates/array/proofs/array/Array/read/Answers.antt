@@ -17,7 +17,7 @@ use Rattle.call_entries.specs.Losing.{losses_of}
 use Rattle.views.specs.Lacking.{AreLostSince, IsUnread, mended_rows}
 use Rattle.array_kept.specs.Kept.{scope_in, world_in, AreFillsRight}
 use Rattle.array_kept.specs.Calls.{world_for}
-use Rattle.flat_history.proofs.OneShapeGoing.{begins-open}
+use Rattle.history_laws.proofs.OneShapeGoing.{begins-open}
 use Rattle.superblocks.specs.Reading.{shape_of}
 use Rattle.md_base.specs.Shapes.{data_disks, is_multiple}
 use Rattle.layout.proofs.Limits.{limited}

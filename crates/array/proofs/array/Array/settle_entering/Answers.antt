@@ -8,7 +8,7 @@ use Rattle.superblocks.proofs.ValidFields.{few-roles}
 use Rattle.flat_history.specs.declared.events.Entry.{Entry}
 use Rattle.flat_history.specs.Flat.{next_number}
 use Rattle.flat_history.specs.Plain.{entries_of}
-use Rattle.flat_history.proofs.OneShapeGoing.{begins-open}
+use Rattle.history_laws.proofs.OneShapeGoing.{begins-open}
 use Rattle.views.specs.Whole.{list_size}
 use Rattle.views.specs.Placed.{places_of}
 use Rattle.call_entries.specs.Losing.{losses_of}

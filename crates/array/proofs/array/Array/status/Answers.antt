@@ -5,7 +5,7 @@ use Rattle.flat_history.specs.Flat.{next_number}
 use Rattle.flat_history.specs.Plain.{entries_of}
 use Rattle.flat_history.specs.declared.events.Entry.{Entry}
 use Rattle.flat_history.specs.declared.events.Event.TheVariants.{Shown}
-use Rattle.flat_history.proofs.OneShapeGoing.{begins-open}
+use Rattle.history_laws.proofs.OneShapeGoing.{begins-open}
 use Rattle.views.specs.Parts.{Parts}
 use Rattle.views.specs.Status.{left_of, IsStatusFor}
 use Rattle.array_kept.proofs.LossLaws.{ended-behind}

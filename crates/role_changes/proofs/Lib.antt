@@ -1,0 +1,2 @@
+pub mod GivenSafe
+pub mod MadeSafe

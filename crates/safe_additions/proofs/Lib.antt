@@ -1,0 +1,10 @@
+pub mod AddedLooks
+pub mod AddedNamed
+pub mod AddedSafe
+pub mod AddedSaid
+pub mod AddedStarts
+pub mod AddedUpdates
+pub mod AddedViews
+pub mod SaidReads
+pub mod Planned
+pub mod Ready

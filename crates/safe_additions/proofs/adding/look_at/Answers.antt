@@ -1,0 +1,18 @@
+use Rattle.std.proofs.Common.{◌∙◌, List, sym, subst}
+use Rattle.md_base.specs.Sectors.{Sector}
+use Rattle.bank.specs.declared.bank.Operation.{Operation}
+use Rattle.bank.specs.Given.{Given}
+use Rattle.bank.specs.Tape.{IsIn, disk}
+use Rattle.views.specs.Numbers.{AreSecondEntries}
+use Rattle.safe_additions.proofs.AddedLooks.{done-ok, is-ok, second-left}
+use Rattle.safe_additions.proofs.adding.look_at.Goals as goal
+
+pub returns-clause-second : goal.returns-clause-second
+returns-clause-second g c = λ told.
+    let given : Given = g.B.Bank.given c.flush.new.self in
+    let tape : List Operation = g.B.Bank.tape c.flush.new.self in
+    let did = c.flush.ensures.did.all told (is-ok c.flush.result (sym c.is_err.ensures.value ∙ c.if-is_err.false)) in
+    let ok = done-ok c.read.result (sym c.is_err-2.ensures.value ∙ c.if-is_err-2.false) c.read.ensures.ok told in
+    subst (λ (b : Given). (sector : Sector) → IsIn (disk b.start (g.B.Bank.tape c.read.new.self) c.args.slot 9) sector → AreSecondEntries c.second_entries.result sector) c.flush.ensures.given
+    (subst (λ (t : List Operation). (sector : Sector) → IsIn (disk given.start t c.args.slot 9) sector → AreSecondEntries c.second_entries.result sector) (sym (c.read.ensures.tape told))
+    (second-left given.start (g.B.Bank.tape c.args.bank.now) tape c.args.slot c.read.new.into c.second_entries.result did c.read.auto.into ok c.second_entries.ensures.small c.second_entries.ensures.entries))
