@@ -1,77 +1,20 @@
 -- The rows of a shape whose parity is to be relied on, and the shape that places a sector.
-use Rattle.std.proofs.Common.{◌≡◌, ◌⊎◌, inl, inr, ℕ, ◌+◌, ◌*◌, ◌/◌, ◌%◌, ◌^◌, ◌<◌, ◌≤◌, nat_le, nat_lt, min, Bool, true, false, cond, if◌then◌else◌, refl, sym, ◌∙◌, ap, subst, arith}
+use Rattle.std.proofs.Common.{◌≡◌, inl, inr, ℕ, ◌*◌, ◌/◌, ◌^◌, ◌<◌, ◌≤◌, nat_le, min, Bool, true, false, if◌then◌else◌, refl, sym, ap, subst, arith}
 use Rattle.std.proofs.lemmas.Bool.{cases_lt}
 use Rattle.std.proofs.lemmas.Bool.Decides.{nat_tests}
 use Rattle.std.proofs.lemmas.Nat.{mul-le, div-add-mod'}
 use Rattle.md_base.specs.Shapes.{is_valid_shape, is_multiple, data_disks, stripe_sectors}
 use Rattle.md_base.specs.declared.places.Shape.{Shape}
-use Rattle.md_base.specs.declared.places.Side.{Side}
-use Rattle.md_base.specs.declared.places.Side.TheVariants.{Old, New}
 use Rattle.sb1.specs.declared.sb.Sb.{Sb}
-use Rattle.geometry.specs.Geometry.{side}
 use Rattle.layout.specs.Layout.{place}
-use Rattle.layout.proofs.Places.{chunk_some, data_some, place-sector_below}
-use Rattle.superblocks.specs.Reading.{is_reshaping, is_backward, shape_of, final_shape, list_length}
-use Rattle.flat_history.specs.Stands.{shape_at, shape_for}
+use Rattle.layout.proofs.Places.{chunk_some, place-sector_below}
+use Rattle.superblocks.specs.Reading.{shape_of, final_shape, list_length}
 use Rattle.shape_views.specs.Regions.{AreShapesFit}
 use Rattle.views.specs.Placed.{IsInForce}
 use Rattle.views.proofs.Fit.{force-valid, force-multiple, fit-short}
 use Rattle.layout.proofs.Limits.{limited}
 use Rattle.views.proofs.Stripes.{stripes-multiple}
 use Rattle.region_rows.specs.Stretches.{relied_rows}
-
--- ---- the shape of a sector
-
--- by what decides it
-placed-by : (newest : Sb) (x : ℕ) (b : Bool) (s : Side) → IsInForce newest (cond b (shape_at newest s) (shape_of newest))
-placed-by newest x false s = inl refl
-placed-by newest x true Old = inl refl
-placed-by newest x true New = inr refl
-
-pub for-force : (newest : Sb) (x : ℕ) → IsInForce newest (shape_for newest x)
-for-force newest x = placed-by newest x (is_reshaping newest) (side (is_backward newest) newest.reshape_position x)
-
--- sectors on one side of the position have one shape
-pub for-same : (newest : Sb) (x y : ℕ) → side (is_backward newest) newest.reshape_position y ≡ side (is_backward newest) newest.reshape_position x → shape_for newest y ≡ shape_for newest x
-for-same newest x y same = ap (λ (s : Side). cond (is_reshaping newest) (shape_at newest s) (shape_of newest)) same
-
--- without a reshape all have
-pub for-plain : (newest : Sb) (x y : ℕ) → is_reshaping newest ≡ false → shape_for newest y ≡ shape_for newest x
-for-plain newest x y still = plain y ∙ sym (plain x)
-  where
-    plain : (z : ℕ) → shape_for newest z ≡ shape_of newest
-    plain z = ap (λ (b : Bool). cond b (shape_at newest (side (is_backward newest) newest.reshape_position z)) (shape_of newest)) still
-
--- both below the position, or both at or above it
-pub side-below : (back : Bool) (position x y : ℕ) → x < position → y < position → side back position y ≡ side back position x
-side-below back position x y low high = side-is y high ∙ sym (side-is x low)
-  where
-    none : (z : ℕ) → z < position → nat_le position z ≡ false
-    none z lt = grind (arith, nat_tests, lt)
-
-    some : (z : ℕ) → z < position → nat_lt z position ≡ true
-    some z lt = grind (arith, nat_tests, lt)
-
-    by : Side
-    by = cond (cond back false true) New Old
-
-    side-is : (z : ℕ) → z < position → side back position z ≡ by
-    side-is z lt = ap (λ (b : Bool). cond (cond back b (nat_lt z position)) New Old) (none z lt) ∙ ap (λ (b : Bool). cond (cond back false b) New Old) (some z lt)
-
-pub side-above : (back : Bool) (position x y : ℕ) → position ≤ x → position ≤ y → side back position y ≡ side back position x
-side-above back position x y low high = side-is y high ∙ sym (side-is x low)
-  where
-    some : (z : ℕ) → position ≤ z → nat_le position z ≡ true
-    some z le = grind (arith, nat_tests, le)
-
-    none : (z : ℕ) → position ≤ z → nat_lt z position ≡ false
-    none z le = grind (arith, nat_tests, le)
-
-    by : Side
-    by = cond (cond back true false) New Old
-
-    side-is : (z : ℕ) → position ≤ z → side back position z ≡ by
-    side-is z le = ap (λ (b : Bool). cond (cond back b (nat_lt z position)) New Old) (some z le) ∙ ap (λ (b : Bool). cond (cond back true b) New Old) (none z le)
 
 -- ---- the rows that are relied on
 

@@ -1,5 +1,5 @@
 -- What the reads of one stretch after another leave: the bytes, and the list's sectors.
-use Rattle.std.proofs.Common.{◌≡◌, ◌⊎◌, inl, inr, ℕ, ◌+◌, ◌-◌, ◌*◌, ◌/◌, ◌<◌, ◌≤◌, ◌==◌, Bool, true, false, if◌then◌else◌, List, [], length, take, drop, Option, Some, None, refl, sym, ◌∙◌, ap, subst, arith, eqb-true, eq-eqb}
+use Rattle.std.proofs.Common.{◌≡◌, ◌⊎◌, inl, inr, ℕ, ◌+◌, ◌-◌, ◌*◌, ◌/◌, ◌<◌, ◌≤◌, ◌==◌, Bool, true, false, if◌then◌else◌, List, [], length, take, drop, Option, Some, refl, sym, ◌∙◌, ap, subst, arith, eqb-true, eq-eqb}
 use Rattle.std.proofs.lemmas.Bool.{cases_lt}
 use Rattle.std.proofs.lemmas.List.{drop-drop, drop-take, take-take, length-drop, length-take-le}
 use Rattle.std.proofs.lemmas.Slice.{take-put_mid_below, between-put_mid}
@@ -19,7 +19,7 @@ use Rattle.row_io.specs.Rows.{reading_of, held_slot}
 use Rattle.list_io.specs.Full.{DataStands, RowStands}
 use Rattle.flat_history.specs.Stands.{shape_for}
 use Rattle.shape_views.specs.Windows.{IsShown, ListStands}
-use Rattle.shape_views.proofs.Stands.{data-from, StandsAt}
+use Rattle.shape_views.proofs.Stands.{data-from}
 use Rattle.views.specs.Placed.{AreWhole, IsPlaced, IsInForce}
 use Rattle.views.specs.Moving.{IsMoved}
 use Rattle.views.proofs.Fit.{force-valid}

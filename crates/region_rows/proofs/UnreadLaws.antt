@@ -1,8 +1,7 @@
 -- Why a stretch of the list isn't read, said of the list.
-use Rattle.std.proofs.Common.{◌≡◌, ◌⊎◌, inl, inr, ℕ, ◌+◌, ◌-◌, ◌<◌, ◌≤◌, Bool, true, false, Option, Some, None, Result, Ok, Err, is_some, refl, sym, ◌∙◌, ap, subst, arith}
+use Rattle.std.proofs.Common.{◌≡◌, inl, inr, ℕ, ◌-◌, ◌<◌, ◌≤◌, true, false, Option, Some, None, Result, Ok, Err, is_some, refl, sym, ◌∙◌, ap, subst, arith}
 use Rattle.std.specs.Prelude.{MatchOption, ⊤}
 use Rattle.std.specs.Result.{is_err}
-use Rattle.std.proofs.lemmas.Bool.{cases_lt}
 use Rattle.md_base.specs.Shapes.{tolerance}
 use Rattle.md_base.specs.declared.places.Shape.{Shape}
 use Rattle.md_base.specs.declared.answers.Refusal.{Refusal}
@@ -13,7 +12,6 @@ use Rattle.row_io.specs.Rows.{reading_of, is_missing}
 use Rattle.list_io.specs.declared.outcome.Unavailable.{Unavailable}
 use Rattle.list_io.specs.declared.outcome.Unavailable.TheVariants.{TooManyMissing, NotResynced}
 use Rattle.list_io.specs.Calls.{IsAnswer}
-use Rattle.flat_history.specs.Stands.{shape_for}
 use Rattle.views.specs.Lacking.{lacking, LacksTooMany, IsAskedBeyond, IsUnread}
 use Rattle.safe_updates.specs.First.{read_refusal}
 use Rattle.safe_updates.proofs.RefusingLaws.{read-cause, read-none}

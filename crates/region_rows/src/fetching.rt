@@ -1,12 +1,12 @@
 //! Reads of the list of an array in a reshape.
 
-ghost use Rattle.std.specs.Prelude.{◌≡◌, ◌⊎◌, ◌+◌, ◌-◌, ◌/◌, ◌^◌, ◌<◌, ◌≤◌, ℕ, length, None, MatchOption, Option, ⊤};
+ghost use Rattle.std.specs.Prelude.{◌≡◌, ◌⊎◌, ◌+◌, ◌-◌, ◌/◌, ◌<◌, ◌≤◌, ℕ, length, None, MatchOption, Option, ⊤};
 ghost use Rattle.bank.specs.Given.{NeverFalls};
 ghost use Rattle.md_base.specs.Sectors.{Sector, IsWhole};
 ghost use Rattle.md_base.specs.declared.places.Span.{Span};
 ghost use Rattle.parity.specs.Rows.{sector_of};
 ghost use Rattle.superblocks.specs.Reading.{is_clean, list_length, role_count};
-ghost use Rattle.row_io.specs.Rows.{reading_of, present, members_without};
+ghost use Rattle.row_io.specs.Rows.{present, members_without};
 ghost use Rattle.flat_history.specs.Stands.{shape_for};
 ghost use Rattle.flat_history.specs.World.{World};
 ghost use Rattle.shape_views.specs.Regions.{AreShapesFit};
@@ -19,7 +19,7 @@ ghost use Rattle.views.specs.Placed.{AreWhole, IsPlaced};
 ghost use Rattle.views.specs.Rebuilding.{AreSparesFree};
 ghost use Rattle.views.specs.Moving.{Grows, IsMoved};
 ghost use Rattle.views.specs.Lacking.{HaveFailedSince, DoesWithout, LacksTooMany};
-ghost use Rattle.region_rows.specs.Stretches.{RowsStandTo, IsUnrelied, IsLacked, IsListUnread};
+ghost use Rattle.region_rows.specs.Stretches.{RowsStandTo, IsLacked, IsListUnread};
 
 use crate::stretches::{relied_rows, stretch_at};
 use bank::Bank;

@@ -1,5 +1,5 @@
-use Rattle.std.proofs.Common.{◌≡◌, ◌⊎◌, ◌+◌, ◌-◌, ◌*◌, ◌/◌, ◌<◌, ◌≤◌, ℕ, List, [], length, take, drop, inl, inr, refl, sym, ◌∙◌, ap, subst, arith}
-use Rattle.std.specs.Prelude.{Option, bit_or}
+use Rattle.std.proofs.Common.{◌≡◌, ◌⊎◌, ◌+◌, ◌-◌, ◌*◌, ◌/◌, ◌<◌, ◌≤◌, ℕ, [], length, take, drop, inl, inr, refl, sym, ◌∙◌, ap, subst, arith}
+use Rattle.std.specs.Prelude.{bit_or}
 use Rattle.std.proofs.lemmas.Bool.{cases_lt}
 use Rattle.md_base.specs.Sectors.{Sector}
 use Rattle.md_base.specs.Shapes.{data_disks}
@@ -9,7 +9,6 @@ use Rattle.bank.specs.Tape.{Contents}
 use Rattle.layout.specs.Layout.{place}
 use Rattle.parity.specs.Rows.{sector_of}
 use Rattle.superblocks.specs.declared.members.Members.{Members}
-use Rattle.superblocks.specs.Reading.{list_length}
 use Rattle.row_io.specs.Rows.{reading_of, present, members_without}
 use Rattle.list_io.specs.Full.{DataStands, RowStands}
 use Rattle.row_io.proofs.Written.{members_without-none}

@@ -1,4 +1,4 @@
-use Rattle.std.proofs.Common.{◌≡◌, ◌/◌, ◌*◌, ◌<◌, ◌≤◌, nat_le, Bool, true, false, if◌then◌else◌, ℕ, ap, sym, ◌∙◌, subst, arith}
+use Rattle.std.proofs.Common.{◌≡◌, ◌/◌, ◌*◌, ◌<◌, nat_le, Bool, true, false, if◌then◌else◌, ℕ, ap, sym, ◌∙◌, subst, arith}
 use Rattle.std.proofs.lemmas.Bool.Decides.{nat_tests}
 use Rattle.md_base.specs.Shapes.{is_multiple, stripe_sectors}
 use Rattle.md_base.specs.declared.places.Shape.{Shape}
