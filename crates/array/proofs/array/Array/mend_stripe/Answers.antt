@@ -24,7 +24,7 @@ use Rattle.array_kept.proofs.DegradedLaws.{kept-refused, unwritten-here}
 use Rattle.safe_updates.specs.First.{write_refusal}
 use Rattle.views.proofs.Still.{count-still}
 use Rattle.calls_kept.proofs.TouchedLaws.{list-mended, rows-stay, rebuilt-stays, safe-mend, rows-mended}
-use Rattle.array.proofs.UnmendableLaws.{unmendable-of, unwritten-then}
+use Rattle.array_state.proofs.UnmendableLaws.{unmendable-of, unwritten-then}
 use Rattle.array.proofs.array.Array.mend_stripe.Goals as goal
 
 -- ---- refused before anything is done

@@ -37,7 +37,7 @@ use Rattle.array_kept.proofs.ReplyLaws.{refused_reply, lost_reply, inside-losses
 use Rattle.calls_kept.proofs.ReadLaws.{kept-unread, kept-read, fetched, some-of}
 use Rattle.call_entries.proofs.CallLaws.{losses-are, torn-losses}
 use Rattle.safe_updates.specs.First.{read_refusal}
-use Rattle.array.proofs.FirstLaws.{call-within}
+use Rattle.array_state.proofs.FirstLaws.{call-within}
 use Rattle.array.proofs.array.Array.read.Goals as goal
 
 -- bytes that were written whole

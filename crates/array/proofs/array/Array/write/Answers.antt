@@ -28,7 +28,7 @@ use Rattle.calls_kept.proofs.WriteLaws.{kept-unwritten, kept-wrote}
 use Rattle.views.proofs.MemberLaws.{list-few}
 use Rattle.call_entries.proofs.CallLaws.{losses-are, torn-losses}
 use Rattle.safe_updates.specs.First.{write_refusal}
-use Rattle.array.proofs.FirstLaws.{call-within}
+use Rattle.array_state.proofs.FirstLaws.{call-within}
 use Rattle.array.proofs.array.Array.write.Goals as goal
 
 -- ---- refused before any row is read
