@@ -18,29 +18,25 @@ use Rattle.views.specs.Lacking.{ListStands, RowsStand}
 use Rattle.views.specs.Under.{StandsUnder, RowsStandUnder}
 use Rattle.views.proofs.Under.{still-under, still-rows-under}
 
-module _ {tells : Type 0} (given : Given) (tape tape' : List Operation) (old new : Members) (unsynced : Bool) (placed : IsPlaced given old) (still : is_reshaping old.newest ≡ false) where
-  -- of a list that stands so, and rows that do
-  abbrev Stands : Type 1
-  Stands = World → (ℕ → Sector) → Type 0
-
-  abbrev shown : Stands
+module _ (tells : Type 0) (given : Given) (tape tape' : List Operation) (old new : Members) (unsynced : Bool) (placed : IsPlaced given old) (still : is_reshaping old.newest ≡ false) where
+  abbrev shown : World → (ℕ → Sector) → Type 0
   shown world list = ListStands old (present given tape) list
 
-  abbrev shown_rows : Stands
+  abbrev shown_rows : World → (ℕ → Sector) → Type 0
   shown_rows world list = RowsStand old (present given tape) list
 
-  abbrev under : Stands
+  abbrev under : World → (ℕ → Sector) → Type 0
   under world list = StandsUnder world.scope old (present given tape) (disk given.start tape) list
 
-  abbrev rows_under : Stands
+  abbrev rows_under : World → (ℕ → Sector) → Type 0
   rows_under world list = RowsStandUnder world.scope old (present given tape) (disk given.start tape) list
 
-  abbrev Safe : Stands → Stands → Type 0
+  abbrev Safe : (World → (ℕ → Sector) → Type 0) → (World → (ℕ → Sector) → Type 0) → Type 0
   Safe list_stands rows_stand = tells → (world : World) → (told : Ledger) → HasRoomLeft old tape tape' → AreGoneTold told new → IsUncleanTold told old → (list : ℕ → Sector)
       → (DoWithout old → list_stands world list) → (unsynced ≡ false → DoWithout old → OpensFit world → rows_stand world list)
       → AreWritesAllowed old told.values list → IsSafeOver world given told old tape → KeepsSafe world given told new tape tape'
 
-  abbrev Settled : Stands → Stands → Type 0
+  abbrev Settled : (World → (ℕ → Sector) → Type 0) → (World → (ℕ → Sector) → Type 0) → Type 0
   Settled list_stands rows_stand = tells → (world : World) → (told : Ledger) → HasRoomLeft old tape tape' → AreGoneTold told new → IsUncleanTold told old
       → (DoWithout old → unsynced ≡ true → is_clean old.newest ≡ false) → (list : ℕ → Sector)
       → (DoWithout old → list_stands world list) → (unsynced ≡ false → DoWithout old → OpensFit world → rows_stand world list)

@@ -32,7 +32,8 @@ fn enter_absent(epoch: &mut Epoch, members: &Members, end: u64, role: u32)
     enter(epoch, opener, end, Event::Lost { role, cause });
 }
 
-/// The losses of the roles that aren't whole, in order.
+/// Enters the losses of the roles below `disks` that aren't whole, in order, of caller 254 at the mark `end`. It takes no
+/// memory.
 pub fn enter_all_absent(epoch: &mut Epoch, members: &Members, end: u64, disks: u32)
     requires room { 17 ≤ epoch.old.entries.room }
     requires disks { disks ≤ 16 }

@@ -25,7 +25,7 @@ pub fn visible(members: &Members) -> u64
     list_length(&shape_in(members), members.newest.size)
 }
 
-/// The same roles, in a list of their own.
+/// The same roles, at most 16, in a list of their own; refused only for want of memory.
 pub fn copy_roles(alloc: Global, roles: &RoleList) -> Result<RoleList, NoMemory>
     requires { length roles.now ≤ 16 }
     ensures { IfOk result (λ copy. copy ≡ roles.now) }
@@ -40,7 +40,7 @@ pub fn copy_roles(alloc: Global, roles: &RoleList) -> Result<RoleList, NoMemory>
     Ok(copy)
 }
 
-/// The same slots, in a list of their own.
+/// The same slots, at most 32, in a list of their own; refused only for want of memory.
 pub fn copy_slots(alloc: Global, slots: &SlotList) -> Result<SlotList, NoMemory>
     requires { length slots.now ≤ 32 }
     ensures { IfOk result (λ copy. copy ≡ slots.now) }

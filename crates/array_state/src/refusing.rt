@@ -19,7 +19,8 @@ use safe_updates::refusing::{too_many, unread, unwritten};
 use safe_updates::roles::{list_length, shape_in};
 use superblocks::Members;
 
-/// The refusal of a call that ends at `to`, by the visible size and how many roles are missing.
+/// The refusal of a call that ends at the sector `to`, by the visible size and how many roles are missing: `PastEnd`, or else
+/// `TooManyMissing`.
 pub fn refusal_of(members: &Members, visible: u64, to: u64) -> Option<Refusal>
     requires shapes { AreValidShapes members.now.newest }
     requires roles { length members.now.roles ≡ role_count members.now.newest }
@@ -43,7 +44,7 @@ pub fn are_mended(members: &Members, resync: Option<u64>, shape: &Shape, to: u64
     to <= list_length(shape, mended_rows(members, resync))
 }
 
-/// Why so many sectors from one on aren't read, before any is.
+/// Why so many sectors from one on aren't read, before any is: the first of `PastEnd`, `TooManyMissing` and `NotResynced`.
 pub fn unread_from(members: &Members, resync: Option<u64>, at: u64, count: u64) -> Option<Refusal>
     requires shape { IsTrue (is_valid_shape (shape_of members.now.newest)) }
     requires multiple { IsTrue (is_multiple members.now.newest.size (shape_of members.now.newest).chunk) }
@@ -62,7 +63,8 @@ pub fn unread_from(members: &Members, resync: Option<u64>, at: u64, count: u64) 
     unread(members, &shape_in(members), at, count, mended)
 }
 
-/// Why so many sectors from one on aren't written, before any row is read.
+/// Why so many sectors from one on aren't written, before any row is read: the first of `PastEnd`, `TooManyMissing` and
+/// `NotResynced`.
 pub fn unwritten_from(
     members: &Members,
     resync: Option<u64>,
@@ -86,7 +88,7 @@ pub fn unwritten_from(
     unwritten(members, &shape, are_mended(members, resync, &shape, at + count))
 }
 
-/// Why a stripe isn't mended, before it is read.
+/// Why a stripe isn't mended, before it is read: the first of `TooManyMissing` and `NotResynced`.
 pub fn unmended(members: &Members) -> Option<Refusal>
     requires shape { IsTrue (is_valid_shape (shape_of members.now.newest)) }
     requires roles { (shape_of members.now.newest).disks ≤ length members.now.roles }

@@ -15,7 +15,7 @@ pub struct Room {
     pub buffer: Vec<u8>,
 }
 
-/// The memory of an array that begins.
+/// The memory of an array that begins: room for 17 entries and 128 rows, and 1048576 bytes. Refused only for want of it.
 pub fn room_for(alloc: Global) -> Result<Room, NoMemory>
     ensures empty { IfOk result (λ room. room.entries.items ≡ []) }
     ensures entries { IfOk result (λ room. 17 ≤ room.entries.room) }
@@ -42,7 +42,7 @@ pub fn room_for(alloc: Global) -> Result<Room, NoMemory>
     })
 }
 
-/// So many zero bytes.
+/// So many zero bytes; refused only for want of memory.
 pub fn zeros(alloc: Global, len: usize) -> Result<Vec<u8>, Fault>
     ensures no_memory { IfErr result (λ fault. fault ≡ WantsMemory) }
     ensures len { IfOk result (λ v. length v.items ≡ len) }

@@ -77,5 +77,5 @@ make_spare-requires-clause-addable g c = rw (← c.self.view_is) c.in_default.en
 
 pub returns-clause-caused : goal.returns-clause-caused
 returns-clause-caused g c =
-    let a = c.self.inside in
-    rw (← c.self.view_is) (unadded-for unit.Denot (g.B.Bank.given a.bank) a.backup c.args.slot a.members a.members (g.B.Bank.faults_of a.bank) (g.B.Bank.faults_of a.bank) c.in-Some.refusal c.in-Some.ensures refl)
+    unadded-for unit.Denot (g.B.Bank.given c.args.self.now.bank) c.args.self.now.backup c.args.slot c.args.self.now.members c.self.inside.members (g.B.Bank.faults_of c.args.self.now.bank) (g.B.Bank.faults_of c.self.inside.bank)
+    c.in-Some.refusal (subst (λ v. IsUnaddable (g.B.Bank.given v.bank) v.backup c.args.slot v.members c.in-Some.refusal) c.self.view_is c.in-Some.ensures) (ap (λ p. p.members) c.self.view_is)
