@@ -29,8 +29,8 @@ use Rattle.array.proofs.array.Array.mend_stripe.Goals as goal
 
 -- ---- refused before anything is done
 
-pub invariant_of-self-in-Some : goal.invariant_of-self-in-Some
-invariant_of-self-in-Some g c =
+pub invariant_of-self : goal.invariant_of-self
+invariant_of-self g c =
     let was = c.self.invariant in
     let a = c.self.inside in
     let opens : IsCallOpen a.epoch.entries.items c.args.who = subst (λ p. IsCallOpen p.entries c.args.who) (sym c.self.view_is) c.requires.open in

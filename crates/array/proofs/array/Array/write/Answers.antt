@@ -207,8 +207,8 @@ returns-in-Some-refusal-clause-same g c =
 
 -- ---- done
 
-pub invariant_of-self-4 : goal.invariant_of-self-4
-invariant_of-self-4 g c =
+pub invariant_of-self-2 : goal.invariant_of-self-2
+invariant_of-self-2 g c =
     let was = c.self.invariant in
     let a = c.self.inside in
     let number : c.args.who.number ≡ next_number c.args.who.caller a.epoch.entries.items = c.requires.next ∙ ap (λ p. next_number c.args.who.caller p.entries) (sym c.self.view_is) in
