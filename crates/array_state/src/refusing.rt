@@ -85,7 +85,11 @@ pub fn unwritten_from(
         return Some(Refusal::PastEnd(end));
     }
     let shape = shape_in(members);
-    unwritten(members, &shape, are_mended(members, resync, &shape, at + count))
+    unwritten(
+        members,
+        &shape,
+        are_mended(members, resync, &shape, at + count),
+    )
 }
 
 /// Why a stripe isn't mended, before it is read: the first of `TooManyMissing` and `NotResynced`.
