@@ -1,3 +1,2 @@
 mod StillKept
-pub mod FirstLaws
-mod UnmendableLaws
+mod StillUnder

@@ -1,13 +1,9 @@
 //! An array that is read and written, and keeps its history.
 
-ghost use Rattle.std.specs.Prelude.{◌≡◌, ◌^◌, ◌<◌, ℕ, length, Option, Some, None};
-ghost use Rattle.superblocks.specs.Reading.{role_count};
-ghost use Rattle.superblocks.specs.Verdict.{AreValidShapes};
+ghost use Rattle.std.specs.Prelude.{◌≡◌, ◌^◌, ◌<◌, length};
 ghost use Rattle.flat_history.specs.Flat.{next_number};
 ghost use Rattle.views.specs.Whole.{list_size};
 ghost use Rattle.views.specs.Placed.{places_of};
-ghost use Rattle.views.specs.Lacking.{AreTooMany};
-ghost use Rattle.array_kept.specs.Calls.{IsRefusalOf};
 
 mod adding;
 mod adopting;
@@ -22,11 +18,9 @@ mod stepping;
 mod writing;
 
 pub use adopting::Opened;
+use array_state::asking::visible;
 use bank::Bank;
 use flat_history::Epoch;
-use md_base::Refusal;
-use safe_updates::refusing::too_many;
-use safe_updates::roles::{list_length, shape_in};
 use std::alloc::Global;
 use std::marker::Model;
 use superblocks::Members;
@@ -71,25 +65,13 @@ impl<B: Bank> Model for Array<B> {
         a.epoch.first a.epoch.entries.items a.members a.work (B.faults_of a.bank) a.steps a.epoch.entries.room (vec_capacity a.rows) (length a.buffer.items) };
 }
 
-// The refusal of a call that ends at `to`, by the visible size and how many roles are missing.
-fn refusal_of(members: &Members, visible: u64, to: u64) -> Option<Refusal>
-    requires shapes { AreValidShapes members.now.newest }
-    requires roles { length members.now.roles ≡ role_count members.now.newest }
-    ensures { IsRefusalOf visible to AreTooMany members.now result }
-{
-    if visible < to {
-        return Some(Refusal::PastEnd(visible));
-    }
-    too_many(members)
-}
-
 impl<B: Bank> Array<B> {
     /// How many sectors can be read and written.
     pub fn visible(&self) -> u64
         ensures length { result ≡ list_size (places_of self.now.members) }
         ensures few { list_size (places_of self.now.members) < 2 ^ 63 }
     {
-        list_length(&shape_in(&self.members), self.members.newest.size)
+        visible(&self.members)
     }
 
     /// The number that the caller's next call bears.

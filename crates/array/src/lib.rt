@@ -3,7 +3,6 @@
 
 mod array;
 mod spec;
-mod work;
 
 pub use array::{Array, Opened};
 pub use spec::CreateSpec;

@@ -1,125 +1,36 @@
 //! Slots that are made spares.
 
-ghost use Rattle.std.specs.Prelude.{◌≡◌, ◌≢◌, ◌⊎◌, ◌+◌, ◌<◌, ◌≤◌, ℕ, true, false, drop, length, Some, MatchOption, OnOk};
+ghost use Rattle.std.specs.Prelude.{◌≡◌, ◌≢◌, ◌⊎◌, ◌<◌, ℕ, true, false, Some, OnOk};
 ghost use Rattle.bank.specs.Given.{NeverFalls};
 ghost use Rattle.md_base.specs.Shapes.{has_slot};
 ghost use Rattle.md_base.specs.declared.answers.Refusal.{Refusal};
-ghost use Rattle.superblocks.specs.Reading.{is_clean, entry_of};
+ghost use Rattle.superblocks.specs.Reading.{is_clean};
 ghost use Rattle.superblocks.specs.Reads.{has_spare};
 ghost use Rattle.row_io.specs.Rows.{present};
 ghost use Rattle.flat_history.specs.Flat.{next_number};
 ghost use Rattle.flat_history.specs.declared.events.Event.TheVariants.{Added};
 ghost use Rattle.flat_history.specs.declared.events.Request.TheVariants.{Add as AsksAdd};
 ghost use Rattle.views.specs.Whole.{list_size};
-ghost use Rattle.views.specs.Placed.{places_of, IsPlaced, AreStillHeld};
+ghost use Rattle.views.specs.Placed.{places_of, AreStillHeld};
 ghost use Rattle.shape_changes.specs.Marking.{AreOthersPresent};
 ghost use Rattle.views.specs.Moving.{Grows};
 ghost use Rattle.views.specs.Lacking.{HaveRolesFailed, AreUnnamed};
-ghost use Rattle.shape_views.specs.Regions.{DoWithout};
-ghost use Rattle.views.specs.Numbers.{IsSpareSb, free_number};
-ghost use Rattle.array_kept.specs.Calls.{world_for, IsTaken, IsFirstOffset, IsUnaddable, IsAddedFor, IsAddedAs, IsWorkAdded, IsAnswered, IsSameArray, AreLossesOf, IsEndOf, OnNoMemory};
-ghost use Rattle.views.specs.Rebuilding.{Held};
+ghost use Rattle.views.specs.Numbers.{free_number};
+ghost use Rattle.array_kept.specs.Calls.{world_for, IsUnaddable, IsAddedFor, IsAddedAs, IsWorkAdded, IsAnswered, IsSameArray, AreLossesOf, IsEndOf, OnNoMemory};
 
-use crate::array::{Array, refusal_of};
+use crate::array::Array;
+use array_state::adding::{spare_for, unaddable};
 use bank::Bank;
 use call_entries::calls::{check_number, enter, enter_behind};
 use flat_history::Event;
-use md_base::{Fault, Refusal, Role, Who};
-use safe_additions::adding::{add_member, data_offset, look_at};
-use safe_additions::device::{free_number, spare_sb};
+use md_base::{Fault, Refusal, Who};
+use safe_additions::adding::{add_member, look_at};
+use safe_additions::device::free_number;
 use safe_updates::naming::{has_unnamed, newly_vacant};
-use safe_updates::roles::{is_spare, shape_in, vacant_roles};
-use sb1::Sb;
-use superblocks::Members;
+use safe_updates::roles::{shape_in, vacant_roles};
 use superblocks::sets::{contains, with, without};
 
-// Whether the slot is the backup, holds a role or is a spare.
-fn is_taken(members: &Members, backup: Option<u32>, slot: u32) -> bool
-    requires few { length members.now.roles ≤ 16 }
-    ensures yes { result ≡ true → IsTaken backup members.now slot }
-    ensures no { result ≡ false → IsTaken backup members.now slot → ⊥ }
-{
-    backup == Some(slot) || holds_role(members, slot) || is_spare(members, slot)
-}
-
-// Whether the slot holds a role.
-fn holds_role(members: &Members, slot: u32) -> bool
-    requires few { length members.now.roles ≤ 16 }
-    ensures yes { result ≡ true → (role : ℕ) × Held members.now role slot }
-    ensures no { result ≡ false → (role : ℕ) → Held members.now role slot → ⊥ }
-{
-    for role in 0..members.roles.len() as u32 {
-        match members.roles.get(role) {
-            Role::Whole(held) | Role::Recovering(held) if held == slot => return true,
-            _ => {}
-        }
-    }
-    false
-}
-
-// The sector at which the rows begin on the slot of the lowest role that one holds; 0 where none is held.
-fn first_offset(members: &Members) -> u64
-    requires few { length members.now.roles ≤ 16 }
-    requires small { (role slot : ℕ) → Held members.now role slot → slot < 32 }
-    ensures { IsFirstOffset members.now result }
-{
-    for role in 0..members.roles.len() as u32 {
-        match members.roles.get(role) {
-            Role::Whole(slot) | Role::Recovering(slot) => return data_offset(members, slot),
-            Role::Missing => {}
-        }
-    }
-    0
-}
-
-// The superblock of a slot that is made a spare, with this device number and these role entries in its second sector.
-fn spare_for<B: Bank>(
-    members: &Members,
-    bank: &B,
-    uuid: &[u8; 16],
-    slot: u32,
-    number: u32,
-    second: &[u16; 256],
-) -> Sb
-    requires placed { IsPlaced (B.given bank.now) members.now }
-    requires slot { slot < (B.given bank.now).slots }
-    requires does { DoWithout members.now }
-    requires fits { (offset : ℕ) → IsFirstOffset members.now offset → offset + members.now.newest.size ≤ (B.given bank.now).sectors slot }
-    requires few { number < 128 }
-    requires free { 0xfffe ≤ entry_of members.now.newest number }
-    ensures made { IsSpareSb (B.given bank.now) members.now.newest slot result }
-    ensures number { result.dev_number ≡ number }
-    ensures offset { IsFirstOffset members.now result.data_offset }
-    ensures uuid { result.set_uuid ≡ uuid.now }
-    ensures second { drop 128 result.dev_roles ≡ second.now }
-{
-    let offset = first_offset(members);
-    let sectors = bank.len(slot);
-    spare_sb(&members.newest, uuid, number, offset, sectors, second)
-}
-
 impl<B: Bank> Array<B> {
-    // Why a slot isn't made a spare, before it is touched.
-    fn unaddable(&self, slot: u32) -> Option<Refusal>
-        ensures { MatchOption result ((refusal : Refusal) → IsUnaddable (B.given self.now.bank) self.now.backup slot self.now.members refusal → ⊥) (IsUnaddable (B.given self.now.bank) self.now.backup slot self.now.members) }
-    {
-        if slot >= self.bank.slots() {
-            return Some(Refusal::NoSuchSlot(slot));
-        }
-        if is_taken(&self.members, self.backup, slot) {
-            return Some(Refusal::SlotTaken(slot));
-        }
-        if let Some(refusal) = refusal_of(&self.members, 0, 0) {
-            return Some(refusal);
-        }
-        let have = self.bank.len(slot);
-        let want = first_offset(&self.members) + self.members.newest.size;
-        if have < want {
-            return Some(Refusal::SlotTooSmall(have, want));
-        }
-        None
-    }
-
     // Whether the slot was lost without a failure of its own, and the superblocks still name a role that no slot holds.
     fn is_held_up(&self, slot: u32) -> bool
         requires slot { slot < (B.given self.now.bank).slots }
@@ -210,7 +121,7 @@ impl<B: Bank> Array<B> {
         ensures given { B.given self.new.bank ≡ B.given self.old.bank }
         ensures same { IsSameArray B.tells self.old self.new (world_for (B.given self.old.bank) (B.tape self.old.bank) self.old) (world_for (B.given self.new.bank) (B.tape self.new.bank) self.new) }
     {
-        let Some(refusal) = self.unaddable(slot) else {
+        let Some(refusal) = unaddable(&self.members, &self.bank, self.backup, slot) else {
             let Some(number) = free_number(&self.members.newest, &self.work) else {
                 return Err(Fault::NoMemory);
             };

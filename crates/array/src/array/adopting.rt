@@ -1,20 +1,17 @@
 //! An array that is taken over from its superblocks.
 
-ghost use Rattle.std.specs.Prelude.{◌≡◌, ◌<◌, ◌≤◌, ◌+◌, ◌++◌, [], ℕ, false, length, vec_capacity, IfOk, IfErr};
+ghost use Rattle.std.specs.Prelude.{◌≡◌, ◌<◌, ℕ, false, IfOk, IfErr};
 ghost use Rattle.md_base.specs.Shapes.{has_slot};
-ghost use Rattle.superblocks.specs.Reading.{shape_of};
-ghost use Rattle.row_io.specs.Rows.{reading_of};
-ghost use Rattle.flat_history.specs.Plain.{entries_of};
-ghost use Rattle.call_entries.specs.Losing.{IsSameEpoch};
 ghost use Rattle.array_kept.specs.Kept.{scope_in};
-ghost use Rattle.array_kept.specs.Adopting.{opener, absent_loss, absent_losses, IsAdoptable, IsAdopted};
+ghost use Rattle.array_kept.specs.Adopting.{IsAdoptable, IsAdopted};
 
 use crate::array::Array;
-use crate::work::found_work;
+use array_state::absent::enter_all_absent;
+use array_state::room::room_for;
+use array_state::work::found_work;
 use bank::Bank;
-use call_entries::calls::enter;
-use flat_history::{Entries, Epoch, Event, LostCause};
-use md_base::{NoMemory, Role, Who};
+use flat_history::Epoch;
+use md_base::NoMemory;
 use safe_updates::roles::shape_in;
 use std::alloc::Global;
 use superblocks::Members;
@@ -25,76 +22,6 @@ pub struct Opened {
     pub backup: Option<u32>,
     pub members: Members,
     pub given: u32,
-}
-
-// What an array keeps in memory: an empty history with room for its end, and the buffers of a write.
-#[derive(Drop)]
-struct Room {
-    entries: Entries,
-    rows: Vec<u64>,
-    buffer: Vec<u8>,
-}
-
-fn room_for(alloc: Global) -> Result<Room, NoMemory>
-    ensures empty { IfOk result (λ room. room.entries.items ≡ []) }
-    ensures entries { IfOk result (λ room. 17 ≤ room.entries.room) }
-    ensures rows { IfOk result (λ room. 128 ≤ vec_capacity room.rows) }
-    ensures buffer { IfOk result (λ room. length room.buffer.items ≡ 1048576) }
-{
-    let mut entries = Entries::new(alloc);
-    match entries.make_room(17) {
-        Ok(()) => {}
-        Err(_) => return Err(NoMemory {}),
-    }
-    let rows = match Vec::with_capacity(alloc, 128) {
-        Ok(rows) => rows,
-        Err(_) => return Err(NoMemory {}),
-    };
-    let buffer = match vec![in alloc; 0u8; 1048576] {
-        Ok(buffer) => buffer,
-        Err(_) => return Err(NoMemory {}),
-    };
-    Ok(Room {
-        entries,
-        rows,
-        buffer,
-    })
-}
-
-// The loss of this role, if it isn't whole.
-fn enter_absent(epoch: &mut Epoch, members: &Members, end: u64, role: u32)
-    requires room { 0 < epoch.old.entries.room }
-    requires role { role < length members.now.roles }
-    ensures items { epoch.new.entries.items ≡ epoch.old.entries.items ++ entries_of opener end (absent_loss (reading_of members.now) role) }
-    ensures room { epoch.old.entries.room ≤ epoch.new.entries.room + 1 }
-    ensures same { IsSameEpoch epoch.old epoch.new }
-    ensures last { epoch.old.last ≡ end → epoch.new.last ≡ end }
-{
-    let opener = Who {
-        caller: 254,
-        number: 0,
-    };
-    let cause = match members.roles.get(role) {
-        Role::Whole(_) => return,
-        Role::Recovering(_) => LostCause::Recovering,
-        Role::Missing => LostCause::Absent,
-    };
-    enter(epoch, opener, end, Event::Lost { role, cause });
-}
-
-// The losses of the roles that aren't whole, in order.
-fn enter_all_absent(epoch: &mut Epoch, members: &Members, end: u64, disks: u32)
-    requires room { 17 ≤ epoch.old.entries.room }
-    requires disks { disks ≤ 16 }
-    requires roles { disks ≤ length members.now.roles }
-    ensures items { epoch.new.entries.items ≡ epoch.old.entries.items ++ entries_of opener end (absent_losses (reading_of members.now) disks) }
-    ensures room { 1 ≤ epoch.new.entries.room }
-    ensures same { IsSameEpoch epoch.old epoch.new }
-    ensures last { epoch.old.last ≡ end → epoch.new.last ≡ end }
-{
-    for role in 0..disks {
-        enter_absent(epoch, members, end, role);
-    }
 }
 
 impl<B: Bank> Array<B> {

@@ -1,124 +1,21 @@
 //! What an array tells of itself.
 
-ghost use Rattle.std.specs.Prelude.{◌≡◌, ◌≢◌, ◌+◌, ◌*◌, ◌^◌, ◌<◌, ◌≤◌, [], ◌∷◌, length, IfOk, IfErr, IfSome, IsTrue};
-ghost use Rattle.md_base.specs.Shapes.{is_valid_shape};
-ghost use Rattle.md_base.specs.Search.{count_below};
+ghost use Rattle.std.specs.Prelude.{◌≡◌, ◌≢◌, ◌<◌, ◌≤◌, [], ◌∷◌, length, IfOk, IfErr, IfSome};
 ghost use Rattle.superblocks.specs.Reading.{shape_of};
-ghost use Rattle.row_io.specs.Rows.{reading_of};
 ghost use Rattle.flat_history.specs.Flat.{next_number};
 ghost use Rattle.flat_history.specs.declared.events.Event.TheVariants.{Shown};
 ghost use Rattle.array_kept.specs.Calls.{world_for, IsEntered, IsSameArray, IsEndOf};
-ghost use Rattle.views.specs.Placed.{is_vacant};
-ghost use Rattle.views.specs.Status.{stripes_of, rebuilt_of, spare_count, recovery_left, left_of, IsStatusFor};
+ghost use Rattle.views.specs.Status.{stripes_of, rebuilt_of, left_of, IsStatusFor};
 
 use crate::array::Array;
+use array_state::asking::{copy_roles, copy_slots, steps_left, visible};
 use bank::Bank;
 use call_entries::calls::{check_number, enter};
 use flat_history::Event;
-use md_base::{NoMemory, Role, RoleList, SlotList, Status, Who};
+use md_base::{NoMemory, Status, Who};
 use safe_rows::mending::stripes;
-use safe_updates::roles::{is_spare, is_vacant, list_length, shape_in};
-use std::alloc::Global;
-use superblocks::Members;
+use safe_updates::roles::shape_in;
 use superblocks::says::is_clean;
-use views::Work;
-
-// The same roles, in a list of their own.
-fn copy_roles(alloc: Global, roles: &RoleList) -> Result<RoleList, NoMemory>
-    requires { length roles.now ≤ 16 }
-    ensures { IfOk result (λ copy. copy ≡ roles.now) }
-{
-    let mut copy = match RoleList::new(alloc) {
-        Ok(copy) => copy,
-        Err(_) => return Err(NoMemory {}),
-    };
-    for role in 0..roles.len() as u32 {
-        copy.push(roles.get(role));
-    }
-    Ok(copy)
-}
-
-// The same slots, in a list of their own.
-fn copy_slots(alloc: Global, slots: &SlotList) -> Result<SlotList, NoMemory>
-    requires { length slots.now ≤ 32 }
-    ensures { IfOk result (λ copy. copy ≡ slots.now) }
-{
-    let mut copy = match SlotList::new(alloc) {
-        Ok(copy) => copy,
-        Err(_) => return Err(NoMemory {}),
-    };
-    for place in 0..slots.len() {
-        copy.push(slots.get(place));
-    }
-    Ok(copy)
-}
-
-// The steps that are left of the roles that slots recover.
-fn recovery_left(members: &Members, work: &Work, disks: u32) -> u64
-    requires shape { IsTrue (is_valid_shape (shape_of members.now.newest)) }
-    requires size { members.now.newest.size ≤ 2 ^ 48 }
-    requires disks { disks ≤ 16 }
-    requires roles { disks ≤ length members.now.roles }
-    ensures left { result ≡ recovery_left work.now members.now disks }
-    ensures few { result ≤ disks * (2 ^ 48 + 1) }
-{
-    let stripes = stripes(members);
-    let mut left = 0;
-    for role in 0..disks {
-        if let Role::Recovering(_) = members.roles.get(role) {
-            left += stripes.saturating_sub(work.rebuilt[role as usize]) + 1;
-        }
-    }
-    left
-}
-
-// How many roles no slot holds.
-fn vacant_count(members: &Members, disks: u32) -> u64
-    requires disks { disks ≤ 16 }
-    requires roles { disks ≤ length members.now.roles }
-    ensures count { result ≡ count_below disks (is_vacant (reading_of members.now)) }
-    ensures few { result ≤ 16 }
-{
-    let mut count = 0;
-    for role in 0..disks {
-        if is_vacant(members, role) {
-            count += 1;
-        }
-    }
-    count
-}
-
-// How many spares there are.
-fn spare_count(members: &Members) -> u64
-    ensures count { result ≡ spare_count members.now }
-    ensures few { result ≤ 32 }
-{
-    let mut count = 0;
-    for slot in 0..32u32 {
-        if is_spare(members, slot) {
-            count += 1;
-        }
-    }
-    count
-}
-
-// The steps that are left: of a pending resync, of the roles that slots recover, and of those that there are spares for.
-pub(crate) fn steps_left(members: &Members, work: &Work) -> u64
-    requires shape { IsTrue (is_valid_shape (shape_of members.now.newest)) }
-    requires size { members.now.newest.size ≤ 2 ^ 48 }
-    requires roles { (shape_of members.now.newest).disks ≤ length members.now.roles }
-    requires progress { IfSome work.now.resync (λ mended. mended ≤ stripes_of members.now) }
-    ensures { result ≡ left_of work.now members.now }
-{
-    let disks = shape_in(members).disks;
-    let stripes = stripes(members);
-    let resync = match work.resync {
-        Some(mended) => stripes - mended + 1,
-        None => 0,
-    };
-    let waiting = vacant_count(members, disks).min(spare_count(members));
-    resync + recovery_left(members, work, disks) + waiting * (stripes + 2)
-}
 
 impl<B: Bank> Array<B> {
     /// How many background steps are left.
@@ -172,10 +69,9 @@ impl<B: Bank> Array<B> {
             Ok(spares) => spares,
             Err(none) => return Err(none),
         };
-        let shape = shape_in(&self.members);
-        let sectors = list_length(&shape, self.members.newest.size);
+        let sectors = visible(&self.members);
         Ok(Status {
-            shape,
+            shape: shape_in(&self.members),
             target: None,
             position: 0,
             size: self.members.newest.size,

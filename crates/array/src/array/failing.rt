@@ -1,10 +1,9 @@
 //! Members that are failed by command.
 
-ghost use Rattle.std.specs.Prelude.{◌≡◌, ◌≢◌, ◌<◌, ◌≤◌, ◌^◌, ℕ, length, Some, IfSome, IfNone, OnOk, IsTrue};
+ghost use Rattle.std.specs.Prelude.{◌≡◌, ◌≢◌};
 ghost use Rattle.bank.specs.Given.{NeverFalls};
-ghost use Rattle.md_base.specs.Shapes.{is_valid_shape};
-ghost use Rattle.superblocks.specs.Reading.{shape_of, role_state, holder, is_clean};
-ghost use Rattle.row_io.specs.Rows.{reading_of, present};
+ghost use Rattle.superblocks.specs.Reading.{is_clean};
+ghost use Rattle.row_io.specs.Rows.{present};
 ghost use Rattle.flat_history.specs.Flat.{next_number};
 ghost use Rattle.flat_history.specs.declared.events.Event.TheVariants.{Failed};
 ghost use Rattle.flat_history.specs.declared.events.Request.TheVariants.{Fail as AsksFail};
@@ -12,34 +11,17 @@ ghost use Rattle.views.specs.Whole.{list_size};
 ghost use Rattle.views.specs.Placed.{places_of, AreStillHeld};
 ghost use Rattle.shape_changes.specs.Marking.{AreOthersPresent};
 ghost use Rattle.views.specs.Moving.{Grows};
-ghost use Rattle.array_kept.specs.Calls.{world_for, AreSparesFewer, HasRole, IsAnswered, IsFailedFor, IsSameArray, AreLossesOf, IsEndOf, OnNoMemory};
+ghost use Rattle.array_kept.specs.Calls.{world_for, AreSparesFewer, IsAnswered, IsFailedFor, IsSameArray, AreLossesOf, IsEndOf, OnNoMemory};
 
 use crate::array::Array;
+use array_state::holders::slot_of;
 use bank::Bank;
 use call_entries::calls::{check_number, enter, enter_behind};
 use flat_history::{Event, LostCause};
-use md_base::{Fault, Refusal, Role, Who};
+use md_base::{Fault, Refusal, Who};
 use row_io::lose_slot;
 use safe_updates::naming::{name_missing, newly_vacant};
 use safe_updates::roles::{shape_in, vacant_roles};
-use superblocks::Members;
-
-// The slot that holds a role, whole or in part.
-fn slot_of(members: &Members, role: u32) -> Option<u32>
-    requires shape { IsTrue (is_valid_shape (shape_of members.now.newest)) }
-    requires roles { length members.now.roles ≡ (shape_of members.now.newest).disks }
-    ensures held { IfSome result (λ slot. holder (role_state (reading_of members.now) role) ≡ Some slot) }
-    ensures some { IfSome result (λ slot. HasRole members.now role) }
-    ensures none { IfNone result (HasRole members.now role → ⊥) }
-{
-    if role >= shape_in(members).disks {
-        return None;
-    }
-    match members.roles.get(role) {
-        Role::Whole(slot) | Role::Recovering(slot) => Some(slot),
-        Role::Missing => None,
-    }
-}
 
 impl<B: Bank> Array<B> {
     /// Takes the slot of this role out of the array, and names the role missing in the superblocks of the others. Refusals:

@@ -1,10 +1,9 @@
 //! Reads of an array.
 
-ghost use Rattle.std.specs.Prelude.{◌≡◌, ◌≢◌, ◌+◌, ◌/◌, ◌^◌, ◌<◌, ◌≤◌, length, OnOk, OnErr, IfOk, IfErr};
+ghost use Rattle.std.specs.Prelude.{◌≡◌, ◌≢◌, ◌+◌, ◌/◌, ◌^◌, ◌<◌, length, OnOk, OnErr};
 ghost use Rattle.bank.specs.Given.{NeverFalls};
 ghost use Rattle.bank.specs.Tape.{AreSectors};
 ghost use Rattle.md_base.specs.Sectors.{IsWhole, sectors_of};
-ghost use Rattle.md_base.specs.declared.answers.Fault.TheVariants.{NoMemory as WantsMemory};
 ghost use Rattle.row_io.specs.Rows.{present};
 ghost use Rattle.flat_history.specs.World.{opening_list};
 ghost use Rattle.flat_history.specs.Flat.{next_number, now};
@@ -18,46 +17,21 @@ ghost use Rattle.views.specs.Moving.{Grows};
 ghost use Rattle.views.specs.Lacking.{HaveRolesFailed, IsUnread, mended_rows};
 ghost use Rattle.safe_updates.specs.First.{read_refusal, call_refusal, IsFirstRefused};
 ghost use Rattle.array_kept.specs.Kept.{AreFillsRight};
-ghost use Rattle.array_kept.specs.Calls.{world_for, AreSparesFewer, IsAnswered, IsCausedBy, IsRefusalOf, IsSameArray, AreLossesOf, IsEndOf, OnNoMemory};
+ghost use Rattle.array_kept.specs.Calls.{world_for, AreSparesFewer, IsAnswered, IsCausedBy, IsSameArray, AreLossesOf, IsEndOf, OnNoMemory};
 
 use crate::array::Array;
+use array_state::refusing::unread_from;
+use array_state::room::zeros;
 use bank::Bank;
 use call_entries::calls::{check_number, enter, enter_behind};
 use flat_history::Event;
-use md_base::{Fault, Refusal, Sectors, Who};
+use md_base::{Fault, Sectors, Who};
 use safe_rows::fetching::fetch;
 use safe_rows::mending::mended_rows;
 use safe_updates::naming::newly_vacant;
-use safe_updates::refusing::unread;
 use safe_updates::roles::{shape_in, vacant_roles};
-use std::alloc::Global;
-
-// So many zero bytes.
-fn zeros(alloc: Global, len: usize) -> Result<Vec<u8>, Fault>
-    ensures no_memory { IfErr result (λ fault. fault ≡ WantsMemory) }
-    ensures len { IfOk result (λ v. length v.items ≡ len) }
-{
-    match vec![in alloc; 0u8; len] {
-        Ok(bytes) => Ok(bytes),
-        Err(_) => Err(Fault::NoMemory),
-    }
-}
 
 impl<B: Bank> Array<B> {
-    // Why so many sectors from one on aren't read, before any is.
-    fn unread(&self, at: u64, count: u64) -> Option<Refusal>
-        requires short { at + count < 2 ^ 63 }
-        ensures first { result ≡ call_refusal (list_size (places_of self.now.members)) (at + count) (read_refusal (shape_of self.now.members.newest) (mended_rows self.now.work.resync self.now.members) at count self.now.members) }
-        ensures why { IsRefusalOf (list_size (places_of self.now.members)) (at + count) (IsUnread (shape_of self.now.members.newest) (mended_rows self.now.work.resync self.now.members) at count) self.now.members result }
-    {
-        let visible = self.visible();
-        if visible < at + count {
-            return Some(Refusal::PastEnd(visible));
-        }
-        let mended = mended_rows(&self.members, self.work.resync);
-        unread(&self.members, &shape_in(&self.members), at, count, mended)
-    }
-
     /// Fills `into`, of whole sectors, with those of the list from `at` on; what a missing member held is filled in from the
     /// others. Refusals: `PastEnd`, `TooManyMissing`, and `NotResynced` where a resync is pending.
     pub fn read(&mut self, who: Who, at: u64, into: &mut [u8]) -> Result<(), Fault>
@@ -96,7 +70,8 @@ impl<B: Bank> Array<B> {
         }
         self.steps = 0;
         check_number(&self.epoch.entries, who);
-        if let Some(refusal) = self.unread(at, (into.len() / 512) as u64) {
+        let count = (into.len() / 512) as u64;
+        if let Some(refusal) = unread_from(&self.members, self.work.resync, at, count) {
             let end = self.bank.ops();
             enter(&mut self.epoch, who, end, Event::Refused { refusal });
             return Err(Fault::Refused(refusal));

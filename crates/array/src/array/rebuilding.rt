@@ -1,6 +1,6 @@
 //! The background steps of an array that rebuild a role on a spare.
 
-ghost use Rattle.std.specs.Prelude.{◌≡◌, ◌≢◌, ◌+◌, ◌<◌, ◌≤◌, ◌∷◌, [], true, length, Err, OnOk, OnErr};
+ghost use Rattle.std.specs.Prelude.{◌≡◌, ◌≢◌, ◌+◌, ◌<◌, ◌≤◌, ◌∷◌, [], true, Err, OnOk, OnErr};
 ghost use Rattle.bank.specs.Given.{NeverFalls};
 ghost use Rattle.md_base.specs.declared.answers.Fault.TheVariants.{NoMemory as WantsMemory};
 ghost use Rattle.superblocks.specs.Reading.{shape_of, is_clean};
@@ -15,13 +15,15 @@ ghost use Rattle.flat_history.specs.declared.events.StepKind.TheVariants.{Rebuil
 ghost use Rattle.views.specs.Whole.{list_size};
 ghost use Rattle.views.specs.Placed.{places_of, is_vacant};
 ghost use Rattle.views.specs.Moving.{Grows};
-ghost use Rattle.views.specs.Status.{stripes_of, rebuilt_of, left_of};
+ghost use Rattle.views.specs.Status.{rebuilt_of, left_of};
 ghost use Rattle.views.specs.Lacking.{HaveRolesFailed, AreTooMany, RowsStand};
 ghost use Rattle.shape_views.specs.Regions.{DoWithout};
 ghost use Rattle.array_kept.specs.Calls.{world_for, IsHeldOrGiven, AreHeldOrSpare, HasStripeUnbuilt, AreStripesRebuilt, IsWholeOrLost, IsRecoveredOrLost, with_rebuilt, by_answer, AreStepsFewer, AreStepsKept, IsRebuildStepped, IsCausedBy, IsSameArray, AreLossesBy, AreLossesOf, IsEndOf};
 
-use crate::array::asking::steps_left;
-use crate::array::{Array, refusal_of};
+use crate::array::Array;
+use array_state::asking::steps_left;
+use array_state::refusing::refusal_of;
+use array_state::work::set_rebuilt;
 use bank::Bank;
 use call_entries::calls::{check_open, enter, enter_behind, enter_lost};
 use flat_history::{Event, StepKind};
@@ -31,16 +33,6 @@ use safe_updates::giving::{flush_and_record, give_role};
 use safe_updates::naming::newly_vacant;
 use safe_updates::roles::{is_vacant, shape_in, vacant_roles};
 use superblocks::sets::{with, without};
-use views::Work;
-
-// So many stripes of the role are rebuilt.
-fn set_rebuilt(work: &mut Work, role: u32, stripes: u64)
-    requires role { role < 16 }
-    ensures work { work.new ≡ with_rebuilt role stripes work.old }
-    ensures known { role < length work.old.rebuilt }
-{
-    work.rebuilt[role as usize] = stripes;
-}
 
 impl<B: Bank> Array<B> {
     /// The first step of a rebuild: gives a role that no slot holds to a spare, which recovers it from the first row on.

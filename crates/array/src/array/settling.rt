@@ -1,6 +1,6 @@
 //! Flushes of an array.
 
-ghost use Rattle.std.specs.Prelude.{◌≡◌, ◌≢◌, ◌+◌, ◌^◌, ◌<◌, ◌≤◌, length, true, None, OnOk};
+ghost use Rattle.std.specs.Prelude.{◌≡◌, ◌≢◌, length, true, None, OnOk};
 ghost use Rattle.bank.specs.Given.{NeverFalls};
 ghost use Rattle.superblocks.specs.Reading.{is_clean};
 ghost use Rattle.row_io.specs.Rows.{reading_of, present};
@@ -14,7 +14,8 @@ ghost use Rattle.views.specs.Moving.{Grows};
 ghost use Rattle.views.specs.Lacking.{HaveRolesFailed, AreHoldersFlushed, AreTooMany};
 ghost use Rattle.array_kept.specs.Calls.{world_for, AreSparesFewer, IsSettled, IsSettling, IsAnswered, IsCausedBy, IsSameArray, AreLossesOf, AreLeftFlushed, IsEndOf, OnNoMemory};
 
-use crate::array::{Array, refusal_of};
+use crate::array::Array;
+use array_state::refusing::refusal_of;
 use bank::Bank;
 use call_entries::calls::{check_number, enter, enter_behind};
 use flat_history::Event;

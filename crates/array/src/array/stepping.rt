@@ -1,8 +1,7 @@
 //! The background steps of an array: its resync.
 
-ghost use Rattle.std.specs.Prelude.{◌≡◌, ◌≢◌, ◌+◌, ◌∷◌, [], ◌≤◌, true, false, None, Err, OnOk, OnErr, MatchOption};
+ghost use Rattle.std.specs.Prelude.{◌≡◌, ◌≢◌, ◌+◌, ◌∷◌, [], ◌≤◌, true, false, None, Err, OnOk, OnErr};
 ghost use Rattle.bank.specs.Given.{NeverFalls};
-ghost use Rattle.md_base.specs.declared.answers.Refusal.{Refusal};
 ghost use Rattle.md_base.specs.declared.answers.Fault.TheVariants.{NoMemory as WantsMemory};
 ghost use Rattle.superblocks.specs.Reading.{shape_of, is_clean};
 ghost use Rattle.row_io.specs.Rows.{reading_of, present};
@@ -21,15 +20,15 @@ ghost use Rattle.shape_views.specs.Regions.{DoWithout};
 ghost use Rattle.safe_updates.specs.First.{write_refusal, IsFirstRefused};
 ghost use Rattle.array_kept.specs.Calls.{world_for, AreSparesFewer, HasStripeLeft, IsAllMended, one_more, AreStepsFewer, AreStepsKept, IsStepsReply, by_answer, IsSettled, IsEntered, IsCausedBy, IsSameArray, AreLossesOf, IsEndOf, IsUnmendable};
 
-use crate::array::asking::steps_left;
-use crate::array::{Array, refusal_of};
+use crate::array::Array;
+use array_state::asking::steps_left;
+use array_state::refusing::{refusal_of, unmended};
 use bank::Bank;
 use call_entries::calls::{check_open, enter, enter_behind};
 use flat_history::{Event, StepKind};
-use md_base::{Fault, NoMemory, Refusal, Who};
+use md_base::{Fault, NoMemory, Who};
 use safe_rows::mending::mend;
 use safe_updates::naming::newly_vacant;
-use safe_updates::refusing::unwritten;
 use safe_updates::roles::{shape_in, vacant_roles};
 use safe_updates::settles::settle;
 
@@ -51,14 +50,6 @@ impl<B: Bank> Array<B> {
         }
         self.steps = steps;
         Ok(())
-    }
-
-    // Why the next stripe isn't mended, before it is read.
-    fn unmended(&self) -> Option<Refusal>
-        ensures first { result ≡ write_refusal (shape_of self.now.members.newest) false self.now.members }
-        ensures why { MatchOption result ((refusal : Refusal) → IsUnmendable self.now.members refusal → ⊥) (IsUnmendable self.now.members) }
-    {
-        unwritten(&self.members, &shape_in(&self.members), false)
     }
 
     /// A step of the pending resync: makes the parity of its next stripe fit the data. Every role that has data must be there.
@@ -90,7 +81,7 @@ impl<B: Bank> Array<B> {
     {
         self.steps -= 1;
         check_open(&self.epoch.entries, who);
-        if let Some(refusal) = self.unmended() {
+        if let Some(refusal) = unmended(&self.members) {
             let end = self.bank.ops();
             enter(&mut self.epoch, who, end, Event::Refused { refusal });
             return Err(Fault::Refused(refusal));

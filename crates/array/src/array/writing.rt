@@ -14,42 +14,19 @@ ghost use Rattle.shape_changes.specs.Marking.{AreOthersPresent};
 ghost use Rattle.views.specs.Moving.{Grows};
 ghost use Rattle.views.specs.Lacking.{HaveRolesFailed, IsUnwritten, are_mended, mended_rows};
 ghost use Rattle.safe_updates.specs.First.{write_refusal, call_refusal, IsFirstRefused};
-ghost use Rattle.array_kept.specs.Calls.{world_for, AreSparesFewer, IsAnswered, IsCausedBy, IsRefusalOf, IsSameArray, AreLossesOf, IsEndOf, OnNoMemory, has_torn};
+ghost use Rattle.array_kept.specs.Calls.{world_for, AreSparesFewer, IsAnswered, IsCausedBy, IsSameArray, AreLossesOf, IsEndOf, OnNoMemory, has_torn};
 
 use crate::array::Array;
+use array_state::refusing::{are_mended, unwritten_from};
 use bank::Bank;
 use call_entries::calls::{check_number, enter, enter_behind, enter_failure};
 use flat_history::Event;
-use md_base::{Fault, Refusal, Sectors, Shape, Who};
-use safe_rows::mending::mended_rows;
+use md_base::{Fault, Sectors, Who};
 use safe_rows::putting::put;
 use safe_updates::naming::newly_vacant;
-use safe_updates::refusing::unwritten;
-use safe_updates::roles::{list_length, shape_in, vacant_roles};
+use safe_updates::roles::{shape_in, vacant_roles};
 
 impl<B: Bank> Array<B> {
-    // Whether the sectors of the list below this one are all in rows whose parity is to be relied on.
-    fn are_mended(&self, shape: &Shape, to: u64) -> bool
-        requires shape { shape.now ≡ shape_of self.now.members.newest }
-        ensures { result ≡ are_mended shape.now (mended_rows self.now.work.resync self.now.members) to }
-    {
-        to <= list_length(shape, mended_rows(&self.members, self.work.resync))
-    }
-
-    // Why so many sectors from one on aren't written, before any row is read.
-    fn unwritten(&self, at: u64, count: u64) -> Option<Refusal>
-        requires short { at + count < 2 ^ 63 }
-        ensures first { result ≡ call_refusal (list_size (places_of self.now.members)) (at + count) (write_refusal (shape_of self.now.members.newest) (are_mended (shape_of self.now.members.newest) (mended_rows self.now.work.resync self.now.members) (at + count)) self.now.members) }
-        ensures why { IsRefusalOf (list_size (places_of self.now.members)) (at + count) (IsUnwritten (shape_of self.now.members.newest) (are_mended (shape_of self.now.members.newest) (mended_rows self.now.work.resync self.now.members) (at + count))) self.now.members result }
-    {
-        let visible = self.visible();
-        if visible < at + count {
-            return Some(Refusal::PastEnd(visible));
-        }
-        let shape = shape_in(&self.members);
-        unwritten(&self.members, &shape, self.are_mended(&shape, at + count))
-    }
-
     /// Makes the list hold `from`, of 1 to 128 whole sectors, from `at` on. Refusals: `PastEnd`, `TooManyMissing`, and
     /// `NotResynced` where a resync is pending.
     pub fn write(&mut self, who: Who, at: u64, from: &[u8]) -> Result<(), Fault>
@@ -88,14 +65,14 @@ impl<B: Bank> Array<B> {
         self.steps = 0;
         check_number(&self.epoch.entries, who);
         let count = (from.len() / 512) as u64;
-        if let Some(refusal) = self.unwritten(at, count) {
+        if let Some(refusal) = unwritten_from(&self.members, self.work.resync, at, count) {
             let end = self.bank.ops();
             enter(&mut self.epoch, who, end, Event::Refused { refusal });
             return Err(Fault::Refused(refusal));
         }
         let shape = shape_in(&self.members);
         let before = vacant_roles(&self.members, shape.disks);
-        let synced = self.are_mended(&shape, at + count);
+        let synced = are_mended(&self.members, self.work.resync, &shape, at + count);
         let done = put(
             &mut self.members,
             &mut self.bank,

@@ -48,20 +48,20 @@ invariant_of-self-2 g c =
     let a = c.self.inside in
     let given = g.B.Bank.given a.bank in
     let refusal = c.in-Some.refusal in
-    let why = subst (λ v. IsUnaddable (g.B.Bank.given v.bank) v.backup c.args.slot v.members refusal) (sym c.self.view_is) c.in-Some.ensures in
     let opens = begins-open a.epoch.entries.items c.args.who (c.requires.next ∙ ap (λ p. next_number c.args.who.caller p.entries) (sym c.self.view_is)) in
     ready (entries_of c.args.who c.ops-end.result (Refused refusal ∷ []))
-    (kept-unadded c.args.who c.ops-end.result c.args.slot a.backup was.kept opens c.requires.caller c.ops-end.ensures.count refl refusal why)
+    (kept-unadded c.args.who c.ops-end.result c.args.slot a.backup was.kept opens c.requires.caller c.ops-end.ensures.count refl refusal c.in-Some.ensures)
     was.failed (λ s. omega arith) refl (scope-same given a.backup refl c.enter.ensures.uuid c.enter.ensures.given) c.enter.ensures.first
     c.make_room.ensures.items c.enter.ensures.items (omega (arith, c.enter.ensures.room, c.in-Ok.ensures.ok)) was.rows_fit was.buffer_fits
 
 pub returns-clause-answered : goal.returns-clause-answered
 returns-clause-answered g c =
     let refusal = c.in-Some.refusal in
-    unadded_reply (g.B.Bank.given c.args.self.now.bank) c.args.self.now.backup c.args.self.now.members (list_size (places_of c.args.self.now.members)) c.args.who c.args.self.now.entries c.enter.new.epoch.entries.items
+    let a = c.self.inside in
+    let number : c.args.who.number ≡ next_number c.args.who.caller a.epoch.entries.items = c.requires.next ∙ ap (λ p. next_number c.args.who.caller p.entries) (sym c.self.view_is) in
+    rw (← c.self.view_is) (unadded_reply (g.B.Bank.given a.bank) a.backup a.members (list_size (places_of a.members)) c.args.who a.epoch.entries.items c.enter.new.epoch.entries.items
     c.ops-end.result c.args.slot refusal c.in-Some.ensures
-    (c.enter.ensures.items ∙ ap (λ (l : List Entry). l ++ entries_of c.args.who c.ops-end.result (Refused refusal ∷ [])) (c.make_room.ensures.items ∙ ap (λ p. p.entries) c.self.view_is))
-    c.requires.next
+    (c.enter.ensures.items ∙ ap (λ (l : List Entry). l ++ entries_of c.args.who c.ops-end.result (Refused refusal ∷ [])) c.make_room.ensures.items) number)
 
 pub returns-clause-ended : goal.returns-clause-ended
 returns-clause-ended g c =
@@ -70,10 +70,12 @@ returns-clause-ended g c =
 pub is_held_up-requires : goal.is_held_up-requires
 is_held_up-requires g c =
     let a = c.self.inside in
-    let addable = subst (λ v. (refusal : Refusal) → IsUnaddable (g.B.Bank.given v.bank) v.backup c.args.slot v.members refusal → ⊥) (sym c.self.view_is) c.in_default.ensures in
-    rw (← c.self.view_is) (record { slot = slot-there (g.B.Bank.given a.bank) a.backup c.args.slot a.members c.self.invariant.kept.placed addable })
+    rw (← c.self.view_is) (record { slot = slot-there (g.B.Bank.given a.bank) a.backup c.args.slot a.members c.self.invariant.kept.placed c.in_default.ensures })
+
+pub make_spare-requires-clause-addable : goal.make_spare-requires-clause-addable
+make_spare-requires-clause-addable g c = rw (← c.self.view_is) c.in_default.ensures
 
 pub returns-clause-caused : goal.returns-clause-caused
 returns-clause-caused g c =
     unadded-for unit.Denot (g.B.Bank.given c.args.self.now.bank) c.args.self.now.backup c.args.slot c.args.self.now.members c.self.inside.members (g.B.Bank.faults_of c.args.self.now.bank) (g.B.Bank.faults_of c.self.inside.bank)
-    c.in-Some.refusal c.in-Some.ensures (ap (λ p. p.members) c.self.view_is)
+    c.in-Some.refusal (subst (λ v. IsUnaddable (g.B.Bank.given v.bank) v.backup c.args.slot v.members c.in-Some.refusal) c.self.view_is c.in-Some.ensures) (ap (λ p. p.members) c.self.view_is)

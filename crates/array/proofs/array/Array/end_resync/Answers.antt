@@ -29,6 +29,7 @@ use Rattle.calls_kept.proofs.SettledLaws.{leaves-refused, leaves-settled}
 use Rattle.array_kept.proofs.StepsLeft.{left-ended, steps-fewer, steps-kept}
 use Rattle.calls_kept.proofs.EndLaws.{enough-mended, end-silent, degraded-ended}
 use Rattle.views.proofs.Still.{count-still}
+use Rattle.array.proofs.StillUnder.{still-safe, still-settled}
 use Rattle.array.proofs.array.Array.end_resync.Goals as goal
 
 too-many-of : (m : Members) (o : Option Refusal) (refusal : Refusal) → o ≡ Some refusal → MatchOption o ⊤ (AreTooMany m) → AreTooMany m refusal
@@ -90,7 +91,7 @@ invariant_of-self-in-Some-refusal g c =
     ready (entries_of c.args.who end (losses_of roles spares ++ Refused refusal ∷ []))
     (degraded-refused c.args.who end was.kept opens c.requires.caller c.ops-end-2.ensures.count did.moved did.grows roles spares before after since refusal
     (too-many-here (list_size (places_of a.members)) a.work.resync m refusal many) did.others
-    (leaves-refused c.args.who end was.kept opens c.requires.caller c.ops-end-2.ensures.count did.moved did.grows roles spares before after since did.rise false (λ synced. enough-mended was.kept.placed all) did.safe refusal many))
+    (leaves-refused c.args.who end was.kept opens c.requires.caller c.ops-end-2.ensures.count did.moved did.grows roles spares before after since did.rise false (λ synced. enough-mended was.kept.placed all) (still-safe g.B.Bank.tells given (g.B.Bank.tape a.bank) (g.B.Bank.tape c.settle-settled.new.bank) a.members m false was.kept.placed was.kept.still did.safe) refusal many))
     was.failed did.counts did.given (scope-same given a.backup did.given c.enter_behind.ensures.uuid c.enter_behind.ensures.given) c.enter_behind.ensures.first refl c.enter_behind.ensures.items
     (omega (arith, c.enter_behind.ensures.room, was.room_left, some)) was.rows_fit was.buffer_fits
 
@@ -178,9 +179,9 @@ invariant_of-self-2 g c =
     c.vacant_roles-before.ensures c.newly_vacant-roles.ensures in
     ready (entries_of c.args.who end (losses_of roles spares ++ Step ResyncEnded c.steps_left-left.result ∷ []))
     (degraded-ended c.args.who end was.kept opens c.requires.caller c.ops-end-2.ensures.count did.moved did.grows roles spares before after since all c.steps_left-left.result c.steps_left-left.ensures did.others
-    (leaves-settled c.args.who end was.kept opens c.requires.caller c.ops-end-2.ensures.count did.moved did.grows roles spares before after since did.rise false (λ synced. enough-mended was.kept.placed all) did.safe
+    (leaves-settled c.args.who end was.kept opens c.requires.caller c.ops-end-2.ensures.count did.moved did.grows roles spares before after since did.rise false (λ synced. enough-mended was.kept.placed all) (still-safe g.B.Bank.tells given (g.B.Bank.tape a.bank) (g.B.Bank.tape c.settle-settled.new.bank) a.members m false was.kept.placed was.kept.still did.safe)
     (record a.work { resync = None }) (λ number is. is) refl (Step ResyncEnded c.steps_left-left.result) (end-silent c.args.who end c.steps_left-left.result) refl (λ role. refl) (λ x values has. has) (λ t. synced-behind _ a.epoch.entries.items c.args.who end (losses_of roles spares) c.steps_left-left.result (losses-are roles spares))
-    (λ no. absurd (cc)) did.stays (did.clean c.in_default-refusal.is) (did.settled c.in_default-refusal.is)))
+    (λ no. absurd (cc)) did.stays (did.clean c.in_default-refusal.is) (still-settled g.B.Bank.tells given (g.B.Bank.tape a.bank) (g.B.Bank.tape c.settle-settled.new.bank) a.members m false was.kept.placed was.kept.still (did.settled c.in_default-refusal.is))))
     was.failed did.counts did.given (scope-same given a.backup did.given c.enter_behind-2.ensures.uuid c.enter_behind-2.ensures.given) c.enter_behind-2.ensures.first refl c.enter_behind-2.ensures.items
     (omega (arith, c.enter_behind-2.ensures.room, was.room_left, some)) was.rows_fit was.buffer_fits
 

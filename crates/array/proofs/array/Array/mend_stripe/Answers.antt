@@ -24,13 +24,13 @@ use Rattle.array_kept.proofs.DegradedLaws.{kept-refused, unwritten-here}
 use Rattle.safe_updates.specs.First.{write_refusal}
 use Rattle.views.proofs.Still.{count-still}
 use Rattle.calls_kept.proofs.TouchedLaws.{list-mended, rows-stay, rebuilt-stays, safe-mend, rows-mended}
-use Rattle.array.proofs.UnmendableLaws.{unmendable-of, unwritten-then}
+use Rattle.array_state.proofs.UnmendableLaws.{unmendable-of, unwritten-then}
 use Rattle.array.proofs.array.Array.mend_stripe.Goals as goal
 
 -- ---- refused before anything is done
 
-pub invariant_of-self-in-Some : goal.invariant_of-self-in-Some
-invariant_of-self-in-Some g c =
+pub invariant_of-self : goal.invariant_of-self
+invariant_of-self g c =
     let was = c.self.invariant in
     let a = c.self.inside in
     let opens : IsCallOpen a.epoch.entries.items c.args.who = subst (λ p. IsCallOpen p.entries c.args.who) (sym c.self.view_is) c.requires.open in

@@ -37,7 +37,7 @@ use Rattle.array_kept.proofs.ReplyLaws.{refused_reply, lost_reply, inside-losses
 use Rattle.calls_kept.proofs.ReadLaws.{kept-unread, kept-read, fetched, some-of}
 use Rattle.call_entries.proofs.CallLaws.{losses-are, torn-losses}
 use Rattle.safe_updates.specs.First.{read_refusal}
-use Rattle.array.proofs.FirstLaws.{call-within}
+use Rattle.array_state.proofs.FirstLaws.{call-within}
 use Rattle.array.proofs.array.Array.read.Goals as goal
 
 -- bytes that were written whole
@@ -236,8 +236,8 @@ returns-in-Some-refusal-clause-same g c =
 
 -- ---- done
 
-pub invariant_of-self-3 : goal.invariant_of-self-3
-invariant_of-self-3 g c =
+pub invariant_of-self-2 : goal.invariant_of-self-2
+invariant_of-self-2 g c =
     let was = c.self.invariant in
     let a = c.self.inside in
     let number : c.args.who.number ≡ next_number c.args.who.caller a.epoch.entries.items = c.requires.next ∙ ap (λ p. next_number c.args.who.caller p.entries) (sym c.self.view_is) in

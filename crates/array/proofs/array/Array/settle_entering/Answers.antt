@@ -21,6 +21,7 @@ use Rattle.array_kept.proofs.ReplyLaws.{refused-zero}
 use Rattle.array_kept.proofs.LossLaws.{losses-behind, ended-behind, behind-alone, settling-no-loss}
 use Rattle.array_kept.proofs.DegradedLaws.{told-since, kept-refused, degraded-refused, degraded-settled, too-many-here, refused-here}
 use Rattle.calls_kept.proofs.SettledLaws.{left-flushed, all-mended, leaves-refused, leaves-flushed}
+use Rattle.array.proofs.StillUnder.{still-safe, still-settled}
 use Rattle.array.proofs.array.Array.settle_entering.Goals as goal
 
 too-many-of : (m : Members) (o : Option Refusal) (refusal : Refusal) → o ≡ Some refusal → MatchOption o ⊤ (AreTooMany m) → AreTooMany m refusal
@@ -68,7 +69,7 @@ invariant_of-self-in-Some-refusal g c =
     ready (entries_of c.args.who end (losses_of roles spares ++ Refused refusal ∷ []))
     (degraded-refused c.args.who end was.kept (begins-open a.epoch.entries.items c.args.who number) c.requires.caller c.ops-end-2.ensures.count did.moved did.grows roles spares before after since refusal
     (too-many-here (list_size (places_of a.members)) a.work.resync m refusal many) did.others
-    (leaves-refused c.args.who end was.kept (begins-open a.epoch.entries.items c.args.who number) c.requires.caller c.ops-end-2.ensures.count did.moved did.grows roles spares before after since did.rise c.is_some.result (all-mended a.members a.work.resync c.is_some.result c.is_some.ensures) did.safe refusal many))
+    (leaves-refused c.args.who end was.kept (begins-open a.epoch.entries.items c.args.who number) c.requires.caller c.ops-end-2.ensures.count did.moved did.grows roles spares before after since did.rise c.is_some.result (all-mended a.members a.work.resync c.is_some.result c.is_some.ensures) (still-safe g.B.Bank.tells given (g.B.Bank.tape a.bank) (g.B.Bank.tape c.settle-settled.new.bank) a.members m c.is_some.result was.kept.placed was.kept.still did.safe) refusal many))
     was.failed did.counts did.given (scope-same given a.backup did.given c.enter_behind.ensures.uuid c.enter_behind.ensures.given) c.enter_behind.ensures.first c.make_room.ensures.items c.enter_behind.ensures.items
     (omega (arith, c.enter_behind.ensures.room, c.in-Ok.ensures.ok)) was.rows_fit was.buffer_fits
 
@@ -136,7 +137,7 @@ invariant_of-self-2 g c =
     ready (entries_of c.args.who end (losses_of roles spares ++ c.args.event ∷ []))
     (degraded-settled c.args.who end was.kept (begins-open a.epoch.entries.items c.args.who number) c.requires.caller c.ops-end-2.ensures.count did.moved did.grows roles spares before after since c.args.event settles did.others
     (leaves-flushed c.args.who end was.kept (begins-open a.epoch.entries.items c.args.who number) c.requires.caller c.ops-end-2.ensures.count did.moved did.grows roles spares before after since did.rise c.is_some.result
-    (all-mended a.members a.work.resync c.is_some.result c.is_some.ensures) did.safe c.args.event settles c.is_some.ensures did.stays (did.clean c.in_default-refusal.is) (did.settled c.in_default-refusal.is)))
+    (all-mended a.members a.work.resync c.is_some.result c.is_some.ensures) (still-safe g.B.Bank.tells given (g.B.Bank.tape a.bank) (g.B.Bank.tape c.settle-settled.new.bank) a.members m c.is_some.result was.kept.placed was.kept.still did.safe) c.args.event settles c.is_some.ensures did.stays (did.clean c.in_default-refusal.is) (still-settled g.B.Bank.tells given (g.B.Bank.tape a.bank) (g.B.Bank.tape c.settle-settled.new.bank) a.members m c.is_some.result was.kept.placed was.kept.still (did.settled c.in_default-refusal.is))))
     was.failed did.counts did.given (scope-same given a.backup did.given c.enter_behind-2.ensures.uuid c.enter_behind-2.ensures.given) c.enter_behind-2.ensures.first c.make_room.ensures.items c.enter_behind-2.ensures.items
     (omega (arith, c.enter_behind-2.ensures.room, c.in-Ok.ensures.ok)) was.rows_fit was.buffer_fits
 

@@ -28,7 +28,7 @@ use Rattle.calls_kept.proofs.WriteLaws.{kept-unwritten, kept-wrote}
 use Rattle.views.proofs.MemberLaws.{list-few}
 use Rattle.call_entries.proofs.CallLaws.{losses-are, torn-losses}
 use Rattle.safe_updates.specs.First.{write_refusal}
-use Rattle.array.proofs.FirstLaws.{call-within}
+use Rattle.array_state.proofs.FirstLaws.{call-within}
 use Rattle.array.proofs.array.Array.write.Goals as goal
 
 -- ---- refused before any row is read
@@ -207,8 +207,8 @@ returns-in-Some-refusal-clause-same g c =
 
 -- ---- done
 
-pub invariant_of-self-4 : goal.invariant_of-self-4
-invariant_of-self-4 g c =
+pub invariant_of-self-2 : goal.invariant_of-self-2
+invariant_of-self-2 g c =
     let was = c.self.invariant in
     let a = c.self.inside in
     let number : c.args.who.number ≡ next_number c.args.who.caller a.epoch.entries.items = c.requires.next ∙ ap (λ p. next_number c.args.who.caller p.entries) (sym c.self.view_is) in

@@ -1,8 +1,0 @@
-use Rattle.std.proofs.Common.{◌≡◌, ◌<◌, ℕ, true}
-use Rattle.row_io.specs.Rows.{reading_of}
-use Rattle.views.specs.Placed.{is_vacant}
-use Rattle.array.proofs.array.adding.first_offset.Given as goal
-
--- no role before this one is held
-abbrev pub invariant-loop-role : goal.invariant-loop-role
-invariant-loop-role l = (role : ℕ) → role < l.role → is_vacant (reading_of l.members) role ≡ true

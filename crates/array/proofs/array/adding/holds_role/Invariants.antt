@@ -1,7 +1,0 @@
-use Rattle.std.proofs.Common.{◌<◌, ℕ}
-use Rattle.views.specs.Rebuilding.{Held}
-use Rattle.array.proofs.array.adding.holds_role.Given as goal
-
--- no role before this one is held by the slot
-abbrev pub invariant-loop-role : goal.invariant-loop-role
-invariant-loop-role l = (role : ℕ) → role < l.role → Held l.members role l.slot → ⊥

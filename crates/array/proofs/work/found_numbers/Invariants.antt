@@ -1,6 +1,0 @@
-use Rattle.array_kept.proofs.FoundLaws.{AreNumbersFound}
-use Rattle.array.proofs.work.found_numbers.Given as goal
-
--- the numbers before this one are looked for
-abbrev pub invariant-loop-number : goal.invariant-loop-number
-invariant-loop-number l = AreNumbersFound l.members.own l.number l.carried

@@ -1,0 +1,14 @@
+use Rattle.std.proofs.Common.{◌≡◌, ◌+◌, ◌≤◌, ◌++◌}
+use Rattle.row_io.specs.Rows.{reading_of}
+use Rattle.flat_history.specs.Plain.{entries_of}
+use Rattle.call_entries.specs.Losing.{IsSameEpoch}
+use Rattle.array_kept.specs.Adopting.{opener, absent_losses}
+use Rattle.array_state.proofs.absent.enter_all_absent.Given as goal
+
+abbrev pub invariant-loop-role : goal.invariant-loop-role
+invariant-loop-role l = record {
+  items : l.epoch.entries.items ≡ l.fn.epoch.entries.items ++ entries_of opener l.end (absent_losses (reading_of l.members) l.role);
+  room : l.fn.epoch.entries.room ≤ l.epoch.entries.room + l.role;
+  same : IsSameEpoch l.fn.epoch l.epoch;
+  last : l.fn.epoch.last ≡ l.end → l.epoch.last ≡ l.end;
+}

@@ -1,0 +1,25 @@
+use Rattle.std.proofs.Common.{sym, arith}
+use Rattle.row_io.specs.Rows.{reading_of}
+use Rattle.row_io.proofs.Tables.{count_below-none, count_below-le, count_step}
+use Rattle.views.specs.Placed.{is_vacant}
+use Rattle.array_state.proofs.asking.vacant_count.Goals.{then-is_vacant, else-is_vacant}
+use Rattle.array_state.proofs.asking.vacant_count.Goals as goal
+
+pub loop-role-init : goal.loop-role-init
+loop-role-init c = sym (count_below-none (is_vacant (reading_of c.args.members.now)))
+
+pub overflow_add-count : goal.overflow_add-count
+overflow_add-count c = omega (arith, c.loop-role.invariant, count_below-le c.loop-role.role (is_vacant (reading_of c.args.members.now)), c.loop-role-test.true, c.ranges.disks.fits)
+
+pub loop-role-preserved : goal.loop-role-preserved
+loop-role-preserved c = elim c.if-is_vacant.branch [
+  | then-is_vacant w ↦
+      count_step c.loop-role.role (is_vacant (reading_of c.args.members.now)) c.is_vacant.result c.loop-role.count c.if-is_vacant.count c.loop-role.invariant c.is_vacant.ensures
+      (rw w.if-is_vacant.true (omega (arith, w.count-is)))
+  | else-is_vacant w ↦
+      count_step c.loop-role.role (is_vacant (reading_of c.args.members.now)) c.is_vacant.result c.loop-role.count c.if-is_vacant.count c.loop-role.invariant c.is_vacant.ensures
+      (rw w.if-is_vacant.false (omega (arith, w.count-is)))
+]
+
+pub returns-clause-few : goal.returns-clause-few
+returns-clause-few c = omega (arith, c.loop-role.invariant, count_below-le c.loop-role.role (is_vacant (reading_of c.args.members.now)), c.loop-role.auto.role-end, c.requires.disks)

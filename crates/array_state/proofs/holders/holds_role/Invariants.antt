@@ -1,0 +1,7 @@
+use Rattle.std.proofs.Common.{◌<◌, ℕ}
+use Rattle.views.specs.Rebuilding.{Held}
+use Rattle.array_state.proofs.holders.holds_role.Given as goal
+
+-- no role before this one is held by the slot
+abbrev pub invariant-loop-role : goal.invariant-loop-role
+invariant-loop-role l = (role : ℕ) → role < l.role → Held l.members role l.slot → ⊥

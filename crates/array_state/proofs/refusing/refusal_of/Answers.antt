@@ -1,0 +1,16 @@
+use Rattle.std.proofs.Common.{ℕ, ◌≤◌, Option, Some, None, arith, MatchOption}
+use Rattle.md_base.specs.declared.answers.Refusal.{Refusal}
+use Rattle.superblocks.specs.declared.members.Members.{Members}
+use Rattle.shape_views.specs.Regions.{DoWithout}
+use Rattle.views.specs.Lacking.{AreTooMany}
+use Rattle.views.proofs.LackingLaws.{never-both}
+use Rattle.array_kept.specs.Calls.{IsRefusalOf}
+use Rattle.array_kept.proofs.ReplyLaws.{too-many-of, refused-for}
+use Rattle.array_state.proofs.refusing.refusal_of.Goals as goal
+
+by-missing : (visible to : ℕ) (m : Members) (found : Option Refusal) → to ≤ visible → MatchOption found (DoWithout m) (AreTooMany m) → IsRefusalOf visible to AreTooMany m found
+by-missing visible to m None le does = (le, λ refusal many. never-both m refusal does many)
+by-missing visible to m (Some refusal) le many = refused-for visible to AreTooMany m m refusal (too-many-of m refusal many) le many
+
+pub returns : goal.returns
+returns c = by-missing c.args.visible c.args.to c.args.members.now c.too_many.result (omega arith) c.too_many.ensures

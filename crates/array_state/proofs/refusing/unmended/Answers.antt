@@ -1,0 +1,16 @@
+use Rattle.std.proofs.Common.{false, ◌∙◌, ap}
+use Rattle.md_base.specs.declared.places.Shape.{Shape}
+use Rattle.superblocks.specs.Reading.{shape_of}
+use Rattle.safe_updates.specs.First.{write_refusal}
+use Rattle.array_state.proofs.FirstLaws.{write-told}
+use Rattle.array_state.proofs.UnmendableLaws.{unmended-told}
+use Rattle.array_state.proofs.refusing.unmended.Goals as goal
+
+pub returns-clause-first : goal.returns-clause-first
+returns-clause-first c = c.unwritten.ensures ∙ ap (λ (s : Shape). write_refusal s false c.args.members.now) c.shape_in.ensures
+
+pub returns-clause-why : goal.returns-clause-why
+returns-clause-why c =
+    let m = c.args.members.now in
+    unmended-told m c.unwritten.result c.requires.still (write-told (shape_of m.newest) false m c.unwritten.result
+    (c.unwritten.ensures ∙ ap (λ (s : Shape). write_refusal s false m) c.shape_in.ensures))

@@ -1,0 +1,44 @@
+use Rattle.std.proofs.Common.{◌≤◌, ◌+◌, ◌*◌, ℕ, refl, ◌∙◌, ap₂, sym, subst, arith}
+use Rattle.md_base.specs.declared.places.Shape.{Shape}
+use Rattle.md_base.specs.Shapes.{data_disks}
+use Rattle.superblocks.specs.Reading.{shape_of}
+use Rattle.views.specs.Whole.{list_size}
+use Rattle.views.specs.Placed.{places_of}
+use Rattle.views.specs.Lacking.{mended_rows}
+use Rattle.safe_updates.specs.First.{read_refusal}
+use Rattle.array_state.proofs.FirstLaws.{short-list, past-is, within-is, read-judged}
+use Rattle.array_state.proofs.refusing.unread_from.Goals as goal
+
+pub returns-then-sectors-at-clause-first : goal.returns-then-sectors-at-clause-first
+returns-then-sectors-at-clause-first c = past-is c.visible-sectors.result _ _ _ c.visible-sectors.ensures c.if-sectors-at.true
+
+pub returns-then-sectors-at-clause-why : goal.returns-then-sectors-at-clause-why
+returns-then-sectors-at-clause-why c = (c.visible-sectors.ensures, (let same = c.visible-sectors.ensures in let past = c.if-sectors-at.true in omega (arith, same, past)), refl)
+
+pub unread-requires-clause-within : goal.unread-requires-clause-within
+unread-requires-clause-within c =
+    let m = c.args.members.now in
+    let within : c.args.at + c.args.count ≤ data_disks (shape_of m.newest) * m.newest.size = omega (arith, c.visible-sectors.ensures, c.if-sectors-at.false) in
+    subst (λ (s : Shape). c.args.at + c.args.count ≤ data_disks s * m.newest.size) (sym c.shape_in.ensures) within
+
+pub unread-requires-clause-short : goal.unread-requires-clause-short
+unread-requires-clause-short c =
+    let m = c.args.members.now in
+    let few = short-list (shape_of m.newest) m.newest.size c.requires.shape c.requires.size in
+    omega (arith, c.visible-sectors.ensures, few, c.if-sectors-at.false)
+
+pub returns-clause-first : goal.returns-clause-first
+returns-clause-first c =
+    let m = c.args.members.now in
+    let to = c.args.at + c.args.count in
+    let within : to ≤ list_size (places_of m) = omega (arith, c.visible-sectors.ensures, c.if-sectors-at.false) in
+    within-is (list_size (places_of m)) to c.unread.result (read_refusal (shape_of m.newest) (mended_rows c.args.resync m) c.args.at c.args.count m) within
+    (c.unread.ensures ∙ ap₂ (λ (s : Shape) (n : ℕ). read_refusal s n c.args.at c.args.count m) c.shape_in.ensures c.mended_rows-mended.ensures.rows)
+
+pub returns-clause-why : goal.returns-clause-why
+returns-clause-why c =
+    let m = c.args.members.now in
+    let to = c.args.at + c.args.count in
+    let within : to ≤ list_size (places_of m) = omega (arith, c.visible-sectors.ensures, c.if-sectors-at.false) in
+    read-judged (shape_of m.newest) (list_size (places_of m)) to (mended_rows c.args.resync m) c.args.at c.args.count m c.unread.result within
+    (c.unread.ensures ∙ ap₂ (λ (s : Shape) (n : ℕ). read_refusal s n c.args.at c.args.count m) c.shape_in.ensures c.mended_rows-mended.ensures.rows)

@@ -1,0 +1,7 @@
+use Rattle.row_io.specs.Rows.{reading_of}
+use Rattle.array_kept.proofs.FoundLaws.{AreStripesFound}
+use Rattle.array_state.proofs.work.found_rebuilt.Given as goal
+
+-- those of the roles before this one
+abbrev pub invariant-loop-role : goal.invariant-loop-role
+invariant-loop-role l = AreStripesFound (reading_of l.members) l.chunk l.role l.rebuilt

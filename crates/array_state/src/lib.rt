@@ -1,0 +1,10 @@
+//! What the members of an array and its work say of it, before it runs and between its calls.
+#![tactic(auto)]
+
+pub mod absent;
+pub mod adding;
+pub mod asking;
+pub mod holders;
+pub mod refusing;
+pub mod room;
+pub mod work;
