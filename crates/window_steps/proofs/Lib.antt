@@ -1,4 +1,4 @@
 pub mod SteadyLaws
 pub mod EnterLaws
-pub mod RecordLaws
+pub mod PastLaws
 pub mod CopyLaws
