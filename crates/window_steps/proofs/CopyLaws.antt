@@ -83,16 +83,17 @@ module _ (old new : Sb) (reshape : HaveSameReshape old new) (shape : shape_of ne
   pub critical-alike : (span : Span) → is_critical (shape_of new) (final_shape new) new.size (is_backward new) span ≡ is_critical (shape_of old) (final_shape old) old.size (is_backward old) span
   critical-alike span = λ i. is_critical (shape i) (reshape.final i) (size i) (reshape.backward i) span
 
--- and so is what a list has that is copied
+-- and so are the places behind the list
+pub same-tail : (old new : Sb) → HaveSameReshape old new → shape_of new ≡ shape_of old → new.size ≡ old.size → tail_of new ≡ tail_of old
+same-tail old new reshape shape size = λ i. record { lo = list-alike old new reshape shape size i; hi = data_disks (reshape.final i) * size i }
+
+-- and what a list has that is copied
 pub tail-alike : (old new : Sb) → HaveSameReshape old new → shape_of new ≡ shape_of old → new.size ≡ old.size → (span : Span) (buffer : List ℕ) (list : ℕ → Sector)
     → IsCopied span buffer (tail_of old) list → IsCopied span buffer (tail_of new) list
 tail-alike old new reshape shape size span buffer list copied = record {
   window = copied.window;
-  zeros = λ x at. copied.zeros x (subst (λ (t : Span). IsIn_span x t) same at);
+  zeros = λ x at. copied.zeros x (subst (λ (t : Span). IsIn_span x t) (same-tail old new reshape shape size) at);
 }
-  where
-    same : tail_of new ≡ tail_of old
-    same = λ i. record { lo = list-alike old new reshape shape size i; hi = data_disks (reshape.final i) * size i }
 
 -- what refused a part refuses the stripe
 pub refused-of : (m : Members) (o : Option Refusal) → MatchOption o (DoWithout m) (AreTooMany m) → MatchOption o ⊤ (AreTooMany m)

@@ -2,3 +2,4 @@ pub mod SteadyLaws
 pub mod EnterLaws
 pub mod PastLaws
 pub mod CopyLaws
+pub mod ZeroLaws

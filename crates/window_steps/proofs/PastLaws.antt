@@ -7,6 +7,8 @@ use Rattle.md_base.specs.Shapes.{has_slot}
 use Rattle.md_base.specs.declared.answers.Refusal.{Refusal}
 use Rattle.md_base.specs.declared.answers.Refusal.TheVariants.{BackupAbsent}
 use Rattle.md_base.specs.declared.places.Shape.{Shape}
+use Rattle.md_base.specs.declared.status.Role.{Role}
+use Rattle.md_base.specs.declared.status.Role.TheVariants.{Whole, Recovering, Missing}
 use Rattle.md_base.specs.declared.places.Span.{Span}
 use Rattle.bank.specs.declared.bank.Operation.{Operation}
 use Rattle.bank.specs.Given.{Given}
@@ -17,7 +19,7 @@ use Rattle.geometry.specs.Geometry.{rows, beyond, side}
 use Rattle.geometry.specs.Geometry as geometry
 use Rattle.superblocks.specs.declared.change.Give.TheVariants.{Same}
 use Rattle.superblocks.specs.declared.members.Members.{Members}
-use Rattle.superblocks.specs.Reading.{Scope, is_clean, is_reshaping, is_backward, shape_of, final_shape, next_window, role_count, holder, role_state}
+use Rattle.superblocks.specs.Reading.{Scope, is_clean, is_reshaping, is_backward, shape_of, final_shape, next_window, role_count, rows_held, holder, role_state}
 use Rattle.superblocks.specs.Reads.{SaysSame, has_spare}
 use Rattle.superblocks.specs.Update.{own_in, planned}
 use Rattle.superblocks.specs.Outcome.{AreStored, IsPlannedOwn, planned_roles}
@@ -45,7 +47,7 @@ use Rattle.views.specs.Lacking.{HaveFailedSince, AreHoldersFlushed}
 use Rattle.views.proofs.HeldRows.{rows-same, without-before}
 use Rattle.views.proofs.LackingLists.{row-moved}
 use Rattle.views.proofs.MarkLaws.{roles-kept}
-use Rattle.views.proofs.SafeStretch.{allowed-later}
+use Rattle.views.proofs.SafeStretch.{gone-before, allowed-later}
 use Rattle.views.proofs.Under.{shown-moved, shown-rows-moved}
 use Rattle.window_steps.proofs.CopyLaws.{window-alike, open-alike}
 use Rattle.window_steps.specs.Recording.{AreOthersFewer, AreHeadersFit, IsCopiedWindow}
@@ -97,6 +99,12 @@ module _ (given : Given) (m : Members) (span : Span) where
       let room = f.room in
       record { room = record { small = room.small; known = room.known; short = room.short; within = room.within }; behind = f.behind; none = f.none; unlost = f.unlost }
 
+-- as many rows are held
+past-rows : (m : Members) (span : Span) (state : Role) → rows_held (reading_of (moved_past span m)) state ≡ rows_held (reading_of m) state
+past-rows m span (Whole slot) = refl
+past-rows m span (Recovering slot) = refl
+past-rows m span Missing = refl
+
 -- members that lost slots have lost them with the position moved
 module _ (given : Given) (old new : Members) (span : Span) (moved : IsMoved given old new) where
   pub next-moved : next_window old.newest ≡ Some span → next_window new.newest ≡ Some span
@@ -108,7 +116,7 @@ module _ (given : Given) (old new : Members) (span : Span) (moved : IsMoved give
     unlost = moved.unlost;
     held = moved.held;
     states = moved.states;
-    rows = moved.rows;
+    rows = λ role. past-rows new span (role_state (reading_of new) role) ∙ moved.rows role ∙ sym (past-rows old span (role_state (reading_of new) role));
     spares = moved.spares;
     fewer = moved.fewer;
     free = λ free. past-free given new span (moved.free (free-past given old span free));
@@ -120,9 +128,18 @@ module _ (given : Given) (old new : Members) (span : Span) (moved : IsMoved give
     same = moved.same;
   }
 
+-- the spares are free behind the update
+pub free-moved : (given : Given) (old new : Members) (span : Span) → IsMoved given (moved_past span old) new → AreSparesFree given old → AreSparesFree given new
+free-moved given old new span moved free = moved.free (past-free given old span free)
+
 -- what has failed since is the same, wherever the position stands
 pub since-past : (m new : Members) (span : Span) (spares : ℕ) (before after : ℕ → ℕ) → HaveFailedSince (moved_past span m) new spares before after → HaveFailedSince m new spares before after
 since-past m new span spares before after since = record { roles = since.roles; spares_are = since.spares_are; told = since.told }
+
+-- what is told of the end is told of what was before
+pub gone-past : (given : Given) (old new : Members) (span : Span) → IsPlaced given old → next_window old.newest ≡ Some span → IsMoved given (moved_past span old) new → (told : Ledger) → AreGoneTold told new
+    → AreGoneTold told old
+gone-past given old new span placed next moved told gone = gone-before given (moved_past span old) new (past-placed given old span placed next) moved told gone
 
 -- ---- what the update leaves
 

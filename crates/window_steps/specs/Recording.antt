@@ -1,7 +1,9 @@
 -- A window is recorded: what its copy has left by then, and what of the backup stays as it was.
-use Rattle.std.specs.Prelude.{◌≡◌, ◌≢◌, ℕ, true, Some}
+use Rattle.std.specs.Prelude.{◌≡◌, ◌≢◌, ℕ, true, List, Some}
 use Rattle.md_base.specs.declared.places.Span.{Span}
 use Rattle.md_base.specs.Sectors.{Sector}
+use Rattle.bank.specs.declared.bank.Operation.{Operation}
+use Rattle.bank.specs.Given.{Given}
 use Rattle.bank.specs.Tape.{Contents, IsIn}
 use Rattle.geometry.specs.Geometry.{rows}
 use Rattle.geometry.specs.Geometry as geometry
@@ -11,9 +13,13 @@ use Rattle.row_io.specs.Rows.{reading_of}
 use Rattle.list_io.specs.Full.{RowStands}
 use Rattle.shape_views.specs.Regions.{DoWithout}
 use Rattle.shape_views.specs.Views.{Disk, Ledger}
-use Rattle.shape_views.specs.Windows.{ListStands, RowsStand}
+use Rattle.shape_views.specs.Windows.{ListStands, RowsStand, moved_past}
+use Rattle.shape_changes.specs.Safety.{HasLiveSlot}
 use Rattle.shape_changes.specs.Steady.{AreWritesAllowed}
 use Rattle.shape_ends.specs.Fits.{IsHeaderFit}
+use Rattle.views.specs.Lacking.{AreHoldersFlushed}
+use Rattle.views.specs.Moving.{Grows, IsMoved}
+use Rattle.safe_updates.specs.Named.{AreNamedMissing}
 
 -- a stop leaves nothing new of any sector but superblocks
 abbrev pub AreOthersFewer : Disk → Disk → Type 0
@@ -31,3 +37,15 @@ pub record IsCopiedWindow (sound : Type 0) (scope : Scope) (told : Ledger) (m : 
   pub stands : ListStands (Some span) m c list
   pub rows_are : is_clean m.newest ≡ true → DoWithout m → sound → RowsStand (Some span) m c list
   pub headers : AreHeadersFit scope m d
+
+-- The slots that hold roles were flushed, and what was lost by then was named, while the superblocks said the former position. The array did without
+-- that, and then the position behind the window was recorded.
+pub record IsRecorded (tells : Type 0) (given : Given) (span : Span) (old new : Members) (before after : List Operation) : Type 0 where
+  pub mid : Members
+  pub tape : List Operation
+  pub lost : IsMoved given old mid
+  pub flushed : tells → AreHoldersFlushed (reading_of mid) given tape
+  pub named : HasLiveSlot mid → AreNamedMissing mid
+  pub few : DoWithout mid
+  pub moved : IsMoved given (moved_past span mid) new
+  pub grows : Grows tells before tape × Grows tells tape after

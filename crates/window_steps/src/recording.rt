@@ -19,7 +19,7 @@ ghost use Rattle.views.specs.Placed.{IsPlaced};
 ghost use Rattle.views.specs.Moving.{Grows, IsMoved};
 ghost use Rattle.views.specs.Rebuilding.{AreSparesFree};
 ghost use Rattle.views.specs.Lacking.{HaveFailedSince, AreHoldersFlushed, AreTooMany};
-ghost use Rattle.window_steps.specs.Recording.{AreOthersFewer, AreHeadersFit, IsCopiedWindow};
+ghost use Rattle.window_steps.specs.Recording.{AreOthersFewer, AreHeadersFit, IsCopiedWindow, IsRecorded};
 
 use crate::copying::Stepped;
 use bank::Bank;
@@ -100,6 +100,7 @@ pub fn record<B: Bank>(members: &mut Members, bank: &mut B, span: &Span) -> Step
     requires free { AreSparesFree (B.given bank.old) members.old }
     requires next { next_window members.old.newest ≡ Some span.now }
     ensures moved { MatchOption result.refusal (IsMoved (B.given bank.old) (moved_past span.now members.old) members.new) (λ refusal. IsMoved (B.given bank.old) members.old members.new) }
+    ensures recorded { result.refusal ≡ None → IsRecorded B.tells (B.given bank.old) span.now members.old members.new (B.tape bank.old) (B.tape bank.new) }
     ensures failed { HaveFailedSince members.old members.new result.spares (B.faults_of bank.old) (B.faults_of bank.new) }
     ensures refused { MatchOption result.refusal ⊤ (AreTooMany members.new) }
     ensures grows { Grows B.tells (B.tape bank.old) (B.tape bank.new) }

@@ -1,6 +1,6 @@
 use Rattle.std.proofs.Common.{◌≡◌, ℕ, refl, sym, ◌∙◌, ap, subst, arith}
 use Rattle.bank.specs.Given.{Given}
-use Rattle.bank.specs.Tape.{disk}
+use Rattle.bank.specs.Tape.{EachMark, disk}
 use Rattle.bank.proofs.Laws.{kept_in}
 use Rattle.row_io.proofs.Turns.{marks_last}
 use Rattle.row_io.specs.Rows.{present, reading_of}
@@ -13,7 +13,6 @@ use Rattle.views.proofs.LackingLaws.{since-then, in-either, holders-fewer, holde
 use Rattle.views.proofs.MendedParts.{safe-part}
 use Rattle.views.proofs.MovedLaws.{moved-then, moved-from, grows-then}
 use Rattle.safe_updates.specs.Named.{AreDataKept}
-use Rattle.bank.specs.Tape.{EachMark}
 use Rattle.window_steps.proofs.PastLaws.{free-moved}
 use Rattle.window_steps.proofs.recording.move_position.Goals as goal
 
