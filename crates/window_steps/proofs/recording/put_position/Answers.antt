@@ -24,7 +24,7 @@ use Rattle.views.proofs.PlacedLaws.{placed-less, less-unlost}
 use Rattle.safe_updates.proofs.SparesLaws.{spare-left, spare-stays, free-told}
 use Rattle.window_steps.proofs.PastLaws.{past-placed, past-less, past-clean, since-past}
 use Rattle.window_steps.proofs.recording.put_position.Given.{Over}
-use Rattle.window_steps.proofs.recording.put_position.Goals.{After-record_position-lost}
+use Rattle.window_steps.proofs.recording.put_position.Goals.{After-without}
 use Rattle.window_steps.proofs.recording.put_position.Goals as goal
 
 pub holders-held-requires-clause-small : goal.holders-held-requires-clause-small
@@ -36,7 +36,7 @@ holders-held-requires-clause-few g c = let most = few (g.B.Bank.given c.args.ban
 pub record_position-lost-requires-clause-few : goal.record_position-lost-requires-clause-few
 record_position-lost-requires-clause-few g c = few (g.B.Bank.given c.args.bank.now) c.args.members.now c.requires.placed
 
-module _ (g : Over) (c : After-record_position-lost g) where
+module _ (g : Over) (c : After-without g) where
   abbrev given : Given
   given = g.B.Bank.given c.args.bank.now
 

@@ -41,12 +41,12 @@ some : (o : Option Refusal) → is_some o ≡ true → o ≡ None → ⊥
 some None is none = absurd (cc)
 some (Some refusal) is none = absurd (cc)
 
-refused-moved : {P Q : Type 0} (o : Option Refusal) → is_some o ≡ true → Q → MatchOption o P (λ refusal. Q)
-refused-moved None is moved = absurd (cc)
-refused-moved (Some refusal) is moved = moved
+refused-moved : (P : Type 0) {Q : Type 0} (o : Option Refusal) → is_some o ≡ true → Q → MatchOption o P (λ refusal. Q)
+refused-moved P None is moved = absurd (cc)
+refused-moved P (Some refusal) is moved = moved
 
 pub returns-then-is_some-clause-moved : goal.returns-then-is_some-clause-moved
-returns-then-is_some-clause-moved g c = refused-moved c.too_many-refusal.result (sym c.is_some.ensures ∙ c.if-is_some.true) c.flush_naming-flushed.ensures.moved
+returns-then-is_some-clause-moved g c = refused-moved _ c.too_many-refusal.result (sym c.is_some.ensures ∙ c.if-is_some.true) c.flush_naming-flushed.ensures.moved
 
 pub returns-then-is_some-clause-refused : goal.returns-then-is_some-clause-refused
 returns-then-is_some-clause-refused g c = refused-of c.flush_naming-flushed.new.members c.too_many-refusal.result c.too_many-refusal.ensures
