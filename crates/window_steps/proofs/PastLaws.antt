@@ -1,9 +1,8 @@
 -- The members with the position behind the window: where they are placed, what the update that records it leaves, and why the array stays safe.
-use Rattle.std.proofs.Common.{◌≡◌, ◌⊎◌, inl, inr, ◌+◌, ◌-◌, ◌^◌, ◌<◌, ◌≤◌, ◌==◌, ◌||◌, ◌&&◌, nat_le, ℕ, Bool, true, false, not, cond, List, [], length, replicate, Option, Some, None, refl, sym, ◌∙◌, ap, subst, arith}
+use Rattle.std.proofs.Common.{◌≡◌, inl, inr, ◌+◌, ◌-◌, ◌^◌, ◌<◌, ◌==◌, ◌||◌, ◌&&◌, nat_le, ℕ, Bool, true, false, not, cond, List, [], replicate, Option, Some, None, refl, sym, ◌∙◌, ap, subst, arith}
 use Rattle.std.specs.Option.{option_map_or}
 use Rattle.std.proofs.lemmas.Bool.Decides.{nat_tests}
 use Rattle.md_base.specs.Sectors.{Sector}
-use Rattle.md_base.specs.Shapes.{has_slot}
 use Rattle.md_base.specs.declared.answers.Refusal.{Refusal}
 use Rattle.md_base.specs.declared.answers.Refusal.TheVariants.{BackupAbsent}
 use Rattle.md_base.specs.declared.places.Shape.{Shape}
@@ -19,14 +18,14 @@ use Rattle.geometry.specs.Geometry.{rows, beyond, side}
 use Rattle.geometry.specs.Geometry as geometry
 use Rattle.superblocks.specs.declared.change.Give.TheVariants.{Same}
 use Rattle.superblocks.specs.declared.members.Members.{Members}
-use Rattle.superblocks.specs.Reading.{Scope, is_clean, is_reshaping, is_backward, shape_of, final_shape, next_window, role_count, rows_held, holder, role_state}
-use Rattle.superblocks.specs.Reads.{SaysSame, has_spare}
+use Rattle.superblocks.specs.Reading.{Scope, is_clean, is_reshaping, shape_of, final_shape, next_window, role_count, rows_held, role_state}
+use Rattle.superblocks.specs.Reads.{SaysSame}
 use Rattle.superblocks.specs.Update.{own_in, planned}
 use Rattle.superblocks.specs.Outcome.{AreStored, IsPlannedOwn, planned_roles}
-use Rattle.row_io.specs.Rows.{present, reading_of, IsHolder}
+use Rattle.row_io.specs.Rows.{present, reading_of}
 use Rattle.list_io.specs.Full.{RowStands}
 use Rattle.flat_history.specs.ActiveSection.{section_for}
-use Rattle.flat_history.specs.Stands.{reach_of, backup_absent}
+use Rattle.flat_history.specs.Stands.{reach_of}
 use Rattle.shape_views.specs.Regions.{backup_of, open_by, ArePlaced}
 use Rattle.shape_views.specs.Views.{Disk, Ledger, IsViewRight}
 use Rattle.shape_views.specs.Windows.{HasNoSection, moved_past}
@@ -42,7 +41,7 @@ use Rattle.shape_ends.proofs.CopyRuns.{fit-headers-plain}
 use Rattle.shape_ends.proofs.FitLaws.{backup-is}
 use Rattle.views.specs.Placed.{IsPlaced, HaveSameReshape, AreLess}
 use Rattle.views.specs.Moving.{IsMoved}
-use Rattle.views.specs.Rebuilding.{IsFree, AreSparesFree}
+use Rattle.views.specs.Rebuilding.{AreSparesFree}
 use Rattle.views.specs.Lacking.{HaveFailedSince, AreHoldersFlushed}
 use Rattle.views.proofs.HeldRows.{rows-same, without-before}
 use Rattle.views.proofs.LackingLists.{row-moved}

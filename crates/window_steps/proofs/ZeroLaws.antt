@@ -1,6 +1,5 @@
 -- What a part of a zeroed stripe leaves: an array whose reshape has gone through the list, and that is as safe as before.
-use Rattle.std.proofs.Common.{◌≡◌, ℕ, ◌/◌, ◌<◌, ◌≤◌, Bool, true, cond, List, length, take, take_all, le_refl, refl, sym, ◌∙◌, ap, subst, arith}
-use Rattle.std.specs.Prelude.{⊤}
+use Rattle.std.proofs.Common.{◌≡◌, ℕ, ◌/◌, ◌<◌, ◌≤◌, cond, List, length, take, take_all, le_refl, sym, ◌∙◌, subst}
 use Rattle.md_base.specs.Sectors.{Sector}
 use Rattle.md_base.specs.Shapes.{stripe_sectors}
 use Rattle.md_base.specs.declared.places.Shape.{Shape}

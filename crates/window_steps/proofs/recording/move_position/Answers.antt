@@ -1,4 +1,4 @@
-use Rattle.std.proofs.Common.{◌≡◌, ℕ, refl, sym, ◌∙◌, ap, subst, arith}
+use Rattle.std.proofs.Common.{refl, sym, ◌∙◌, subst, arith}
 use Rattle.bank.specs.Given.{Given}
 use Rattle.bank.specs.Tape.{EachMark, disk}
 use Rattle.bank.proofs.Laws.{kept_in}
@@ -7,7 +7,6 @@ use Rattle.row_io.specs.Rows.{present, reading_of}
 use Rattle.shape_views.specs.Windows.{moved_past}
 use Rattle.shape_changes.specs.Marking.{AreOthersPresent}
 use Rattle.shape_changes.proofs.Risen.{risen-then}
-use Rattle.views.specs.Moving.{IsMoved}
 use Rattle.views.specs.Rebuilding.{AreSparesFree}
 use Rattle.views.proofs.LackingLaws.{since-then, in-either, holders-fewer, holders-at}
 use Rattle.views.proofs.MendedParts.{safe-part}

@@ -5,7 +5,7 @@ use Rattle.bank.specs.Given.{Given}
 use Rattle.bank.specs.Tape.{disk}
 use Rattle.bank.proofs.Laws.{kept_in}
 use Rattle.superblocks.specs.declared.members.Members.{Members}
-use Rattle.superblocks.specs.Outcome.{live_set, is_left, AreLive}
+use Rattle.superblocks.specs.Outcome.{live_set, is_left}
 use Rattle.superblocks.proofs.SlotSets.{none_above}
 use Rattle.row_io.specs.Rows.{reading_of}
 use Rattle.flat_history.specs.Sound.{OpensFit}

@@ -1,9 +1,8 @@
-use Rattle.std.proofs.Common.{◌≡◌, inl, ◌<◌, ◌≤◌, ℕ, false, Option, Some, None, refl, sym, ◌∙◌, ap, subst, arith}
+use Rattle.std.proofs.Common.{◌≡◌, inl, Option, Some, None, refl, sym, ◌∙◌, subst, arith}
 use Rattle.std.specs.Prelude.{MatchOption, is_some, true}
 use Rattle.md_base.specs.declared.answers.Refusal.{Refusal}
 use Rattle.bank.specs.Given.{Given}
 use Rattle.bank.specs.Tape.{disk}
-use Rattle.superblocks.specs.declared.members.Members.{Members}
 use Rattle.row_io.specs.Rows.{present, reading_of}
 use Rattle.flat_history.specs.Sound.{OpensFit}
 use Rattle.shape_views.specs.Regions.{DoWithout}
@@ -17,7 +16,7 @@ use Rattle.views.specs.Moving.{IsMoved}
 use Rattle.views.specs.Rebuilding.{AreSparesFree}
 use Rattle.views.proofs.LackingLaws.{since-then, in-either, holders-at}
 use Rattle.views.proofs.LackingLists.{none-of}
-use Rattle.views.proofs.MovedLaws.{moved-then, moved-from, grows-then}
+use Rattle.views.proofs.MovedLaws.{moved-then, grows-then}
 use Rattle.views.proofs.SafeStretch.{safe-then, over-at, keeps-from, grows-longer}
 use Rattle.window_steps.specs.Recording.{AreOthersFewer}
 use Rattle.window_steps.proofs.CopyLaws.{refused-of}

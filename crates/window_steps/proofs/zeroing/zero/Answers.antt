@@ -1,13 +1,11 @@
-use Rattle.std.proofs.Common.{◌≡◌, inl, inr, ◌+◌, ◌*◌, ◌≤◌, refl, sym, ◌∙◌, subst, arith}
+use Rattle.std.proofs.Common.{inl, inr, ◌+◌, ◌*◌, refl, sym, ◌∙◌, subst, arith}
 use Rattle.std.proofs.lemmas.Bool.{cases_lt}
 use Rattle.layout.proofs.Places.{chunk_some}
 use Rattle.bank.specs.Given.{Given}
-use Rattle.bank.specs.Tape.{disk}
-use Rattle.superblocks.specs.Reading.{next_window}
 use Rattle.row_io.specs.Rows.{present, reading_of}
 use Rattle.list_io.specs.Full.{RowStands}
 use Rattle.flat_history.specs.Sound.{OpensFit}
-use Rattle.shape_changes.proofs.Risen.{risen-none, risen-then, room-then}
+use Rattle.shape_changes.proofs.Risen.{risen-none, risen-then}
 use Rattle.views.specs.Moving.{IsMoved}
 use Rattle.views.specs.Rebuilding.{AreSparesFree}
 use Rattle.views.specs.Lacking.{AreOtherRowsKept}

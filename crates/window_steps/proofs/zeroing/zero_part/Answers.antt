@@ -4,18 +4,15 @@ use Rattle.md_base.specs.declared.answers.Refusal.{Refusal}
 use Rattle.md_base.specs.declared.places.Shape.{Shape}
 use Rattle.superblocks.specs.Reading.{final_shape}
 use Rattle.bank.specs.Given.{Given}
-use Rattle.bank.specs.Tape.{EachMark, disk}
-use Rattle.row_io.proofs.Turns.{marks_last}
 use Rattle.row_io.specs.Rows.{present}
 use Rattle.flat_history.specs.Sound.{OpensFit}
-use Rattle.shape_views.specs.Regions.{backup_of, DoWithout}
+use Rattle.shape_views.specs.Regions.{DoWithout}
 use Rattle.shape_changes.specs.Marking.{AreOthersPresent}
 use Rattle.shape_changes.proofs.Risen.{risen-then, room-then}
 use Rattle.views.specs.Moving.{IsMoved}
 use Rattle.views.specs.Rebuilding.{AreSparesFree}
 use Rattle.views.specs.Lacking.{DoesWithout, AreTooMany}
 use Rattle.views.proofs.HeldRows.{shape-without-before}
-use Rattle.safe_updates.specs.Named.{AreDataKept}
 use Rattle.window_steps.specs.Copying.{IsOfStripeFrom}
 use Rattle.views.proofs.MovedLaws.{moved-then, moved-from, grows-then}
 use Rattle.views.proofs.LackingLaws.{since-then, in-second}

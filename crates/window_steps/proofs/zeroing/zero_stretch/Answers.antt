@@ -1,19 +1,12 @@
-use Rattle.std.proofs.Common.{◌≡◌, inl, inr, ℕ, ◌+◌, ◌-◌, ◌*◌, List, sym, ap, subst, arith}
-use Rattle.md_base.specs.Sectors.{Sector}
-use Rattle.sb1.specs.declared.sb.Sb.{Sb}
-use Rattle.bank.specs.Tape.{IsIn, disk}
-use Rattle.row_io.proofs.Turns.{marks_last}
-use Rattle.superblocks.specs.Reading.{shape_of, data_offset_of}
+use Rattle.std.proofs.Common.{◌≡◌, inr, ℕ, ◌+◌, ◌-◌, ◌*◌, subst, arith}
+use Rattle.superblocks.specs.Reading.{data_offset_of}
 use Rattle.list_io.specs.Full.{RowStands}
-use Rattle.shape_views.specs.Regions.{backup_of}
-use Rattle.views.specs.Placed.{HaveSameReshape}
 use Rattle.bank.specs.Given.{Given}
-use Rattle.superblocks.specs.declared.members.Members.{Members}
 use Rattle.row_io.specs.Rows.{present, reading_of}
 use Rattle.flat_history.specs.Sound.{OpensFit}
 use Rattle.shape_changes.proofs.Risen.{risen-lost}
 use Rattle.views.specs.Placed.{AreLost}
-use Rattle.views.proofs.Fit.{has-rows, reshape-same}
+use Rattle.views.proofs.Fit.{has-rows}
 use Rattle.views.proofs.MemberLaws.{are_lost}
 use Rattle.views.proofs.MovedLaws.{moved-lost}
 use Rattle.views.proofs.MarkedLaws.{grows-marks}
