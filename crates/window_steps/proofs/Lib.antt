@@ -3,3 +3,4 @@ pub mod EnterLaws
 pub mod PastLaws
 pub mod CopyLaws
 pub mod ZeroLaws
+pub mod StripeRows
