@@ -1,5 +1,5 @@
 -- What a part of a stripe's copy leaves: the rows that stand by the new shape, those that are kept, and an array that is as safe as before.
-use Rattle.std.proofs.Common.{◌≡◌, ◌⊎◌, inl, inr, ℕ, ◌+◌, ◌*◌, ◌<◌, ◌≤◌, true, false, List, [], ◌∷◌, cond, length, take, take_all, le_refl, Option, Some, None, refl, sym, ◌∙◌, ap, subst, arith}
+use Rattle.std.proofs.Common.{◌≡◌, ◌⊎◌, inl, inr, ℕ, ◌+◌, ◌*◌, ◌<◌, ◌≤◌, List, [], ◌∷◌, cond, length, take, take_all, le_refl, Option, Some, None, sym, ◌∙◌, ap, subst, arith}
 use Rattle.std.specs.Prelude.{⊤, MatchOption}
 use Rattle.std.proofs.lemmas.Bool.{cases_lt}
 use Rattle.md_base.specs.Sectors.{Sector}
@@ -17,7 +17,7 @@ use Rattle.views.specs.Lacking.{AreTooMany}
 use Rattle.views.proofs.Fit.{list-alike}
 use Rattle.window_rows.specs.Copies.{tail_of, IsCopied}
 use Rattle.superblocks.specs.declared.members.Members.{Members}
-use Rattle.superblocks.specs.Reading.{Scope, is_reshaping, is_backward, shape_of, final_shape, next_window, role_state, holder, data_offset_of}
+use Rattle.superblocks.specs.Reading.{Scope, is_backward, shape_of, final_shape, next_window, data_offset_of}
 use Rattle.row_io.specs.Rows.{reading_of, held_slot, members_without}
 use Rattle.row_io.proofs.Losses.{holder-of}
 use Rattle.list_io.specs.Full.{RowStands}
@@ -25,11 +25,11 @@ use Rattle.list_io.specs.Writing.{AreSuperblocksKept}
 use Rattle.flat_history.specs.ActiveSection.{section_for}
 use Rattle.shape_views.specs.Regions.{backup_of, open_by}
 use Rattle.shape_views.specs.Views.{Disk, Ledger}
-use Rattle.shape_views.specs.Windows.{IsSomewhere, IsCopying, IsCopyable}
+use Rattle.shape_views.specs.Windows.{IsCopying, IsCopyable}
 use Rattle.shape_changes.specs.Steady.{AreHolders, AreUnlost, IsSafeNow, IsSafeStretch}
 use Rattle.shape_changes.proofs.Drawn.{disk-somewhere}
 use Rattle.shape_changes.proofs.Steady.{safe-is-seen}
-use Rattle.views.specs.Placed.{IsPlaced, HaveSameReshape}
+use Rattle.views.specs.Placed.{HaveSameReshape}
 use Rattle.views.specs.Moving.{IsMoved}
 use Rattle.views.specs.Lacking.{IsHeldRowKept, AreOtherRowsKept}
 use Rattle.views.proofs.HeldRows.{held-moved}
@@ -83,16 +83,17 @@ module _ (old new : Sb) (reshape : HaveSameReshape old new) (shape : shape_of ne
   pub critical-alike : (span : Span) → is_critical (shape_of new) (final_shape new) new.size (is_backward new) span ≡ is_critical (shape_of old) (final_shape old) old.size (is_backward old) span
   critical-alike span = λ i. is_critical (shape i) (reshape.final i) (size i) (reshape.backward i) span
 
--- and so is what a list has that is copied
+-- and so are the places behind the list
+pub same-tail : (old new : Sb) → HaveSameReshape old new → shape_of new ≡ shape_of old → new.size ≡ old.size → tail_of new ≡ tail_of old
+same-tail old new reshape shape size = λ i. record { lo = list-alike old new reshape shape size i; hi = data_disks (reshape.final i) * size i }
+
+-- and what a list has that is copied
 pub tail-alike : (old new : Sb) → HaveSameReshape old new → shape_of new ≡ shape_of old → new.size ≡ old.size → (span : Span) (buffer : List ℕ) (list : ℕ → Sector)
     → IsCopied span buffer (tail_of old) list → IsCopied span buffer (tail_of new) list
 tail-alike old new reshape shape size span buffer list copied = record {
   window = copied.window;
-  zeros = λ x at. copied.zeros x (subst (λ (t : Span). IsIn_span x t) same at);
+  zeros = λ x at. copied.zeros x (subst (λ (t : Span). IsIn_span x t) (same-tail old new reshape shape size) at);
 }
-  where
-    same : tail_of new ≡ tail_of old
-    same = λ i. record { lo = list-alike old new reshape shape size i; hi = data_disks (reshape.final i) * size i }
 
 -- what refused a part refuses the stripe
 pub refused-of : (m : Members) (o : Option Refusal) → MatchOption o (DoWithout m) (AreTooMany m) → MatchOption o ⊤ (AreTooMany m)

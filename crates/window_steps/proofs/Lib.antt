@@ -1,4 +1,6 @@
 pub mod SteadyLaws
 pub mod EnterLaws
-pub mod RecordLaws
+pub mod PastLaws
 pub mod CopyLaws
+pub mod ZeroLaws
+pub mod StripeRows

@@ -1,9 +1,13 @@
 -- What the steps of a window leave of an array that is steady or safe: its section is stored and named, or cleared, its rows are copied, and rows behind the list are zeroed.
-use Rattle.std.specs.Prelude.{◌≡◌, ℕ, true, List, length, Some, None}
+use Rattle.std.specs.Prelude.{◌≡◌, ℕ, ◌<◌, ◌≤◌, true, List, length, Some, None, IsTrue}
+use Rattle.md_base.specs.declared.places.Shape.{Shape}
 use Rattle.md_base.specs.declared.places.Span.{Span}
 use Rattle.md_base.specs.Sectors.{Sector}
+use Rattle.md_base.specs.Shapes.{is_valid_shape, is_multiple}
 use Rattle.bank.specs.Given.{Given}
 use Rattle.bank.specs.Tape.{IsIn}
+use Rattle.geometry.specs.Geometry.{rows}
+use Rattle.geometry.specs.Geometry as geometry
 use Rattle.superblocks.specs.declared.members.Members.{Members}
 use Rattle.superblocks.specs.Reading.{Scope, is_reshaping, next_window}
 use Rattle.row_io.specs.Rows.{members_without}
@@ -15,6 +19,8 @@ use Rattle.shape_views.specs.Windows.{IsSomewhere, IsWrittenAt, HasNoSection, Is
 use Rattle.shape_views.specs.Backups.{IsSectionOf}
 use Rattle.shape_changes.specs.Updates.{IsAtEnd, IsPastPlace}
 use Rattle.shape_changes.specs.Steady.{IsSteady, IsSafeNow, AreHolders, AreUnlost}
+use Rattle.views.specs.Lacking.{IsOfStripe}
+use Rattle.window_rows.specs.Copies.{IsStripeOf, IsPastStripe}
 
 -- ---- the backup
 
@@ -54,3 +60,15 @@ abbrev pub ZeroingStaysSafe : (sound : Type 0) → Type 0
 ZeroingStaysSafe sound = (scope : Scope) (given : Given) (told : Ledger) (members : Members) (lost : ℕ) (d e : Disk)
     → AreHolders given members → AreUnlost members → IsSomewhere d → is_reshaping members.newest ≡ true → next_window members.newest ≡ None → IsAtEnd members.newest
     → IsWrittenAt (IsPastPlace members) d e → IsSafeNow sound scope given told members d → IsSafeNow sound scope given told (members_without lost members) e
+
+-- ---- stripes
+
+-- Each row that a window writes is of one of the stripes that are copied.
+abbrev pub RowsAreOfStripes : Type 0
+RowsAreOfStripes = (shape : Shape) (span : Span) (row : ℕ) → IsTrue (is_valid_shape shape) → geometry.IsIn row (rows shape span.lo span.hi)
+    → (stripe : ℕ) × IsStripeOf shape span stripe × IsOfStripe shape stripe row
+
+-- And each row behind those of a list with this end, among so many, is of one that is zeroed.
+abbrev pub PastRowsAreOfStripes : Type 0
+PastRowsAreOfStripes = (shape : Shape) (size end row : ℕ) → IsTrue (is_valid_shape shape) → IsTrue (is_multiple size shape.chunk) → (rows shape 0 end).hi ≤ row → row < size
+    → (stripe : ℕ) × IsPastStripe shape size end stripe × IsOfStripe shape stripe row

@@ -1,28 +1,51 @@
--- A window is recorded, behind a flush.
-use Rattle.std.specs.Prelude.{◌++◌, List}
+-- A window is recorded: what its copy has left by then, and what of the backup stays as it was.
+use Rattle.std.specs.Prelude.{◌≡◌, ◌≢◌, ℕ, true, List, Some}
 use Rattle.md_base.specs.declared.places.Span.{Span}
+use Rattle.md_base.specs.Sectors.{Sector}
 use Rattle.bank.specs.declared.bank.Operation.{Operation}
 use Rattle.bank.specs.Given.{Given}
-use Rattle.bank.specs.Tape.{AreFlushes, disk}
+use Rattle.bank.specs.Tape.{Contents, IsIn}
+use Rattle.geometry.specs.Geometry.{rows}
+use Rattle.geometry.specs.Geometry as geometry
 use Rattle.superblocks.specs.declared.members.Members.{Members}
-use Rattle.superblocks.specs.Reading.{Scope}
-use Rattle.row_io.specs.Rows.{present}
-use Rattle.shape_views.specs.Views.{Ledger, IsViewRight}
-use Rattle.shape_views.specs.Windows.{AreHoldersFlushed, moved_past}
-use Rattle.shape_changes.specs.Steady.{IsSteady}
-use Rattle.shape_changes.specs.Kinds.{recording}
-use Rattle.shape_changes.specs.Changing.{IsChanged}
-use Rattle.views.specs.Flushing.{OnlyFlushesAdded}
+use Rattle.superblocks.specs.Reading.{Scope, is_clean, final_shape}
+use Rattle.row_io.specs.Rows.{reading_of}
+use Rattle.list_io.specs.Full.{RowStands}
+use Rattle.shape_views.specs.Regions.{DoWithout}
+use Rattle.shape_views.specs.Views.{Disk, Ledger}
+use Rattle.shape_views.specs.Windows.{ListStands, RowsStand, moved_past}
+use Rattle.shape_changes.specs.Safety.{HasLiveSlot}
+use Rattle.shape_changes.specs.Steady.{AreWritesAllowed}
+use Rattle.shape_ends.specs.Fits.{IsHeaderFit}
+use Rattle.views.specs.Lacking.{AreHoldersFlushed}
+use Rattle.views.specs.Moving.{Grows, IsMoved}
+use Rattle.safe_updates.specs.Named.{AreNamedMissing}
 
--- Once each slot that holds a role is flushed, the view that is held is right with the position behind the window too: the window's rows stand by the new shape.
-abbrev pub IsMovable : Type 0 → Scope → Given → Ledger → Members → Span → List Operation → Type 0
-IsMovable sound scope given told members span tape = (ops : List Operation) → AreFlushes ops
-    → AreHoldersFlushed members (present given (tape ++ ops)) (disk given.start (tape ++ ops))
-    → (steady : IsSteady sound scope given told members (disk given.start (tape ++ ops)))
-    → IsViewRight sound scope given told (moved_past span steady.former) (disk given.start (tape ++ ops))
+-- a stop leaves nothing new of any sector but superblocks
+abbrev pub AreOthersFewer : Disk → Disk → Type 0
+AreOthersFewer d e = (s k : ℕ) (v : Sector) → k ≢ 8 → IsIn (e s k) v → IsIn (d s k) v
 
--- The slots that hold roles were flushed, and then the position recorded.
+-- each section that a header names, of those that a stop leaves in the backup, is that of the next window, or lies in the new region
+abbrev pub AreHeadersFit : Scope → Members → Disk → Type 0
+AreHeadersFit scope m d = (backup : ℕ) (header : Sector) → scope.backup ≡ Some backup → IsIn (d backup 0) header → IsHeaderFit scope m.newest header
+
+-- The window is copied: its rows stand by the new shape, with their parity, and the list outside it, of allowed values; where the array is clean the
+-- rows of these sectors stand too. And the headers fit.
+pub record IsCopiedWindow (sound : Type 0) (scope : Scope) (told : Ledger) (m : Members) (span : Span) (list : ℕ → Sector) (c : Contents) (d : Disk) : Type 0 where
+  pub allowed : AreWritesAllowed m told.values list
+  pub window : (row : ℕ) → geometry.IsIn row (rows (final_shape m.newest) span.lo span.hi) → RowStands (reading_of m) c (final_shape m.newest) list row
+  pub stands : ListStands (Some span) m c list
+  pub rows_are : is_clean m.newest ≡ true → DoWithout m → sound → RowsStand (Some span) m c list
+  pub headers : AreHeadersFit scope m d
+
+-- The slots that hold roles were flushed, and what was lost by then was named, while the superblocks said the former position. The array did without
+-- that, and then the position behind the window was recorded.
 pub record IsRecorded (tells : Type 0) (given : Given) (span : Span) (old new : Members) (before after : List Operation) : Type 0 where
-  pub mid : List Operation
-  pub flushes : tells → OnlyFlushesAdded before mid
-  pub update : IsChanged tells given (recording span old) old new mid after
+  pub mid : Members
+  pub tape : List Operation
+  pub lost : IsMoved given old mid
+  pub flushed : tells → AreHoldersFlushed (reading_of mid) given tape
+  pub named : HasLiveSlot mid → AreNamedMissing mid
+  pub few : DoWithout mid
+  pub moved : IsMoved given (moved_past span mid) new
+  pub grows : Grows tells before tape × Grows tells tape after

@@ -37,17 +37,17 @@ pub struct Stepped {
 
 // The first row of the stripe that isn't written, and whether too many roles of the shape are missing.
 #[derive(Clone, Copy)]
-struct Stretch {
-    done: u64,
-    refused: bool,
+pub struct Stretch {
+    pub done: u64,
+    pub refused: bool,
 }
 
 // How many rows of the stripe are written, the spares that were lost, and why not all are.
 #[derive(Clone, Copy)]
-struct Part {
-    done: u64,
-    spares: u32,
-    refusal: Option<Refusal>,
+pub struct Part {
+    pub done: u64,
+    pub spares: u32,
+    pub refusal: Option<Refusal>,
 }
 
 // Copies rows of a stripe from one on, up to the first in which a slot is lost.

@@ -5,7 +5,9 @@ mod copying;
 mod entering;
 pub mod laws;
 mod recording;
+mod zeroing;
 
 pub use copying::{Stepped, copy};
 pub use entering::{Entered, NotEntered, enter_window};
-pub use recording::{Recorded, checkpoint};
+pub use recording::record;
+pub use zeroing::zero;

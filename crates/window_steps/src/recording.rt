@@ -1,86 +1,137 @@
 //! A window is recorded, behind a flush of the members.
 
-ghost use Rattle.std.specs.Prelude.{◌≡◌, ◌≤◌, ◌<◌, ◌^◌, ℕ, true, false, length};
+ghost use Rattle.std.specs.Prelude.{◌≡◌, ◌≤◌, ℕ, None, Some, MatchOption, ⊤};
 ghost use Rattle.bank.specs.Given.{NeverFalls};
-ghost use Rattle.superblocks.specs.Reading.{Scope, role_count};
-ghost use Rattle.superblocks.specs.Reads.{SaysSame};
-ghost use Rattle.superblocks.specs.Outcome.{AreLive};
-ghost use Rattle.row_io.specs.Rows.{reading_of, members_without, HaveFailed};
+ghost use Rattle.bank.specs.Tape.{disk};
+ghost use Rattle.md_base.specs.Sectors.{Sector};
+ghost use Rattle.superblocks.specs.Reading.{Scope, next_window, is_clean};
+ghost use Rattle.row_io.specs.Rows.{present, reading_of};
 ghost use Rattle.flat_history.specs.World.{World};
 ghost use Rattle.flat_history.specs.Sound.{OpensFit};
 ghost use Rattle.shape_views.specs.Regions.{ArePlaced};
-ghost use Rattle.shape_views.specs.Views.{Ledger};
-ghost use Rattle.shape_views.specs.Windows.{moved_past};
-ghost use Rattle.shape_changes.specs.Safety.{HasRoomLeft};
-ghost use Rattle.shape_changes.specs.Steady.{AreHolders, IsSafeOver, KeepsSafe, AreGoneTold};
-ghost use Rattle.shape_changes.specs.Updates.{IsLessView};
-ghost use Rattle.views.specs.Flushing.{OnlyFlushesAdded, AreMembersFlushed};
-ghost use Rattle.window_steps.specs.Recording.{IsMovable, IsRecorded};
+ghost use Rattle.shape_views.specs.Views.{Ledger, IsViewRight};
+ghost use Rattle.shape_views.specs.Windows.{HasNoSection, moved_past};
+ghost use Rattle.shape_changes.specs.Marking.{AreOthersPresent};
+ghost use Rattle.shape_changes.specs.Safety.{HasLiveSlot, HasRoomLeft, IsRisen};
+ghost use Rattle.shape_changes.specs.Steady.{AreUnlost, IsSteady, IsSafeOver, KeepsSafe, AreGoneTold, IsUncleanTold};
+ghost use Rattle.safe_updates.specs.Named.{AreNamedMissing};
+ghost use Rattle.views.specs.Placed.{IsPlaced};
+ghost use Rattle.views.specs.Moving.{Grows, IsMoved};
+ghost use Rattle.views.specs.Rebuilding.{AreSparesFree};
+ghost use Rattle.views.specs.Lacking.{HaveFailedSince, AreHoldersFlushed, AreTooMany};
+ghost use Rattle.window_steps.specs.Recording.{AreOthersFewer, AreHeadersFit, IsCopiedWindow, IsRecorded};
 
+use crate::copying::Stepped;
 use bank::Bank;
 use md_base::Span;
 use reshape_updates::record_position;
-use row_io::lose_slots;
-use safe_updates::flushes::{flush_slots, holders};
+use safe_updates::flushes::holders;
+use safe_updates::naming::name_missing;
+use safe_updates::refusing::too_many;
+use safe_updates::settles::flush_naming;
 use superblocks::Members;
 use superblocks::sets::without;
 
-/// The set of the slots that were lost, and whether the position was recorded.
-#[derive(Drop)]
-pub struct Recorded {
-    pub lost: u32,
-    pub recorded: bool,
-}
-
-// Flushes each slot that holds a role, in slot order. The slots that failed.
-fn flush_holders<B: Bank>(members: &Members, bank: &mut B) -> u32
+// Records the position behind the window. The spares that were lost in this.
+fn put_position<B: Bank>(members: &mut Members, bank: &mut B, span: &Span) -> u32
     requires slots { (B.given bank.old).slots ≤ 32 }
-    requires few { length members.now.roles < 2 ^ 32 }
-    requires holders { AreHolders (B.given bank.old) members.now }
-    ensures flushed { AreMembersFlushed B.tells (B.given bank.old) (B.tape bank.new) (reading_of members.now) result }
-    ensures failed { HaveFailed (reading_of members.now) (length members.now.roles) result (B.faults_of bank.old) (B.faults_of bank.new) }
-    ensures tape { B.tells → OnlyFlushesAdded (B.tape bank.old) (B.tape bank.new) }
+    requires placed { IsPlaced (B.given bank.old) members.old }
+    requires unlost { AreUnlost members.old }
+    requires free { AreSparesFree (B.given bank.old) members.old }
+    requires next { next_window members.old.newest ≡ Some span.now }
+    ensures moved { IsMoved (B.given bank.old) (moved_past span.now members.old) members.new }
+    ensures failed { HaveFailedSince members.old members.new result (B.faults_of bank.old) (B.faults_of bank.new) }
+    ensures grows { Grows B.tells (B.tape bank.old) (B.tape bank.new) }
+    ensures others { B.tells → AreOthersPresent (present (B.given bank.old) (B.tape bank.old)) (present (B.given bank.old) (B.tape bank.new)) }
+    ensures flushed { B.tells → AreHoldersFlushed (reading_of members.old) (B.given bank.old) (B.tape bank.old) → AreHoldersFlushed (reading_of members.old) (B.given bank.old) (B.tape bank.new) }
+    ensures fewer { B.tells → AreOthersFewer (disk (B.given bank.old).start (B.tape bank.old)) (disk (B.given bank.old).start (B.tape bank.new)) }
+    ensures clean { is_clean members.new.newest ≡ is_clean members.old.newest }
+    ensures rise { IsRisen B.tells members.old members.new (B.tape bank.old) (B.tape bank.new) }
+    ensures safe { B.tells → (world : World) → (told : Ledger) → HasRoomLeft members.old (B.tape bank.old) (B.tape bank.new) → AreGoneTold told members.new
+        → (IsSteady (OpensFit world) world.scope (B.given bank.old) told members.old (disk (B.given bank.old).start (B.tape bank.old))
+        → IsViewRight (OpensFit world) world.scope (B.given bank.old) told (moved_past span.now members.old) (disk (B.given bank.old).start (B.tape bank.old)))
+        → IsSafeOver world (B.given bank.old) told members.old (B.tape bank.old)
+        → KeepsSafe world (B.given bank.old) told members.new (B.tape bank.old) (B.tape bank.new) }
     ensures given { B.given bank.new ≡ B.given bank.old }
     ensures counts { NeverFalls (B.faults_of bank.old) (B.faults_of bank.new) }
 {
-    let others = without(u32::MAX, holders(members));
-    let failed = flush_slots(bank, others);
-    without(failed, others)
+    let held = holders(members);
+    let lost = record_position(members, bank, span);
+    without(lost, held)
 }
 
-/// Flushes the slots that hold roles, and records the position behind the window, whose rows are copied. It ends before the
-/// record where a slot is lost in the flush, so that the loss can be named before the next call tries again.
-pub fn checkpoint<B: Bank>(members: &mut Members, bank: &mut B, span: &Span) -> Recorded
+// Records the position behind the window, and names what was lost in this. The spares that were lost.
+fn move_position<B: Bank>(members: &mut Members, bank: &mut B, span: &Span) -> u32
     requires slots { (B.given bank.old).slots ≤ 32 }
-    requires live { AreLive (B.given bank.old) members.old }
-    requires roles { length members.old.roles ≡ role_count members.old.newest }
-    requires few { length members.old.roles ≤ 16 }
-    requires holders { AreHolders (B.given bank.old) members.old }
-    ensures lost { result.recorded ≡ false → members.new ≡ members_without result.lost members.old }
-    ensures failed { result.recorded ≡ false
-        → HaveFailed (reading_of members.old) (length members.old.roles) result.lost (B.faults_of bank.old) (B.faults_of bank.new) }
-    ensures flushes { result.recorded ≡ false → B.tells → OnlyFlushesAdded (B.tape bank.old) (B.tape bank.new) }
-    ensures recorded { result.recorded ≡ true → IsRecorded B.tells (B.given bank.old) span.now members.old members.new (B.tape bank.old) (B.tape bank.new) }
-    ensures newest { result.recorded ≡ true → SaysSame (moved_past span.now members.old).newest members.new.newest }
-    ensures less { result.recorded ≡ true → IsLessView (moved_past span.now members.old) members.new }
-    ensures placed { result.recorded ≡ true → (scope : Scope) → ArePlaced scope (B.given bank.old) (moved_past span.now members.old) → ArePlaced scope (B.given bank.new) members.new }
+    requires placed { IsPlaced (B.given bank.old) members.old }
+    requires unlost { AreUnlost members.old }
+    requires free { AreSparesFree (B.given bank.old) members.old }
+    requires next { next_window members.old.newest ≡ Some span.now }
+    ensures moved { IsMoved (B.given bank.old) (moved_past span.now members.old) members.new }
+    ensures failed { HaveFailedSince members.old members.new result (B.faults_of bank.old) (B.faults_of bank.new) }
+    ensures grows { Grows B.tells (B.tape bank.old) (B.tape bank.new) }
+    ensures others { B.tells → AreOthersPresent (present (B.given bank.old) (B.tape bank.old)) (present (B.given bank.old) (B.tape bank.new)) }
+    ensures flushed { B.tells → AreHoldersFlushed (reading_of members.old) (B.given bank.old) (B.tape bank.old) → AreHoldersFlushed (reading_of members.new) (B.given bank.old) (B.tape bank.new) }
+    ensures fewer { B.tells → AreOthersFewer (disk (B.given bank.old).start (B.tape bank.old)) (disk (B.given bank.old).start (B.tape bank.new)) }
+    ensures clean { is_clean members.new.newest ≡ is_clean members.old.newest }
+    ensures named { HasLiveSlot members.new → AreNamedMissing members.new }
+    ensures rise { IsRisen B.tells members.old members.new (B.tape bank.old) (B.tape bank.new) }
     ensures safe { B.tells → (world : World) → (told : Ledger) → HasRoomLeft members.old (B.tape bank.old) (B.tape bank.new)
-        → (result.recorded ≡ true → AreGoneTold told members.new × IsMovable (OpensFit world) world.scope (B.given bank.old) told members.old span.now (B.tape bank.old))
-        → IsSafeOver world (B.given bank.old) told members.old (B.tape bank.old) → KeepsSafe world (B.given bank.old) told members.new (B.tape bank.old) (B.tape bank.new) }
-    ensures counts { NeverFalls (B.faults_of bank.old) (B.faults_of bank.new) }
+        → AreGoneTold told members.new → IsUncleanTold told members.old
+        → (IsSteady (OpensFit world) world.scope (B.given bank.old) told members.old (disk (B.given bank.old).start (B.tape bank.old))
+        → IsViewRight (OpensFit world) world.scope (B.given bank.old) told (moved_past span.now members.old) (disk (B.given bank.old).start (B.tape bank.old)))
+        → IsSafeOver world (B.given bank.old) told members.old (B.tape bank.old)
+        → KeepsSafe world (B.given bank.old) told members.new (B.tape bank.old) (B.tape bank.new) }
     ensures given { B.given bank.new ≡ B.given bank.old }
+    ensures counts { NeverFalls (B.faults_of bank.old) (B.faults_of bank.new) }
 {
-    let failed = flush_holders(members, bank);
-    if failed != 0 {
-        lose_slots(members, failed);
-        return Recorded {
-            lost: failed,
-            recorded: false,
+    let put = put_position(members, bank, span);
+    let named = name_missing(members, bank);
+    put | named
+}
+
+/// Records the next window, whose rows are copied: flushes the slots that hold roles, and moves the position behind it. What is
+/// lost in the flush is named before the position moves, and what is lost in that, behind it. It ends before the position moves
+/// where more roles of a shape in force are missing than it tolerates.
+pub fn record<B: Bank>(members: &mut Members, bank: &mut B, span: &Span) -> Stepped
+    requires slots { (B.given bank.old).slots ≤ 32 }
+    requires placed { IsPlaced (B.given bank.old) members.old }
+    requires unlost { AreUnlost members.old }
+    requires free { AreSparesFree (B.given bank.old) members.old }
+    requires next { next_window members.old.newest ≡ Some span.now }
+    ensures moved { MatchOption result.refusal (IsMoved (B.given bank.old) (moved_past span.now members.old) members.new) (λ refusal. IsMoved (B.given bank.old) members.old members.new) }
+    ensures recorded { result.refusal ≡ None → IsRecorded B.tells (B.given bank.old) span.now members.old members.new (B.tape bank.old) (B.tape bank.new) }
+    ensures failed { HaveFailedSince members.old members.new result.spares (B.faults_of bank.old) (B.faults_of bank.new) }
+    ensures refused { MatchOption result.refusal ⊤ (AreTooMany members.new) }
+    ensures grows { Grows B.tells (B.tape bank.old) (B.tape bank.new) }
+    ensures others { B.tells → AreOthersPresent (present (B.given bank.old) (B.tape bank.old)) (present (B.given bank.old) (B.tape bank.new)) }
+    ensures flushed { B.tells → AreHoldersFlushed (reading_of members.new) (B.given bank.old) (B.tape bank.new) }
+    ensures fewer { B.tells → AreOthersFewer (disk (B.given bank.old).start (B.tape bank.old)) (disk (B.given bank.old).start (B.tape bank.new)) }
+    ensures clean { is_clean members.new.newest ≡ is_clean members.old.newest }
+    ensures named { HasLiveSlot members.new → AreNamedMissing members.new }
+    ensures plain { result.refusal ≡ None → B.tells → (scope : Scope) → ArePlaced scope (B.given bank.old) members.old
+        → AreHeadersFit scope members.old (disk (B.given bank.old).start (B.tape bank.old)) → let e = disk (B.given bank.old).start (B.tape bank.new) in
+        HasNoSection scope members.new e × AreHeadersFit scope members.new e }
+    ensures rise { IsRisen B.tells members.old members.new (B.tape bank.old) (B.tape bank.new) }
+    ensures safe { B.tells → (world : World) → (told : Ledger) → HasRoomLeft members.old (B.tape bank.old) (B.tape bank.new)
+        → AreGoneTold told members.new → IsUncleanTold told members.old → (list : ℕ → Sector)
+        → (result.refusal ≡ None → IsCopiedWindow (OpensFit world) world.scope told members.old span.now list (present (B.given bank.old) (B.tape bank.old)) (disk (B.given bank.old).start (B.tape bank.old)))
+        → IsSafeOver world (B.given bank.old) told members.old (B.tape bank.old)
+        → KeepsSafe world (B.given bank.old) told members.new (B.tape bank.old) (B.tape bank.new) }
+    ensures given { B.given bank.new ≡ B.given bank.old }
+    ensures counts { NeverFalls (B.faults_of bank.old) (B.faults_of bank.new) }
+{
+    let flushed = flush_naming(members, bank);
+    let refusal = too_many(members);
+    if refusal.is_some() {
+        return Stepped {
+            spares: flushed,
+            refusal,
         };
     }
-    let lost = record_position(members, bank, span);
-    Recorded {
-        lost,
-        recorded: true,
+    let moved = move_position(members, bank, span);
+    Stepped {
+        spares: flushed | moved,
+        refusal: None,
     }
 }

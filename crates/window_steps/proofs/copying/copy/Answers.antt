@@ -1,14 +1,13 @@
-use Rattle.std.proofs.Common.{◌≡◌, inl, inr, ◌+◌, ◌*◌, ◌≤◌, refl, sym, ◌∙◌, subst, arith}
+use Rattle.std.proofs.Common.{inl, inr, ◌+◌, ◌*◌, refl, sym, ◌∙◌, subst, arith}
 use Rattle.std.proofs.lemmas.Bool.{cases_lt}
 use Rattle.layout.proofs.Places.{chunk_some}
 use Rattle.bank.specs.Given.{Given}
 use Rattle.bank.specs.Tape.{disk}
-use Rattle.superblocks.specs.Reading.{next_window}
 use Rattle.row_io.specs.Rows.{present, reading_of}
 use Rattle.list_io.specs.Full.{RowStands}
 use Rattle.flat_history.specs.Sound.{OpensFit}
 use Rattle.shape_views.specs.Windows.{IsCopyable}
-use Rattle.shape_changes.proofs.Risen.{risen-none, risen-then, room-then}
+use Rattle.shape_changes.proofs.Risen.{risen-none, risen-then}
 use Rattle.views.specs.Moving.{IsMoved}
 use Rattle.views.specs.Rebuilding.{AreSparesFree}
 use Rattle.views.specs.Lacking.{AreOtherRowsKept}
@@ -18,7 +17,6 @@ use Rattle.views.proofs.LackingLaws.{since-same, since-then, in-either}
 use Rattle.views.proofs.LackingLists.{none-of}
 use Rattle.views.proofs.SafeStretch.{safe-none}
 use Rattle.views.proofs.MendedParts.{safe-part}
-use Rattle.window_rows.specs.Copies.{tail_of, IsCopied}
 use Rattle.window_steps.specs.Copying.{IsOfStripeFrom}
 use Rattle.window_steps.proofs.CopyLaws.{row-later, window-alike, tail-alike, refused-of, others-join}
 use Rattle.window_steps.proofs.copying.copy.Goals as goal

@@ -1,0 +1,39 @@
+use Rattle.std.proofs.Common.{◌≡◌, ◌-◌, ◌<◌, ◌≤◌, ℕ}
+use Rattle.bank.specs.Given.{NeverFalls}
+use Rattle.md_base.specs.Sectors.{Sector}
+use Rattle.superblocks.specs.Reading.{is_clean}
+use Rattle.row_io.specs.Rows.{present, reading_of}
+use Rattle.list_io.specs.Full.{RowStands}
+use Rattle.flat_history.specs.World.{World}
+use Rattle.shape_views.specs.Views.{Ledger}
+use Rattle.shape_changes.specs.Safety.{HasLiveSlot, HasRoomLeft, IsRisen}
+use Rattle.safe_updates.specs.Named.{AreNamedMissing}
+use Rattle.shape_changes.specs.Steady.{IsSafeOver, KeepsSafe, AreGoneTold, IsUncleanTold}
+use Rattle.views.specs.Moving.{Grows, IsMoved}
+use Rattle.views.specs.Lacking.{HaveFailedSince, AreOtherRowsKept}
+use Rattle.window_rows.specs.Copies.{tail_of, IsZeroIn}
+use Rattle.window_steps.specs.Copying.{IsOfStripeFrom}
+use Rattle.window_steps.proofs.zeroing.zero.Given as goal
+
+abbrev pub decreases-loop-done : goal.decreases-loop-done
+decreases-loop-done g l = l.chunk - l.done
+
+abbrev pub invariant-loop-done : goal.invariant-loop-done
+invariant-loop-done g l = record {
+  moved : IsMoved (g.B.Bank.given l.fn.bank) l.fn.members l.members;
+  failed : HaveFailedSince l.fn.members l.members l.spares (g.B.Bank.faults_of l.fn.bank) (g.B.Bank.faults_of l.bank);
+  grows : Grows g.B.Bank.tells (g.B.Bank.tape l.fn.bank) (g.B.Bank.tape l.bank);
+  clean : is_clean l.members.newest ≡ is_clean l.fn.members.newest;
+  within : l.done ≤ l.chunk;
+  named : 0 < l.done → HasLiveSlot l.members → AreNamedMissing l.members;
+  stands : g.B.Bank.tells → (list : ℕ → Sector) → IsZeroIn (tail_of l.fn.members.newest) list → (row : ℕ) → IsOfStripeFrom l.shape l.stripe 0 l.done row
+      → RowStands (reading_of l.members) (present (g.B.Bank.given l.fn.bank) (g.B.Bank.tape l.bank)) l.shape list row;
+  others : g.B.Bank.tells → AreOtherRowsKept (IsOfStripeFrom l.shape l.stripe 0 l.done) (reading_of l.members) (present (g.B.Bank.given l.fn.bank) (g.B.Bank.tape l.fn.bank)) (present (g.B.Bank.given l.fn.bank) (g.B.Bank.tape l.bank));
+  rise : IsRisen g.B.Bank.tells l.fn.members l.members (g.B.Bank.tape l.fn.bank) (g.B.Bank.tape l.bank);
+  safe : g.B.Bank.tells → (world : World) → (told : Ledger) → HasRoomLeft l.fn.members (g.B.Bank.tape l.fn.bank) (g.B.Bank.tape l.bank)
+      → AreGoneTold told l.members → IsUncleanTold told l.fn.members
+      → IsSafeOver world (g.B.Bank.given l.fn.bank) told l.fn.members (g.B.Bank.tape l.fn.bank)
+      → KeepsSafe world (g.B.Bank.given l.fn.bank) told l.members (g.B.Bank.tape l.fn.bank) (g.B.Bank.tape l.bank);
+  given : g.B.Bank.given l.bank ≡ g.B.Bank.given l.fn.bank;
+  counts : NeverFalls (g.B.Bank.faults_of l.fn.bank) (g.B.Bank.faults_of l.bank);
+}

@@ -1,0 +1,11 @@
+-- Stripes behind the list are zeroed.
+use Rattle.std.specs.Prelude.{◌≡◌, true, None}
+use Rattle.sb1.specs.declared.sb.Sb.{Sb}
+use Rattle.superblocks.specs.Reading.{is_reshaping, next_window}
+use Rattle.shape_changes.specs.Updates.{IsAtEnd}
+
+-- A reshape has gone through the list: it is active, no window is left, and its position is the last one.
+pub record IsThrough (newest : Sb) : Type 0 where
+  pub active : is_reshaping newest ≡ true
+  pub none : next_window newest ≡ None
+  pub last : IsAtEnd newest
