@@ -10,6 +10,7 @@ ghost use Rattle.views.specs.Placed.{AreWhole, IsPlaced};
 ghost use Rattle.shape_changes.specs.Steady.{AreUnlost, IsSafeOver, IsNamedOver, KeepsSafe, AreGoneTold, IsUncleanTold, AreWritesAllowed, settled_ledger};
 ghost use Rattle.views.specs.Rebuilding.{AreSparesFree};
 ghost use Rattle.shape_changes.specs.Marking.{AreOthersPresent};
+ghost use Rattle.safe_updates.specs.Named.{AreNamedMissing};
 ghost use Rattle.views.specs.Moving.{Grows, IsMoved};
 ghost use Rattle.shape_changes.specs.Safety.{HasLiveSlot, HasRoomLeft, IsRisen};
 ghost use Rattle.views.specs.Lacking.{HaveFailedSince, AreHoldersFlushed, AreTooMany};
@@ -36,8 +37,8 @@ pub struct Settled {
     pub refusal: Option<Refusal>,
 }
 
-// Flushes the members, and names those that are missing. The spares that were lost in this.
-fn flush_naming<B: Bank>(members: &mut Members, bank: &mut B) -> u32
+/// Flushes the members, and names the roles that no slot holds, where they aren't yet. The spares that were lost in this.
+pub fn flush_naming<B: Bank>(members: &mut Members, bank: &mut B) -> u32
     requires slots { (B.given bank.old).slots ≤ 32 }
     requires placed { IsPlaced (B.given bank.old) members.old }
     requires unlost { AreUnlost members.old }
@@ -50,6 +51,7 @@ fn flush_naming<B: Bank>(members: &mut Members, bank: &mut B) -> u32
     ensures clean { is_clean members.new.newest ≡ is_clean members.old.newest }
     ensures rest { B.tells → IsRestKept members.old (disk (B.given bank.old).start (B.tape bank.old)) (disk (B.given bank.old).start (B.tape bank.new)) }
     ensures kept { AreWhole members.new → members.new ≡ members.old }
+    ensures missing { HasLiveSlot members.new → AreNamedMissing members.new }
     ensures rise { IsRisen B.tells members.old members.new (B.tape bank.old) (B.tape bank.new) }
     ensures safe { B.tells → (world : World) → (told : Ledger) → HasRoomLeft members.old (B.tape bank.old) (B.tape bank.new)
         → AreGoneTold told members.new → IsUncleanTold told members.old → IsSafeOver world (B.given bank.old) told members.old (B.tape bank.old)
