@@ -2,3 +2,4 @@ pub mod Made
 pub mod Named
 pub mod Cleared
 pub mod BeginLaws
+pub mod FinishLaws

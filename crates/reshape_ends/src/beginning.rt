@@ -72,15 +72,15 @@ fn idle_spares(spares: &SlotList, first: u32, disks: u32) -> u32
     idle
 }
 
-// A superblock is kept of each of 32 slots.
-fn check_counts(members: &Members)
+/// A superblock is kept of each of 32 slots.
+pub fn check_counts(members: &Members)
     ensures own { length members.now.own ≡ 32 }
 {
     let _ = members.own.get(0);
 }
 
-// A superblock has 384 role entries.
-fn check_entries(newest: &Sb)
+/// A superblock has 384 role entries.
+pub fn check_entries(newest: &Sb)
     ensures { length newest.now.dev_roles ≡ 384 }
 {
     let entries = newest.dev_roles;

@@ -2,7 +2,7 @@
 #![tactic(auto)]
 
 mod beginning;
-
+mod finishing;
 
 pub use beginning::{Begun, begin};
-
+pub use finishing::{Finished, finish};
