@@ -121,9 +121,9 @@ module _ (given : Given) (old m : Members) (moved : IsMoved given old m) (active
           λ role is. f.none role (role-holder slot m.roles role (sym (ap (λ (g : Give). planned_role m.roles g slot) same) ∙ is)),
         ))
     | inr (spare, other, is) ↦ (
-        record { room = moved.placed.holders other slot (ap holder is); behind = moved.placed.behind other slot (ap holder is) },
-        λ role held. none-some role (sym (ap (λ (g : Give). planned_role m.roles g slot) spare) ∙ held),
-      )
+      record { room = moved.placed.holders other slot (ap holder is); behind = moved.placed.behind other slot (ap holder is) },
+      λ role held. none-some role (sym (ap (λ (g : Give). planned_role m.roles g slot) spare) ∙ held),
+    )
   ]
 
   -- a role of the plan is what it was
@@ -319,7 +319,8 @@ module _ (given : Given) (old m new : Members) (moved : IsMoved given old m) (ac
     {tells : Type 0} {before after : List Operation} (done : IsChanged tells given (ending m) m new before after) (f0 f1 f2 : ℕ → ℕ) (rising : NeverFalls f0 f1) (more : NeverFalls f1 f2)
     (losses : AreLosses (live_set m (ending m)) m.lost new.lost f1 f2) (roles spares lost : ℕ) (lost-is : (s : ℕ) → has_slot lost s ≡ (has_slot new.lost s && not (has_slot m.lost s)))
     (one : HasOneHolder m (ending m) new.lost) (since : HaveFailedSince old m spares f0 f1) (unlost : AreUnlost m) (free : AreSparesFree given m)
-    (roles-are : (role slot : ℕ) → holder (role_state (reading_of old) role) ≡ Some slot → (holder (role_state (reading_of m) role) ≡ Some slot) ⊎ ((has_slot roles role ≡ true) × IsFaulted slot f0 f1)) where
+    (roles-are : (role slot : ℕ) → holder (role_state (reading_of old) role) ≡ Some slot → (holder (role_state (reading_of m) role) ≡ Some slot) ⊎ ((has_slot roles role ≡ true) × IsFaulted slot f0 f1))
+    (roles-gone : (role : ℕ) → has_slot roles role ≡ true → (slot : ℕ) × (holder (role_state (reading_of old) role) ≡ Some slot) × IsFaulted slot f0 f1) where
   later : (s : ℕ) → IsFaulted s f0 f1 → IsFaulted s f0 f2
   later s failed = faulted_longer s f0 f0 f1 f2 (omega arith) (more s) (rising s) failed
 
@@ -350,9 +351,9 @@ module _ (given : Given) (old m new : Members) (moved : IsMoved given old m) (ac
             ∙ ap holder (get_or-tabulate (role_count (ending m).shared) (planned_state m.roles (ending m).gives new.lost) role Missing below)
             ∙ planned-held m (ending m) new.lost one slot role small kept planned))
         | inr (spare, other, is) ↦ inr (inr (
-            late spare,
-            ap (λ (l : List ℕ). has_spare l slot) done.spares ∙ planned-spare m (ending m) new.lost slot small kept (ap (λ (g : Give). is_planned_spare m.spares None g slot) spare),
-          ))
+          late spare,
+          ap (λ (l : List ℕ). has_spare l slot) done.spares ∙ planned-spare m (ending m) new.lost slot small kept (ap (λ (g : Give). is_planned_spare m.spares None g slot) spare),
+        ))
       ]
         where
           role-of : (slot role : ℕ) → holder (role_state (reading_of m) role) ≡ Some slot → role_from slot 0 m.roles ≡ Some role
@@ -384,6 +385,7 @@ module _ (given : Given) (old m new : Members) (moved : IsMoved given old m) (ac
       | inl still ↦ elim (held-at role slot still) [ inl there ↦ inl there | inr rest ↦ inr (inr rest) ]
       | inr (gone, failed) ↦ inr (inl (gone, later slot failed))
     ];
+    gone = λ role has. let it = roles-gone role has in (it.0, it.1, later it.0 it.2);
     spares_are = λ slot has. later slot (since.spares_are slot has);
     lost_are = λ slot has. (
         let parts = both (has_slot new.lost slot) (not (has_slot m.lost slot)) (sym (lost-is slot) ∙ has) in
@@ -444,6 +446,32 @@ module _ (given : Given) (old m : Members) (moved : IsMoved given old m) (was : 
         failed,
       )
 
+  both-parts : (a b c : Bool) → ((a && b) && not c) ≡ true → (a ≡ true) × (b ≡ true) × (c ≡ false)
+  both-parts true true false e = (refl, refl, refl)
+  both-parts true true true e = absurd (cc)
+  both-parts true false c e = absurd (cc)
+  both-parts false b c e = absurd (cc)
+
+  pub roles-gone : (spares : ℕ) (f0 f1 : ℕ → ℕ) → HaveFailedSince old m spares f0 f1 → (role : ℕ) → has_slot roles role ≡ true
+      → (slot : ℕ) × (holder (role_state (reading_of old) role) ≡ Some slot) × IsFaulted slot f0 f1
+  roles-gone spares f0 f1 since role has = of (holder (role_state (reading_of old) role)) refl
+    where
+      parts : (nat_lt role count ≡ true) × (is_vacant (reading_of m) role ≡ true) × (has_slot first role ≡ false)
+      parts = both-parts (nat_lt role count) (is_vacant (reading_of m) role) (has_slot first role) (sym (roles-is role) ∙ has)
+
+      of : (o : Option ℕ) → holder (role_state (reading_of old) role) ≡ o → (slot : ℕ) × (holder (role_state (reading_of old) role) ≡ Some slot) × IsFaulted slot f0 f1
+      of (Some slot) is = (
+        slot,
+        is,
+        elim (since.roles role slot is) [
+          | inl there ↦ absurd (let clash = sym (ap (λ (o : Option ℕ). not (is_some o)) there) ∙ parts.1 in cc)
+          | inr failed ↦ failed
+        ],
+      )
+      of None is = absurd (
+          let was : has_slot first role ≡ true = first-is role ∙ (λ i. parts.0 i && not (is_some (is i))) in
+          let clash = sym was ∙ parts.2 in cc)
+
   -- what is missing behind it is told, where it was and they are
   pub gone-then : (told : Ledger) → AreGoneTold told old → ((role : ℕ) → has_slot roles role ≡ true → told.gone role ≡ true) → AreGoneTold told m
   gone-then told gone tells role lt missing = of (role_state (reading_of m) role) refl
@@ -468,6 +496,7 @@ module _ (given : Given) (old m : Members) (moved : IsMoved given old m) (was : 
   pub lost-in-flush : (spares : ℕ) (f0 f1 : ℕ → ℕ) → HaveFailedSince old m spares f0 f1 → AreLostInEnd old m roles spares 0 f0 f1
   lost-in-flush spares f0 f1 since = record {
     held = λ role slot held. elim (roles-lost spares f0 f1 since role slot held) [ inl there ↦ inl there | inr gone ↦ inr (inl gone) ];
+    gone = roles-gone spares f0 f1 since;
     spares_are = since.spares_are;
     lost_are = λ slot has. absurd (let clash = sym (none_there slot) ∙ has in cc);
     told = λ slot has. elim (since.told slot has) [ inl there ↦ inl there | inr gone ↦ inr (inl gone) ];

@@ -1,8 +1,9 @@
 -- A reshape ends: the holders of roles are flushed, what is missing is named, and the superblocks record the new shape alone.
-use Rattle.std.specs.Prelude.{◌≡◌, ◌⊎◌, ℕ, ◌*◌, ◌<◌, ◌≤◌, true, false, Some, None}
+use Rattle.std.specs.Prelude.{◌≡◌, ◌⊎◌, ℕ, ◌*◌, ◌<◌, ◌≤◌, true, false, List, Some, None}
 use Rattle.md_base.specs.Sectors.{Sector, zero_sector}
 use Rattle.md_base.specs.Shapes.{data_disks, has_slot}
-use Rattle.bank.specs.Given.{IsFaulted}
+use Rattle.bank.specs.declared.bank.Operation.{Operation}
+use Rattle.bank.specs.Given.{Given, IsFaulted}
 use Rattle.bank.specs.Tape.{Contents, IsIn}
 use Rattle.sb1.specs.declared.sb.Sb.{Sb}
 use Rattle.superblocks.specs.declared.members.Members.{Members}
@@ -13,8 +14,12 @@ use Rattle.list_io.specs.Full.{RowStands}
 use Rattle.shape_views.specs.Regions.{DoWithout}
 use Rattle.shape_views.specs.Views.{Ledger}
 use Rattle.shape_views.specs.Windows.{ListStands, RowsStand}
+use Rattle.shape_changes.specs.Changing.{IsChanged}
 use Rattle.shape_ends.specs.Fits.{AreTailsStanding}
 use Rattle.shape_ends.specs.Grown.{IsZeroPast, IsPastRow}
+use Rattle.reshape_updates.specs.Ending.{ending}
+use Rattle.views.specs.Moving.{IsMoved}
+use Rattle.views.specs.Lacking.{AreHoldersFlushed}
 
 -- What the superblocks say once a reshape is over that was active in the former ones: the new shape alone.
 pub record IsOver (former newest : Sb) : Type 0 where
@@ -26,13 +31,23 @@ pub record IsOver (former newest : Sb) : Type 0 where
 -- ---- what was lost
 
 -- Each slot that held a role holds it still, or it has failed and the role is one of these, or it was lost in the end's update, or its role was dropped
--- and it is a spare. Each spare is one still, or was lost in the flush or in the update.
+-- and it is a spare. Each spare is one still, or was lost in the flush or in the update. Each that is said to be lost has failed.
 pub record AreLostInEnd (old new : Members) (roles spares lost : ℕ) (before after : ℕ → ℕ) : Type 0 where
   pub held : (role slot : ℕ) → holder (role_state (reading_of old) role) ≡ Some slot → (holder (role_state (reading_of new) role) ≡ Some slot)
       ⊎ (((has_slot roles role ≡ true) × IsFaulted slot before after) ⊎ ((has_slot lost slot ≡ true) ⊎ (((final_shape old.newest).disks ≤ role) × (has_spare new.spares slot ≡ true))))
+  pub gone : (role : ℕ) → has_slot roles role ≡ true → (slot : ℕ) × (holder (role_state (reading_of old) role) ≡ Some slot) × IsFaulted slot before after
   pub spares_are : (slot : ℕ) → has_slot spares slot ≡ true → IsFaulted slot before after
   pub lost_are : (slot : ℕ) → has_slot lost slot ≡ true → IsFaulted slot before after
   pub told : (slot : ℕ) → has_spare old.spares slot ≡ true → (has_spare new.spares slot ≡ true) ⊎ ((has_slot spares slot ≡ true) ⊎ (has_slot lost slot ≡ true))
+
+-- Behind the flush, where each slot that holds a role was flushed, the end was recorded.
+pub record IsEndedBehind (tells : Type 0) (given : Given) (old new : Members) (before after : List Operation) : Type 0 where
+  pub flushed : Members
+  pub mid : List Operation
+  pub moved : IsMoved given old flushed
+  pub holders : tells → AreHoldersFlushed (reading_of flushed) given mid
+  pub enough : DoWithout flushed
+  pub update : IsChanged tells given (ending flushed) flushed new mid after
 
 -- ---- what it takes to end a reshape safely
 

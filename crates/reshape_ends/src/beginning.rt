@@ -31,8 +31,8 @@ use backup::clear_section;
 use bank::Bank;
 use md_base::{Refusal, Shape, SlotList};
 use reshape_updates::begin_update;
-use sb1::Sb;
 use safe_updates::roles::shape_in;
+use sb1::Sb;
 use superblocks::Members;
 use superblocks::sets::{with, without};
 
@@ -109,7 +109,7 @@ pub fn begin<B: Bank>(
     requires spares { to.now.disks ≤ (shape_of members.old.newest).disks + count_below 32 (has_spare members.old.spares) }
     requires slot { backup < (B.given bank.old).slots }
     requires within { 1 ≤ (B.given bank.old).sectors backup }
-    ensures answer { (why : Refusal) → result.refusal ≡ Some why → why ≡ BackupFault }
+    ensures answer { (why : Refusal) → result.refusal ≡ Some why → (why ≡ BackupFault) × (result.spares ≡ 0) }
     ensures refused { (why : Refusal) → result.refusal ≡ Some why
         → IsUntouched B.tells backup uuid.now members.old members.new (B.tape bank.old) (B.tape bank.new) (B.faults_of bank.old) (B.faults_of bank.new) }
     ensures begun { result.refusal ≡ None → IsBegunBehind B.tells (B.given bank.old) backup uuid.now to.now members.old members.new (B.tape bank.old) (B.tape bank.new) }

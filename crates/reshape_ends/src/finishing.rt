@@ -22,7 +22,7 @@ ghost use Rattle.views.specs.Moving.{Grows};
 ghost use Rattle.views.specs.Lacking.{AreTooMany, AreHoldersFlushed};
 ghost use Rattle.views.specs.Rebuilding.{AreSparesFree};
 ghost use Rattle.safe_updates.specs.Named.{AreNamedMissing};
-ghost use Rattle.reshape_ends.specs.Finished.{IsOver, AreLostInEnd, IsFinishable};
+ghost use Rattle.reshape_ends.specs.Finished.{IsOver, IsEndedBehind, AreLostInEnd, IsFinishable};
 
 use crate::beginning::{check_counts, check_entries};
 use bank::Bank;
@@ -65,6 +65,7 @@ pub fn finish<B: Bank>(members: &mut Members, bank: &mut B) -> Finished
     requires last { IsAtEnd members.old.newest }
     requires whole { HasNoneRecovering members.old }
     ensures answer { MatchOption result.refusal (IsOver members.old.newest members.new.newest) (AreTooMany members.new) }
+    ensures ended { result.refusal ≡ None → IsEndedBehind B.tells (B.given bank.old) members.old members.new (B.tape bank.old) (B.tape bank.new) }
     ensures placed { IsPlaced (B.given bank.old) members.new }
     ensures unlost { AreUnlost members.new }
     ensures free { AreSparesFree (B.given bank.old) members.new }

@@ -50,7 +50,7 @@ begin_update-lost-requires-clause-roles g c = roles-still (g.B.Bank.given c.args
 -- ---- the backup failed
 
 pub returns-in-Err-clause-answer : goal.returns-in-Err-clause-answer
-returns-in-Err-clause-answer g c = λ why is. (let both = is in cc)
+returns-in-Err-clause-answer g c = λ why is. ((let both = is in cc), refl)
 
 pub returns-in-Err-clause-refused : goal.returns-in-Err-clause-refused
 returns-in-Err-clause-refused g c = λ why is. record { members = refl; tried = c.in-Err.ensures.err; failed = c.in-Err.ensures.cause.failed cc }

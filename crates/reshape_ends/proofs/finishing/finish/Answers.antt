@@ -26,7 +26,7 @@ use Rattle.views.specs.Moving.{IsMoved}
 use Rattle.reshape_ends.proofs.Made.{IsMade, offset-kept, new-placed, new-unlost, new-free}
 use Rattle.reshape_ends.proofs.Named.{names-all}
 use Rattle.reshape_ends.proofs.Cleared.{change-then}
-use Rattle.reshape_ends.proofs.FinishLaws.{active-then, last-then, small-then, whole-then, gives-live, ended-made, ended-one, states-then, still-then, plan-flushed, lost-in-end, lost-in-flush, roles-lost, gone-then, room-first}
+use Rattle.reshape_ends.proofs.FinishLaws.{active-then, last-then, small-then, whole-then, gives-live, ended-made, ended-one, states-then, still-then, plan-flushed, lost-in-end, lost-in-flush, roles-lost, roles-gone, gone-then, room-first}
 use Rattle.reshape_ends.proofs.finishing.finish.Given.{Over}
 use Rattle.reshape_ends.proofs.finishing.finish.Goals.{After-check_entries}
 use Rattle.reshape_ends.proofs.finishing.finish.Goals as goal
@@ -116,6 +116,9 @@ returns-in-Some-clause-failed g c =
     lost-in-flush (g.B.Bank.given c.args.bank.now) c.args.members.now c.flush_naming-spares.new.members c.flush_naming-spares.ensures.moved c.requires.placed c.requires.whole c.count_roles-count.result
     c.vacant_roles-before.result c.newly_vacant-roles.result c.count_roles-count.ensures c.vacant_roles-before.ensures c.newly_vacant-roles.ensures c.flush_naming-spares.result
     (g.B.Bank.faults_of c.args.bank.now) (g.B.Bank.faults_of c.flush_naming-spares.new.bank) c.flush_naming-spares.ensures.failed
+
+pub returns-in-Some-clause-ended : goal.returns-in-Some-clause-ended
+returns-in-Some-clause-ended g c = λ none. absurd (cc)
 
 pub returns-in-Some-clause-kept : goal.returns-in-Some-clause-kept
 returns-in-Some-clause-kept g c = λ why is tell world told room gone unclean safe. c.flush_naming-spares.ensures.safe tell world told room gone unclean safe
@@ -215,6 +218,18 @@ returns-clause-failed g c =
     c.flush_naming-spares.ensures.failed (moved g c).unlost ((moved g c).free c.requires.free)
     (roles-lost (first_given g c) (m g c) (f g c) (moved g c) c.requires.placed c.requires.whole c.count_roles-count.result c.vacant_roles-before.result c.newly_vacant-roles.result c.count_roles-count.ensures
     c.vacant_roles-before.ensures c.newly_vacant-roles.ensures c.flush_naming-spares.result (g.B.Bank.faults_of c.args.bank.now) (g.B.Bank.faults_of c.flush_naming-spares.new.bank) c.flush_naming-spares.ensures.failed)
+    (roles-gone (first_given g c) (m g c) (f g c) (moved g c) c.requires.placed c.requires.whole c.count_roles-count.result c.vacant_roles-before.result c.newly_vacant-roles.result c.count_roles-count.ensures
+    c.vacant_roles-before.ensures c.newly_vacant-roles.ensures c.flush_naming-spares.result (g.B.Bank.faults_of c.args.bank.now) (g.B.Bank.faults_of c.flush_naming-spares.new.bank) c.flush_naming-spares.ensures.failed)
+
+pub returns-clause-ended : goal.returns-clause-ended
+returns-clause-ended g c = λ none. record {
+  flushed = f g c;
+  mid = mid g c;
+  moved = moved g c;
+  holders = c.flush_naming-spares.ensures.flushed;
+  enough = c.in-None.ensures;
+  update = done g c;
+}
 
 pub returns-clause-kept : goal.returns-clause-kept
 returns-clause-kept g c = λ why is. absurd (cc)
