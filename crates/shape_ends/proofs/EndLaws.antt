@@ -154,23 +154,23 @@ still-plain scope m d still header may = ap (section_for scope (λ s k. header) 
 pub cleared-plain : ClearedIsPlain
 cleared-plain scope m d cleared = (
   λ header may. of header scope.backup (next_window m.newest) refl may,
-  λ backup header here may span named. differ (is_header_of scope.uuid header) (and_parts (is_header_of scope.uuid header) (names_span header span) named).0 (cleared backup header here may),
+  λ backup header here may span named. differ (is_header_of scope.uuid header && names_span header span) named (cleared backup header here may span),
 )
   where
     differ : {A : Type 0} (b : Bool) → b ≡ true → b ≡ false → A
     differ true one two = absurd (cc)
     differ false one two = absurd (cc)
 
-    chosen : (b : ℕ) (header : Sector) (span : Span) → is_header_of scope.uuid header ≡ false → (t : Bool) → (has_slot scope.given b && has_section scope.uuid (scope.sizes.sectors b) (λ k. header) span) ≡ t
+    chosen : (b : ℕ) (header : Sector) (span : Span) → (is_header_of scope.uuid header && names_span header span) ≡ false → (t : Bool) → (has_slot scope.given b && has_section scope.uuid (scope.sizes.sectors b) (λ k. header) span) ≡ t
         → ◌≡◌ {A = Option Span} (cond t (Some span) None) None
-    chosen b header span plain true is = differ (is_header_of scope.uuid header) (and_parts _ _ (and_parts _ _ (and_parts _ _ is).1).0).0 plain
+    chosen b header span plain true is = differ (is_header_of scope.uuid header && names_span header span) (and_parts _ _ (and_parts _ _ is).1).0 plain
     chosen b header span plain false is = refl
 
     of : (header : Sector) (backup : Option ℕ) (w : Option Span) → scope.backup ≡ backup → IsIn (d (backup_of scope) 0) header → section_for scope (λ s k. header) backup w ≡ None
     of header None w is may = refl
     of header (Some b) None is may = refl
     of header (Some b) (Some span) is may =
-        let plain = cleared b header is (subst (λ (s : ℕ). IsIn (d s 0) header) (ap (λ (o : Option ℕ). unwrap_or o 0) is) may) in
+        let plain = cleared b header is (subst (λ (s : ℕ). IsIn (d s 0) header) (ap (λ (o : Option ℕ). unwrap_or o 0) is) may) span in
         chosen b header span plain (has_slot scope.given b && has_section scope.uuid (scope.sizes.sectors b) (λ k. header) span) refl
 
 -- more are missing where more of them pass

@@ -1,6 +1,7 @@
 -- The updates that change the shape: a reshape begins or ends, or a level is taken over. What the plan of each has to keep, so that its view is right.
-use Rattle.std.specs.Prelude.{◌≡◌, ◌⊎◌, ℕ, ◌+◌, ◌<◌, ◌≤◌, true, false, List, [], ◌∷◌, Some, None}
+use Rattle.std.specs.Prelude.{◌≡◌, ◌⊎◌, ℕ, ◌+◌, ◌<◌, ◌≤◌, ◌&&◌, true, false, List, [], ◌∷◌, Some, None}
 use Rattle.md_base.specs.declared.places.Shape.{Shape}
+use Rattle.md_base.specs.declared.places.Span.{Span}
 use Rattle.md_base.specs.Sectors.{Sector, zero_sector}
 use Rattle.bank.specs.Given.{Given}
 use Rattle.bank.specs.Tape.{Contents, IsIn}
@@ -10,7 +11,7 @@ use Rattle.superblocks.specs.declared.members.Members.{Members}
 use Rattle.superblocks.specs.Reading.{Scope, is_reshaping, is_backward, shape_of, final_shape, list_length, data_offset_of}
 use Rattle.row_io.specs.Rows.{reading_of, is_missing, held_slot}
 use Rattle.list_io.specs.Full.{full_sector, AreWholeIn}
-use Rattle.backup.specs.Section.{is_header_of}
+use Rattle.backup.specs.Section.{is_header_of, names_span}
 use Rattle.flat_history.specs.declared.events.Event.TheVariants.{Resized}
 use Rattle.flat_history.specs.Flat.{values_after}
 use Rattle.flat_history.specs.Stands.{shape_for}
@@ -82,9 +83,9 @@ AlikePlansAreRight sound = (scope : Scope) (given : Given) (before after : Ledge
 
 -- ---- a reshape begins
 
--- the backup's header is no array's
+-- the backup's header names no section of the array
 abbrev pub IsCleared : Scope → Disk → Type 0
-IsCleared scope d = (backup : ℕ) (header : Sector) → scope.backup ≡ Some backup → IsIn (d backup 0) header → is_header_of scope.uuid header ≡ false
+IsCleared scope d = (backup : ℕ) (header : Sector) → scope.backup ≡ Some backup → IsIn (d backup 0) header → (span : Span) → (is_header_of scope.uuid header && names_span header span) ≡ false
 
 -- Such a header has no section that is active, and fits.
 abbrev pub ClearedIsPlain : Type 0

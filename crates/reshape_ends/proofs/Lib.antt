@@ -1,0 +1,5 @@
+pub mod Made
+pub mod Named
+pub mod Cleared
+pub mod BeginLaws
+pub mod FinishLaws

@@ -1,0 +1,46 @@
+-- A reshape begins: the backup's header is cleared, and behind it the superblocks record the reshape.
+use Rattle.std.specs.Prelude.{◌≡◌, ℕ, ◌++◌, Bool, true, false, not, ◌&&◌, nat_lt, List, [], ◌∷◌, Some, None}
+use Rattle.md_base.specs.declared.places.Shape.{Shape}
+use Rattle.bank.specs.declared.bank.Operation.{Operation}
+use Rattle.bank.specs.declared.bank.Operation.TheVariants.{Write}
+use Rattle.bank.specs.Given.{Given, IsFaulted}
+use Rattle.superblocks.specs.declared.members.Members.{Members}
+use Rattle.superblocks.specs.Reading.{Scope}
+use Rattle.superblocks.specs.Reads.{has_spare}
+use Rattle.backup.specs.Written.{cleared_header}
+use Rattle.backup.specs.Storing.{HasSomeOf, header_operations}
+use Rattle.flat_history.specs.Stands.{backup_absent}
+use Rattle.shape_changes.specs.Updates.{planned_view}
+use Rattle.shape_changes.specs.Changing.{IsChanged}
+use Rattle.reshape_updates.specs.Beginning.{with_reshape, new_role, beginning}
+
+-- the members as the update plans them that begins a reshape to this shape
+abbrev pub begun_plan : Members → Shape → Members
+begun_plan m to = planned_view m (beginning m to) m.lost
+
+-- a spare that gets none of the new roles
+abbrev pub is_idle_spare : List ℕ → ℕ → ℕ → ℕ → Bool
+is_idle_spare spares first disks slot = nat_lt slot 32 && (has_spare spares slot && not (nat_lt (new_role spares first slot) disks))
+
+-- ---- the backup
+
+-- The slot is the array's backup and no spare of it, and there it can keep what a reshape to this shape needs.
+pub record IsBackupOf (scope : Scope) (m : Members) (to : Shape) (slot : ℕ) (uuid : List ℕ) : Type 0 where
+  pub backup : scope.backup ≡ Some slot
+  pub array : scope.uuid ≡ uuid
+  pub apart : has_spare m.spares slot ≡ false
+  pub room : backup_absent scope (with_reshape to m.newest) ≡ None
+
+-- ---- what was done
+
+-- The backup failed: nothing but its header was tried, and the members are as they were.
+pub record IsUntouched (tells : Type 0) (slot : ℕ) (uuid : List ℕ) (old new : Members) (before after : List Operation) (faults then : ℕ → ℕ) : Type 0 where
+  pub members : new ≡ old
+  pub tried : tells → HasSomeOf (Write slot 0 (cleared_header uuid) ∷ []) before after
+  pub failed : IsFaulted slot faults then
+
+-- The header was cleared and flushed, and then the reshape recorded.
+pub record IsBegunBehind (tells : Type 0) (given : Given) (slot : ℕ) (uuid : List ℕ) (to : Shape) (old new : Members) (before after : List Operation) : Type 0 where
+  pub mid : List Operation
+  pub cleared : tells → mid ≡ before ++ header_operations slot (cleared_header uuid)
+  pub update : IsChanged tells given (beginning old to) old new mid after

@@ -1,0 +1,116 @@
+//! A reshape ends.
+
+ghost use Rattle.std.specs.Prelude.{◌≡◌, ◌<◌, ◌≤◌, ◌&&◌, ℕ, true, false, not, nat_lt, length, Some, None, MatchOption};
+ghost use Rattle.bank.specs.Given.{NeverFalls};
+ghost use Rattle.bank.specs.Tape.{disk};
+ghost use Rattle.md_base.specs.Sectors.{Sector};
+ghost use Rattle.md_base.specs.Shapes.{has_slot};
+ghost use Rattle.superblocks.specs.Reading.{is_reshaping, role_count, role_state, holder, data_offset_of};
+ghost use Rattle.row_io.specs.Rows.{present, reading_of};
+ghost use Rattle.flat_history.specs.World.{World};
+ghost use Rattle.flat_history.specs.Sound.{OpensFit};
+ghost use Rattle.shape_views.specs.Regions.{ArePlaced};
+ghost use Rattle.shape_views.specs.Views.{Ledger};
+ghost use Rattle.shape_changes.specs.Marking.{AreOthersPresent};
+ghost use Rattle.shape_changes.specs.Safety.{HasLiveSlot, HasRoomLeft, IsRisen};
+ghost use Rattle.shape_changes.specs.Steady.{AreUnlost, IsSafeOver, KeepsSafe, AreGoneTold, IsUncleanTold};
+ghost use Rattle.shape_changes.specs.Changing.{IsSafeChange};
+ghost use Rattle.shape_changes.specs.Updates.{IsAtEnd};
+ghost use Rattle.shape_ends.specs.Plans.{HasNoneRecovering};
+ghost use Rattle.views.specs.Placed.{is_vacant, IsPlaced};
+ghost use Rattle.views.specs.Moving.{Grows};
+ghost use Rattle.views.specs.Lacking.{AreTooMany, AreHoldersFlushed};
+ghost use Rattle.views.specs.Rebuilding.{AreSparesFree};
+ghost use Rattle.safe_updates.specs.Named.{AreNamedMissing};
+ghost use Rattle.reshape_ends.specs.Finished.{IsOver, IsEndedBehind, AreLostInEnd, IsFinishable};
+
+use crate::beginning::{check_counts, check_entries};
+use bank::Bank;
+use md_base::Refusal;
+use reshape_updates::end_update;
+use safe_updates::naming::newly_vacant;
+use safe_updates::refusing::too_many;
+use safe_updates::roles::vacant_roles;
+use safe_updates::settles::flush_naming;
+use superblocks::{Lostness, Members};
+
+/// What was lost as a reshape ended: the roles and the spares in the flush, the slots in the update that ends it. And why it
+/// didn't end.
+#[derive(Clone, Copy)]
+pub struct Finished {
+    pub roles: u32,
+    pub spares: u32,
+    pub lost: Lostness,
+    pub refusal: Option<Refusal>,
+}
+
+// How many roles the array has.
+fn count_roles(members: &Members) -> u32
+    requires { length members.now.roles ≤ 16 }
+    ensures { result ≡ length members.now.roles }
+{
+    members.roles.len() as u32
+}
+
+/// Ends a reshape that has gone through the list: flushes each slot that holds a role, names those that are missing, and records
+/// the new shape alone in the superblocks of all live slots, of which those become spares whose roles it hasn't. No slot may be
+/// recovering. Refused `TooManyMissing` where a shape in force misses more than it tolerates once they are flushed and named; then
+/// the reshape goes on.
+pub fn finish<B: Bank>(members: &mut Members, bank: &mut B) -> Finished
+    requires slots { (B.given bank.old).slots ≤ 32 }
+    requires placed { IsPlaced (B.given bank.old) members.old }
+    requires unlost { AreUnlost members.old }
+    requires free { AreSparesFree (B.given bank.old) members.old }
+    requires active { is_reshaping members.old.newest ≡ true }
+    requires last { IsAtEnd members.old.newest }
+    requires whole { HasNoneRecovering members.old }
+    ensures answer { MatchOption result.refusal (IsOver members.old.newest members.new.newest) (AreTooMany members.new) }
+    ensures ended { result.refusal ≡ None → IsEndedBehind B.tells (B.given bank.old) members.old members.new (B.tape bank.old) (B.tape bank.new) }
+    ensures placed { IsPlaced (B.given bank.old) members.new }
+    ensures unlost { AreUnlost members.new }
+    ensures free { AreSparesFree (B.given bank.old) members.new }
+    ensures states { (role slot : ℕ) → holder (role_state (reading_of members.new) role) ≡ Some slot → role_state (reading_of members.new) role ≡ role_state (reading_of members.old) role }
+    ensures offsets { (slot : ℕ) → data_offset_of (reading_of members.new) slot ≡ data_offset_of (reading_of members.old) slot }
+    ensures flushed { B.tells → AreHoldersFlushed (reading_of members.new) (B.given bank.old) (B.tape bank.new) }
+    ensures others { B.tells → AreOthersPresent (present (B.given bank.old) (B.tape bank.old)) (present (B.given bank.old) (B.tape bank.new)) }
+    ensures named { HasLiveSlot members.new → AreNamedMissing members.new }
+    ensures grows { Grows B.tells (B.tape bank.old) (B.tape bank.new) }
+    ensures rise { IsRisen B.tells members.old members.new (B.tape bank.old) (B.tape bank.new) }
+    ensures failed { AreLostInEnd members.old members.new result.roles result.spares result.lost (B.faults_of bank.old) (B.faults_of bank.new) }
+    ensures kept { (why : Refusal) → result.refusal ≡ Some why → B.tells → (world : World) → (told : Ledger) → HasRoomLeft members.old (B.tape bank.old) (B.tape bank.new)
+        → AreGoneTold told members.new → IsUncleanTold told members.old → IsSafeOver world (B.given bank.old) told members.old (B.tape bank.old)
+        → KeepsSafe world (B.given bank.old) told members.new (B.tape bank.old) (B.tape bank.new) }
+    ensures safe { result.refusal ≡ None → B.tells → (world : World) → (told more : Ledger) → (list : ℕ → Sector) → HasRoomLeft members.old (B.tape bank.old) (B.tape bank.new)
+        → ArePlaced world.scope (B.given bank.old) members.old → IsFinishable (OpensFit world) more members.old (present (B.given bank.old) (B.tape bank.old)) list
+        → AreGoneTold told members.old → ((role : ℕ) → has_slot result.roles role ≡ true → told.gone role ≡ true) → AreGoneTold more members.new
+        → IsUncleanTold told members.old → IsUncleanTold more members.old → ((number : ℕ) → told.carried number ≡ true → more.carried number ≡ true)
+        → IsSafeOver world (B.given bank.old) told members.old (B.tape bank.old)
+        → IsSafeChange (OpensFit world) world.scope (B.given bank.old) told more members.new (B.tape bank.old) (B.tape bank.new) }
+    ensures counts { NeverFalls (B.faults_of bank.old) (B.faults_of bank.new) }
+    ensures given { B.given bank.new ≡ B.given bank.old }
+{
+    let count = count_roles(members);
+    let before = vacant_roles(members, count);
+    let spares = flush_naming(members, bank);
+    let roles = newly_vacant(members, count, before);
+    match too_many(members) {
+        Some(why) => {
+            return Finished {
+                roles,
+                spares,
+                lost: 0,
+                refusal: Some(why),
+            };
+        }
+        None => {}
+    }
+    check_counts(members);
+    let lost = end_update(members, bank);
+    check_entries(&members.newest);
+    Finished {
+        roles,
+        spares,
+        lost,
+        refusal: None,
+    }
+}
