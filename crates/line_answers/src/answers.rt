@@ -56,9 +56,9 @@ fn inside(epochs: &Vec<Epoch>, at: u64) -> Answered
 
 // The answer of an array that goes on.
 fn goes_on<B: Bank>(
+    place: Result<u64, NoMemory>,
     array: Array<B>,
     epochs: Vec<Epoch>,
-    place: Result<u64, NoMemory>,
 ) -> (State<B>, Result<Answered, NoMemory>)
     requires few { length epochs.items < 2 ^ 32 }
     ensures state { result.0 ≡ IsRunning array epochs }
@@ -150,44 +150,17 @@ fn answer_running<B: Bank>(
 {
     let mut array = array;
     match line {
-        Line::Read { at, count } => {
-            let place = ask_read(alloc, &mut array, at, count);
-            goes_on(array, epochs, place)
-        }
-        Line::Write { at, count, seed } => {
-            let place = ask_write(alloc, &mut array, at, count, seed);
-            goes_on(array, epochs, place)
-        }
-        Line::Flush => {
-            let place = ask_flush(&mut array);
-            goes_on(array, epochs, place)
-        }
-        Line::Fail { role } => {
-            let place = ask_fail(&mut array, role);
-            goes_on(array, epochs, place)
-        }
-        Line::Add { slot } => {
-            let place = ask_add(&mut array, slot);
-            goes_on(array, epochs, place)
-        }
-        Line::Step { most } => {
-            let place = ask_steps(&mut array, most);
-            goes_on(array, epochs, place)
-        }
-        Line::Wait => {
-            let place = ask_wait(&mut array);
-            goes_on(array, epochs, place)
-        }
+        Line::Read { at, count } => goes_on(ask_read(alloc, &mut array, at, count), array, epochs),
+        Line::Write { at, count, seed } => goes_on(ask_write(alloc, &mut array, at, count, seed), array, epochs),
+        Line::Flush => goes_on(ask_flush(&mut array), array, epochs),
+        Line::Fail { role } => goes_on(ask_fail(&mut array, role), array, epochs),
+        Line::Add { slot } => goes_on(ask_add(&mut array, slot), array, epochs),
+        Line::Step { most } => goes_on(ask_steps(&mut array, most), array, epochs),
+        Line::Wait => goes_on(ask_wait(&mut array), array, epochs),
         Line::Stop => stop_array(array, epochs, backup),
         Line::Halt => halt_array(array, epochs, backup),
-        Line::Detail => {
-            let place = ask_show(&mut array);
-            goes_on(array, epochs, place)
-        }
-        Line::Mdstat => {
-            let place = ask_show(&mut array);
-            goes_on(array, epochs, place)
-        }
+        Line::Detail => goes_on(ask_show(&mut array), array, epochs),
+        Line::Mdstat => goes_on(ask_show(&mut array), array, epochs),
         Line::Examine { slot } => examine_running(array, epochs, backup, slot),
         Line::Create(_) => (State::Running(array, epochs), Ok(refused(Refusal::Running))),
         Line::Assemble { .. } => (State::Running(array, epochs), Ok(refused(Refusal::Running))),
