@@ -151,7 +151,11 @@ fn answer_running<B: Bank>(
     let mut array = array;
     match line {
         Line::Read { at, count } => goes_on(ask_read(alloc, &mut array, at, count), array, epochs),
-        Line::Write { at, count, seed } => goes_on(ask_write(alloc, &mut array, at, count, seed), array, epochs),
+        Line::Write { at, count, seed } => goes_on(
+            ask_write(alloc, &mut array, at, count, seed),
+            array,
+            epochs,
+        ),
         Line::Flush => goes_on(ask_flush(&mut array), array, epochs),
         Line::Fail { role } => goes_on(ask_fail(&mut array, role), array, epochs),
         Line::Add { slot } => goes_on(ask_add(&mut array, slot), array, epochs),

@@ -7,5 +7,7 @@ mod examines;
 mod shows;
 
 pub use answers::{answer, entry_of};
-pub use asks::{ask_add, ask_fail, ask_flush, ask_read, ask_steps, ask_wait, ask_write, script_call};
+pub use asks::{
+    ask_add, ask_fail, ask_flush, ask_read, ask_steps, ask_wait, ask_write, script_call,
+};
 pub use shows::ask_show;

@@ -36,7 +36,7 @@ returns-in-Ok-push-clause-step g c =
     record {
       reply = record { made = made; replied = replied.0; more = items; refused = refl };
       taken = λ told. c.in-Ok-push.ensures.pushed.whole told ∙ ap (λ (t : List ℕ). g.K.Sink.taken c.args.out.now ++ t) piece;
-      shown = c.saturating_add-shown.ensures ∙ ap (λ (t : List ℕ). counted (c.args.session.shown + length t)) piece;
+      shown = c.saturating_add.ensures ∙ ap (λ (t : List ℕ). counted (c.args.session.shown + length t)) piece;
     }
 
 pub returns-in-Err-clause-step : goal.returns-in-Err-clause-step
