@@ -67,7 +67,7 @@ use Rattle.views.specs.Rebuilding.{IsFree, AreSparesFree}
 use Rattle.views.proofs.Fit.{list-alike, count-alike}
 use Rattle.views.proofs.HeldRows.{held-moved, without-before}
 use Rattle.views.proofs.LackingLists.{row-moved}
-use Rattle.views.proofs.Under.{shown-moved, shown-rows-moved}
+use Rattle.safe_updates.proofs.Under.{shown-moved, shown-rows-moved}
 use Rattle.reshape_ends.specs.Finished.{AreLostInEnd, IsFinishable, IsZeroBehind}
 use Rattle.reshape_ends.proofs.Made.{IsRoomy, HasNoRole, IsMade, planned-spare}
 

@@ -19,25 +19,27 @@ use Rattle.script.specs.declared.lines.Numbered.{Numbered}
 use Rattle.runner.specs.declared.sessions.Session.{Session}
 use Rattle.runner.specs.declared.sessions.Stop.{Stop}
 use Rattle.runner.specs.declared.sessions.Stop.TheVariants.{WriteFault, NoMemory as WantsMemory}
-use Rattle.runner.specs.declared.states.State.TheVariants.{Idle, Running}
-use Rattle.runner.specs.Asked.{script_who, IsAskedAt}
-use Rattle.runner.specs.Histories.{History, history_of, histories_of, is_end}
-use Rattle.runner.specs.Making.{Setting, setting_of}
+use Rattle.run_laws.specs.declared.states.State.TheVariants.{Idle, Running}
+use Rattle.run_laws.specs.Asked.{script_who, IsAskedAt}
+use Rattle.run_laws.specs.Histories.{History, history_of, histories_of, is_end}
+use Rattle.run_laws.specs.Making.{Setting, setting_of}
 use Rattle.bank.specs.declared.bank.Operation.{Operation}
-use Rattle.runner.specs.Replies.{Course, at_rest, course_of}
+use Rattle.run_laws.specs.Replies.{Course, at_rest, course_of}
 use Rattle.runner.specs.Runs.{status_for, stop_of, IsHalted, AreLinesPerformed, AreLossesFailed, IsEnded}
 use Rattle.runner.specs.Sessions.{counted, IsCourse, IsCourseBehind, taken_whole, IsTaken, IsPerformed, IsShownTo}
 use Rattle.runner.specs.Shown.{report_text, has_refusal}
-use Rattle.runner.specs.States.{running_history, histories_in, course_in, RunsOwn, AreLossesBehind, AreLossesFrom, IsCutShort}
-use Rattle.runner.specs.Ended.{AreRising}
-use Rattle.runner.specs.Written.{AreWritesPlaced, IsWritten}
+use Rattle.run_laws.specs.States.{running_history, histories_in, course_in, RunsOwn, AreLossesBehind, AreLossesFrom, IsCutShort}
+use Rattle.run_laws.specs.Ended.{AreRising}
+use Rattle.runner.specs.Writes.{AreWritesPlaced}
+use Rattle.run_laws.specs.Written.{IsWritten}
 use Rattle.views.specs.Moving.{Grows}
-use Rattle.runner.proofs.AskLaws.{one, with_reply}
-use Rattle.runner.proofs.Legal.{grows_longer}
-use Rattle.runner.proofs.Writing.{placed-end, quiet-between}
-use Rattle.runner.proofs.Growth.{IsWider, replies_stay, replies_front, shown_stays, courses_stay, cut_stays}
-use Rattle.runner.proofs.Losses.{losses-halted, losses-whole, losses-kept, losses-last, losses_add}
-use Rattle.runner.proofs.Turns.{now_are, turn_ended, grown_kept, get_last}
+use Rattle.run_laws.proofs.AskLaws.{one, with_reply}
+use Rattle.run_laws.proofs.Legal.{grows_longer}
+use Rattle.runner.proofs.WritesPlaced.{placed-end, quiet-between}
+use Rattle.run_laws.proofs.Growth.{IsWider, replies_stay, replies_front, courses_stay, cut_stays}
+use Rattle.runner.proofs.ShownLaws.{shown_stays}
+use Rattle.run_laws.proofs.Losses.{losses-halted, losses-whole, losses-kept, losses-last, losses_add}
+use Rattle.line_answers.proofs.Turns.{now_are, turn_ended, grown_kept, get_last}
 
 last-snoc : (xs : List Entry) (e : Entry) → last_of (xs ++ e ∷ []) ≡ Some e
 last-snoc [] e = refl

@@ -2,23 +2,26 @@
 use Rattle.std.proofs.Common.{◌≡◌, ℕ, zero, suc, ◌+◌, ◌<◌, inl, inr, List, [], ◌∷◌, length, refl, sym, ◌∙◌, ap, subst, arith, Option, get_or-set_same, get_or-set_other}
 use Rattle.std.proofs.lemmas.Bool.{cases_eq}
 use Rattle.std.proofs.lemmas.List.Elements.{All-nil, All-cons, All-head, All-tail}
-use Rattle.std.specs.Prelude.{slice_index_or, slice_set}
+use Rattle.std.specs.Prelude.{slice_index_or, slice_set, ⊤, slice_get}
 use Rattle.flat_history.specs.declared.events.Epoch.{Epoch}
-use Rattle.runner.specs.Histories.{History, history_of, histories_of}
+use Rattle.run_laws.specs.Histories.{History, history_of, histories_of}
 use Rattle.bank.specs.Given.{Given, sizes}
 use Rattle.bank.specs.declared.bank.Operation.{Operation}
 use Rattle.flat_history.specs.OneShape.{opening_in, IsOneShapeLegal}
-use Rattle.runner.specs.declared.states.State.{State}
+use Rattle.run_laws.specs.declared.states.State.{State}
 use Rattle.flat_history.specs.World.{World}
 use Rattle.flat_history.specs.CrashSafe.{IsCrashSafe}
-use Rattle.flat_history.specs.Epochs.{HasRoomForEvents, OpensAlike}
+use Rattle.flat_history.specs.Epochs.{HasRoomForEvents, OpensAlike, world_of, IsEpochRight}
 use Rattle.flat_history.specs.Growing.{EndBy}
 use Rattle.flat_history.specs.Reopened.{OpensAccepted}
 use Rattle.flat_history.specs.Sound.{FillsRight, StaysSound}
-use Rattle.runner.specs.Making.{Setting}
-use Rattle.runner.specs.Ended.{IsLegalEpoch, AreLegal, IsSafeEpoch, AreSafe, AreRising, AreFormer}
-use Rattle.runner.specs.Runs.{AreHalted, IsEnded, mark_behind, AreEndedBelow}
-use Rattle.runner.specs.States.{histories_in, course_in, AreOfScript, AreGrown, AreLossesFrom}
+use Rattle.run_laws.specs.Making.{Setting}
+use Rattle.run_laws.specs.Ended.{IsLegalEpoch, AreLegal, IsSafeEpoch, AreSafe, AreRising, AreFormer, IfFilledRight, AreRight, next_mark}
+use Rattle.runner.specs.Runs.{AreHalted, IsEnded, mark_behind, AreEndedBelow, AreEndedAt}
+use Rattle.run_laws.specs.States.{histories_in, course_in, AreOfScript, AreGrown, AreLossesFrom}
+use Rattle.flat_history.proofs.OneShapeLegal.{found-in, one_shape-legal}
+use Rattle.std.specs.Option.{option_map_or}
+use Rattle.run_laws.proofs.Legal.{next_within}
 
 -- an epoch of the same history in the place of one
 pub kept_set : (epochs : List Epoch) (i : ℕ) (e d : Epoch) → history_of e ≡ history_of (slice_index_or epochs i d) → histories_of (slice_set epochs i e) ≡ histories_of epochs
@@ -101,3 +104,42 @@ former_kept given tape backup mark olds news same was = record {
   safe = safes_kept given tape backup olds news same was.safe;
   rising = subst (λ (l : List History). AreRising mark l) (sym same) was.rising;
 }
+
+-- ---- the epochs of a whole run
+
+-- each ends where the next one begins
+abbrev pub AreEndedTo : ℕ → List Epoch → Type 0
+AreEndedTo ops [] = ⊤
+AreEndedTo ops (e ∷ epochs) = (e.last ≡ next_mark ops (histories_of epochs)) × AreEndedTo ops epochs
+
+pub ended_to : (ops : ℕ) (epochs : List Epoch) → AreEndedAt ops epochs → AreEndedTo ops epochs
+ended_to ops [] ended = tt
+ended_to ops (e ∷ []) ended = (ended 0 e (omega arith), tt)
+ended_to ops (e ∷ f ∷ epochs) ended = (ended 0 e (omega arith), ended_to ops (f ∷ epochs) (λ k d lt. ended (suc k) d (omega (arith, lt)) ∙ behind (history_of e) (histories_of (f ∷ epochs)) k))
+  where
+    behind : (h : History) (hs : List History) (k : ℕ) → mark_behind ops (h ∷ hs) (suc k) ≡ mark_behind ops hs k
+    behind h hs k = ap (λ (n : ℕ). option_map_or (λ (history : History). history.first) (slice_get (h ∷ hs) n) ops) {x = suc k + 1} {y = suc (k + 1)} (omega arith)
+
+-- where what was filled in is right, such a history is
+pub all_right : (given : Given) (tape : List Operation) (backup : Option ℕ) (epochs : List Epoch) → AreFormer given tape backup (length tape) epochs → AreEndedTo (length tape) epochs → AreRight given tape backup epochs
+all_right given tape backup [] was ended = All-nil (λ e. IfFilledRight given tape backup e (IsEpochRight given tape backup e))
+all_right given tape backup (e ∷ epochs) was (last, ended) =
+    let legal = All-head (λ e. IsLegalEpoch given tape backup e) e epochs was.legal in
+    let world = world_of given tape backup e in
+    All-cons (λ e. IfFilledRight given tape backup e (IsEpochRight given tape backup e)) e epochs
+    (λ fills room alike. let right = one_shape-legal world (opening_in world) e.entries.items (found-in world) (legal.legal fills) in
+    let within = next_within tape epochs was.rising.1 in
+    let fine = All-head (λ e. IsSafeEpoch given tape backup e) e epochs was.safe fills room alike in
+    record {
+      begins = omega (arith, last, was.rising.0.0);
+      ends = omega (arith, last, within);
+      legal = right.0;
+      safe = λ mark low high only. fine.0 mark low (omega (arith, high, last, within)) only;
+      sound = λ opens mark low high only. fine.1 opens mark low (omega (arith, high, last, within)) only;
+      reshaped = right.1;
+    })
+    (all_right given tape backup epochs (record {
+      legal = All-tail (λ e. IsLegalEpoch given tape backup e) e epochs was.legal;
+      safe = All-tail (λ e. IsSafeEpoch given tape backup e) e epochs was.safe;
+      rising = was.rising.1;
+    }) ended)

@@ -15,10 +15,10 @@ use Rattle.flat_history.specs.Flat.{rest_of_call}
 use Rattle.flat_history.specs.Growing.{EndBy}
 use Rattle.flat_history.specs.OneShape.{ShapeOpening, opening_in, IsOneShapeEvent, AreOneShape}
 use Rattle.flat_history.proofs.ReopenedLaws.{settled-found}
-use Rattle.runner.specs.Ended.{IsLegalEpoch, IsSafeEpoch, AreFormer}
+use Rattle.run_laws.specs.Ended.{IsLegalEpoch, IsSafeEpoch, AreFormer}
 use Rattle.runner.specs.Kept.{IsListKept, IsSoundKept, AreKept}
 use Rattle.reopened_laws.proofs.FewerSound.{sound-found-later}
-use Rattle.runner.proofs.Legal.{next_within}
+use Rattle.run_laws.proofs.Legal.{next_within}
 
 -- ---- an idle array's history
 

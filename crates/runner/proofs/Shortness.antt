@@ -14,12 +14,12 @@ use Rattle.script.specs.Script.{is_within_limits}
 use Rattle.script.specs.Seeds.{seeded}
 use Rattle.script.specs.declared.lines.Line.{Line}
 use Rattle.script.specs.declared.lines.Line.TheVariants.{Create, Read, Write, Flush, Fail, Add, Step, Wait, Stop, Halt, Detail, Mdstat, Examine, Assemble}
-use Rattle.runner.specs.declared.report.Answered.{Answered}
-use Rattle.runner.specs.declared.report.Answered.TheVariants.{Inside, Outside as IsOutside}
-use Rattle.runner.specs.Histories.{History}
-use Rattle.runner.specs.Making.{Setting}
-use Rattle.runner.specs.Replies.{Course, FitsLine, IsReplyAt, IsWaitedAt, IsRepliedAt, IsAnswer, steps_at_once}
-use Rattle.runner.specs.Showing.{IsShown}
+use Rattle.run_laws.specs.declared.report.Answered.{Answered}
+use Rattle.run_laws.specs.declared.report.Answered.TheVariants.{Inside, Outside as IsOutside}
+use Rattle.run_laws.specs.Histories.{History}
+use Rattle.run_laws.specs.Making.{Setting}
+use Rattle.run_laws.specs.Replies.{Course, FitsLine, IsReplyAt, IsWaitedAt, IsRepliedAt, IsAnswer, steps_at_once}
+use Rattle.run_laws.specs.Showing.{IsShown}
 use Rattle.runner.specs.Shown.{IsShort, IsAnswerShort}
 
 short_read : (size : ℕ) (before call : List Entry) (at count : ℕ) (event : Event) → count ≤ 128 → OneShapeAnswers size before call (AsksRead at count) event → IsShort event

@@ -1,15 +1,7 @@
-pub mod Asked
-pub mod Ended
-pub mod Examining
-pub mod Histories
 pub mod Kept
-pub mod Making
 pub mod Pace
-pub mod Replies
 pub mod Runs
 pub mod Sessions
-pub mod Showing
 pub mod Shown
 pub mod Source
-pub mod States
-pub mod Written
+pub mod Writes

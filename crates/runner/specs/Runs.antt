@@ -7,18 +7,18 @@ use Rattle.flat_history.specs.declared.events.Event.TheVariants.{Halted}
 use Rattle.flat_history.specs.Flat.{last_of}
 use Rattle.script.specs.Script.{script_of}
 use Rattle.script.specs.declared.lines.Numbered.{Numbered}
-use Rattle.runner.specs.declared.report.LineReply.{LineReply}
+use Rattle.run_laws.specs.declared.report.LineReply.{LineReply}
 use Rattle.runner.specs.declared.sessions.Stop.{Stop}
 use Rattle.runner.specs.declared.sessions.Stop.TheVariants.{WriteFault, NoMemory as WantsMemory}
-use Rattle.runner.specs.declared.states.State.{State}
-use Rattle.runner.specs.Histories.{History, history_of, histories_of}
-use Rattle.runner.specs.Making.{Setting}
-use Rattle.runner.specs.Replies.{Course, at_rest, course_of, AreReplies, AreInOrder}
+use Rattle.run_laws.specs.declared.states.State.{State}
+use Rattle.run_laws.specs.Histories.{History, history_of, histories_of}
+use Rattle.run_laws.specs.Making.{Setting}
+use Rattle.run_laws.specs.Replies.{Course, at_rest, course_of, AreReplies, AreInOrder}
 use Rattle.runner.specs.Sessions.{IsCourse, counted, taken_whole, IsTaken}
 use Rattle.runner.specs.Shown.{report_text, has_refusal}
 use Rattle.runner.specs.Source.{IsTextOf}
-use Rattle.runner.specs.States.{histories_in, bank_in, course_in, AreOfScript, AreGrown, AreLossesBehind, AreLossesFrom}
-use Rattle.runner.specs.Written.{AreWritesPlaced, AreQuiet}
+use Rattle.run_laws.specs.States.{histories_in, bank_in, course_in, AreOfScript, AreGrown, AreLossesBehind, AreLossesFrom}
+use Rattle.runner.specs.Writes.{AreWritesPlaced, AreQuiet}
 
 -- The statuses: 0 done, 1 done with refusals, 2 bad words, 3 a bad line, 4 the source failed, 5 the sink failed, 6 memory was short.
 abbrev pub status_for : Option Stop → Bool → ℕ

@@ -8,18 +8,18 @@ ghost use Rattle.text_io.specs.Causes.{HasRisen};
 ghost use Rattle.script.specs.Script.{is_within_limits};
 ghost use Rattle.script.specs.Appends.{Appends, AppendsFew};
 ghost use Rattle.runner.specs.Shown.{longest_answer, longest_reply, IsShort, IsAnswerShort, outside_text, entry_text, answer_text, reply_text, is_refused_outside, is_refusal, tells_refusal};
-ghost use Rattle.runner.specs.States.{histories_in, bank_in, RunsOwn, IsFitBank, IsNamed};
+ghost use Rattle.run_laws.specs.States.{histories_in, bank_in, RunsOwn, IsFitBank, IsNamed};
 ghost use Rattle.runner.specs.Sessions.{IsEndNow, IsRepliedOrNot, IsStep, IsStopCause, IsPerformed, IsShownTo};
-ghost use Rattle.runner.specs.Ended.{IsRunKept};
-ghost use Rattle.runner.specs.Making.{setting_of};
-ghost use Rattle.runner.specs.Replies.{IsEnd};
+ghost use Rattle.run_laws.specs.Ended.{IsRunKept};
+ghost use Rattle.run_laws.specs.Making.{setting_of};
+ghost use Rattle.run_laws.specs.Replies.{IsEnd};
 ghost use Rattle.script.specs.declared.reply.Lane.TheVariants.{Script as InScript};
 
-use crate::report::{Answered, LineReply, Outside};
-use crate::states::{State, answer, entry_of};
 use bank::Bank;
 use flat_history::Event;
+use line_answers::{answer, entry_of};
 use md_base::{NoMemory, Refusal};
+use run_laws::{Answered, LineReply, Outside, State};
 use script::{
     Lane, Line, Numbered, push_assembled, push_created, push_event, push_lane, push_refusal,
     push_waited,
@@ -219,7 +219,7 @@ fn reply_to<B: Bank>(
 // Performs one line and shows its reply. The room for the reply is taken first.
 fn perform_line<B: Bank, K: Sink>(
     alloc: Global,
-    session: Session<B>,
+    mut session: Session<B>,
     backup: Option<u32>,
     numbered: Numbered,
     out: &mut K,
@@ -238,64 +238,30 @@ fn perform_line<B: Bank, K: Sink>(
     ensures grows { Grows B.tells (B.tape (bank_in session.state)) (B.tape (bank_in result.state)) }
     ensures given { B.given (bank_in result.state) ≡ B.given (bank_in session.state) }
 {
-    let Session {
-        state,
-        mut replies,
-        mut buffer,
-        shown,
-        refused,
-        stopped: _,
-    } = session;
-    let short = Some(Stop::NoMemory);
-    if replies.reserve(1).is_err() {
-        return Session {
-            state,
-            replies,
-            buffer,
-            shown,
-            refused,
-            stopped: short,
-        };
+    if session.replies.reserve(1).is_err() {
+        session.stopped = Some(Stop::NoMemory);
+        return session;
     }
-    let (state, made) = reply_to(alloc, state, backup, numbered, &mut buffer);
+    let (state, made) = reply_to(alloc, session.state, backup, numbered, &mut session.buffer);
+    session.state = state;
     let Ok(made) = made else {
-        return Session {
-            state,
-            replies,
-            buffer,
-            shown,
-            refused,
-            stopped: short,
-        };
+        session.stopped = Some(Stop::NoMemory);
+        return session;
     };
-    let Made {
-        reply,
-        refused: is_refused,
-    } = made;
-    replies.push_reserved(reply);
-    let refused = refused | is_refused;
-    let text = buffer.as_slice();
+    session.replies.push_reserved(made.reply);
+    session.refused |= made.refused;
+    let text = session.buffer.as_slice();
     let len = text.len() as u64;
     match out.push(text) {
         Ok(()) => {
-            let shown = shown.saturating_add(len);
-            Session {
-                state,
-                replies,
-                buffer,
-                shown,
-                refused,
-                stopped: None,
-            }
+            session.shown = session.shown.saturating_add(len);
+            session.stopped = None;
+            session
         }
-        Err(_) => Session {
-            state,
-            replies,
-            buffer,
-            shown,
-            refused,
-            stopped: Some(Stop::WriteFault),
-        },
+        Err(_) => {
+            session.stopped = Some(Stop::WriteFault);
+            session
+        }
     }
 }
 

@@ -47,7 +47,7 @@ use Rattle.views.proofs.HeldRows.{rows-same, without-before}
 use Rattle.views.proofs.LackingLists.{row-moved}
 use Rattle.views.proofs.MarkLaws.{roles-kept}
 use Rattle.views.proofs.SafeStretch.{gone-before, allowed-later}
-use Rattle.views.proofs.Under.{shown-moved, shown-rows-moved}
+use Rattle.safe_updates.proofs.Under.{shown-moved, shown-rows-moved}
 use Rattle.window_steps.proofs.CopyLaws.{window-alike, open-alike}
 use Rattle.window_steps.specs.Recording.{AreOthersFewer, AreHeadersFit, IsCopiedWindow}
 

@@ -2,19 +2,19 @@ use Rattle.std.proofs.Common.{rules, ◌≡◌, ◌-◌, [], ◌∷◌, ◌++◌
 use Rattle.flat_history.specs.declared.events.Epoch.{Epoch}
 use Rattle.views.specs.Whole.{list_size}
 use Rattle.views.specs.Placed.{places_of}
-use Rattle.runner.specs.Ended.{IsRunKept, AreFormer}
-use Rattle.runner.specs.States.{histories_in, bank_in, RunsOwn}
-use Rattle.runner.proofs.Legal.{former_halted}
-use Rattle.runner.specs.Making.{setting_of}
+use Rattle.run_laws.specs.Ended.{IsRunKept, AreFormer}
+use Rattle.run_laws.specs.States.{histories_in, bank_in, RunsOwn}
+use Rattle.run_laws.proofs.Legal.{former_halted}
+use Rattle.run_laws.specs.Making.{setting_of}
 use Rattle.runner.specs.Runs.{IsEnded}
-use Rattle.runner.specs.declared.states.State.{State}
-use Rattle.runner.specs.declared.states.State.TheVariants.{Running}
-use Rattle.runner.proofs.AskLaws.{asked_halt, halt_grew}
+use Rattle.run_laws.specs.declared.states.State.{State}
+use Rattle.run_laws.specs.declared.states.State.TheVariants.{Running}
+use Rattle.run_laws.proofs.AskLaws.{asked_halt, halt_grew}
 use Rattle.runner.proofs.Ends.{ended_idle, ended_running}
 use Rattle.flat_history.specs.declared.events.Event.TheVariants.{Halted}
-use Rattle.runner.specs.Histories.{histories_of}
-use Rattle.runner.specs.Written.{IsWritten}
-use Rattle.runner.proofs.Writing.{entered_end, written_idle, written_ended}
+use Rattle.run_laws.specs.Histories.{histories_of}
+use Rattle.run_laws.specs.Written.{IsWritten}
+use Rattle.run_laws.proofs.Writing.{entered_end, written_idle, written_ended}
 use Rattle.runner.proofs.runs.halt.Goals as goal
 
 pub returns-in-Idle-clause-ended : goal.returns-in-Idle-clause-ended

@@ -1,16 +1,16 @@
 use Rattle.std.proofs.Common.{take, ◌+◌, ◌≡◌, ℕ, [], ◌++◌, ◌∷◌, length, List, Result, inl, refl, ◌∙◌, ap, subst, arith}
 use Rattle.md_base.specs.declared.answers.NoMemory.{NoMemory}
-use Rattle.runner.specs.declared.report.LineReply.{LineReply}
+use Rattle.run_laws.specs.declared.report.LineReply.{LineReply}
 use Rattle.runner.specs.declared.sessions.Made.{Made}
 use Rattle.runner.specs.Shown.{reply_text}
-use Rattle.runner.specs.Making.{setting_of}
-use Rattle.runner.specs.States.{histories_in, bank_in}
+use Rattle.run_laws.specs.Making.{setting_of}
+use Rattle.run_laws.specs.States.{histories_in, bank_in}
 use Rattle.runner.specs.Sessions.{counted, IsRepliedOrNot}
-use Rattle.runner.proofs.Causes.{grows-none}
-use Rattle.runner.proofs.Losses.{losses-kept}
-use Rattle.runner.proofs.Turns.{grown_kept}
-use Rattle.runner.specs.Written.{MayWrite}
-use Rattle.runner.proofs.Writing.{written-nothing}
+use Rattle.run_laws.proofs.Causes.{grows-none}
+use Rattle.run_laws.proofs.Losses.{losses-kept}
+use Rattle.line_answers.proofs.Turns.{grown_kept}
+use Rattle.run_laws.specs.Written.{MayWrite}
+use Rattle.run_laws.proofs.Writing.{written-nothing}
 use Rattle.runner.proofs.sessions.perform_line.Goals as goal
 
 pub returns-then-is_err-clause-step : goal.returns-then-is_err-clause-step
@@ -36,7 +36,7 @@ returns-in-Ok-push-clause-step g c =
     record {
       reply = record { made = made; replied = replied.0; more = items; refused = refl };
       taken = λ told. c.in-Ok-push.ensures.pushed.whole told ∙ ap (λ (t : List ℕ). g.K.Sink.taken c.args.out.now ++ t) piece;
-      shown = c.saturating_add-shown.ensures ∙ ap (λ (t : List ℕ). counted (c.args.session.shown + length t)) piece;
+      shown = c.saturating_add.ensures ∙ ap (λ (t : List ℕ). counted (c.args.session.shown + length t)) piece;
     }
 
 pub returns-in-Err-clause-step : goal.returns-in-Err-clause-step

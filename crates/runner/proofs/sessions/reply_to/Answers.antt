@@ -1,9 +1,9 @@
 use Rattle.std.proofs.Common.{sym, subst}
-use Rattle.runner.specs.declared.report.Answered.{Answered}
-use Rattle.runner.specs.Making.{setting_of}
+use Rattle.run_laws.specs.declared.report.Answered.{Answered}
+use Rattle.run_laws.specs.Making.{setting_of}
 use Rattle.runner.specs.Shown.{IsAnswerShort}
-use Rattle.runner.specs.States.{histories_in, bank_in, IsNamed}
-use Rattle.runner.proofs.Turns.{turn_named, turn_short, turn_replied}
+use Rattle.run_laws.specs.States.{histories_in, bank_in, IsNamed}
+use Rattle.runner.proofs.Replied.{turn_named, turn_short, turn_replied}
 use Rattle.runner.proofs.sessions.reply_to.Goals as goal
 
 pub is_answer_refused-refused-requires : goal.is_answer_refused-refused-requires

@@ -1,0 +1,491 @@
+-- What one line does to a run, by the answer that it got.
+use Rattle.std.proofs.Common.{◌≡◌, ℕ, ◌+◌, ◌*◌, ◌^◌, ◌<◌, fold, Bool, true, false, Option, Some, None, List, [], ◌∷◌, ◌++◌, length, length-append, refl, sym, ◌∙◌, ap, subst, arith, append-nil, Result, Ok, Err, inl, inr, ◌≤◌}
+use Rattle.std.proofs.lemmas.List.Sums.{fold-append}
+use Rattle.std.proofs.lemmas.List.{map-append, length-map}
+use Rattle.std.proofs.lemmas.List.Elements.{All-nil, All-cons, All-append, All-push}
+use Rattle.std.specs.Prelude.{slice_get, if◌then◌else◌, vec_capacity, MatchOption, IfOk, IfSome, IsFalse}
+use Rattle.std.specs.Global.{Vec}
+use Rattle.std.specs.List.{All}
+use Rattle.std.specs.Option.{option_and_then, option_map_or}
+use Rattle.md_base.specs.declared.places.Shape.{Shape}
+use Rattle.md_base.specs.declared.answers.NoMemory.{NoMemory}
+use Rattle.md_base.specs.declared.answers.Refusal.{Refusal}
+use Rattle.md_base.specs.declared.answers.Refusal.TheVariants.{Running as IsRunning}
+use Rattle.md_base.specs.declared.status.Status.{Status}
+use Rattle.md_base.specs.Shapes.{data_disks}
+use Rattle.views.specs.Parts.{Parts}
+use Rattle.views.specs.Status.{IsStatusFor}
+use Rattle.views.specs.Whole.{list_size}
+use Rattle.views.specs.Placed.{places_of}
+use Rattle.flat_history.specs.declared.events.Entry.{Entry}
+use Rattle.flat_history.specs.declared.events.Epoch.{Epoch}
+use Rattle.flat_history.specs.declared.events.Event.{Event}
+use Rattle.flat_history.specs.declared.events.Event.TheVariants.{Shown, Stopped, Halted}
+use Rattle.flat_history.specs.declared.events.Request.TheVariants.{Read as AsksRead, Write as AsksWrite, Flush as AsksFlush, Fail as AsksFail, Add as AsksAdd, Steps as AsksSteps}
+use Rattle.flat_history.specs.Flat.{rest_of_call, next_number, number_after}
+use Rattle.flat_history.specs.Legal.{call_before}
+use Rattle.flat_history.specs.Plain.{entries_of}
+use Rattle.flat_history.specs.OneShape.{OneShapeAnswers}
+use Rattle.flat_history.specs.Transfers.{last_end_from}
+use Rattle.flat_history.proofs.OneShapeLegal.{last-snoc}
+use Rattle.history_laws.proofs.OneShapeGrowing.{call-ends}
+use Rattle.flat_history.specs.World.{World, opening_list}
+use Rattle.flat_history.specs.Epochs.{OpensAlike}
+use Rattle.flat_history.specs.Opened.{OpensSound}
+use Rattle.bank.specs.Given.{sizes}
+use Rattle.superblocks.specs.declared.members.Members.{Members}
+use Rattle.row_io.specs.Rows.{reading_of}
+use Rattle.array_kept.specs.Adopting.{opener, found_losses}
+use Rattle.array_kept.specs.Calls.{IsEndOf, IsEntered, world_for}
+use Rattle.assemble.specs.Creating.{create_refusal}
+use Rattle.assemble.specs.Opening.{AreGiven, array_of, scope_of}
+use Rattle.assemble.specs.Made.{used_slot}
+use Rattle.assemble.specs.Running.{IsCreated, IsAssembled, OpensWithZeros}
+use Rattle.script.specs.declared.lines.CreateLine.{CreateLine}
+use Rattle.script.specs.declared.lines.Line.{Line}
+use Rattle.script.specs.declared.lines.Line.TheVariants.{Create, Read, Write, Flush, Fail, Add, Step, Wait, Assemble}
+use Rattle.run_laws.specs.declared.report.Outside.TheVariants.{Created, Assembled, Refused}
+use Rattle.run_laws.specs.declared.report.Answered.TheVariants.{Inside, Outside as IsOutside}
+use Rattle.run_laws.specs.declared.states.State.TheVariants.{Idle, Running}
+use Rattle.run_laws.specs.Asked.{script_who, IsAskedAt, IsAsked, IsStillWaiting, IsWaited}
+use Rattle.run_laws.specs.Histories.{History, history_of, histories_of, entry_at, is_end, AreGoing}
+use Rattle.run_laws.specs.Making.{Setting, held_at, history_world, MissingAtFirst, IsStoredNew, IsStoredAs}
+use Rattle.run_laws.specs.Replies.{Course, at_rest, begun, with_calls, course_behind, course_after, steps_at_once, IsRepliedAt, IsAnsweredInside, IsRefusedOutside, spec_of}
+use Rattle.superblocks.specs.Reading.{shape_of}
+use Rattle.script.specs.Seeds.{seeded}
+use Rattle.run_laws.specs.States.{EndsBetween, AreLossesBehind, AreLossesFrom, running_history, course_with, answer_at, IsGrown, AreGrown, AreLossesSince, IsTurn, IsNoTurn, IsTurnOrNone, RunsOwn, IsOwnEntry, AreByScript, IsByScript, IsOfScript, AreOfScript}
+use Rattle.run_laws.proofs.AskLaws.{one, with_reply, entry_there, replied_at}
+use Rattle.line_answers.proofs.Ending.{gone_once, ended_once}
+use Rattle.line_answers.proofs.Called.{HasCalled, called_none, called_once, called_own, called_grown, number_more}
+use Rattle.line_answers.proofs.Waits.{size_same, waiting_at, waiting_called, waited_called, waited_reply}
+use Rattle.run_laws.proofs.Losses.{losses-kept, losses-last, losses-same, losses-came, losses-found, each-absent}
+use Rattle.line_answers.proofs.Found.{found_world, found_history, opened_missing, stored_made, stored_found}
+
+-- its entries end where it began
+pub opening_end : (first : ℕ) (events : List Event) → last_end_from first (entries_of opener first events) ≡ first
+opening_end first [] = refl
+opening_end first (event ∷ events) = call-ends first [] opener first event events
+
+-- nor does it count as one
+opening_number : (end : ℕ) (events : List Event) (n : ℕ) → fold (number_after 0) n (entries_of opener end events) ≡ n
+opening_number end [] n = refl
+opening_number end (event ∷ events) n = opening_number end events n
+
+-- ---- the history of the array that runs goes on
+
+pub get_last : (hs : List History) (h : History) → slice_get (hs ++ h ∷ []) (length hs) ≡ Some h
+get_last [] h = refl
+get_last (x ∷ hs) h = get_last hs h
+
+none_later : (entries : List Entry) → All (λ e. rest_of_call e [] ≡ []) entries
+none_later [] = All-nil (λ (e : Entry). rest_of_call e [] ≡ [])
+none_later (e ∷ entries) = All-cons (λ (e : Entry). rest_of_call e [] ≡ []) e entries refl (none_later entries)
+
+grown_same : (h : History) → IsGrown h h
+grown_same h = record { uuid = refl; given = refl; first = refl; more = []; grown = sym (append-nil h.entries); later = none_later h.entries }
+
+pub grown_kept : (hs : List History) → AreGrown hs hs
+grown_kept [] = tt
+grown_kept (h ∷ hs) = (grown_same h, grown_kept hs)
+
+pub grown_last : (hs : List History) (old new : History) → IsGrown old new → AreGrown (hs ++ old ∷ []) (hs ++ new ∷ [])
+grown_last [] old new is = (is, tt)
+grown_last (h ∷ hs) old new is = (grown_same h, grown_last hs old new is)
+
+grown_came : (hs : List History) (new : History) → AreGrown hs (hs ++ new ∷ [])
+grown_came [] new = tt
+grown_came (h ∷ hs) new = (grown_same h, grown_came hs new)
+
+-- a line was answered by calls of the script, the last of them at this place, over the history of the array that runs
+module _ {size : ℕ} {line last : Line} {place : ℕ} {mid : List Entry} (hs : List History) (old new : History) (asked : IsAskedAt size last mid new.entries place) (replied : IsRepliedAt size new.entries place (next_number 0 old.entries) line) where
+  pub answered_last : IsAnsweredInside (hs ++ new ∷ []) (record { opened = length hs + 1; running = true; calls = next_number 0 old.entries; size = size }) (length hs) place line
+  answered_last = record {
+    running = refl;
+    latest = refl;
+    history = new;
+    there = get_last hs new;
+    replied = replied;
+  }
+
+-- the entry of its reply
+module _ {size : ℕ} {last : Line} {place : ℕ} {mid : List Entry} (hs : List History) (new : History) (asked : IsAskedAt size last mid new.entries place) where
+  pub entry_last : entry_at (hs ++ new ∷ []) (length hs) place ≡ Some (one (script_who mid) asked.end asked.event)
+  entry_last = ap (λ (o : Option History). option_and_then (λ h. slice_get h.entries place) o) (get_last hs new) ∙ entry_there asked
+
+  -- where the run stands behind it
+  pub course_last : (course : Course) (line : Line) → course_after (hs ++ new ∷ []) course line (Inside (length hs) place) ≡ course_behind course (one (script_who mid) asked.end asked.event)
+  course_last course line = ap (λ (o : Option Entry). option_map_or (course_behind course) o course) entry_last
+
+  -- and when it ended
+  pub between_last : (low high : ℕ) → low ≤ asked.end → asked.end ≤ high → EndsBetween low high (hs ++ new ∷ []) (Inside (length hs) place)
+  between_last low high above below = subst (λ (o : Option Entry). MatchOption o ⊥ (λ e. (low ≤ e.end) × (e.end ≤ high))) (sym entry_last) (above, below)
+
+-- a read, a write, a flush, a fail, an add and steps end no epoch
+goes_read : (size : ℕ) (before call : List Entry) (at count : ℕ) (event : Event) → OneShapeAnswers size before call (AsksRead at count) event → is_end event ≡ false
+goes_read size before call at count Stopped is = absurd is
+goes_read size before call at count Halted is = absurd is
+goes_read size before call at count event is = refl
+
+goes_write : (size : ℕ) (before call : List Entry) (at : ℕ) (body : List (List ℕ)) (event : Event) → OneShapeAnswers size before call (AsksWrite at body) event → is_end event ≡ false
+goes_write size before call at body Stopped is = absurd is
+goes_write size before call at body Halted is = absurd is
+goes_write size before call at body event is = refl
+
+goes_flush : (size : ℕ) (before call : List Entry) (event : Event) → OneShapeAnswers size before call AsksFlush event → is_end event ≡ false
+goes_flush size before call Stopped is = absurd is
+goes_flush size before call Halted is = absurd is
+goes_flush size before call event is = refl
+
+goes_fail : (size : ℕ) (before call : List Entry) (role : ℕ) (event : Event) → OneShapeAnswers size before call (AsksFail role) event → is_end event ≡ false
+goes_fail size before call role Stopped is = absurd is
+goes_fail size before call role Halted is = absurd is
+goes_fail size before call role event is = refl
+
+goes_add : (size : ℕ) (before call : List Entry) (slot : ℕ) (event : Event) → OneShapeAnswers size before call (AsksAdd slot) event → is_end event ≡ false
+goes_add size before call slot Stopped is = absurd is
+goes_add size before call slot Halted is = absurd is
+goes_add size before call slot event is = refl
+
+goes_steps : (size : ℕ) (before call : List Entry) (most : ℕ) (event : Event) → OneShapeAnswers size before call (AsksSteps most) event → is_end event ≡ false
+goes_steps size before call most Stopped is = absurd is
+goes_steps size before call most Halted is = absurd is
+goes_steps size before call most event is = refl
+
+-- what stands before the reply in its call
+abbrev call_of : {size place : ℕ} {line : Line} {old new : List Entry} → IsAskedAt size line old new place → List Entry
+call_of {old = old} asked = call_before (old ++ asked.inner) (one (script_who old) asked.end asked.event)
+
+pub going_read : {size place : ℕ} {old new : List Entry} (at count : ℕ) (asked : IsAskedAt size (Read at count) old new place) → is_end asked.event ≡ false
+going_read {size = size} {old = old} at count asked = goes_read size (old ++ asked.inner) (call_of asked) at count asked.event asked.fits.answers
+
+pub going_write : {size place : ℕ} {old new : List Entry} (at count seed : ℕ) (asked : IsAskedAt size (Write at count seed) old new place) → is_end asked.event ≡ false
+going_write {size = size} {old = old} at count seed asked = goes_write size (old ++ asked.inner) (call_of asked) at (seeded seed at count) asked.event asked.fits.answers
+
+pub going_flush : {size place : ℕ} {old new : List Entry} (asked : IsAskedAt size Flush old new place) → is_end asked.event ≡ false
+going_flush {size = size} {old = old} asked = goes_flush size (old ++ asked.inner) (call_of asked) asked.event asked.fits.answers
+
+pub going_fail : {size place : ℕ} {old new : List Entry} (role : ℕ) (asked : IsAskedAt size (Fail role) old new place) → is_end asked.event ≡ false
+going_fail {size = size} {old = old} role asked = goes_fail size (old ++ asked.inner) (call_of asked) role asked.event asked.fits.answers
+
+pub going_add : {size place : ℕ} {old new : List Entry} (slot : ℕ) (asked : IsAskedAt size (Add slot) old new place) → is_end asked.event ≡ false
+going_add {size = size} {old = old} slot asked = goes_add size (old ++ asked.inner) (call_of asked) slot asked.event asked.fits.answers
+
+pub going_steps : {size place : ℕ} {old new : List Entry} (most : ℕ) (asked : IsAskedAt size (Step most) old new place) → is_end asked.event ≡ false
+going_steps {size = size} {old = old} most asked = goes_steps size (old ++ asked.inner) (call_of asked) most asked.event asked.fits.answers
+
+-- a wait ends none
+gone_waiting : (size : ℕ) (old new : List Entry) (earlier : List ℕ) → IsStillWaiting size old earlier new → AreGoing old → AreGoing new
+gone_waiting size old new [] same was = subst (λ (l : List Entry). AreGoing l) (sym same) was
+gone_waiting size old new (first ∷ others) (mid, one, more, rest) was = gone_waiting size mid new others rest (gone_once one (going_steps steps_at_once one) was)
+
+-- ---- the array that runs was called
+
+-- between where the run stood and where it stands
+abbrev pub EndsWithin : Setting → ℕ → Type 0
+EndsWithin setting end = (setting.began ≤ end) × (end ≤ length setting.tape)
+
+-- a call whose entries end where the tape does
+pub at_the_end : {size place : ℕ} {line : Line} (setting : Setting) (old new : List Entry) (asked : IsAskedAt size line old new place) (first : ℕ) → setting.tells → setting.began ≤ length setting.tape
+    → IsEndOf setting.tells first new setting.tape → EndsWithin setting asked.end
+at_the_end setting old new asked first t longer ended =
+    let last = last_end-snoc first (old ++ asked.inner) (one (script_who old) asked.end asked.event) in
+    let same : asked.end ≡ length setting.tape = sym last ∙ sym (ap (λ (l : List Entry). last_end_from first l) (with_reply asked)) ∙ ended t in
+    (omega (arith, longer, same), omega (arith, same))
+  where
+    last_end-snoc : (first : ℕ) (xs : List Entry) (e : Entry) → last_end_from first (xs ++ e ∷ []) ≡ e.end
+    last_end-snoc first xs e = ap (λ (o : Option Entry). option_map_or (λ (x : Entry). x.end) o first) (last-snoc xs e)
+
+module _ {B : Type 0} (setting : Setting) (old new : Parts B) (epochs : Vec Epoch) (own : RunsOwn (Running old epochs)) (lost : AreLossesSince setting old.entries (running_history new)) (uuid : new.uuid ≡ old.uuid) (given : new.given ≡ old.given)
+    (first : new.first ≡ old.first) (shape : shape_of new.members.newest ≡ shape_of old.members.newest) (rows : new.members.newest.size ≡ old.members.newest.size) where
+  abbrev hs : List History
+  hs = histories_of epochs.items
+
+  abbrev k : ℕ
+  k = length epochs.items
+
+  len : length hs ≡ k
+  len = length-map epochs.items history_of
+
+  same_size : list_size (places_of new.members) ≡ list_size (places_of old.members)
+  same_size = size_same old.members new.members shape rows
+
+  -- it was called, and goes on
+  called_own_still : HasCalled old.entries new.entries → AreGoing new.entries → RunsOwn (Running new epochs)
+  called_own_still called going = record { former = own.former; script = called_own called own.script; going = going; room = own.room; few = own.few }
+
+  called_grown_still : HasCalled old.entries new.entries → AreGrown (hs ++ running_history old ∷ []) (hs ++ running_history new ∷ [])
+  called_grown_still called = grown_last hs (running_history old) (running_history new) (called_grown (running_history old) (running_history new) called uuid given first own.script)
+
+  -- where the run stands behind its last call
+  course_asked : {last : Line} {mid : List Entry} {place : ℕ} (line : Line) (asked : IsAskedAt (list_size (places_of old.members)) last mid new.entries place) → is_end asked.event ≡ false
+      → course_with k new ≡ course_after (hs ++ running_history new ∷ []) (course_with k old) line (Inside k place)
+  course_asked {mid = mid} {place = place} line asked goes =
+      ap (λ (n : ℕ). record { opened = k + 1; running = true; calls = n; size = list_size (places_of new.members) }) (number_more asked)
+      ∙ ap (λ (n : ℕ). record { opened = k + 1; running = true; calls = next_number 0 mid + 1; size = n }) same_size
+      ∙ sym (ap (λ (n : ℕ). course_after (hs ++ running_history new ∷ []) (course_with k old) line (Inside n place)) (sym len)
+      ∙ course_last hs (running_history new) asked (course_with k old) line
+      ∙ ap (λ (b : Bool). if b then at_rest (k + 1) else with_calls (next_number 0 mid + 1) (course_with k old)) goes)
+
+  -- it answered
+  pub turn_called : {last : Line} {mid : List Entry} (line : Line) (place : ℕ) (asked : IsAskedAt (list_size (places_of old.members)) last mid new.entries place) → HasCalled old.entries new.entries → AreGoing new.entries
+      → IsRepliedAt (list_size (places_of old.members)) new.entries place (next_number 0 old.entries) line → (setting.tells → EndsWithin setting asked.end) → is_end asked.event ≡ false
+      → IsTurn setting (Running old epochs) (Running new epochs) line (Inside k place)
+  turn_called line place asked called going replied ended goes = record {
+    own = called_own_still called going;
+    losses = losses-last setting hs (running_history old) (running_history new) lost;
+    grown = called_grown_still called;
+    ends = λ t. subst (λ (n : ℕ). EndsBetween setting.began (length setting.tape) (hs ++ running_history new ∷ []) (Inside n place)) len
+        (between_last hs (running_history new) asked setting.began (length setting.tape) (ended t).0 (ended t).1);
+    answer = subst (λ (n : ℕ). IsAnsweredInside (hs ++ running_history new ∷ []) (record { opened = n + 1; running = true; calls = next_number 0 old.entries; size = list_size (places_of old.members) }) n place line) len
+        (answered_last hs (running_history old) (running_history new) asked replied);
+    course = course_asked line asked goes;
+  }
+
+  pub turn_asked : (line : Line) (place : ℕ) (asked : IsAskedAt (list_size (places_of old.members)) line old.entries new.entries place) → (setting.tells → EndsWithin setting asked.end) → is_end asked.event ≡ false
+      → IsTurn setting (Running old epochs) (Running new epochs) line (Inside k place)
+  turn_asked line place asked ended goes = turn_called line place asked (called_once asked) (gone_once asked goes own.going) (replied_at line asked) ended goes
+
+  -- memory was short for it
+  pub no_turn : (line : Line) → new.entries ≡ old.entries → IsNoTurn setting (Running old epochs) (Running new epochs) line
+  no_turn line same = record {
+    own = called_own_still (called_none same) (subst (λ (l : List Entry). AreGoing l) (sym same) own.going);
+    losses = losses-last setting hs (running_history old) (running_history new) lost;
+    grown = called_grown_still (called_none same);
+    course = inl (course_same same);
+  }
+    where
+      course_same : new.entries ≡ old.entries → course_with k new ≡ course_with k old
+      course_same same = ap (λ (l : List Entry). record { opened = k + 1; running = true; calls = next_number 0 l; size = list_size (places_of new.members) }) same
+          ∙ ap (λ (n : ℕ). record { opened = k + 1; running = true; calls = next_number 0 old.entries; size = n }) same_size
+
+  pub turn_of_ask : (line : Line) (r : Result ℕ NoMemory) → ((place : ℕ) (asked : IsAskedAt (list_size (places_of old.members)) line old.entries new.entries place) → is_end asked.event ≡ false)
+      → (setting.tells → setting.began ≤ length setting.tape) → IfOk r (λ place. IsEndOf setting.tells new.first new.entries setting.tape)
+      → IsAsked (list_size (places_of old.members)) line old.entries new.entries r → IsTurnOrNone setting (Running old epochs) (Running new epochs) line (answer_at k r)
+  turn_of_ask line (Ok place) going longer ended asked = turn_asked line place asked (λ t. at_the_end setting old.entries new.entries asked new.first t (longer t) ended) (going place asked)
+  turn_of_ask line (Err fault) going longer ended asked = no_turn line asked
+
+  -- memory was short for one of the calls of a wait
+  no_turn_waiting : (earlier : List ℕ) → IsStillWaiting (list_size (places_of old.members)) old.entries earlier new.entries → IsNoTurn setting (Running old epochs) (Running new epochs) Wait
+  no_turn_waiting earlier was = record {
+    own = called_own_still (waiting_called (list_size (places_of old.members)) old.entries new.entries earlier was) (gone_waiting (list_size (places_of old.members)) old.entries new.entries earlier was own.going);
+    losses = losses-last setting hs (running_history old) (running_history new) lost;
+    grown = called_grown_still (waiting_called (list_size (places_of old.members)) old.entries new.entries earlier was);
+    course = inr record {
+      running = refl;
+      place = k;
+      latest = refl;
+      history = running_history new;
+      there = subst (λ (n : ℕ). slice_get (hs ++ running_history new ∷ []) n ≡ Some (running_history new)) len (get_last hs (running_history new));
+      earlier = earlier;
+      next = next_number 0 new.entries;
+      waiting = waiting_at (list_size (places_of old.members)) old.entries new.entries earlier own.script was;
+      now = ap (λ (n : ℕ). record { opened = k + 1; running = true; calls = next_number 0 new.entries; size = n }) same_size;
+    };
+  }
+
+  pub turn_of_wait : (r : Result ℕ NoMemory) → (setting.tells → setting.began ≤ length setting.tape) → IsEndOf setting.tells new.first new.entries setting.tape
+      → IsWaited (list_size (places_of old.members)) old.entries new.entries r → IsTurnOrNone setting (Running old epochs) (Running new epochs) Wait (answer_at k r)
+  turn_of_wait (Ok place) longer ended was =
+      turn_called Wait place was.asked (waited_called was)
+      (gone_once was.asked (going_steps steps_at_once was.asked) (gone_waiting (list_size (places_of old.members)) old.entries was.between was.earlier was.waiting own.going)) (waited_reply own.script was) (λ t. at_the_end setting was.between new.entries was.asked new.first t (longer t) ended) (going_steps steps_at_once was.asked)
+  turn_of_wait (Err fault) longer ended (earlier, was) = no_turn_waiting earlier was
+
+-- it was not called, and goes on
+pub turn_refused : {B : Type 0} (setting : Setting) (array : Parts B) (epochs : Vec Epoch) (line : Line) → RunsOwn (Running array epochs) → (setting.tells → setting.began ≤ length setting.tape) → IsRefusedOutside setting true (length setting.tape) line IsRunning
+    → IsTurn setting (Running array epochs) (Running array epochs) line (IsOutside (Refused IsRunning))
+turn_refused setting array epochs line own longer refused = record {
+  own = own;
+  losses = losses-kept setting (histories_of epochs.items ++ running_history array ∷ []);
+  grown = grown_kept (histories_of epochs.items ++ running_history array ∷ []);
+  ends = longer;
+  answer = refused;
+  course = refl;
+}
+
+-- ---- the array that ran has ended
+
+module _ {B : Type 0} (setting : Setting) (old : Parts B) (epoch : Epoch) (bank : B) (epochs ended : Vec Epoch) (items : ended.items ≡ epochs.items ++ epoch ∷ []) (own : RunsOwn (Running old epochs))
+    (lost : AreLossesSince setting old.entries (history_of epoch)) (uuid : epoch.uuid ≡ old.uuid) (given : epoch.given ≡ old.given) (first : epoch.first ≡ old.first) where
+  abbrev before : List History
+  before = histories_of epochs.items
+
+  abbrev count : ℕ
+  count = length epochs.items
+
+  counted : length before ≡ count
+  counted = length-map epochs.items history_of
+
+  pub now_are : histories_of ended.items ≡ before ++ history_of epoch ∷ []
+  now_are = ap (λ (l : List Epoch). histories_of l) items ∙ map-append history_of epochs.items (epoch ∷ [])
+
+  now_many : length ended.items ≡ count + 1
+  now_many = ap (λ (l : List Epoch). length l) items ∙ length-append epochs.items (epoch ∷ [])
+
+  pub turn_ended : (line : Line) (place : ℕ) (asked : IsAskedAt (list_size (places_of old.members)) line old.entries epoch.entries.items place) → (setting.tells → EndsWithin setting asked.end) → is_end asked.event ≡ true
+      → IsTurn setting (Running old epochs) (Idle bank ended) line (Inside count place)
+  turn_ended line place asked within ends =
+      let now = history_of epoch in
+      let called = called_once asked in
+      record {
+        own = subst (λ (l : List History). AreOfScript l) (sym now_are) (All-push IsOfScript before now own.former (record { script = called_own called own.script; once = ended_once asked own.going }));
+        losses = subst (λ (l : List History). AreLossesFrom setting (before ++ running_history old ∷ []) l) (sym now_are) (losses-last setting before (running_history old) now lost);
+        grown = subst (λ (l : List History). AreGrown (before ++ running_history old ∷ []) l) (sym now_are)
+            (grown_last before (running_history old) now (called_grown (running_history old) now called uuid given first own.script));
+        ends = λ t. subst (λ (l : List History). EndsBetween setting.began (length setting.tape) l (Inside count place)) (sym now_are)
+            (subst (λ (n : ℕ). EndsBetween setting.began (length setting.tape) (before ++ now ∷ []) (Inside n place)) counted
+            (between_last before now asked setting.began (length setting.tape) (within t).0 (within t).1));
+        answer = subst (λ (l : List History). IsAnsweredInside l (course_with count old) count place line) (sym now_are)
+            (subst (λ (n : ℕ). IsAnsweredInside (before ++ now ∷ []) (record { opened = n + 1; running = true; calls = next_number 0 old.entries; size = list_size (places_of old.members) }) n place line) counted
+            (answered_last before (running_history old) now asked (replied_at line asked)));
+        course = ap (λ (n : ℕ). at_rest n) now_many
+            ∙ sym (ap (λ (l : List History). course_after l (course_with count old) line (Inside count place)) now_are
+            ∙ ap (λ (n : ℕ). course_after (before ++ now ∷ []) (course_with count old) line (Inside n place)) (sym counted)
+            ∙ course_last before now asked (course_with count old) line
+            ∙ ap (λ (b : Bool). if b then at_rest (count + 1) else with_calls (next_number 0 old.entries + 1) (course_with count old)) ends);
+      }
+
+-- ---- no array ran
+
+module _ {B : Type 0} (setting : Setting) (bank : B) (olds epochs : Vec Epoch) (same : epochs.items ≡ olds.items) (own : RunsOwn (Idle bank olds)) where
+  -- a line is refused
+  pub turn_idle : (left : B) (line : Line) (refusal : Refusal) → (setting.tells → setting.began ≤ length setting.tape) → IsRefusedOutside setting false (length setting.tape) line refusal → IsTurn setting (Idle bank olds) (Idle left epochs) line (IsOutside (Refused refusal))
+  turn_idle left line refusal longer is = record {
+    own = subst (λ (l : List Epoch). AreOfScript (histories_of l)) (sym same) own;
+    losses = subst (λ (l : List Epoch). AreLossesFrom setting (histories_of l) (histories_of epochs.items)) same (losses-kept setting (histories_of epochs.items));
+    grown = subst (λ (l : List Epoch). AreGrown (histories_of l) (histories_of epochs.items)) same (grown_kept (histories_of epochs.items));
+    ends = longer;
+    answer = is;
+    course = ap (λ (l : List Epoch). at_rest (length l)) same;
+  }
+
+  -- memory was short
+  pub no_turn_idle : (left : B) (line : Line) → IsNoTurn setting (Idle bank olds) (Idle left epochs) line
+  no_turn_idle left line = record {
+    own = subst (λ (l : List Epoch). AreOfScript (histories_of l)) (sym same) own;
+    losses = subst (λ (l : List Epoch). AreLossesFrom setting (histories_of l) (histories_of epochs.items)) same (losses-kept setting (histories_of epochs.items));
+    grown = subst (λ (l : List Epoch). AreGrown (histories_of l) (histories_of epochs.items)) same (grown_kept (histories_of epochs.items));
+    course = inl (ap (λ (l : List Epoch). at_rest (length l)) same);
+  }
+
+  -- an array was opened
+  module _ (array : Parts B) (room : length epochs.items < vec_capacity epochs) (few : length epochs.items < 2 ^ 32) (longer : setting.tells → setting.began ≤ length setting.tape) where
+    opened_own : IsByScript (running_history array) → AreGoing array.entries → RunsOwn (Running array epochs)
+    opened_own script going = record {
+      former = subst (λ (l : List Epoch). AreOfScript (histories_of l)) (sym same) own;
+      script = script;
+      going = going;
+      room = room;
+      few = few;
+    }
+
+    opened_losses : AreLossesSince setting [] (running_history array) → AreLossesFrom setting (histories_of olds.items) (histories_of epochs.items ++ running_history array ∷ [])
+    opened_losses lost = subst (λ (l : List Epoch). AreLossesFrom setting (histories_of l) (histories_of epochs.items ++ running_history array ∷ [])) same
+        (losses-came setting (histories_of epochs.items) (running_history array) lost)
+
+    opened_grown : AreGrown (histories_of olds.items) (histories_of epochs.items ++ running_history array ∷ [])
+    opened_grown = subst (λ (l : List Epoch). AreGrown (histories_of l) (histories_of epochs.items ++ running_history array ∷ [])) same (grown_came (histories_of epochs.items) (running_history array))
+
+    opened_there : slice_get (histories_of epochs.items ++ running_history array ∷ []) (length olds.items) ≡ Some (running_history array)
+    opened_there = ap (λ (n : ℕ). slice_get (histories_of epochs.items ++ running_history array ∷ []) n) (ap (λ (l : List Epoch). length l) (sym same) ∙ sym (length-map epochs.items history_of))
+        ∙ get_last (histories_of epochs.items) (running_history array)
+
+    opened_course : (calls size : ℕ) → next_number 0 array.entries ≡ calls → list_size (places_of array.members) ≡ size → course_with (length epochs.items) array ≡ begun (length olds.items) calls size
+    opened_course calls size numbered sized = ap (λ (l : List Epoch). record { opened = length l + 1; running = true; calls = next_number 0 array.entries; size = list_size (places_of array.members) }) same
+        ∙ ap (λ (n : ℕ). record { opened = length olds.items + 1; running = true; calls = n; size = list_size (places_of array.members) }) numbered
+        ∙ ap (λ (n : ℕ). record { opened = length olds.items + 1; running = true; calls = calls; size = n }) sized
+
+    no_entries : array.entries ≡ [] → IsByScript (running_history array)
+    no_entries none = subst (λ (l : List Entry). AreByScript (next_number 0 l) l) (sym none) (All-nil (λ e. IsOwnEntry 0 e))
+
+    pub turn_created : (line : CreateLine) → create_refusal setting.given setting.backup (spec_of line) ≡ None → IsCreated setting.tells setting.given setting.tape setting.backup (spec_of line) array
+        → (setting.tells → used_slot (scope_of setting.given setting.backup array.given line.uuid) (held_at setting (length setting.tape)) line.shape.disks ≡ None)
+        → IsTurn setting (Idle bank olds) (Running array epochs) (Create line) (IsOutside Created)
+    turn_created line unrefused made free = record {
+      own = opened_own (no_entries made.quiet) (subst (λ (l : List Entry). AreGoing l) (sym made.quiet) (All-nil (λ e. IsFalse (is_end e.event))));
+      losses = opened_losses (losses-same setting [] (running_history array) made.quiet);
+      grown = opened_grown;
+      ends = longer;
+      answer = (
+        refl,
+        record {
+          unrefused = unrefused;
+          history = running_history array;
+          there = opened_there;
+          named = made.begun.uuid ∙ made.new.uuid;
+          given = made.new.given;
+          first = made.begun.first;
+          zeros = λ t. subst (λ (w : World). OpensWithZeros (data_disks line.shape * line.size) (opening_list w)) (world_is made.begun.backup_is) (made.zeros t);
+          free = free;
+          stored = λ t. subst (λ (w : World). IsStoredNew w (spec_of line)) (found_history setting array (running_history array) (sym made.begun.uuid) refl (sym (made.begun.first t)))
+              (stored_made setting.given setting.tape setting.backup (spec_of line) array made t);
+          alike = λ t. subst OpensAlike (world_is made.begun.backup_is) (made.alike t);
+          sound = λ t. subst OpensSound (world_is made.begun.backup_is) (made.sound t);
+        },
+      );
+      course = opened_course 0 (data_disks line.shape * line.size) (ap (λ (l : List Entry). next_number 0 l) made.quiet)
+          (ap (λ (s : Shape). data_disks s * array.members.newest.size) made.new.shape ∙ ap (λ (n : ℕ). data_disks line.shape * n) made.new.size);
+    }
+      where
+        world_is : array.backup ≡ setting.backup → world_for setting.given setting.tape array ≡ history_world setting (running_history array)
+        world_is is = ap (λ (b : Option ℕ). record { start = setting.given.start; tape = setting.tape; scope = record { uuid = array.uuid; given = array.given; backup = b; sizes = sizes setting.given }; first = array.first }) is
+
+    -- it was found, and its opening told what was missing
+    module _ (found : Parts B) (asked : Option (List ℕ)) (is : IsAssembled setting.tells setting.given setting.tape setting.backup asked setting.before setting.now found) (uuid : array.uuid ≡ found.uuid) (given : array.given ≡ found.given) (first : array.first ≡ found.first) where
+      abbrev losses : List Event
+      losses = found_losses (reading_of found.members)
+
+      found_entries : found.entries ≡ entries_of opener array.first losses
+      found_entries = is.begun.entries ∙ ap (λ (n : ℕ). entries_of opener n losses) (sym first)
+
+      found_number : next_number 0 found.entries ≡ 0
+      found_number = ap (λ (l : List Entry). next_number 0 l) found_entries ∙ opening_number array.first losses 0
+
+      losses_own : (number : ℕ) → AreByScript number (entries_of opener array.first losses)
+      losses_own number = each-absent (λ e. IsOwnEntry number e) opener array.first (reading_of found.members) (shape_of found.members.newest).disks (λ role lt missing. (inr (refl, refl, tt), inr (refl, refl, tt)))
+
+      losses_go : AreGoing (entries_of opener array.first losses)
+      losses_go = each-absent (λ e. IsFalse (is_end e.event)) opener array.first (reading_of found.members) (shape_of found.members.newest).disks (λ role lt missing. (refl, refl))
+
+      found_lost : (more : List Entry) → AreLossesBehind setting (running_history array) (entries_of opener array.first losses) more → array.entries ≡ entries_of opener array.first losses ++ more → AreLossesSince setting [] (running_history array)
+      found_lost more others entries = losses-found setting (running_history array) (reading_of found.members) array.first more
+          (λ role lt missing t. subst (λ (w : World). MissingAtFirst w role) (same_world t) (opened_missing setting.given setting.tape setting.backup asked found is.begun is.opened t role lt missing)) others entries
+        where
+          same_world : (t : setting.tells) → found_world setting.given setting.tape setting.backup found ≡ history_world setting (running_history array)
+          same_world t = found_history setting found (running_history array) (sym is.begun.uuid ∙ sym uuid) (sym given) (sym (first ∙ is.begun.first t))
+
+      -- it was asked for its status
+      pub turn_found : (status : Status) → IsStatusFor found status → IsEntered setting.tells setting.tape (script_who found.entries) found.entries array.entries (Shown status ∷ []) → array.members ≡ found.members
+          → IsTurn setting (Idle bank olds) (Running array epochs) (Assemble asked) (IsOutside (Assembled (length epochs.items) status))
+      turn_found status told entered members = record {
+        own = opened_own (subst (λ (l : List Entry). AreByScript (next_number 0 l) l) (sym entries) (subst (λ (n : ℕ). AreByScript n (entries_of opener array.first losses ++ first_entry ∷ [])) (sym one_call)
+            (All-append (λ e. IsOwnEntry 1 e) (entries_of opener array.first losses) (first_entry ∷ []) (losses_own 1) (All-cons (λ e. IsOwnEntry 1 e) first_entry [] (inl (refl, omega arith)) (All-nil (λ e. IsOwnEntry 1 e))))))
+            (subst (λ (l : List Entry). AreGoing l) (sym entries) (All-push (λ e. IsFalse (is_end e.event)) (entries_of opener array.first losses) first_entry losses_go refl));
+        losses = opened_losses (found_lost (first_entry ∷ []) (tt, tt) entries);
+        grown = opened_grown;
+        ends = longer;
+        answer = (
+          refl,
+          ap (λ (l : List Epoch). length l) same,
+          record {
+            history = running_history array;
+            there = opened_there;
+            named = subst (λ (u : List ℕ). IfSome asked (λ asked. u ≡ asked)) (sym uuid) is.named;
+            given = subst (λ (n : ℕ). AreGiven setting.given n setting.before setting.now) (sym given) is.given;
+            shown = record { losses = losses; end = entered.end; more = []; is = entries };
+            at_end = entered.at_end;
+            first = λ t. first ∙ is.begun.first t;
+            elected = λ t. uuid ∙ is.begun.uuid ∙ is.opened.array t ∙ ap (λ (n : ℕ). array_of setting.given setting.backup n asked (held_at setting (length setting.tape))) (sym given);
+            stored = λ t. subst (λ (w : World). IsStoredAs w status losses) (found_history setting found (running_history array) (sym is.begun.uuid ∙ sym uuid) (sym given) (sym (first ∙ is.begun.first t))) (stored_found setting.given setting.tape setting.backup asked status found is told t);
+          },
+        );
+        course = opened_course 1 status.length (ap (λ (l : List Entry). next_number 0 l) entries ∙ one_call) (ap (λ (m : Members). list_size (places_of m)) members ∙ sym told.length);
+      }
+        where
+          first_entry : Entry
+          first_entry = record { caller = 0; number = 0; end = entered.end; event = Shown status }
+
+          entries : array.entries ≡ entries_of opener array.first losses ++ first_entry ∷ []
+          entries = entered.is ∙ ap (λ (n : ℕ). found.entries ++ record { caller = 0; number = n; end = entered.end; event = Shown status } ∷ []) found_number ∙ ap (λ (l : List Entry). l ++ first_entry ∷ []) found_entries
+
+          one_call : next_number 0 (entries_of opener array.first losses ++ first_entry ∷ []) ≡ 1
+          one_call = fold-append (number_after 0) 0 (entries_of opener array.first losses) (first_entry ∷ [])

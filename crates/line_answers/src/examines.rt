@@ -1,0 +1,93 @@
+//! A slot's superblock is looked at, while an array runs or none does.
+
+ghost use Rattle.std.specs.Prelude.{◌≡◌};
+ghost use Rattle.bank.specs.Given.{NeverFalls};
+ghost use Rattle.views.specs.Moving.{Grows};
+ghost use Rattle.md_base.specs.declared.answers.Refusal.TheVariants.{NoSuchSlot};
+ghost use Rattle.script.specs.declared.lines.Line.TheVariants.{Examine as AsksExamine};
+ghost use Rattle.run_laws.specs.Ended.{IsRunKept};
+ghost use Rattle.run_laws.specs.Examining.{told_of};
+ghost use Rattle.run_laws.specs.Making.{setting_of};
+ghost use Rattle.run_laws.specs.States.{histories_in, bank_in, RunsOwn, IsTurnOrNone};
+ghost use Rattle.run_laws.specs.Written.{IsWrittenBy};
+ghost use Rattle.run_laws.specs.declared.report.Answered.TheVariants.{Outside as AnsweredOutside};
+ghost use Rattle.run_laws.specs.declared.report.Outside.TheVariants.{Refused as IsRefused};
+ghost use Rattle.run_laws.specs.declared.states.State.TheVariants.{Idle as IsIdle, Running as IsRunning};
+
+use array::Array;
+use bank::{Bank, BankFault};
+use election::reads::read_superblock;
+use flat_history::Epoch;
+use md_base::{NoMemory, Refusal};
+use run_laws::{Answered, Outside, State};
+use sb1::Sb;
+
+// What is answered where the slot was looked at.
+fn told(slot: u32, found: Result<Option<Sb>, BankFault>) -> Answered
+    ensures { result ≡ told_of slot found }
+{
+    let outside = match found {
+        Ok(found) => Outside::Examined { slot, found },
+        Err(_) => Outside::Refused {
+            refusal: Refusal::SlotFault(slot),
+        },
+    };
+    Answered::Outside(outside)
+}
+
+// What is answered where the bank has no such slot.
+fn absent(slot: u32) -> Answered
+    ensures { result ≡ AnsweredOutside (IsRefused (NoSuchSlot slot)) }
+{
+    Answered::Outside(Outside::Refused {
+        refusal: Refusal::NoSuchSlot(slot),
+    })
+}
+
+/// Looks at a slot's superblock where no array runs.
+pub fn examine_idle<B: Bank>(
+    mut bank: B,
+    epochs: Vec<Epoch>,
+    backup: Option<u32>,
+    slot: u32,
+) -> (State<B>, Result<Answered, NoMemory>)
+    requires own { RunsOwn (IsIdle bank epochs) }
+    requires former { IsRunKept B.tells (B.given bank) (B.tape bank) backup (IsIdle bank epochs) }
+    ensures answered { IsTurnOrNone (setting_of B.tells (B.given bank) (B.tape bank) (B.tape (bank_in result.0)) backup (B.faults_of bank) (B.faults_of (bank_in result.0))) (IsIdle bank epochs) result.0 (AsksExamine slot) result.1 }
+    ensures written { B.tells → IsWrittenBy (setting_of B.tells (B.given bank) (B.tape bank) (B.tape (bank_in result.0)) backup (B.faults_of bank) (B.faults_of (bank_in result.0))) (histories_in (IsIdle bank epochs)) (histories_in result.0) (AsksExamine slot) result.1 }
+    ensures former { IsRunKept B.tells (B.given bank) (B.tape (bank_in result.0)) backup result.0 }
+    ensures never_falls { NeverFalls (B.faults_of bank) (B.faults_of (bank_in result.0)) }
+    ensures grows { Grows B.tells (B.tape bank) (B.tape (bank_in result.0)) }
+    ensures given { B.given (bank_in result.0) ≡ B.given bank }
+{
+    let _ = backup;
+    if slot >= bank.slots() {
+        return (State::Idle(bank, epochs), Ok(absent(slot)));
+    }
+    let found = read_superblock(&mut bank, slot);
+    (State::Idle(bank, epochs), Ok(told(slot, found)))
+}
+
+/// Looks at a slot's superblock while an array runs.
+pub fn examine_running<B: Bank>(
+    mut array: Array<B>,
+    epochs: Vec<Epoch>,
+    backup: Option<u32>,
+    slot: u32,
+) -> (State<B>, Result<Answered, NoMemory>)
+    requires own { RunsOwn (IsRunning array epochs) }
+    requires former { IsRunKept B.tells (B.given array.bank) (B.tape array.bank) backup (IsRunning array epochs) }
+    ensures answered { IsTurnOrNone (setting_of B.tells (B.given array.bank) (B.tape array.bank) (B.tape (bank_in result.0)) backup (B.faults_of array.bank) (B.faults_of (bank_in result.0))) (IsRunning array epochs) result.0 (AsksExamine slot) result.1 }
+    ensures written { B.tells → IsWrittenBy (setting_of B.tells (B.given array.bank) (B.tape array.bank) (B.tape (bank_in result.0)) backup (B.faults_of array.bank) (B.faults_of (bank_in result.0))) (histories_in (IsRunning array epochs)) (histories_in result.0) (AsksExamine slot) result.1 }
+    ensures former { IsRunKept B.tells (B.given array.bank) (B.tape (bank_in result.0)) backup result.0 }
+    ensures never_falls { NeverFalls (B.faults_of array.bank) (B.faults_of (bank_in result.0)) }
+    ensures grows { Grows B.tells (B.tape array.bank) (B.tape (bank_in result.0)) }
+    ensures given { B.given (bank_in result.0) ≡ B.given array.bank }
+{
+    let _ = backup;
+    if slot >= array.slots() {
+        return (State::Running(array, epochs), Ok(absent(slot)));
+    }
+    let found = array.examine(slot);
+    (State::Running(array, epochs), Ok(told(slot, found)))
+}

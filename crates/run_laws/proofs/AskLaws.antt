@@ -1,0 +1,259 @@
+-- A line that was answered by an array, and the place of its reply in the history.
+use Rattle.std.proofs.Common.{◌≡◌, ◌≢◌, ◌⊎◌, inl, inr, ℕ, zero, suc, ◌+◌, ◌/◌, ◌≤◌, ◌||◌, ◌==◌, Bool, true, false, Option, Some, List, [], ◌∷◌, ◌++◌, length, take, drop, Result, Ok, Err, refl, sym, ◌∙◌, ap, subst, arith, append_assoc, length-append}
+use Rattle.std.proofs.lemmas.List.{take_at}
+use Rattle.std.proofs.lemmas.List.Elements.{All-nil, All-cons}
+use Rattle.std.proofs.lemmas.Bool.Decides.{nat_tests}
+use Rattle.std.proofs.lemmas.List.Folds.{list_any-append}
+use Rattle.std.specs.Prelude.{slice_get, IsTrue}
+use Rattle.std.specs.List.{All, list_any}
+use Rattle.md_base.specs.declared.answers.Who.{Who}
+use Rattle.md_base.specs.declared.answers.Fault.{Fault}
+use Rattle.md_base.specs.declared.answers.Fault.TheVariants.{Refused as IsRefusedWith, NoMemory}
+use Rattle.md_base.specs.Sectors.{Sector, sectors_of}
+use Rattle.md_base.proofs.SectorLaws.{length-sectors_of}
+use Rattle.md_base.proofs.Tabulated.{length-tabulate}
+use Rattle.flat_history.specs.declared.events.Entry.{Entry}
+use Rattle.flat_history.specs.declared.events.Event.{Event}
+use Rattle.flat_history.specs.declared.events.Event.TheVariants.{Added, Stopped, Halted, Refused}
+use Rattle.flat_history.specs.Fits.{FitsStop}
+use Rattle.bank.specs.declared.bank.Operation.{Operation}
+use Rattle.md_base.specs.declared.answers.Refusal.{Refusal}
+use Rattle.md_base.specs.declared.answers.Refusal.TheVariants.{PastEnd, SlotFault}
+use Rattle.superblocks.specs.declared.members.Members.{Members}
+use Rattle.superblocks.specs.Reads.{has_spare}
+use Rattle.bank.specs.Given.{Given}
+use Rattle.views.specs.Parts.{Parts}
+use Rattle.call_entries.specs.Losing.{losses_of}
+use Rattle.call_entries.proofs.CallLaws.{losses-are}
+use Rattle.array_kept.proofs.ReplyLaws.{inside-losses, none-inside}
+use Rattle.flat_history.specs.declared.events.Request.{Request}
+use Rattle.flat_history.specs.declared.events.Request.TheVariants.{Add as AsksAdd}
+use Rattle.flat_history.specs.Flat.{rest_of_call, next_number}
+use Rattle.flat_history.specs.Plain.{entries_of}
+use Rattle.flat_history.specs.OneShape.{IsOfCall, OneShapeFits}
+use Rattle.views.specs.Lacking.{AreTooMany}
+use Rattle.array_kept.specs.Calls.{OnNoMemory, IsReplied, IsAnswered, IsAddedFor, IsEntered, IsBehind, IsRefusedFor}
+use Rattle.script.specs.declared.lines.Line.TheVariants.{Wait, Stop, Halt}
+use Rattle.script.specs.declared.lines.Line.{Line}
+use Rattle.script.specs.Seeds.{seeded, seed_sector}
+use Rattle.run_laws.specs.Asked.{script_who, IsAskedAt}
+use Rattle.run_laws.specs.Making.{is_added}
+use Rattle.run_laws.specs.Replies.{FitsLine, IsReplyAt, IsRepliedAt}
+
+-- the entry of an event of a call
+abbrev pub one : Who → ℕ → Event → Entry
+one who end event = record { caller = who.caller; number = who.number; end = end; event = event }
+
+pub entries_of-append : (who : Who) (end : ℕ) (xs ys : List Event) → entries_of who end (xs ++ ys) ≡ entries_of who end xs ++ entries_of who end ys
+entries_of-append who end [] ys = refl
+entries_of-append who end (x ∷ xs) ys = ap (λ (l : List Entry). one who end x ∷ l) (entries_of-append who end xs ys)
+
+-- the entries of a call's events are of that call
+own_call : (who : Who) (end : ℕ) (events : List Event) → All (λ e. IsOfCall who e) (entries_of who end events)
+own_call who end [] = All-nil (λ e. IsOfCall who e)
+own_call who end (event ∷ events) = All-cons (λ e. IsOfCall who e) (one who end event) (entries_of who end events) (refl, refl) (own_call who end events)
+
+-- the last of them stands alone
+last_alone : {new : List Entry} (old : List Entry) (who : Who) (end : ℕ) (inner : List Event) (event : Event) → new ≡ old ++ entries_of who end (inner ++ event ∷ []) → new ≡ old ++ (entries_of who end inner ++ one who end event ∷ [])
+last_alone old who end inner event is = is ∙ ap (λ (l : List Entry). old ++ l) (entries_of-append who end inner (event ∷ []))
+
+-- something stands behind the former entries
+longer : {new : List Entry} (old inner : List Entry) (e : Entry) → new ≡ old ++ (inner ++ e ∷ []) → 1 ≤ length new
+longer old inner e is = let long = ap (λ (l : List Entry). length l) is ∙ length-append old (inner ++ e ∷ []) in let last = length-append inner (e ∷ []) in omega (arith, long, last)
+
+-- the history before the reply, and with it
+pub with_reply : {size : ℕ} {line : Line} {old new : List Entry} {place : ℕ} (was : IsAskedAt size line old new place) → new ≡ (old ++ was.inner) ++ one (script_who old) was.end was.event ∷ []
+with_reply {old = old} was = was.is ∙ sym (append_assoc old was.inner (one (script_who old) was.end was.event ∷ []))
+
+reply_length : {size : ℕ} {line : Line} {old new : List Entry} {place : ℕ} (was : IsAskedAt size line old new place) → length new ≡ length (old ++ was.inner) + 1
+reply_length {old = old} was = ap (λ (l : List Entry). length l) (with_reply was) ∙ length-append (old ++ was.inner) (one (script_who old) was.end was.event ∷ [])
+
+-- a call that was answered made the history longer
+pub grew : {size : ℕ} {request : Request} {who : Who} {old new : List Entry} {event : Event} → IsReplied size request who old new event → 1 ≤ length new
+grew {who = who} {old = old} {event = event} was = longer old (entries_of who was.end was.inner) (one who was.end event) (last_alone old who was.end was.inner event was.is)
+
+-- a request that was answered is a line that was
+pub asked_at : {size : ℕ} {request : Request} {who : Who} {old new : List Entry} {event : Event} (line : Line) (place : ℕ) → IsReplied size request who old new event
+    → ((before : List Entry) (e : Entry) → OneShapeFits size before e request → FitsLine size before e line) → who ≡ script_who old → place + 1 ≡ length new → IsAskedAt size line old new place
+asked_at {size = size} {request = request} {old = old} {new = new} {event = event} line place was fits script at_end =
+    let now = subst (λ (w : Who). IsReplied size request w old new event) script was in record {
+      inner = entries_of (script_who old) now.end now.inner;
+      event = event;
+      end = now.end;
+      own = own_call (script_who old) now.end now.inner;
+      inside = now.inside;
+      is = last_alone old (script_who old) now.end now.inner event now.is;
+      fits = fits (old ++ entries_of (script_who old) now.end now.inner) (one (script_who old) now.end event) now.fits;
+      at_end = at_end;
+    }
+
+get-last : (xs : List Entry) (e : Entry) → slice_get (xs ++ e ∷ []) (length xs) ≡ Some e
+get-last [] e = refl
+get-last (x ∷ xs) e = get-last xs e
+
+-- the reply of a call tells its event
+pub replied_entry : {size : ℕ} {request : Request} {who : Who} {old new : List Entry} {event : Event} (place : ℕ) → IsReplied size request who old new event → place + 1 ≡ length new → (x : Entry) → slice_get new place ≡ Some x → x.event ≡ event
+replied_entry {who = who} {old = old} {new = new} {event = event} place was at_end x there =
+    let e = one who was.end event in
+    let before : List Entry = old ++ entries_of who was.end was.inner in
+    let whole : new ≡ before ++ e ∷ [] = last_alone old who was.end was.inner event was.is ∙ sym (append_assoc old (entries_of who was.end was.inner) (e ∷ [])) in
+    let long = ap (λ (l : List Entry). length l) whole ∙ length-append before (e ∷ []) in
+    let at : place ≡ length before = omega (arith, at_end, long) in
+    let is : slice_get new place ≡ Some e = ap (λ (l : List Entry). slice_get l place) whole ∙ ap (λ (n : ℕ). slice_get (before ++ e ∷ []) n) at ∙ get-last before e in
+    ap (λ (y : Entry). y.event) (some_same (sym there ∙ is))
+  where
+    some_same : {a b : Entry} → Some a ≡ Some b → a ≡ b
+    some_same same = cc
+
+-- the entry of the reply
+pub entry_there : {size : ℕ} {line : Line} {old new : List Entry} {place : ℕ} (asked : IsAskedAt size line old new place) → slice_get new place ≡ Some (one (script_who old) asked.end asked.event)
+entry_there {old = old} {new = new} {place = place} asked =
+    let e = one (script_who old) asked.end asked.event in
+    let before : List Entry = old ++ asked.inner in
+    let at : place ≡ length before = omega (arith, asked.at_end, reply_length asked) in
+    ap (λ (l : List Entry). slice_get l place) (with_reply asked) ∙ ap (λ (n : ℕ). slice_get (before ++ e ∷ []) n) at ∙ get-last before e
+
+pub reply_at : {size : ℕ} {line : Line} {old new : List Entry} {place : ℕ} → IsAskedAt size line old new place → IsReplyAt size new place (next_number 0 old) line
+reply_at {size = size} {line = line} {old = old} {new = new} {place = place} asked =
+    let e = one (script_who old) asked.end asked.event in
+    let before : List Entry = old ++ asked.inner in
+    let at : place ≡ length before = omega (arith, asked.at_end, reply_length asked) in
+    record {
+      entry = e;
+      there = entry_there asked;
+      caller = refl;
+      numbered = refl;
+      last = ap (λ (l : List Entry). rest_of_call e l) (drop_past (place + 1) new (omega (arith, asked.at_end)));
+      fits = subst (λ (l : List Entry). FitsLine size l e line) (sym (ap (λ (l : List Entry). take place l) (with_reply asked) ∙ take_at before (e ∷ []) place (sym at))) asked.fits;
+    }
+  where
+    drop_past : (n : ℕ) (l : List Entry) → length l ≤ n → drop n l ≡ []
+    drop_past n [] le = drop_nothing n
+      where
+        drop_nothing : (n : ℕ) → ◌≡◌ {A = List Entry} (drop n []) []
+        drop_nothing zero = refl
+        drop_nothing (suc n) = refl
+    drop_past zero (x ∷ l) le = absurd (omega (arith, le))
+    drop_past (suc n) (x ∷ l) le = drop_past n l (omega (arith, le))
+
+-- each line but a wait has one call
+pub replied_at : {size : ℕ} {old new : List Entry} {place : ℕ} (line : Line) → IsAskedAt size line old new place → IsRepliedAt size new place (next_number 0 old) line
+replied_at Wait asked = absurd asked.fits
+replied_at line asked = reply_at asked
+
+-- an answer that isn't want of memory is a reply
+pub answered_reply : (size : ℕ) (request : Request) (who : Who) (old new : List Entry) (event : Event) (r : Result (Unit {0}) Fault) → IsAnswered size request who old new event r → r ≢ Err NoMemory
+    → (e : Event) × IsReplied size request who old new e
+answered_reply size request who old new event (Ok x) was some = (event, was)
+answered_reply size request who old new event (Err (IsRefusedWith refusal)) was some = (Refused refusal, was)
+answered_reply size request who old new event (Err NoMemory) was some = absurd (some refl)
+
+-- want of memory entered nothing
+pub answered_none : (size : ℕ) (request : Request) (who : Who) (old new : List Entry) (event : Event) (r : Result (Unit {0}) Fault) → IsAnswered size request who old new event r → r ≡ Err NoMemory
+    → new ≡ old
+answered_none size request who old new event r was is = subst (λ (x : Result (Unit {0}) Fault). IsAnswered size request who old new event x) is was
+
+-- ---- a slot was made a spare
+
+-- a reply's event stands in the history
+told_last : {size : ℕ} {request : Request} {who : Who} {old new : List Entry} {event : Event} → IsReplied size request who old new event → (passes : Event → Bool) → passes event ≡ true → IsTrue (list_any (λ e. passes e.event) new)
+told_last {who = who} {old = old} {event = event} was passes here =
+    let q : Entry → Bool = λ e. passes e.event in
+    let xs = entries_of who was.end was.inner in
+    ap (λ (l : List Entry). list_any q l) (last_alone old who was.end was.inner event was.is)
+    ∙ list_any-append q old (xs ++ one who was.end event ∷ [])
+    ∙ ap (λ (b : Bool). list_any q old || b) (list_any-append q xs (one who was.end event ∷ []) ∙ ap (λ (b : Bool). list_any q xs || (b || false)) here ∙ or_true (list_any q xs))
+    ∙ or_true (list_any q old)
+  where
+    or_true : (b : Bool) → (b || true) ≡ true
+    or_true true = refl
+    or_true false = refl
+
+-- each spare behind an add was one, or is told added
+pub spares_told : (size slot : ℕ) (who : Who) (given : Given) (backup : Option ℕ) (old new : List Entry) (before after : Members) (faults later : ℕ → ℕ) (r : Result (Unit {0}) Fault)
+    → IsAnswered size (AsksAdd slot) who old new (Added slot) r → IsAddedFor given backup slot before after faults later r → r ≢ Err NoMemory
+    → ((s : ℕ) → has_spare after.spares s ≡ true → (has_spare before.spares s ≡ true) ⊎ (s ≡ slot))
+    → (s : ℕ) → has_spare after.spares s ≡ true → (has_spare before.spares s ≡ true) ⊎ IsTrue (list_any (λ e. is_added s e.event) new)
+spares_told size slot who given backup old new before after faults later (Ok x) told added some spares s is = by_spare (spares s is)
+  where
+    same : (n : ℕ) → (n == n) ≡ true
+    same n = grind (arith, nat_tests)
+
+    by_spare : (has_spare before.spares s ≡ true) ⊎ (s ≡ slot) → (has_spare before.spares s ≡ true) ⊎ IsTrue (list_any (λ e. is_added s e.event) new)
+    by_spare (inl was) = inl was
+    by_spare (inr at) = inr (subst (λ (n : ℕ). IsTrue (list_any (λ e. is_added n e.event) new)) (sym at) (told_last told (λ event. is_added slot event) (same slot)))
+spares_told size slot who given backup old new before after faults later (Err (IsRefusedWith (SlotFault failed))) told added some spares s is = by_spare (spares s is)
+  where
+    by_spare : (has_spare before.spares s ≡ true) ⊎ (s ≡ slot) → (has_spare before.spares s ≡ true) ⊎ IsTrue (list_any (λ e. is_added s e.event) new)
+    by_spare (inl was) = inl was
+    by_spare (inr at) = absurd (let none : has_spare after.spares slot ≡ false = added.3 in let there : has_spare after.spares slot ≡ true = subst (λ (n : ℕ). has_spare after.spares n ≡ true) at is in cc)
+spares_told size slot who given backup old new before after faults later (Err (IsRefusedWith refusal)) told added some spares s is = inl (subst (λ (m : Members). has_spare m.spares s ≡ true) added.1 is)
+spares_told size slot who given backup old new before after faults later (Err NoMemory) told added some spares s is = absurd (some refl)
+
+-- memory was short for it
+pub spares_short : {B : Type 0} (old new : Parts B) → new ≡ old → (s : ℕ) → has_spare new.members.spares s ≡ true → (has_spare old.members.spares s ≡ true) ⊎ IsTrue (list_any (λ e. is_added s e.event) new.entries)
+spares_short {B = B} old new same s is = inl (subst (λ (a : Parts B). has_spare a.members.spares s ≡ true) same is)
+
+-- the sectors that a seed gives
+pub seeded_count : (bytes : List ℕ) (seed at count : ℕ) → sectors_of bytes ≡ seeded seed at count → length bytes / 512 ≡ count
+seeded_count bytes seed at count is = sym (length-sectors_of bytes) ∙ ap (λ (l : List Sector). length l) is ∙ length-tabulate count (λ k. seed_sector seed (at + k))
+
+-- ---- the line ends the array
+
+pub asked_halt : {tells : Type 0} {tape : List Operation} {old new : List Entry} (size place : ℕ) (who : Who) → who ≡ script_who old → IsEntered tells tape who old new (Halted ∷ []) → place + 1 ≡ length new → (asked : IsAskedAt size Halt old new place) × (asked.event ≡ Halted) × (tells → asked.end ≡ length tape)
+asked_halt {tells = tells} {tape = tape} {old = old} {new = new} size place who script was at_end =
+    let now = subst (λ (w : Who). IsEntered tells tape w old new (Halted ∷ [])) script was in
+    (record { inner = []; event = Halted; end = now.end; own = All-nil (λ e. IsOfCall (script_who old) e); inside = none-inside; is = now.is; fits = tt; at_end = at_end }, refl, now.at_end)
+
+pub asked_stop : {old new : List Entry} (size place : ℕ) (who : Who) → who ≡ script_who old → IsBehind who old new Stopped → place + 1 ≡ length new → (asked : IsAskedAt size Stop old new place) × (asked.event ≡ Stopped)
+asked_stop {old = old} {new = new} size place who script was at_end =
+    let now = subst (λ (w : Who). IsBehind w old new Stopped) script was in (
+      record {
+        inner = entries_of (script_who old) now.end (losses_of now.roles now.spares);
+        event = Stopped;
+        end = now.end;
+        own = own_call (script_who old) now.end (losses_of now.roles now.spares);
+        inside = inside-losses (script_who old) now.end (losses_of now.roles now.spares) (losses-are now.roles now.spares);
+        is = last_alone old (script_who old) now.end (losses_of now.roles now.spares) Stopped now.is;
+        fits = tt;
+        at_end = at_end;
+      },
+      refl,
+    )
+
+-- a stop is refused where too many roles are missing
+fits_refused : (visible : ℕ) (old new : Members) (refusal : Refusal) → IsRefusedFor visible 0 AreTooMany old new refusal → FitsStop (Refused refusal)
+fits_refused visible old new (PastEnd told) (same, past, kept) = absurd (omega (arith, past))
+fits_refused visible old new refusal is = by is.1
+  where
+    by : AreTooMany new refusal → FitsStop (Refused refusal)
+    by (inl many) = subst (λ (r : Refusal). FitsStop (Refused r)) (sym many.told) tt
+    by (inr many) = subst (λ (r : Refusal). FitsStop (Refused r)) (sym many.1.told) tt
+
+pub asked_unstopped : {old new : List Entry} (size place visible : ℕ) (before after : Members) (who : Who) (refusal : Refusal) → who ≡ script_who old → IsBehind who old new (Refused refusal) → IsRefusedFor visible 0 AreTooMany before after refusal → place + 1 ≡ length new → (asked : IsAskedAt size Stop old new place) × (asked.event ≡ Refused refusal)
+asked_unstopped {old = old} {new = new} size place visible before after who refusal script was why at_end =
+    let now = subst (λ (w : Who). IsBehind w old new (Refused refusal)) script was in (
+      record {
+        inner = entries_of (script_who old) now.end (losses_of now.roles now.spares);
+        event = Refused refusal;
+        end = now.end;
+        own = own_call (script_who old) now.end (losses_of now.roles now.spares);
+        inside = inside-losses (script_who old) now.end (losses_of now.roles now.spares) (losses-are now.roles now.spares);
+        is = last_alone old (script_who old) now.end (losses_of now.roles now.spares) (Refused refusal) now.is;
+        fits = fits_refused visible before after refusal why;
+        at_end = at_end;
+      },
+      refl,
+    )
+
+-- a call that entered something made the history longer
+pub behind_grew : {old new : List Entry} {event : Event} (who : Who) → IsBehind who old new event → 1 ≤ length new
+behind_grew {old = old} {event = event} who was =
+    longer old (entries_of who was.end (losses_of was.roles was.spares)) (one who was.end event) (last_alone old who was.end (losses_of was.roles was.spares) event was.is)
+
+pub halt_grew : {tells : Type 0} {tape : List Operation} {old new : List Entry} (who : Who) → IsEntered tells tape who old new (Halted ∷ []) → 1 ≤ length new
+halt_grew {old = old} who was = longer old [] (one who was.end Halted) was.is
+
+-- what holds where memory was short
+pub on_no_memory : {fact : Type 0} (r : Result (Unit {0}) Fault) → OnNoMemory r fact → r ≡ Err NoMemory → fact
+on_no_memory {fact = fact} r was is = subst (λ (x : Result (Unit {0}) Fault). OnNoMemory x fact) is was

@@ -1,0 +1,270 @@
+-- A history's world as the tape grows: what it opened with, and the marks that are safe.
+use Rattle.std.proofs.Common.{◌≡◌, ℕ, zero, suc, ◌+◌, ◌-◌, ◌^◌, ◌<◌, ◌≤◌, inl, inr, Bool, true, Option, Some, None, unwrap_or, List, [], ◌∷◌, ◌++◌, length, take, drop, slice_range, refl, sym, ◌∙◌, ap, ap₂, subst, arith, append_assoc, append-nil, length-append, length-drop, take_all}
+use Rattle.std.proofs.lemmas.List.{take-append-drop, drop-append-le, length-take-le}
+use Rattle.std.proofs.lemmas.Bool.{cases_lt}
+use Rattle.std.proofs.lemmas.Bool.Decides.{nat_tests}
+use Rattle.std.proofs.Math.Seq.{take-append-add}
+use Rattle.std.specs.Option.{option_map_or}
+use Rattle.std.specs.Prelude.{IfSome, MatchOption, if◌then◌else◌, nat_le, IsFalse}
+use Rattle.md_base.specs.Sectors.{Sector}
+use Rattle.bank.specs.declared.bank.Operation.{Operation}
+use Rattle.bank.specs.declared.bank.Operation.TheVariants.{Write, Flush}
+use Rattle.bank.specs.Tape.{Contents, disk, IsImage, IsDrawn, AreFlushes}
+use Rattle.bank.specs.Stretches.{AreWritesWithin}
+use Rattle.bank.proofs.Laws.{contents-earlier}
+use Rattle.bank.proofs.Images.{drawn-image}
+use Rattle.superblocks.specs.Reading.{Reading, reading, role_count, role_state, is_whole}
+use Rattle.superblocks.specs.Found.{AreLikeNewest}
+use Rattle.md_base.specs.declared.status.Status.{Status}
+use Rattle.flat_history.specs.declared.events.Entry.{Entry}
+use Rattle.flat_history.specs.declared.events.Event.{Event}
+use Rattle.flat_history.specs.World.{World, contents_at, reading_at, opening_list}
+use Rattle.flat_history.specs.Stands.{verdict, stands}
+use Rattle.flat_history.specs.Flat.{last_of}
+use Rattle.flat_history.specs.Transfers.{last_end_from}
+use Rattle.flat_history.specs.Legal.{last_end}
+use Rattle.flat_history.specs.CrashSafe.{IsSafeAt, IsSafeFor, IsCrashSafe, made_by}
+use Rattle.flat_history.specs.Epochs.{HasRoomForEvents, OpensAlike}
+use Rattle.flat_history.specs.Opened.{IsSound, OpensSound}
+use Rattle.flat_history.specs.Reopened.{OpensAccepted}
+use Rattle.flat_history.specs.Sound.{FillsRight, LeavesSound, StaysSound}
+use Rattle.flat_history.specs.Growing.{grown, EndBy}
+use Rattle.history_laws.proofs.GrowingLaws.{marks-stay-safe}
+use Rattle.flat_history.proofs.SoundLaws.{fit-before, leaves-later, leaves-flushed}
+use Rattle.flat_history.proofs.StretchLaws.{bounds-serve}
+use Rattle.array.specs.declared.spec.CreateSpec.{CreateSpec}
+use Rattle.run_laws.specs.Making.{IsStored, IsStoredNew, IsStoredAs, HeldAtFirst, MissingAtFirst, SpareAtFirst}
+
+-- ---- the opening
+
+module _ (world : World) (more : List Operation) (begun : world.first ≤ length world.tape) where
+  first-same : contents_at (grown world more) world.first ≡ contents_at world world.first
+  first-same = λ i s k. contents-earlier world.start world.tape more world.first s k begun i
+
+  reading-same : reading_at (grown world more) world.first ≡ reading_at world world.first
+  unfolding reading_at
+  reading-same = ap (reading world.scope) first-same
+
+  pub list-same : opening_list (grown world more) ≡ opening_list world
+  unfolding opening_list
+  list-same = ap (stands world.scope) first-same
+
+  pub alike-later : OpensAlike world → OpensAlike (grown world more)
+  alike-later was =
+      subst (λ (o : Option Reading). IfSome o (λ r. AreLikeNewest world.scope r.newest (contents_at (grown world more) world.first))) (sym reading-same)
+      (subst (λ (c : Contents). IfSome (reading_at world world.first) (λ r. AreLikeNewest world.scope r.newest c)) (sym first-same) was)
+
+  pub sound-later : OpensSound world → OpensSound (grown world more)
+  sound-later was =
+      subst (λ (o : Option Reading). IfSome o (IsSound world.scope (contents_at (grown world more) world.first))) (sym reading-same)
+      (subst (λ (c : Contents). IfSome (reading_at world world.first) (IsSound world.scope c)) (sym first-same) was)
+
+  pub alike-before : OpensAlike (grown world more) → OpensAlike world
+  alike-before was =
+      subst (λ (c : Contents). IfSome (reading_at world world.first) (λ r. AreLikeNewest world.scope r.newest c)) first-same
+      (subst (λ (o : Option Reading). IfSome o (λ r. AreLikeNewest world.scope r.newest (contents_at (grown world more) world.first))) reading-same was)
+
+  -- a longer tape leaves less room
+  pub room-before : HasRoomForEvents (grown world more) → HasRoomForEvents world
+  room-before was =
+      by_reading (reading_at world world.first)
+      (subst (λ (o : Option Reading). IfSome o (λ r. r.newest.events + (length (world.tape ++ more) - world.first) < 2 ^ 62)) reading-same was)
+    where
+      by_reading : (o : Option Reading) → IfSome o (λ r. r.newest.events + (length (world.tape ++ more) - world.first) < 2 ^ 62)
+          → IfSome o (λ r. r.newest.events + (length world.tape - world.first) < 2 ^ 62)
+      by_reading None is = tt
+      by_reading (Some r) is = let long = length-append world.tape more in omega (arith, is, long)
+
+  -- what was filled in is right over a longer tape only where it is over the former one
+  pub fills-before : (entries : List Entry) → FillsRight (grown world more) entries → FillsRight world entries
+  fills-before entries (inl none) = inl none
+  fills-before entries (inr fit) = inr (fit-before world more begun fit)
+
+  -- what was refused for nothing is so over a longer tape
+  pub accepted-later : OpensAccepted world → OpensAccepted (grown world more)
+  accepted-later was = ap (verdict world.scope) first-same ∙ was
+
+  still-stored : {found : Reading} → IsStored world found → IsStored (grown world more) found
+  still-stored was = record { says = reading-same ∙ was.says; accepted = accepted-later was.accepted; still = was.still }
+
+  pub new-later : {spec : CreateSpec} → IsStoredNew world spec → IsStoredNew (grown world more) spec
+  new-later was = record { found = was.found; stored = still-stored was.stored; whole = was.whole; shape = was.shape; size = was.size; events = was.events; clean = was.clean; roles = was.roles; spares = was.spares }
+
+  pub stored-later : {status : Status} {losses : List Event} → IsStoredAs world status losses → IsStoredAs (grown world more) status losses
+  stored-later was = record {
+    found = was.found;
+    stored = still-stored was.stored;
+    told = was.told;
+    lost = was.lost;
+    position = was.position;
+    sized = was.sized ∙ sym (ap (λ (l : List Sector). length l) list-same);
+    visible = was.visible ∙ sym (ap (λ (l : List Sector). length l) list-same);
+    clean = was.clean;
+    left = was.left;
+  }
+
+-- what held a role at the opening did so, however the tape goes on
+pub held-longer : (world : World) (more : List Operation) {role slot : ℕ} → HeldAtFirst world role slot → HeldAtFirst (grown world more) role slot
+held-longer world more was = record {
+  begun = let long = length-append world.tape more in omega (arith, was.begun, long);
+  found = was.found;
+  says = reading-same world more was.begun ∙ was.says;
+  held = was.held;
+}
+
+-- what was a spare there was one
+pub spare-longer : (world : World) (more : List Operation) {slot : ℕ} → SpareAtFirst world slot → SpareAtFirst (grown world more) slot
+spare-longer world more was = record {
+  begun = let long = length-append world.tape more in omega (arith, was.begun, long);
+  found = was.found;
+  says = reading-same world more was.begun ∙ was.says;
+  spare = was.spare;
+}
+
+-- and so it is of what was missing there
+pub missing-longer : (world : World) (more : List Operation) {role : ℕ} → MissingAtFirst world role → MissingAtFirst (grown world more) role
+missing-longer world more {role = role} was = record {
+  begun = let long = length-append world.tape more in omega (arith, was.begun, long);
+  missing = subst (λ (o : Option Reading). MatchOption o ⊥ (λ r. (role < role_count r.newest) × IsFalse (is_whole (role_state r role)))) (sym (reading-same world more was.begun)) was.missing;
+}
+
+-- ---- where the entries end
+
+-- the last end is that of the rest
+last-rest : (first : ℕ) (e : Entry) (entries : List Entry) → last_end_from first (e ∷ entries) ≡ last_end_from e.end entries
+last-rest first e entries = by_last (last_of entries)
+  where
+    by_last : (o : Option Entry) → (unwrap_or o e).end ≡ option_map_or (λ (x : Entry). x.end) o e.end
+    by_last None = refl
+    by_last (Some last) = refl
+
+pub last-within : (mark first : ℕ) (entries : List Entry) → first ≤ mark → EndBy mark entries → last_end_from first entries ≤ mark
+last-within mark first [] le ends = le
+last-within mark first (e ∷ entries) le ends = let same = last-rest first e entries in let rest = last-within mark e.end entries (ends.0) (ends.1) in omega (arith, same, rest)
+
+-- all entries were made by a mark at which they had ended
+made-all : (mark later : ℕ) (entries : List Entry) → mark ≤ later → EndBy mark entries → made_by later entries ≡ length entries
+made-all mark later [] le ends = refl
+made-all mark later (e ∷ entries) le ends =
+    ap₂ (λ (b : Bool) (n : ℕ). if b then 1 + n else n) (ended e.end later (omega (arith, le, ends.0))) (made-all mark later entries le (ends.1)) ∙ one_more (length entries)
+  where
+    one_more : (n : ℕ) → 1 + n ≡ suc n
+    one_more n = omega arith
+
+    ended : (a b : ℕ) → a ≤ b → nat_le a b ≡ true
+    ended a b h = grind (arith, nat_tests, h)
+
+-- ---- marks behind the epoch, where nothing but flushes was done
+
+flushes-front : (xs ys : List Operation) → AreFlushes (xs ++ ys) → AreFlushes xs
+flushes-front [] ys is = tt
+flushes-front (Flush t ∷ xs) ys is = flushes-front xs ys is
+flushes-front (Write t j w ∷ xs) ys is = absurd is
+
+flushes-back : (xs ys : List Operation) → AreFlushes (xs ++ ys) → AreFlushes ys
+flushes-back [] ys is = is
+flushes-back (Flush t ∷ xs) ys is = flushes-back xs ys is
+flushes-back (Write t j w ∷ xs) ys is = absurd is
+
+flushes-write-nothing : (bound : ℕ → ℕ → List Sector) (ops : List Operation) → AreFlushes ops → AreWritesWithin bound ops
+flushes-write-nothing bound [] is = tt
+flushes-write-nothing bound (Flush t ∷ ops) is = flushes-write-nothing bound ops is
+flushes-write-nothing bound (Write t j w ∷ ops) is = absurd is
+
+module _ (world : World) (more : List Operation) (entries : List Entry) (begun : world.first ≤ length world.tape) (ends : EndBy (length world.tape) entries) where
+  abbrev at : ℕ
+  at = length world.tape
+
+  longer : length (world.tape ++ more) ≡ at + length more
+  longer = length-append world.tape more
+
+  last : last_end world entries ≤ at
+  last = last-within at world.first entries begun ends
+
+  -- a safe mark of the former tape is one of the longer tape
+  safe-still : (mark : ℕ) → mark ≤ at → IsSafeAt world entries mark → IsSafeAt (grown world more) entries mark
+  safe-still mark le safe =
+      subst (λ (l : List Entry). IsSafeAt (grown world more) l mark) (append-nil entries) (marks-stay-safe world entries [] more mark begun le ends tt safe)
+
+  range-same : (mark : ℕ) → mark ≤ at → slice_range (world.tape ++ more) (last_end world entries) mark ≡ slice_range world.tape (last_end world entries) mark
+  range-same mark le =
+      ap (λ (l : List Operation). take (mark - last_end world entries) l) (drop-append-le (last_end world entries) world.tape more last)
+      ∙ take-front (mark - last_end world entries) (drop (last_end world entries) world.tape) more (let long = length-drop (last_end world entries) world.tape in omega (arith, le, last, long))
+    where
+      take-front : (n : ℕ) (xs ys : List Operation) → n ≤ length xs → take n (xs ++ ys) ≡ take n xs
+      take-front zero xs ys h = refl
+      take-front (suc n) [] ys h = absurd (omega (arith, h))
+      take-front (suc n) (x ∷ xs) ys h = ap (λ (l : List Operation). x ∷ l) (take-front n xs ys (omega (arith, h)))
+
+  -- the operations from the last end to a later mark
+  range-past : (mark : ℕ) → at ≤ mark → slice_range (world.tape ++ more) (last_end world entries) mark ≡ drop (last_end world entries) world.tape ++ take (mark - at) more
+  range-past mark le =
+      let long = length-drop (last_end world entries) world.tape in
+      ap (λ (l : List Operation). take (mark - last_end world entries) l) (drop-append-le (last_end world entries) world.tape more last)
+      ∙ ap (λ (n : ℕ). take n (drop (last_end world entries) world.tape ++ more)) {y = length (drop (last_end world entries) world.tape) + (mark - at)} (omega (arith, le, last, long))
+      ∙ take-append-add (drop (last_end world entries) world.tape) more (mark - at)
+
+  range-whole : slice_range world.tape (last_end world entries) at ≡ drop (last_end world entries) world.tape
+  range-whole = take_all (at - last_end world entries) (drop (last_end world entries) world.tape) (let long = length-drop (last_end world entries) world.tape in omega (arith, last, long))
+
+  -- safe where the tape ended, and behind flushes
+  safe-past : (mark : ℕ) → at ≤ mark → mark ≤ length (world.tape ++ more) → AreFlushes (take (mark - at) more) → IsSafeAt world entries at → IsSafeAt (grown world more) entries mark
+  safe-past mark low high only safe =
+      let added = take (mark - at) more in
+      let rest = drop (mark - at) more in
+      let count : length added ≡ mark - at = length-take-le (mark - at) more (omega (arith, high, longer, low)) in
+      let whole : length (world.tape ++ added) ≡ mark = (let sum = length-append world.tape added in omega (arith, sum, count, low)) in
+      let here : IsSafeAt (grown world added) entries mark =
+      bounds-serve world entries added (disk world.start world.tape) (λ s k v is. is) (flushes-write-nothing (disk world.start world.tape) added only) at mark low (omega (arith, whole))
+      (made-all at mark entries low ends ∙ sym (made-all at at entries (omega arith) ends)) (drawn-safe added) in
+      let ended = subst (λ (l : List Entry). IsSafeAt (grown (grown world added) rest) l mark) (append-nil entries)
+      (marks-stay-safe (grown world added) entries [] rest mark (omega (arith, begun, whole, low)) (omega (arith, whole)) (ends-later at (length (world.tape ++ added)) entries (omega (arith, whole, low)) ends) tt here) in
+      subst (λ (l : List Operation). IsSafeAt (record { start = world.start; tape = l; scope = world.scope; first = world.first }) entries mark)
+      (append_assoc world.tape added rest ∙ ap (λ (l : List Operation). world.tape ++ l) (take-append-drop (mark - at) more)) ended
+    where
+      ends-later : (a b : ℕ) (es : List Entry) → a ≤ b → EndBy a es → EndBy b es
+      ends-later a b [] le is = tt
+      ends-later a b (e ∷ es) le is = (omega (arith, le, is.0), ends-later a b es le (is.1))
+
+      drawn-safe : (added : List Operation) → IsSafeFor (grown world added) entries at (disk world.start world.tape)
+      drawn-safe added c drawn =
+          subst (λ (l : List Entry). IsSafeAt (grown world added) l at) (append-nil entries) (marks-stay-safe world entries [] added at begun (omega arith) ends tt safe)
+          c (image-of added c drawn)
+        where
+          image-of : (added : List Operation) (c : Contents) → IsDrawn (disk world.start world.tape) c → IsImage world.start (world.tape ++ added) at c
+          image-of added c drawn = drawn-image world.start (world.tape ++ added) at c (let sum = length-append world.tape added in omega (arith, sum))
+              (subst (λ (l : List Operation). IsDrawn (disk world.start l) c) (sym (take-front world.tape added)) drawn)
+            where
+              take-front : (xs ys : List Operation) → take (length xs) (xs ++ ys) ≡ xs
+              take-front [] ys = refl
+              take-front (x ∷ xs) ys = ap (λ (l : List Operation). x ∷ l) (take-front xs ys)
+
+  -- the epoch is safe up to the longer tape's end
+  pub safe-longer : IsCrashSafe world at entries → IsCrashSafe (grown world more) (length (world.tape ++ more)) entries
+  safe-longer safe mark low high only = elim (cases_lt at mark) [
+    | inl past ↦ safe-past mark (omega (arith, past)) high (flushes-back (drop (last_end world entries) world.tape) (take (mark - at) more) (subst AreFlushes (range-past mark (omega (arith, past))) only))
+        (safe at begun (omega arith) (subst AreFlushes (sym range-whole) (flushes-front (drop (last_end world entries) world.tape) (take (mark - at) more) (subst AreFlushes (range-past mark (omega (arith, past))) only))))
+    | inr within ↦ safe-still mark (omega (arith, within)) (safe mark low (omega (arith, within)) (subst AreFlushes (range-same mark (omega (arith, within))) only))
+  ]
+
+  -- a mark behind it leaves no image but those of the former end
+  sound-past : (mark : ℕ) → at ≤ mark → mark ≤ length (world.tape ++ more) → AreFlushes (take (mark - at) more) → LeavesSound world at → LeavesSound (grown world more) mark
+  sound-past mark low high only sound =
+      let added = take (mark - at) more in
+      let rest = drop (mark - at) more in
+      let count : length added ≡ mark - at = length-take-le (mark - at) more (omega (arith, high, longer, low)) in
+      let whole : length (world.tape ++ added) ≡ mark = (let sum = length-append world.tape added in omega (arith, sum, count, low)) in
+      let here : LeavesSound (grown world added) mark = subst (λ (n : ℕ). LeavesSound (grown world added) n) whole (leaves-flushed world added only sound) in
+      subst (λ (l : List Operation). LeavesSound (record { start = world.start; tape = l; scope = world.scope; first = world.first }) mark)
+      (append_assoc world.tape added rest ∙ ap (λ (l : List Operation). world.tape ++ l) (take-append-drop (mark - at) more))
+      (leaves-later (grown world added) rest mark (omega (arith, whole)) here)
+
+  -- the epoch stays sound up to the longer tape's end
+  pub sound-longer : StaysSound world at entries → StaysSound (grown world more) (length (world.tape ++ more)) entries
+  sound-longer sound opens mark low high only =
+      let before = fit-before world more begun opens in
+      elim (cases_lt at mark) [
+        | inl past ↦ sound-past mark (omega (arith, past)) high (flushes-back (drop (last_end world entries) world.tape) (take (mark - at) more) (subst AreFlushes (range-past mark (omega (arith, past))) only))
+            (sound before at begun (omega arith) (subst AreFlushes (sym range-whole) (flushes-front (drop (last_end world entries) world.tape) (take (mark - at) more) (subst AreFlushes (range-past mark (omega (arith, past))) only))))
+        | inr within ↦ leaves-later world more mark (omega (arith, within)) (sound before mark low (omega (arith, within)) (subst AreFlushes (range-same mark (omega (arith, within))) only))
+      ]

@@ -1,0 +1,59 @@
+-- One line of the script to a running array.
+use Rattle.std.specs.Prelude.{◌≡◌, ℕ, ◌+◌, ◌++◌, List, [], ◌∷◌, length, slice_get, Some, Result, Ok, Err, IsTrue, IsFalse}
+use Rattle.std.specs.List.{All}
+use Rattle.md_base.specs.declared.answers.NoMemory.{NoMemory}
+use Rattle.md_base.specs.declared.answers.Refusal.TheVariants.{SlotFault}
+use Rattle.bank.specs.Given.{IsFaulted}
+use Rattle.md_base.specs.declared.answers.Who.{Who}
+use Rattle.flat_history.specs.declared.events.Entry.{Entry}
+use Rattle.flat_history.specs.declared.events.Event.{Event}
+use Rattle.flat_history.specs.declared.events.Event.TheVariants.{Refused}
+use Rattle.flat_history.specs.Flat.{next_number}
+use Rattle.flat_history.specs.OneShape.{IsOfCall}
+use Rattle.array_kept.specs.Calls.{StandsInside}
+use Rattle.script.specs.declared.lines.Line.{Line}
+use Rattle.script.specs.declared.lines.Line.TheVariants.{Step}
+use Rattle.run_laws.specs.Replies.{FitsLine, leaves_more, steps_at_once}
+
+-- the script's next call
+abbrev pub script_who : List Entry → Who
+script_who entries = record { caller = 0; number = next_number 0 entries }
+
+-- The script's next call entered these entries, and the one behind them, which answers the line and stands at this place.
+pub record IsAskedAt (size : ℕ) (line : Line) (old new : List Entry) (place : ℕ) : Type 0 where
+  pub inner : List Entry
+  pub event : Event
+  pub end : ℕ
+  pub own : All (λ e. IsOfCall (script_who old) e) inner
+  pub inside : All (λ e. StandsInside e.event) inner
+  pub is : new ≡ old ++ (inner ++ record { caller = 0; number = next_number 0 old; end = end; event = event } ∷ [])
+  pub fits : FitsLine size (old ++ inner) (record { caller = 0; number = next_number 0 old; end = end; event = event }) line
+  pub at_end : place + 1 ≡ length new
+
+-- where the reply at this place is that a slot failed, it has failed since
+abbrev pub IsFaultTold : (ℕ → ℕ) → (ℕ → ℕ) → List Entry → ℕ → Type 0
+IsFaultTold before now entries place = (e : Entry) (slot : ℕ) → slice_get entries place ≡ Some e → e.event ≡ Refused (SlotFault slot) → IsFaulted slot before now
+
+-- or memory was short, and nothing was entered
+abbrev pub IsAsked : ℕ → Line → List Entry → List Entry → Result ℕ NoMemory → Type 0
+IsAsked size line old new (Ok place) = IsAskedAt size line old new place
+IsAsked size line old new (Err fault) = new ≡ old
+
+-- The calls of a wait so far, whose replies stand at these places: each leaves more to do.
+abbrev pub IsStillWaiting : ℕ → List Entry → List ℕ → List Entry → Type 0
+IsStillWaiting size old [] new = new ≡ old
+IsStillWaiting size old (place ∷ places) new = (between : List Entry) × (asked : IsAskedAt size (Step steps_at_once) old between place)
+    × IsTrue (leaves_more asked.event) × IsStillWaiting size between places new
+
+-- The calls of a wait, and the last one, whose reply stands at this place.
+pub record IsWaitedFor (size : ℕ) (old new : List Entry) (place : ℕ) : Type 0 where
+  pub earlier : List ℕ
+  pub between : List Entry
+  pub waiting : IsStillWaiting size old earlier between
+  pub asked : IsAskedAt size (Step steps_at_once) between new place
+  pub done : IsFalse (leaves_more asked.event)
+
+-- or memory was short for one of them, which entered nothing
+abbrev pub IsWaited : ℕ → List Entry → List Entry → Result ℕ NoMemory → Type 0
+IsWaited size old new (Ok place) = IsWaitedFor size old new place
+IsWaited size old new (Err fault) = (earlier : List ℕ) × IsStillWaiting size old earlier new

@@ -1,0 +1,84 @@
+-- The epochs of the arrays that ran before, over the bank of their run.
+use Rattle.std.specs.Prelude.{◌≡◌, ℕ, ◌≤◌, List, [], ◌∷◌, length, Option, ⊤}
+use Rattle.std.specs.List.{All}
+use Rattle.bank.specs.Given.{Given}
+use Rattle.bank.specs.declared.bank.Operation.{Operation}
+use Rattle.flat_history.specs.declared.events.Epoch.{Epoch}
+use Rattle.flat_history.specs.Epochs.{world_of, IsEpochRight, HasRoomForEvents, OpensAlike}
+use Rattle.flat_history.specs.OneShape.{opening_in, IsOneShapeLegal}
+use Rattle.flat_history.specs.CrashSafe.{IsCrashSafe}
+use Rattle.flat_history.specs.Growing.{EndBy}
+use Rattle.flat_history.specs.Reopened.{OpensAccepted}
+use Rattle.flat_history.specs.Sound.{FillsRight, StaysSound}
+use Rattle.array_kept.specs.Calls.{IsEndOf}
+use Rattle.views.specs.Parts.{Parts}
+use Rattle.run_laws.specs.declared.states.State.{State}
+use Rattle.run_laws.specs.declared.states.State.TheVariants.{Idle, Running}
+use Rattle.run_laws.specs.Histories.{History, histories_of}
+use Rattle.run_laws.specs.Making.{world_at, AreHeldSince}
+use Rattle.run_laws.specs.States.{running_history}
+
+-- The epoch begins, and each of its entries ends, within the tape, and what its opening found was refused for nothing. Its history is
+-- legal where no role is told lost in it, or where at the opening, if the array was clean, its rows were good: else what was filled in for a
+-- missing role might be anything.
+pub record IsLegalEpoch (given : Given) (tape : List Operation) (backup : Option ℕ) (epoch : Epoch) : Type 0 where
+  pub begun : epoch.first ≤ length tape
+  pub accepted : OpensAccepted (world_of given tape backup epoch)
+  pub ends : EndBy (length tape) epoch.entries.items
+  pub legal : FillsRight (world_of given tape backup epoch) epoch.entries.items
+      → IsOneShapeLegal (opening_in (world_of given tape backup epoch)) (length tape) epoch.entries.items
+
+abbrev pub AreLegal : Given → List Operation → Option ℕ → List Epoch → Type 0
+AreLegal given tape backup epochs = All (λ epoch. IsLegalEpoch given tape backup epoch) epochs
+
+-- A fact of an epoch in which no role is told lost, or which opened sound, so that what is filled in for a missing role is right, and which
+-- had room for its events and opened with superblocks that are alike.
+abbrev pub IfFilledRight : Given → List Operation → Option ℕ → Epoch → Type 0 → Type 0
+IfFilledRight given tape backup epoch fact =
+    FillsRight (world_of given tape backup epoch) epoch.entries.items → HasRoomForEvents (world_of given tape backup epoch)
+    → OpensAlike (world_of given tape backup epoch) → fact
+
+-- Such an epoch is right, also where members were lost in it: it lies within the tape, is legal, safe at each of its marks, stays sound,
+-- and no reshape of it ends wrong.
+abbrev pub AreRight : Given → List Operation → Option ℕ → List Epoch → Type 0
+AreRight given tape backup epochs = All (λ epoch. IfFilledRight given tape backup epoch (IsEpochRight given tape backup epoch)) epochs
+
+-- Such an epoch is safe at each mark up to the tape's end, and stays sound, as far as nothing but flushes was done behind it.
+abbrev pub IsSafeEpoch : Given → List Operation → Option ℕ → Epoch → Type 0
+IsSafeEpoch given tape backup epoch =
+    IfFilledRight given tape backup epoch
+    (IsCrashSafe (world_of given tape backup epoch) (length tape) epoch.entries.items × StaysSound (world_of given tape backup epoch) (length tape) epoch.entries.items)
+
+abbrev pub AreSafe : Given → List Operation → Option ℕ → List Epoch → Type 0
+AreSafe given tape backup epochs = All (λ epoch. IsSafeEpoch given tape backup epoch) epochs
+
+-- the first mark of these histories, or the one behind them
+abbrev pub next_mark : ℕ → List History → ℕ
+next_mark behind [] = behind
+next_mark behind (history ∷ histories) = history.first
+
+-- each history begins, and each of its entries ends, by the first mark of the next one, and those of the last by this mark
+abbrev pub AreRising : ℕ → List History → Type 0
+AreRising behind [] = ⊤
+AreRising behind (history ∷ histories) =
+    ((history.first ≤ next_mark behind histories) × EndBy (next_mark behind histories) history.entries) × AreRising behind histories
+
+-- what is kept of the arrays that ran before, up to a mark
+pub record AreFormer (given : Given) (tape : List Operation) (backup : Option ℕ) (mark : ℕ) (epochs : List Epoch) : Type 0 where
+  pub legal : AreLegal given tape backup epochs
+  pub safe : AreSafe given tape backup epochs
+  pub rising : AreRising mark (histories_of epochs)
+
+-- and of the one that runs: it has the backup of the run, began behind those, what its opening found was refused for nothing, its roles
+-- are where they were then, or on slots that were spares, and the tape stands where its last entry ended
+pub record IsGoing {B : Type 0} (tells : Type 0) (given : Given) (tape : List Operation) (backup : Option ℕ) (array : Parts B) (epochs : List Epoch) : Type 0 where
+  pub backup_is : array.backup ≡ backup
+  pub former : tells → AreFormer given tape backup array.first epochs
+  pub begun : tells → array.first ≤ length tape
+  pub accepted : tells → OpensAccepted (world_at given tape backup (running_history array))
+  pub held : tells → AreHeldSince (world_at given tape backup (running_history array)) array.entries array.members
+  pub ended : IsEndOf tells array.first array.entries tape
+
+abbrev pub IsRunKept : {B : Type 0} → Type 0 → Given → List Operation → Option ℕ → State B → Type 0
+IsRunKept tells given tape backup (Idle bank epochs) = tells → AreFormer given tape backup (length tape) epochs.items
+IsRunKept tells given tape backup (Running array epochs) = IsGoing tells given tape backup array epochs.items

@@ -1,0 +1,9 @@
+pub mod Asked
+pub mod Ended
+pub mod Examining
+pub mod Histories
+pub mod Making
+pub mod Replies
+pub mod Showing
+pub mod States
+pub mod Written

@@ -1,0 +1,211 @@
+-- The bank of a run with or without an array on it, and what a line does to it.
+use Rattle.std.specs.Prelude.{◌≡◌, ◌⊎◌, ℕ, ◌+◌, ◌<◌, ◌≤◌, ◌^◌, ◌++◌, true, List, [], ◌∷◌, length, slice_get, vec_capacity, Option, Some, MatchOption, Result, Ok, Err, IfSome, IsSome, IsTrue, ⊤}
+use Rattle.std.specs.List.{All}
+use Rattle.md_base.specs.declared.answers.NoMemory.{NoMemory}
+use Rattle.md_base.specs.declared.answers.Refusal.{Refusal}
+use Rattle.md_base.specs.declared.answers.Refusal.TheVariants.{BackupFault, SlotFault}
+use Rattle.bank.specs.Given.{Given, IsFaulted}
+use Rattle.flat_history.specs.declared.events.Entry.{Entry}
+use Rattle.flat_history.specs.declared.events.Event.{Event}
+use Rattle.flat_history.specs.declared.events.Event.TheVariants.{Lost, SpareLost, Stepped, Refused}
+use Rattle.flat_history.specs.declared.events.LostCause.{LostCause}
+use Rattle.flat_history.specs.declared.events.LostCause.TheVariants.{Absent, Recovering, Command, Fault}
+use Rattle.flat_history.specs.Flat.{rest_of_call, next_number}
+use Rattle.views.specs.Parts.{Parts}
+use Rattle.views.specs.Whole.{list_size}
+use Rattle.views.specs.Placed.{places_of}
+use Rattle.script.specs.declared.lines.Line.{Line}
+use Rattle.script.specs.declared.lines.Line.TheVariants.{Step, Wait}
+use Rattle.run_laws.specs.declared.report.Answered.{Answered}
+use Rattle.run_laws.specs.declared.report.Answered.TheVariants.{Inside, Outside}
+use Rattle.run_laws.specs.declared.states.State.{State}
+use Rattle.run_laws.specs.declared.states.State.TheVariants.{Idle, Running}
+use Rattle.run_laws.specs.Histories.{History, histories_of, entry_at, AreGoing, EndsOnce}
+use Rattle.run_laws.specs.Making.{Setting, history_world, MayHaveHeld, MissingAtFirst}
+use Rattle.run_laws.specs.Replies.{Course, at_rest, with_calls, course_after, steps_at_once, leaves_more_at, IsReplyAt, IsAnswer}
+
+-- the history of an array that runs
+abbrev pub running_history : {B : Type 0} → Parts B → History
+running_history array = record { uuid = array.uuid; given = array.given; first = array.first; entries = array.entries }
+
+-- those of the arrays that ran, and of the one that runs
+abbrev pub histories_in : {B : Type 0} → State B → List History
+histories_in (Idle bank epochs) = histories_of epochs.items
+histories_in (Running array epochs) = histories_of epochs.items ++ running_history array ∷ []
+
+abbrev pub bank_in : {B : Type 0} → State B → B
+bank_in (Idle bank epochs) = bank
+bank_in (Running array epochs) = array.bank
+
+-- where a run stands while an array runs, behind so many others
+abbrev pub course_with : {B : Type 0} → ℕ → Parts B → Course
+course_with before array = record { opened = before + 1; running = true; calls = next_number 0 array.entries; size = list_size (places_of array.members) }
+
+-- where the run stands
+abbrev pub course_in : {B : Type 0} → State B → Course
+course_in (Idle bank epochs) = at_rest (length epochs.items)
+course_in (Running array epochs) = course_with (length epochs.items) array
+
+-- the event tells a role that an opening didn't find whole
+abbrev pub IsAbsence : Event → Type 0
+IsAbsence (Lost role Absent) = ⊤
+IsAbsence (Lost role Recovering) = ⊤
+IsAbsence event = ⊥
+
+-- the entry is of a call of the script, before this number, or it tells a role that the opening didn't find whole
+abbrev pub IsOwnEntry : ℕ → Entry → Type 0
+IsOwnEntry number e = ((e.caller ≡ 0) × (e.number < number)) ⊎ ((e.caller ≡ 254) × (e.number ≡ 0) × IsAbsence e.event)
+
+-- the entries are of the script's calls, all before this number, but for those of the opening
+abbrev pub AreByScript : ℕ → List Entry → Type 0
+AreByScript number entries = All (λ e. IsOwnEntry number e) entries
+
+abbrev pub IsByScript : History → Type 0
+IsByScript history = AreByScript (next_number 0 history.entries) history.entries
+
+-- it is, and no entry stands behind one that ends it
+pub record IsOfScript (history : History) : Type 0 where
+  pub script : IsByScript history
+  pub once : EndsOnce history.entries
+
+-- No history holds a call of another than the script, but for that of its opening, nor an entry behind one that ends it.
+abbrev pub AreOfScript : List History → Type 0
+AreOfScript histories = All IsOfScript histories
+
+-- the histories are of the script alone, and that of the array that runs is not ended, and there is room for it
+pub record IsOwn (before : List History) (running : History) (count capacity : ℕ) : Type 0 where
+  pub former : AreOfScript before
+  pub script : IsByScript running
+  pub going : AreGoing running.entries
+  pub room : count < capacity
+  pub few : count < 2 ^ 32
+
+abbrev pub RunsOwn : {B : Type 0} → State B → Type 0
+RunsOwn (Idle bank epochs) = AreOfScript (histories_of epochs.items)
+RunsOwn (Running array epochs) = IsOwn (histories_of epochs.items) (running_history array) (length epochs.items) (vec_capacity epochs)
+
+-- the bank has few slots, and the backup is the last
+pub record IsFitBank (given : Given) (backup : Option ℕ) : Type 0 where
+  pub few : given.slots ≤ 32
+  pub last : MatchOption backup ⊤ (λ slot. slot + 1 ≡ given.slots)
+
+-- a history went on: what was added belongs to none of the former calls
+pub record IsGrown (old new : History) : Type 0 where
+  pub uuid : new.uuid ≡ old.uuid
+  pub given : new.given ≡ old.given
+  pub first : new.first ≡ old.first
+  pub more : List Entry
+  pub grown : new.entries ≡ old.entries ++ more
+  pub later : All (λ e. rest_of_call e more ≡ []) old.entries
+
+abbrev pub AreGrown : List History → List History → Type 0
+AreGrown [] news = ⊤
+AreGrown (old ∷ olds) [] = ⊥
+AreGrown (old ∷ olds) (new ∷ news) = IsGrown old new × AreGrown olds news
+
+-- A role is told lost behind this history by a fault only where a slot has failed that held it at the opening, or was a spare there or told added
+-- since, by command only where there was such a slot, and as absent or recovering only where it wasn't whole at the opening.
+abbrev pub IsRoleLossSince : Setting → History → ℕ → LostCause → Type 0
+IsRoleLossSince setting history role Fault =
+    (slot : ℕ) × IsFaulted slot setting.before setting.now × (setting.tells → MayHaveHeld (history_world setting history) history.entries role slot)
+IsRoleLossSince setting history role Command = setting.tells → (slot : ℕ) × MayHaveHeld (history_world setting history) history.entries role slot
+IsRoleLossSince setting history role Absent = setting.tells → MissingAtFirst (history_world setting history) role
+IsRoleLossSince setting history role Recovering = setting.tells → MissingAtFirst (history_world setting history) role
+
+-- a refusal for a slot that failed stands only where that slot has failed since, and one for the backup only where the backup has
+abbrev pub IsRefusalSince : Setting → Refusal → Type 0
+IsRefusalSince setting (SlotFault slot) = IsFaulted slot setting.before setting.now
+IsRefusalSince setting BackupFault = MatchOption setting.backup ⊥ (λ slot. IsFaulted slot setting.before setting.now)
+IsRefusalSince setting refusal = ⊤
+
+-- An event that tells a loss or a refusal has its cause, also where the refusal ended some steps; a spare is told lost only where it has
+-- failed since.
+abbrev pub IsLossSince : Setting → History → Event → Type 0
+IsLossSince setting history (Lost role cause) = IsRoleLossSince setting history role cause
+IsLossSince setting history (SpareLost slot) = IsFaulted slot setting.before setting.now
+IsLossSince setting history (Stepped done left ended) = IfSome ended (IsRefusalSince setting)
+IsLossSince setting history (Refused refusal) = IsRefusalSince setting refusal
+IsLossSince setting history event = ⊤
+
+-- the history as it stood with these entries
+abbrev pub with_entries : List Entry → History → History
+with_entries entries history = record { uuid = history.uuid; given = history.given; first = history.first; entries = entries }
+
+-- each loss and refusal that these entries tell has its cause, by what stood before it
+abbrev pub AreLossesBehind : Setting → History → List Entry → List Entry → Type 0
+AreLossesBehind setting history before [] = ⊤
+AreLossesBehind setting history before (e ∷ entries) = IsLossSince setting (with_entries before history) e.event × AreLossesBehind setting history (before ++ e ∷ []) entries
+
+-- more entries stand behind the old ones, and each loss and refusal that they tell has its cause
+pub record AreLossesSince (setting : Setting) (old : List Entry) (new : History) : Type 0 where
+  pub more : List Entry
+  pub grown : new.entries ≡ old ++ more
+  pub failed : AreLossesBehind setting new old more
+
+abbrev pub AreLossesFrom : Setting → List History → List History → Type 0
+AreLossesFrom setting [] [] = ⊤
+AreLossesFrom setting [] (new ∷ news) = AreLossesSince setting [] new × AreLossesFrom setting [] news
+AreLossesFrom setting (old ∷ olds) [] = ⊥
+AreLossesFrom setting (old ∷ olds) (new ∷ news) = AreLossesSince setting old.entries new × AreLossesFrom setting olds news
+
+-- the entry that an answer names is there
+abbrev pub IsNamed : List History → Answered → Type 0
+IsNamed histories (Inside epoch at) = IsSome (entry_at histories epoch at)
+IsNamed histories (Outside outside) = ⊤
+
+-- The first calls of a wait, from this number on and before that one: each has its reply at one of these places, and leaves more to do.
+abbrev pub IsWaitingAt : ℕ → List Entry → List ℕ → ℕ → ℕ → Type 0
+IsWaitingAt size entries [] number next = next ≡ number
+IsWaitingAt size entries (first ∷ others) number next =
+    IsReplyAt size entries first number (Step steps_at_once) × IsTrue (leaves_more_at entries first) × IsWaitingAt size entries others (number + 1) next
+
+-- the array that runs was asked by a wait, for which memory was short after so many of its calls
+pub record IsWaitCut (histories : List History) (old new : Course) : Type 0 where
+  pub running : IsTrue old.running
+  pub place : ℕ
+  pub latest : place + 1 ≡ old.opened
+  pub history : History
+  pub there : slice_get histories place ≡ Some history
+  pub earlier : List ℕ
+  pub next : ℕ
+  pub waiting : IsWaitingAt old.size history.entries earlier old.calls next
+  pub now : new ≡ with_calls next old
+
+-- a line that was cut short is a wait
+abbrev pub IsCutShort : List History → Course → Line → Course → Type 0
+IsCutShort histories old Wait new = IsWaitCut histories old new
+IsCutShort histories old line new = ⊥
+
+-- where the run stands after a line for which memory was short: where it stood, but behind some calls of a wait
+abbrev pub IsCourseShort : List History → Course → Line → Course → Type 0
+IsCourseShort histories old line new = (new ≡ old) ⊎ IsCutShort histories old line new
+
+-- an answer stands for a moment between these marks
+abbrev pub EndsBetween : ℕ → ℕ → List History → Answered → Type 0
+EndsBetween low high histories (Inside epoch at) = MatchOption (entry_at histories epoch at) ⊥ (λ e. (low ≤ e.end) × (e.end ≤ high))
+EndsBetween low high histories (Outside outside) = low ≤ high
+
+-- one line was answered
+pub record IsTurn {B : Type 0} (setting : Setting) (old new : State B) (line : Line) (what : Answered) : Type 0 where
+  pub own : RunsOwn new
+  pub losses : AreLossesFrom setting (histories_in old) (histories_in new)
+  pub grown : AreGrown (histories_in old) (histories_in new)
+  pub ends : setting.tells → EndsBetween setting.began (length setting.tape) (histories_in new) what
+  pub answer : IsAnswer setting (histories_in new) (course_in old) line (length setting.tape) what
+  pub course : course_in new ≡ course_after (histories_in new) (course_in old) line what
+
+-- memory was short: nothing was entered, but for the calls of a wait before the one that it was short for
+pub record IsNoTurn {B : Type 0} (setting : Setting) (old new : State B) (line : Line) : Type 0 where
+  pub own : RunsOwn new
+  pub losses : AreLossesFrom setting (histories_in old) (histories_in new)
+  pub grown : AreGrown (histories_in old) (histories_in new)
+  pub course : IsCourseShort (histories_in new) (course_in old) line (course_in new)
+
+abbrev pub IsTurnOrNone : {B : Type 0} → Setting → State B → State B → Line → Result Answered NoMemory → Type 0
+IsTurnOrNone setting old new line (Ok what) = IsTurn setting old new line what
+IsTurnOrNone setting old new line (Err fault) = IsNoTurn setting old new line
+
+-- the answer by the entry at this place
+abbrev pub answer_at : ℕ → Result ℕ NoMemory → Result Answered NoMemory
+answer_at epoch (Ok place) = Ok (Inside epoch place)
+answer_at epoch (Err fault) = Err fault

@@ -1,0 +1,9 @@
+//! What the lines of a script do on a bank, as definitions and laws: its replies, the histories of its arrays, and where it stands
+//! between two lines.
+#![tactic(auto)]
+
+mod report;
+mod states;
+
+pub use report::{Answered, LineReply, Outside};
+pub use states::State;

@@ -1,9 +1,0 @@
-use Rattle.std.proofs.Common.{subst, sym}
-use Rattle.bank.specs.Given.{NeverFalls}
-use Rattle.runner.specs.States.{bank_in}
-use Rattle.runner.specs.declared.states.State.{State}
-use Rattle.runner.proofs.states.answer.Goals as goal
-
-pub returns-in-Running-clause-never_falls : goal.returns-in-Running-clause-never_falls
-returns-in-Running-clause-never_falls g c =
-    subst (λ (s : State g.row.B.Denot). NeverFalls (g.B.Bank.faults_of (bank_in s)) (g.B.Bank.faults_of (bank_in c.answer_running.result.0))) (sym c.in-Running.is) c.answer_running.ensures.never_falls
