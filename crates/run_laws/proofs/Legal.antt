@@ -7,13 +7,8 @@ use Rattle.flat_history.specs.declared.events.Entry.{Entry}
 use Rattle.flat_history.specs.declared.events.Epoch.{Epoch}
 use Rattle.flat_history.specs.Epochs.{world_of, IsEpochRight}
 use Rattle.flat_history.specs.OneShape.{ShapeOpening, opening_in, IsOneShapeLegal}
-<<<<<<< HEAD:crates/runner/proofs/Legal.antt
-use Rattle.flat_history.proofs.OneShapeLegal.{opening-grown, found-in, one_shape-legal}
-use Rattle.history_laws.proofs.OneShapeGrowing.{one_shape-later}
-=======
 use Rattle.flat_history.proofs.OneShapeLegal.{opening-grown}
 use Rattle.history_laws.proofs.OneShapeGrowing.{one_shape-later}
->>>>>>> dd2771153898b92103497fd20004a962ddcd0f2e:crates/run_laws/proofs/Legal.antt
 use Rattle.array_kept.specs.Calls.{IsEndOf, world_for}
 use Rattle.views.specs.Moving.{Grows}
 use Rattle.views.specs.Parts.{Parts}
