@@ -42,8 +42,7 @@ module _ (m : Members) (shape : Shape) (relied rows at end : ℕ) (some : at < e
       let x = asked.3.0 in
       let low : at ≤ x = asked.3.1 in
       let high : x < end = (let under = asked.3.2 in omega (arith, under, some)) in
-      let role : (place shape x).role ≡ asked.0 = asked.3.3 in
-      (
+      let role : (place shape x).role ≡ asked.0 = asked.3.3 in (
         x,
         omega (arith, early, low),
         omega (arith, high, late),

@@ -284,11 +284,11 @@ loop-at-preserved g c =
             let placed : shape_for old.newest x ≡ shape = subst (λ (sb : Sb). shape_for sb x ≡ shape) newest (stretch.one x late high) in
             let read1 = not-err c.read_parts-read.result.answer (sym c.is_err.ensures.value ∙ c.if-is_err.false) did.sectors told in
             let read : (list0 : ℕ → Sector) → DataStands (reading_of mid) c0 shape list0 (place shape x).row → ((place shape x).row < rows → AreWhole new ⊎ RowStands (reading_of mid) c0 shape list0 (place shape x).row)
-                → sector_of part j ≡ list0 x =
+            → sector_of part j ≡ list0 x =
             subst (λ (y : ℕ). (list0 : ℕ → Sector) → DataStands (reading_of mid) c0 shape list0 (place shape y).row → ((place shape y).row < rows → AreWhole new ⊎ RowStands (reading_of mid) c0 shape list0 (place shape y).row)
-                → sector_of part j ≡ list0 y) here
+            → sector_of part j ≡ list0 y) here
             (subst (λ (k : Contents). (list0 : ℕ → Sector) → DataStands (reading_of mid) k shape list0 (place shape (at + j)).row
-                → ((place shape (at + j)).row < rows → AreWhole new ⊎ RowStands (reading_of mid) k shape list0 (place shape (at + j)).row) → sector_of part j ≡ list0 (at + j)) same
+            → ((place shape (at + j)).row < rows → AreWhole new ⊎ RowStands (reading_of mid) k shape list0 (place shape (at + j)).row) → sector_of part j ≡ list0 (at + j)) same
             (λ list0. read1 list0 j (omega (arith, count, late, high, from, more)))) in
             sector-here c.loop-at.into part d e within some (c.read_parts-read.auto.into ∙ long) i (omega (arith, late, from)) (omega (arith, high, from))
             ∙ sector-read given old mid new was.moved c.requires.placed c0 shape (force-old old mid was.lost.0 was.lost.1 shape stretch.force) c.args.relied rows
