@@ -1,6 +1,5 @@
 -- What the update that begins a reshape leaves, and what it takes for it to be safe.
-use Rattle.std.proofs.Common.{◌≡◌, ◌⊎◌, inl, inr, ℕ, ◌+◌, ◌<◌, ◌≤◌, ◌&&◌, ◌||◌, Bool, true, false, not, nat_lt, List, length, get_or, Option, Some, None, refl, sym, ◌∙◌, ap, subst, arith}
-use Rattle.std.proofs.lemmas.Bool.{cases_lt}
+use Rattle.std.proofs.Common.{◌≡◌, ◌⊎◌, inl, inr, ℕ, ◌<◌, ◌&&◌, ◌||◌, Bool, true, false, not, nat_lt, List, length, get_or, Option, Some, None, refl, sym, ◌∙◌, ap, arith}
 use Rattle.std.proofs.lemmas.Bool.Decides.{nat_tests}
 use Rattle.md_base.specs.Shapes.{has_slot}
 use Rattle.md_base.specs.declared.places.Shape.{Shape}
@@ -16,7 +15,7 @@ use Rattle.superblocks.specs.declared.change.Give.{Give}
 use Rattle.superblocks.specs.declared.change.Give.TheVariants.{Same}
 use Rattle.superblocks.specs.declared.change.Change.{Change}
 use Rattle.superblocks.specs.declared.members.Members.{Members}
-use Rattle.superblocks.specs.Reading.{Scope, is_reshaping, shape_of, list_length, role_count, role_state, holder, data_offset_of}
+use Rattle.superblocks.specs.Reading.{Scope, is_reshaping, shape_of, list_length, role_count, role_state, holder}
 use Rattle.superblocks.specs.Reads.{has_spare}
 use Rattle.superblocks.specs.Update.{give_of, planned_role, is_planned_spare}
 use Rattle.superblocks.specs.Updating.{AreLosses, planned_newest}
@@ -24,8 +23,7 @@ use Rattle.superblocks.specs.Outcome.{live_set, AreGivesOfLive, planned_state, p
 use Rattle.superblock_reads.proofs.SaidLists.{role-holder}
 use Rattle.superblock_reads.proofs.SaidSlots.{below-length}
 use Rattle.row_io.specs.Rows.{reading_of}
-use Rattle.flat_history.specs.Stands.{backup_absent}
-use Rattle.shape_views.specs.Regions.{AreShapesFit, ArePlaced, open_by}
+use Rattle.shape_views.specs.Regions.{AreShapesFit, ArePlaced}
 use Rattle.shape_views.specs.Views.{Disk, Ledger}
 use Rattle.shape_views.proofs.Alike.{backup-alike}
 use Rattle.shape_changes.specs.Changing.{IsChanged}

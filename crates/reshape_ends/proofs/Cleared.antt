@@ -3,7 +3,6 @@ use Rattle.std.proofs.Common.{◌≡◌, ◌≢◌, ◌⊎◌, inl, inr, ℕ, �
 use Rattle.std.specs.Prelude.{⊤}
 use Rattle.std.proofs.lemmas.Bool.{cases_eq}
 use Rattle.std.proofs.lemmas.List.{take_all}
-use Rattle.md_base.specs.declared.places.Span.{Span}
 use Rattle.md_base.specs.Sectors.{Sector}
 use Rattle.sb1.specs.declared.sb.Sb.{Sb}
 use Rattle.sb1.specs.Superblock.{superblock_in}
@@ -20,7 +19,6 @@ use Rattle.backup.specs.Section.{is_header_of, names_span}
 use Rattle.backup.specs.Written.{cleared_header}
 use Rattle.backup.specs.Storing.{IsHeading, IsHeaded}
 use Rattle.backup.proofs.WrittenLaws.{cleared-none}
-use Rattle.shape_views.specs.Regions.{backup_of}
 use Rattle.shape_views.specs.Views.{Disk, Ledger}
 use Rattle.shape_views.specs.Windows.{IsSomewhere}
 use Rattle.shape_views.proofs.BackupLaws.{clearing-right}

@@ -1,7 +1,6 @@
 -- What the flush before a reshape ends leaves, and the update that ends it, and what it takes for that to be safe.
-use Rattle.std.proofs.Common.{◌≡◌, ◌≢◌, ◌⊎◌, inl, inr, ⊎_elim, ℕ, ◌+◌, ◌-◌, ◌*◌, ◌==◌, ◌<◌, ◌≤◌, ◌&&◌, ◌||◌, Bool, true, false, not, nat_lt, cond, min, List, [], ◌∷◌, length, drop, get_or, Option, Some, None, is_some, refl, sym, ◌∙◌, ap, ap₂, subst, arith}
+use Rattle.std.proofs.Common.{◌≡◌, ◌⊎◌, inl, inr, ℕ, ◌+◌, ◌-◌, ◌*◌, ◌==◌, ◌<◌, ◌≤◌, ◌&&◌, ◌||◌, Bool, true, false, not, nat_lt, cond, min, List, length, drop, get_or, Option, Some, None, is_some, refl, sym, ◌∙◌, ap, subst, arith}
 use Rattle.std.specs.Prelude.{◌^◌}
-use Rattle.std.proofs.lemmas.Bool.{cases_lt}
 use Rattle.std.proofs.lemmas.Bool.Decides.{nat_tests}
 use Rattle.std.proofs.lemmas.List.{get_or-drop}
 use Rattle.md_base.specs.Shapes.{has_slot, data_disks}
@@ -10,12 +9,11 @@ use Rattle.md_base.specs.declared.places.Shape.{Shape}
 use Rattle.md_base.specs.declared.answers.Refusal.TheVariants.{BackupAbsent}
 use Rattle.md_base.specs.declared.status.Role.{Role}
 use Rattle.md_base.specs.declared.status.Role.TheVariants.{Whole, Recovering, Missing}
-use Rattle.md_base.proofs.Tabulated.{length-tabulate, get_or-tabulate}
+use Rattle.md_base.proofs.Tabulated.{get_or-tabulate}
 use Rattle.bank.specs.declared.bank.Operation.{Operation}
 use Rattle.bank.specs.Given.{Given, IsFaulted, NeverFalls}
-use Rattle.bank.specs.Tape.{Contents, IsIn, disk}
+use Rattle.bank.specs.Tape.{Contents}
 use Rattle.bank.proofs.Causes.{faulted_longer}
-use Rattle.sb1.specs.declared.sb.Sb.{Sb}
 use Rattle.layout.specs.Layout.{place, stripe_of}
 use Rattle.geometry.specs.Geometry.{rows, unit}
 use Rattle.superblocks.specs.declared.change.Give.{Give}
@@ -26,14 +24,14 @@ use Rattle.superblocks.specs.Reading.{Scope, is_clean, is_reshaping, is_backward
 use Rattle.superblocks.specs.Reads.{has_spare}
 use Rattle.superblocks.specs.Update.{give_of, role_from, planned_role, is_planned_spare}
 use Rattle.superblocks.proofs.SlotSets.{some_role, none_there}
-use Rattle.superblocks.specs.Updating.{AreLosses, planned_newest}
-use Rattle.superblocks.specs.Outcome.{live_set, AreGivesOfLive, held_state, planned_state, planned_roles}
+use Rattle.superblocks.specs.Updating.{AreLosses}
+use Rattle.superblocks.specs.Outcome.{live_set, AreGivesOfLive, held_state, planned_state}
 use Rattle.superblock_reads.proofs.SaidLists.{role-holder}
 use Rattle.superblock_reads.proofs.SaidSlots.{below-length}
 use Rattle.row_io.specs.Rows.{reading_of, held_slot}
 use Rattle.row_io.proofs.Losses.{holder-of}
-use Rattle.list_io.specs.Full.{DataStands, RowStands}
-use Rattle.flat_history.specs.Stands.{backup_absent, has_room, shape_for}
+use Rattle.list_io.specs.Full.{RowStands}
+use Rattle.flat_history.specs.Stands.{has_room, shape_for}
 use Rattle.region_laws.specs.Regions.{IsDirected}
 use Rattle.shape_views.specs.Regions.{AreShapesFit, ArePlaced, DoWithout}
 use Rattle.shape_views.specs.Views.{Disk, Ledger}
@@ -59,10 +57,10 @@ use Rattle.shape_ends.proofs.EndLaws.{same-placed, places-alike-stand, still-pla
 use Rattle.shape_ends.proofs.GrownStanding.{grown-stands}
 use Rattle.shape_ends.proofs.PlanRoles.{planned-or}
 use Rattle.reshape_updates.specs.Ending.{holds_from, dropped_give, ending}
-use Rattle.reshape_updates.proofs.EndedPlan.{dropped-or, dropped-spare, dropping, dropping-one, disks-are, count-is, is-ended, plan-placed-is, planned-ended-is}
+use Rattle.reshape_updates.proofs.EndedPlan.{dropped-or, dropping, dropping-one, disks-are, is-ended, plan-placed-is}
 use Rattle.views.specs.Placed.{is_vacant, IsPlaced}
 use Rattle.views.specs.Moving.{IsMoved}
-use Rattle.views.specs.Lacking.{HaveFailedSince, AreHoldersFlushed}
+use Rattle.views.specs.Lacking.{HaveFailedSince}
 use Rattle.views.specs.Rebuilding.{IsFree, AreSparesFree}
 use Rattle.views.proofs.Fit.{list-alike, count-alike}
 use Rattle.views.proofs.HeldRows.{held-moved, without-before}

@@ -1,5 +1,5 @@
 -- What an update of the superblocks leaves of the members, by the view that it plans.
-use Rattle.std.proofs.Common.{◌≡◌, ◌≢◌, ◌⊎◌, inl, inr, ⊎_elim, ℕ, ◌<◌, ◌≤◌, ◌&&◌, ◌||◌, Bool, true, false, not, nat_lt, cond, List, length, get_or, Option, Some, None, option_map, unwrap_or, refl, sym, ◌∙◌, ap, subst, arith}
+use Rattle.std.proofs.Common.{◌≡◌, inl, inr, ℕ, ◌<◌, ◌≤◌, ◌&&◌, Bool, true, false, not, nat_lt, List, length, Option, Some, None, option_map, unwrap_or, refl, sym, ◌∙◌, ap, subst, arith}
 use Rattle.std.specs.Option.{option_map_or}
 use Rattle.std.proofs.lemmas.Bool.{cases_lt}
 use Rattle.std.proofs.lemmas.Bool.Decides.{nat_tests}
@@ -10,7 +10,6 @@ use Rattle.md_base.specs.declared.status.Role.{Role}
 use Rattle.md_base.specs.declared.status.Role.TheVariants.{Whole, Recovering, Missing}
 use Rattle.md_base.proofs.Tabulated.{length-tabulate, get_or-tabulate}
 use Rattle.sb1.specs.declared.sb.Sb.{Sb}
-use Rattle.sb1.specs.Superblock.{checksum}
 use Rattle.bank.specs.Given.{Given}
 use Rattle.superblocks.specs.declared.change.Give.{Give}
 use Rattle.superblocks.specs.declared.change.Give.TheVariants.{Same, Spare}
@@ -25,7 +24,6 @@ use Rattle.superblocks.specs.Outcome.{live_set, is_left, AreLive, AreGivesOfLive
 use Rattle.superblocks.specs.Crash.{IsWithin}
 use Rattle.superblocks.proofs.PlannedSb.{planned-of}
 use Rattle.superblocks.proofs.ReadAlike.{count-same}
-use Rattle.superblocks.proofs.ReadLists.{by_bool}
 use Rattle.superblock_reads.proofs.SaidSlots.{has-slots_below}
 use Rattle.row_io.specs.Rows.{reading_of, is_missing, IsHolder}
 use Rattle.shape_views.specs.Regions.{AreShapesFit}

@@ -1,5 +1,5 @@
 -- Behind an update the newest superblock gives no device a role that no slot holds.
-use Rattle.std.proofs.Common.{◌≡◌, ◌<◌, ◌≤◌, ⊎_elim, ℕ, Bool, true, false, not, cond, nat_lt, max, get_or, List, length, Option, Some, None, is_some, sym, ◌∙◌, ap, arith}
+use Rattle.std.proofs.Common.{◌≡◌, ◌<◌, ◌≤◌, ⊎_elim, ℕ, Bool, true, false, not, cond, nat_lt, max, get_or, List, length, Option, Some, is_some, sym, ◌∙◌, ap, arith}
 use Rattle.md_base.specs.Shapes.{has_slot}
 use Rattle.md_base.specs.declared.status.Role.{Role}
 use Rattle.md_base.specs.declared.status.Role.TheVariants.{Missing}

@@ -1,11 +1,10 @@
 //! A reshape ends.
 
-ghost use Rattle.std.specs.Prelude.{◌≡◌, ◌<◌, ◌≤◌, ◌&&◌, ℕ, true, false, not, nat_lt, length, Some, None, MatchOption};
+ghost use Rattle.std.specs.Prelude.{◌≡◌, ◌≤◌, ℕ, true, length, Some, None, MatchOption};
 ghost use Rattle.bank.specs.Given.{NeverFalls};
-ghost use Rattle.bank.specs.Tape.{disk};
 ghost use Rattle.md_base.specs.Sectors.{Sector};
 ghost use Rattle.md_base.specs.Shapes.{has_slot};
-ghost use Rattle.superblocks.specs.Reading.{is_reshaping, role_count, role_state, holder, data_offset_of};
+ghost use Rattle.superblocks.specs.Reading.{is_reshaping, role_state, holder, data_offset_of};
 ghost use Rattle.row_io.specs.Rows.{present, reading_of};
 ghost use Rattle.flat_history.specs.World.{World};
 ghost use Rattle.flat_history.specs.Sound.{OpensFit};
@@ -17,7 +16,7 @@ ghost use Rattle.shape_changes.specs.Steady.{AreUnlost, IsSafeOver, KeepsSafe, A
 ghost use Rattle.shape_changes.specs.Changing.{IsSafeChange};
 ghost use Rattle.shape_changes.specs.Updates.{IsAtEnd};
 ghost use Rattle.shape_ends.specs.Plans.{HasNoneRecovering};
-ghost use Rattle.views.specs.Placed.{is_vacant, IsPlaced};
+ghost use Rattle.views.specs.Placed.{IsPlaced};
 ghost use Rattle.views.specs.Moving.{Grows};
 ghost use Rattle.views.specs.Lacking.{AreTooMany, AreHoldersFlushed};
 ghost use Rattle.views.specs.Rebuilding.{AreSparesFree};

@@ -1,4 +1,4 @@
-use Rattle.std.proofs.Common.{◌≡◌, ◌≤◌, ◌&&◌, ℕ, not, Bool, true, false, length, Some, inl, inr, refl, sym, ◌∙◌, ap, subst, arith, List}
+use Rattle.std.proofs.Common.{◌≡◌, ◌&&◌, ℕ, not, Bool, true, false, length, Some, inl, inr, refl, sym, ◌∙◌, ap, subst, arith, List}
 use Rattle.std.proofs.lemmas.Bool.{cases_lt}
 use Rattle.md_base.specs.Shapes.{has_slot}
 use Rattle.md_base.specs.declared.places.Shape.{Shape}
