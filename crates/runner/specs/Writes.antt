@@ -12,6 +12,7 @@ use Rattle.runner.specs.declared.sessions.Stop.{Stop}
 use Rattle.runner.specs.declared.sessions.Stop.TheVariants.{NoMemory as WantsMemory}
 use Rattle.run_laws.specs.Histories.{History}
 use Rattle.run_laws.specs.Making.{Setting}
+use Rattle.run_laws.specs.Written.{IsInEpoch, MayWrite, HasWritten, AreSpans}
 
 -- The write at this mark, to this slot, is of one of these create lines, the first of which was begun at `low`: it stands between the reply
 -- before and the line's own, or behind the last reply, where memory was short for one more.
