@@ -17,7 +17,7 @@ ghost use Rattle.shape_changes.specs.Changing.{IsSafeChange};
 ghost use Rattle.shape_changes.specs.Updates.{IsAtEnd};
 ghost use Rattle.shape_ends.specs.Plans.{HasNoneRecovering};
 ghost use Rattle.views.specs.Placed.{IsPlaced};
-ghost use Rattle.views.specs.Moving.{Grows};
+ghost use Rattle.views.specs.Moving.{Grows, IsMoved};
 ghost use Rattle.views.specs.Lacking.{AreTooMany, AreHoldersFlushed};
 ghost use Rattle.views.specs.Rebuilding.{AreSparesFree};
 ghost use Rattle.safe_updates.specs.Named.{AreNamedMissing};
@@ -64,6 +64,7 @@ pub fn finish<B: Bank>(members: &mut Members, bank: &mut B) -> Finished
     requires last { IsAtEnd members.old.newest }
     requires whole { HasNoneRecovering members.old }
     ensures answer { MatchOption result.refusal (IsOver members.old.newest members.new.newest) (AreTooMany members.new) }
+    ensures refused { (why : Refusal) → result.refusal ≡ Some why → (result.lost ≡ 0) × IsMoved (B.given bank.old) members.old members.new }
     ensures ended { result.refusal ≡ None → IsEndedBehind B.tells (B.given bank.old) members.old members.new (B.tape bank.old) (B.tape bank.new) }
     ensures placed { IsPlaced (B.given bank.old) members.new }
     ensures unlost { AreUnlost members.new }

@@ -1,4 +1,4 @@
-use Rattle.std.proofs.Common.{◌<◌, ◌==◌, ℕ, List, sym, ◌∙◌, ap, subst, arith}
+use Rattle.std.proofs.Common.{◌<◌, ◌==◌, ℕ, List, refl, sym, ◌∙◌, ap, subst, arith}
 use Rattle.std.specs.Prelude.{◌^◌, ◌-◌}
 use Rattle.bank.specs.declared.bank.Operation.{Operation}
 use Rattle.bank.specs.Given.{Given}
@@ -115,6 +115,9 @@ returns-in-Some-clause-failed g c =
     c.vacant_roles-before.result c.newly_vacant-roles.result c.count_roles-count.ensures c.vacant_roles-before.ensures c.newly_vacant-roles.ensures c.flush_naming-spares.result
     (g.B.Bank.faults_of c.args.bank.now) (g.B.Bank.faults_of c.flush_naming-spares.new.bank) c.flush_naming-spares.ensures.failed
 
+pub returns-in-Some-clause-refused : goal.returns-in-Some-clause-refused
+returns-in-Some-clause-refused g c = λ why is. (refl, c.flush_naming-spares.ensures.moved)
+
 pub returns-in-Some-clause-ended : goal.returns-in-Some-clause-ended
 returns-in-Some-clause-ended g c = λ none. absurd (cc)
 
@@ -218,6 +221,9 @@ returns-clause-failed g c =
     c.vacant_roles-before.ensures c.newly_vacant-roles.ensures c.flush_naming-spares.result (g.B.Bank.faults_of c.args.bank.now) (g.B.Bank.faults_of c.flush_naming-spares.new.bank) c.flush_naming-spares.ensures.failed)
     (roles-gone (first_given g c) (m g c) (f g c) (moved g c) c.requires.placed c.requires.whole c.count_roles-count.result c.vacant_roles-before.result c.newly_vacant-roles.result c.count_roles-count.ensures
     c.vacant_roles-before.ensures c.newly_vacant-roles.ensures c.flush_naming-spares.result (g.B.Bank.faults_of c.args.bank.now) (g.B.Bank.faults_of c.flush_naming-spares.new.bank) c.flush_naming-spares.ensures.failed)
+
+pub returns-clause-refused : goal.returns-clause-refused
+returns-clause-refused g c = λ why is. absurd (cc)
 
 pub returns-clause-ended : goal.returns-clause-ended
 returns-clause-ended g c = λ none. record {
