@@ -1,0 +1,8 @@
+//! A block of lanes: two lanes and a worker on one array, at once.
+#![tactic(auto)]
+
+mod block;
+mod rows;
+mod threads;
+
+pub use block::{Joined, run_block};
