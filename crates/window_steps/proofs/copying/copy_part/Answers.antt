@@ -127,3 +127,13 @@ returns-clause-copyable g c = λ told world able.
     copyable-later world.scope n new named.moved.reshape named.moved.shape named.moved.size c.args.span.now (disk given.start tape1) (disk given.start tape2)
     (λ header may. kept-less (disk given.start tape1 (backup_of world.scope) 0) (disk given.start tape2 (backup_of world.scope) 0) (last (backup_of world.scope) 0 (λ e. absurd (cc))) header may)
     (did.copyable told world able)
+
+pub returns-clause-headers : goal.returns-clause-headers
+returns-clause-headers g c = λ told s v may.
+    let given = g.B.Bank.given c.args.bank.now in
+    let did = c.copy_stretch-done.ensures in
+    let tape1 = g.B.Bank.tape c.copy_stretch-done.new.bank in
+    let tape2 = g.B.Bank.tape c.name_missing-spares.new.bank in
+    let kept = subst (λ (b : Given). EachMark g.B.Bank.tells b.start tape1 tape2 (AreDataKept (disk b.start tape1))) did.given c.name_missing-spares.ensures.«data» in
+    let last = marks_last kept told in
+    did.headers told s v (kept-less (disk given.start tape1 s 0) (disk given.start tape2 s 0) (last s 0 (λ e. absurd (cc))) v may)
