@@ -118,6 +118,41 @@ fn read_stretches<B: Bank>(
 }
 
 /// Fills `into` with sectors of the list, from `first` on, each by the shape of its region: from the slot that holds it, or, up to sector
+/// `relied` of the list, filled in from its row. It names no member. Why it isn't done, where it isn't.
+pub fn read_regions<B: Bank>(
+    members: &mut Members,
+    bank: &mut B,
+    first: u64,
+    into: &mut [u8],
+    scratch: &mut [u8],
+    relied: u64,
+) -> Option<Refusal>
+    requires placed { IsPlaced (B.given bank.old) members.old }
+    requires unlost { AreUnlost members.old }
+    requires into { IsWhole into.old }
+    requires within { first + length into.old / 512 ≤ list_length members.old.newest }
+    requires scratch { 8192 ≤ length scratch.old }
+    ensures moved { IsMoved (B.given bank.old) members.old members.new }
+    ensures lost { (lost : ℕ) × (members.new ≡ members_without lost members.old) }
+    ensures failed { HaveFailedSince members.old members.new 0 (B.faults_of bank.old) (B.faults_of bank.new) }
+    ensures kept { AreWhole members.new → members.new ≡ members.old }
+    ensures refused { MatchOption result ⊤ (IsListUnread relied first (first + length into.old / 512) members.new) }
+    ensures holds { result ≡ None → B.tells → (hidden : Option Span) → (list : ℕ → Sector) → ListStands hidden members.old (present (B.given bank.old) (B.tape bank.old)) list
+        → AreWhole members.new ⊎ RowsStandTo hidden relied members.old (present (B.given bank.old) (B.tape bank.old)) list
+        → (i : ℕ) → i < length into.old / 512 → IsShown hidden members.old.newest (first + i) → sector_of into.new i ≡ list (first + i) }
+    ensures tape { B.tells → B.tape bank.new ≡ B.tape bank.old }
+    ensures given { B.given bank.new ≡ B.given bank.old }
+    ensures counts { NeverFalls (B.faults_of bank.old) (B.faults_of bank.new) }
+{
+    let to = first + (into.len() / 512) as u64;
+    let at = read_stretches(members, bank, first, into, scratch, relied);
+    if at < to {
+        return unread_list(members, at, to, relied);
+    }
+    None
+}
+
+/// Fills `into` with sectors of the list, from `first` on, each by the shape of its region: from the slot that holds it, or, up to sector
 /// `relied` of the list, filled in from its row; and names the members that are missing.
 pub fn fetch_list<B: Bank>(
     members: &mut Members,
@@ -152,10 +187,8 @@ pub fn fetch_list<B: Bank>(
     ensures given { B.given bank.new ≡ B.given bank.old }
     ensures counts { NeverFalls (B.faults_of bank.old) (B.faults_of bank.new) }
 {
-    let to = first + (into.len() / 512) as u64;
-    let at = read_stretches(members, bank, first, into, scratch, relied);
-    if at < to {
-        let refusal = unread_list(members, at, to, relied);
+    let refusal = read_regions(members, bank, first, into, scratch, relied);
+    if refusal.is_some() {
         return Fetched { spares: 0, refusal };
     }
     let spares = name_missing(members, bank);

@@ -1,8 +1,8 @@
-use Rattle.std.proofs.Common.{◌≡◌, ◌+◌, ◌/◌, ◌≤◌, List, length, inl, inr, refl, sym, ◌∙◌, subst, arith}
+use Rattle.std.proofs.Common.{◌≡◌, ◌≤◌, true, List, length, Option, Some, None, is_some, inl, inr, refl, sym, ◌∙◌, subst, arith}
 use Rattle.bank.specs.declared.bank.Operation.{Operation}
 use Rattle.bank.specs.Given.{Given}
+use Rattle.md_base.specs.declared.answers.Refusal.{Refusal}
 use Rattle.superblocks.specs.declared.members.Members.{Members}
-use Rattle.superblocks.specs.Reading.{list_length}
 use Rattle.row_io.specs.Rows.{present}
 use Rattle.flat_history.specs.Sound.{OpensFit}
 use Rattle.shape_changes.specs.Steady.{IsUncleanTold}
@@ -12,74 +12,59 @@ use Rattle.views.specs.Rebuilding.{AreSparesFree}
 use Rattle.views.proofs.MovedLaws.{moved-then, moved-from, grows-none}
 use Rattle.views.proofs.LackingLaws.{since-then, in-second}
 use Rattle.views.proofs.SafeStretch.{safe-then, safe-lost, over-at, keeps-from}
-use Rattle.region_rows.proofs.StretchLaws.{list-short, data-few}
-use Rattle.region_rows.proofs.UnreadLaws.{wider-unread, never-none}
+use Rattle.views.proofs.LackingLists.{none-of}
 use Rattle.region_rows.proofs.fetching.fetch_list.Goals as goal
-
-pub overflow_add-to : goal.overflow_add-to
-overflow_add-to g c =
-    let newest = c.args.members.now.newest in
-    let few = data-few newest c.requires.placed.fit _ (inl refl) in
-    let short = list-short newest _ (inl refl) in
-    omega (arith, few, short, c.requires.within)
-
-pub unread_list-refusal-requires-clause-within : goal.unread_list-refusal-requires-clause-within
-unread_list-refusal-requires-clause-within g c =
-    subst (λ (m : Members). c.args.first + length c.args.into.now / 512 ≤ list_length m.newest) (sym c.read_stretches-at.ensures.lost.1) c.requires.within
 
 -- the reads make no operation
 still-long : (before after : List Operation) → after ≡ before → length before ≤ length after
 still-long before after same = subst (λ (l : List Operation). length before ≤ length l) (sym same) (omega arith)
 
-pub returns-then-at-to-clause-refused : goal.returns-then-at-to-clause-refused
-returns-then-at-to-clause-refused g c =
-    let did = c.read_stretches-at.ensures in
-    wider-unread c.args.relied c.args.first c.read_stretches-at.result (c.args.first + length c.args.into.now / 512) c.read_stretches-at.new.members did.from c.unread_list-refusal.result c.unread_list-refusal.ensures
+pub returns-then-is_some-clause-holds : goal.returns-then-is_some-clause-holds
+returns-then-is_some-clause-holds g c = λ none. absurd (never c.read_regions-refusal.result (sym c.is_some.ensures ∙ c.if-is_some.true) none)
+  where
+    never : (o : Option Refusal) → is_some o ≡ true → o ≡ None → ⊥
+    never None is none = absurd (cc)
+    never (Some refusal) is none = absurd (cc)
 
-pub returns-then-at-to-clause-grows : goal.returns-then-at-to-clause-grows
-returns-then-at-to-clause-grows g c =
-    grows-none c.read_stretches-at.ensures.tape
+pub returns-then-is_some-clause-grows : goal.returns-then-is_some-clause-grows
+returns-then-is_some-clause-grows g c =
+    grows-none c.read_regions-refusal.ensures.tape
 
-pub returns-then-at-to-clause-holds : goal.returns-then-at-to-clause-holds
-returns-then-at-to-clause-holds g c =
-    λ none. absurd (never-none c.args.relied c.read_stretches-at.result (c.args.first + length c.args.into.now / 512) c.read_stretches-at.new.members (c.read_stretches-at.ensures.unread c.if-at-to.true)
-    c.unread_list-refusal.result c.unread_list-refusal.ensures none)
-
-pub returns-then-at-to-clause-rise : goal.returns-then-at-to-clause-rise
-returns-then-at-to-clause-rise g c =
+pub returns-then-is_some-clause-rise : goal.returns-then-is_some-clause-rise
+returns-then-is_some-clause-rise g c =
     let m = c.args.members.now in
-    let n = c.read_stretches-at.new.members in
+    let n = c.read_regions-refusal.new.members in
     let tape0 = g.B.Bank.tape c.args.bank.now in
-    let tape1 = g.B.Bank.tape c.read_stretches-at.new.bank in
-    let did = c.read_stretches-at.ensures in
+    let tape1 = g.B.Bank.tape c.read_regions-refusal.new.bank in
+    let did = c.read_regions-refusal.ensures in
     risen-lost m n did.lost.0 tape0 tape1 did.lost.1 (λ t. still-long tape0 tape1 (did.tape t))
 
-pub returns-then-at-to-clause-safe : goal.returns-then-at-to-clause-safe
-returns-then-at-to-clause-safe g c =
+pub returns-then-is_some-clause-safe : goal.returns-then-is_some-clause-safe
+returns-then-is_some-clause-safe g c =
     let m = c.args.members.now in
-    let n = c.read_stretches-at.new.members in
+    let n = c.read_regions-refusal.new.members in
     let given = g.B.Bank.given c.args.bank.now in
-    let given1 = g.B.Bank.given c.read_stretches-at.new.bank in
+    let given1 = g.B.Bank.given c.read_regions-refusal.new.bank in
     let tape0 = g.B.Bank.tape c.args.bank.now in
-    let tape1 = g.B.Bank.tape c.read_stretches-at.new.bank in
-    let did = c.read_stretches-at.ensures in
+    let tape1 = g.B.Bank.tape c.read_regions-refusal.new.bank in
+    let did = c.read_regions-refusal.ensures in
     λ tell world told room gone unclean now. safe-lost (OpensFit world) world.scope given told m n did.lost.0 tape0 tape1 did.lost.1 (did.tape tell) now
 
 pub name_missing-spares-requires-clause-free : goal.name_missing-spares-requires-clause-free
 name_missing-spares-requires-clause-free g c =
-    let n = c.read_stretches-at.new.members in
-    let did = c.read_stretches-at.ensures in
+    let n = c.read_regions-refusal.new.members in
+    let did = c.read_regions-refusal.ensures in
     subst (λ (b : Given). AreSparesFree b n) (sym did.given) (did.moved.free c.requires.free)
 
 pub returns-clause-moved : goal.returns-clause-moved
 returns-clause-moved g c =
     let m = c.args.members.now in
-    let n = c.read_stretches-at.new.members in
+    let n = c.read_regions-refusal.new.members in
     let given = g.B.Bank.given c.args.bank.now in
-    let given1 = g.B.Bank.given c.read_stretches-at.new.bank in
+    let given1 = g.B.Bank.given c.read_regions-refusal.new.bank in
     let tape0 = g.B.Bank.tape c.args.bank.now in
-    let tape1 = g.B.Bank.tape c.read_stretches-at.new.bank in
-    let did = c.read_stretches-at.ensures in
+    let tape1 = g.B.Bank.tape c.read_regions-refusal.new.bank in
+    let did = c.read_regions-refusal.ensures in
     let p = c.name_missing-spares.new.members in
     let named = c.name_missing-spares.ensures in
     let tape2 = g.B.Bank.tape c.name_missing-spares.new.bank in
@@ -88,17 +73,17 @@ returns-clause-moved g c =
 pub returns-clause-failed : goal.returns-clause-failed
 returns-clause-failed g c =
     let m = c.args.members.now in
-    let n = c.read_stretches-at.new.members in
+    let n = c.read_regions-refusal.new.members in
     let given = g.B.Bank.given c.args.bank.now in
-    let given1 = g.B.Bank.given c.read_stretches-at.new.bank in
+    let given1 = g.B.Bank.given c.read_regions-refusal.new.bank in
     let tape0 = g.B.Bank.tape c.args.bank.now in
-    let tape1 = g.B.Bank.tape c.read_stretches-at.new.bank in
-    let did = c.read_stretches-at.ensures in
+    let tape1 = g.B.Bank.tape c.read_regions-refusal.new.bank in
+    let did = c.read_regions-refusal.ensures in
     let p = c.name_missing-spares.new.members in
     let named = c.name_missing-spares.ensures in
     let tape2 = g.B.Bank.tape c.name_missing-spares.new.bank in
     let f0 = g.B.Bank.faults_of c.args.bank.now in
-    let f1 = g.B.Bank.faults_of c.read_stretches-at.new.bank in
+    let f1 = g.B.Bank.faults_of c.read_regions-refusal.new.bank in
     let f2 = g.B.Bank.faults_of c.name_missing-spares.new.bank in
     let s = c.name_missing-spares.result in
     since-then m n p 0 s s f0 f1 f2 did.counts named.counts did.failed named.failed (in-second s)
@@ -106,12 +91,12 @@ returns-clause-failed g c =
 pub returns-clause-others : goal.returns-clause-others
 returns-clause-others g c =
     let m = c.args.members.now in
-    let n = c.read_stretches-at.new.members in
+    let n = c.read_regions-refusal.new.members in
     let given = g.B.Bank.given c.args.bank.now in
-    let given1 = g.B.Bank.given c.read_stretches-at.new.bank in
+    let given1 = g.B.Bank.given c.read_regions-refusal.new.bank in
     let tape0 = g.B.Bank.tape c.args.bank.now in
-    let tape1 = g.B.Bank.tape c.read_stretches-at.new.bank in
-    let did = c.read_stretches-at.ensures in
+    let tape1 = g.B.Bank.tape c.read_regions-refusal.new.bank in
+    let did = c.read_regions-refusal.ensures in
     let p = c.name_missing-spares.new.members in
     let named = c.name_missing-spares.ensures in
     let tape2 = g.B.Bank.tape c.name_missing-spares.new.bank in
@@ -121,28 +106,27 @@ returns-clause-others g c =
 pub returns-clause-holds : goal.returns-clause-holds
 returns-clause-holds g c =
     let m = c.args.members.now in
-    let n = c.read_stretches-at.new.members in
+    let n = c.read_regions-refusal.new.members in
     let given = g.B.Bank.given c.args.bank.now in
-    let given1 = g.B.Bank.given c.read_stretches-at.new.bank in
+    let given1 = g.B.Bank.given c.read_regions-refusal.new.bank in
     let tape0 = g.B.Bank.tape c.args.bank.now in
-    let tape1 = g.B.Bank.tape c.read_stretches-at.new.bank in
-    let did = c.read_stretches-at.ensures in
+    let tape1 = g.B.Bank.tape c.read_regions-refusal.new.bank in
+    let did = c.read_regions-refusal.ensures in
     let p = c.name_missing-spares.new.members in
     let named = c.name_missing-spares.ensures in
     let tape2 = g.B.Bank.tape c.name_missing-spares.new.bank in
     λ ok told hidden list stands fills i lt shown.
-    let end = c.if-at-to.false in
-    did.holds told hidden list stands (elim fills [ inl whole ↦ inl (named.moved.whole whole) | inr rows ↦ inr rows ]) i (omega (arith, lt, end)) shown
+    did.holds (none-of c.read_regions-refusal.result (sym c.is_some.ensures ∙ c.if-is_some.false)) told hidden list stands (elim fills [ inl whole ↦ inl (named.moved.whole whole) | inr rows ↦ inr rows ]) i lt shown
 
 pub returns-clause-kept : goal.returns-clause-kept
 returns-clause-kept g c =
     let m = c.args.members.now in
-    let n = c.read_stretches-at.new.members in
+    let n = c.read_regions-refusal.new.members in
     let given = g.B.Bank.given c.args.bank.now in
-    let given1 = g.B.Bank.given c.read_stretches-at.new.bank in
+    let given1 = g.B.Bank.given c.read_regions-refusal.new.bank in
     let tape0 = g.B.Bank.tape c.args.bank.now in
-    let tape1 = g.B.Bank.tape c.read_stretches-at.new.bank in
-    let did = c.read_stretches-at.ensures in
+    let tape1 = g.B.Bank.tape c.read_regions-refusal.new.bank in
+    let did = c.read_regions-refusal.ensures in
     let p = c.name_missing-spares.new.members in
     let named = c.name_missing-spares.ensures in
     let tape2 = g.B.Bank.tape c.name_missing-spares.new.bank in
@@ -151,12 +135,12 @@ returns-clause-kept g c =
 pub returns-clause-tape : goal.returns-clause-tape
 returns-clause-tape g c =
     let m = c.args.members.now in
-    let n = c.read_stretches-at.new.members in
+    let n = c.read_regions-refusal.new.members in
     let given = g.B.Bank.given c.args.bank.now in
-    let given1 = g.B.Bank.given c.read_stretches-at.new.bank in
+    let given1 = g.B.Bank.given c.read_regions-refusal.new.bank in
     let tape0 = g.B.Bank.tape c.args.bank.now in
-    let tape1 = g.B.Bank.tape c.read_stretches-at.new.bank in
-    let did = c.read_stretches-at.ensures in
+    let tape1 = g.B.Bank.tape c.read_regions-refusal.new.bank in
+    let did = c.read_regions-refusal.ensures in
     let p = c.name_missing-spares.new.members in
     let named = c.name_missing-spares.ensures in
     let tape2 = g.B.Bank.tape c.name_missing-spares.new.bank in
@@ -165,12 +149,12 @@ returns-clause-tape g c =
 pub returns-clause-rise : goal.returns-clause-rise
 returns-clause-rise g c =
     let m = c.args.members.now in
-    let n = c.read_stretches-at.new.members in
+    let n = c.read_regions-refusal.new.members in
     let given = g.B.Bank.given c.args.bank.now in
-    let given1 = g.B.Bank.given c.read_stretches-at.new.bank in
+    let given1 = g.B.Bank.given c.read_regions-refusal.new.bank in
     let tape0 = g.B.Bank.tape c.args.bank.now in
-    let tape1 = g.B.Bank.tape c.read_stretches-at.new.bank in
-    let did = c.read_stretches-at.ensures in
+    let tape1 = g.B.Bank.tape c.read_regions-refusal.new.bank in
+    let did = c.read_regions-refusal.ensures in
     let p = c.name_missing-spares.new.members in
     let named = c.name_missing-spares.ensures in
     let tape2 = g.B.Bank.tape c.name_missing-spares.new.bank in
@@ -179,12 +163,12 @@ returns-clause-rise g c =
 pub returns-clause-safe : goal.returns-clause-safe
 returns-clause-safe g c =
     let m = c.args.members.now in
-    let n = c.read_stretches-at.new.members in
+    let n = c.read_regions-refusal.new.members in
     let given = g.B.Bank.given c.args.bank.now in
-    let given1 = g.B.Bank.given c.read_stretches-at.new.bank in
+    let given1 = g.B.Bank.given c.read_regions-refusal.new.bank in
     let tape0 = g.B.Bank.tape c.args.bank.now in
-    let tape1 = g.B.Bank.tape c.read_stretches-at.new.bank in
-    let did = c.read_stretches-at.ensures in
+    let tape1 = g.B.Bank.tape c.read_regions-refusal.new.bank in
+    let did = c.read_regions-refusal.ensures in
     let p = c.name_missing-spares.new.members in
     let named = c.name_missing-spares.ensures in
     let tape2 = g.B.Bank.tape c.name_missing-spares.new.bank in
@@ -197,4 +181,4 @@ returns-clause-safe g c =
 
 pub returns-clause-counts : goal.returns-clause-counts
 returns-clause-counts g c =
-    λ s. let one = c.read_stretches-at.ensures.counts s in let two = c.name_missing-spares.ensures.counts s in omega (arith, one, two)
+    λ s. let one = c.read_regions-refusal.ensures.counts s in let two = c.name_missing-spares.ensures.counts s in omega (arith, one, two)

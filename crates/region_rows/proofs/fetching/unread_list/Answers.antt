@@ -1,4 +1,4 @@
-use Rattle.std.proofs.Common.{◌-◌, inl, inr, sym, ◌∙◌, arith}
+use Rattle.std.proofs.Common.{inl, inr, sym, ◌∙◌, arith}
 use Rattle.std.proofs.lemmas.Bool.{cases_lt}
 use Rattle.region_rows.proofs.StretchLaws.{list-short, data-few}
 use Rattle.region_rows.proofs.UnreadLaws.{none-match, told-unread, none-unread}
