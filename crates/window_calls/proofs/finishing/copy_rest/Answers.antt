@@ -1,0 +1,459 @@
+use Rattle.std.proofs.Common.{◌≡◌, ◌+◌, ◌-◌, ◌/◌, ℕ, refl, sym, ◌∙◌, ap, subst, arith, Option, Some, None}
+use Rattle.std.specs.Prelude.{MatchOption, ⊤, is_some, true}
+use Rattle.md_base.specs.declared.answers.Refusal.{Refusal}
+use Rattle.md_base.specs.Shapes.{stripe_sectors}
+use Rattle.bank.specs.Given.{Given}
+use Rattle.bank.specs.Tape.{disk}
+use Rattle.geometry.specs.Geometry.{ceiling}
+use Rattle.geometry.proofs.ClosedForms.{rounded_up}
+use Rattle.row_io.specs.Rows.{present, reading_of}
+use Rattle.list_io.specs.Full.{RowStands}
+use Rattle.flat_history.specs.Sound.{OpensFit}
+use Rattle.shape_views.specs.Windows.{IsCopyable}
+use Rattle.shape_changes.proofs.Risen.{risen-none, risen-then}
+use Rattle.views.specs.Moving.{IsMoved}
+use Rattle.views.specs.Rebuilding.{AreSparesFree}
+use Rattle.views.specs.Lacking.{IsOfStripe, AreOtherRowsKept}
+use Rattle.views.proofs.MovedLaws.{moved-then, moved-same, grows-none, grows-then, moved-from}
+use Rattle.views.proofs.LackingLaws.{since-same, since-then, in-either}
+use Rattle.views.proofs.LackingLists.{none-of}
+use Rattle.views.proofs.SafeStretch.{safe-none}
+use Rattle.views.proofs.MendedParts.{safe-part}
+use Rattle.window_steps.specs.Copying.{AreHeadersKept}
+use Rattle.window_steps.proofs.CopyLaws.{window-alike, tail-alike}
+use Rattle.window_calls.specs.Finishing.{AreStripesCopied}
+use Rattle.window_calls.proofs.Windows.{still-copied, one-more, rest-kept}
+use Rattle.window_calls.proofs.finishing.copy_rest.Goals as goal
+
+-- ---- numbers
+
+pub overflow_add-at : goal.overflow_add-at
+overflow_add-at g c =
+    let begins : c.args.span.now.lo / c.stripe_sectors-sectors.result ≡ c.args.span.now.lo / stripe_sectors c.args.shape.now = ap (λ (n : ℕ). c.args.span.now.lo / n) c.stripe_sectors-sectors.ensures.value in
+    let end : c.div_ceil-end.result ≡ ceiling c.args.span.now.hi (stripe_sectors c.args.shape.now) =
+    rounded_up c.div_ceil-end.result c.args.span.now.hi c.stripe_sectors-sectors.result (stripe_sectors c.args.shape.now) c.stripe_sectors-sectors.ensures.positive c.stripe_sectors-sectors.ensures.value c.div_ceil-end.ensures in
+    omega (arith, begins, end, c.requires.from)
+
+pub loop-at-init : goal.loop-at-init
+loop-at-init g c =
+    let m = c.args.members.now in
+    let given = g.B.Bank.given c.args.bank.now in
+    let tape0 = g.B.Bank.tape c.args.bank.now in
+    let begins : c.args.span.now.lo / c.stripe_sectors-sectors.result ≡ c.args.span.now.lo / stripe_sectors c.args.shape.now = ap (λ (n : ℕ). c.args.span.now.lo / n) c.stripe_sectors-sectors.ensures.value in
+    let none : c.args.span.now.lo / c.stripe_sectors-sectors.result + c.args.from - c.args.span.now.lo / c.stripe_sectors-sectors.result ≡ c.args.from = omega arith in
+    record {
+      moved = moved-same given given m m refl refl c.requires.placed c.requires.unlost;
+      failed = since-same m (g.B.Bank.faults_of c.args.bank.now) (g.B.Bank.faults_of c.args.bank.now);
+      grows = grows-none (λ told. refl);
+      clean = refl;
+      reached = omega arith;
+      within = let few = c.requires.from in omega (arith, few);
+      stands = λ told list copied was. subst (λ (n : ℕ). AreStripesCopied c.args.shape.now c.args.span.now n m (present given tape0) list) (sym none) was;
+      others = λ told row out role slot held. refl;
+      rise = risen-none m tape0 tape0 (λ told. omega arith);
+      safe = λ told world ledger room gone unclean able safe. safe-none (OpensFit world) world.scope given ledger m tape0 safe;
+      copyable = λ told world able. able;
+      headers = λ told s v may. may;
+      given = refl;
+      counts = λ s. omega arith;
+    }
+
+pub copy-part-requires-clause-free : goal.copy-part-requires-clause-free
+copy-part-requires-clause-free g c = subst (λ (b : Given). AreSparesFree b c.loop-at.members) (sym c.loop-at.invariant.given) (c.loop-at.invariant.moved.free c.requires.free)
+
+pub copy-part-requires-clause-shape : goal.copy-part-requires-clause-shape
+copy-part-requires-clause-shape g c = c.requires.shape ∙ sym c.loop-at.invariant.moved.reshape.final
+
+pub copy-part-requires-clause-next : goal.copy-part-requires-clause-next
+copy-part-requires-clause-next g c =
+    let moved = c.loop-at.invariant.moved in
+    window-alike c.args.members.now.newest c.loop-at.members.newest moved.reshape moved.shape moved.size ∙ c.requires.next
+
+pub copy-part-requires-clause-stripe : goal.copy-part-requires-clause-stripe
+copy-part-requires-clause-stripe g c =
+    let begins : c.args.span.now.lo / c.stripe_sectors-sectors.result ≡ c.args.span.now.lo / stripe_sectors c.args.shape.now = ap (λ (n : ℕ). c.args.span.now.lo / n) c.stripe_sectors-sectors.ensures.value in
+    let end : c.div_ceil-end.result ≡ ceiling c.args.span.now.hi (stripe_sectors c.args.shape.now) =
+    rounded_up c.div_ceil-end.result c.args.span.now.hi c.stripe_sectors-sectors.result (stripe_sectors c.args.shape.now) c.stripe_sectors-sectors.ensures.positive c.stripe_sectors-sectors.ensures.value c.div_ceil-end.ensures in
+    let reached = c.loop-at.invariant.reached in
+    let test = c.loop-at-test.true in
+    (omega (arith, begins, reached), omega (arith, end, test))
+
+-- ---- where one is refused
+
+some-match : (P : Type 0) (o : Option Refusal) → is_some o ≡ true → P → MatchOption o ⊤ (λ refusal. P)
+some-match P None is holds = tt
+some-match P (Some refusal) is holds = holds
+
+pub returns-then-is_some-clause-moved : goal.returns-then-is_some-clause-moved
+returns-then-is_some-clause-moved g c =
+    let was = c.loop-at.invariant in
+    let did = c.copy-part.ensures in
+    let given = g.B.Bank.given c.args.bank.now in
+    let given1 = g.B.Bank.given c.loop-at.bank in
+    let m = c.args.members.now in
+    let n = c.loop-at.members in
+    let new = c.copy-part.new.members in
+    let tape0 = g.B.Bank.tape c.args.bank.now in
+    let tape1 = g.B.Bank.tape c.loop-at.bank in
+    let tape2 = g.B.Bank.tape c.copy-part.new.bank in
+    let f0 = g.B.Bank.faults_of c.args.bank.now in
+    let f1 = g.B.Bank.faults_of c.loop-at.bank in
+    let f2 = g.B.Bank.faults_of c.copy-part.new.bank in
+    let shape = c.args.shape.now in
+    let span = c.args.span.now in
+    let at = c.loop-at.at in
+    let first : ℕ = c.args.span.now.lo / c.stripe_sectors-sectors.result in
+    let begins : first ≡ span.lo / stripe_sectors shape = ap (λ (n : ℕ). span.lo / n) c.stripe_sectors-sectors.ensures.value in
+    let ends : c.div_ceil-end.result ≡ ceiling span.hi (stripe_sectors shape) =
+    rounded_up c.div_ceil-end.result span.hi c.stripe_sectors-sectors.result (stripe_sectors shape) c.stripe_sectors-sectors.ensures.positive c.stripe_sectors-sectors.ensures.value c.div_ceil-end.ensures in
+    let reached = was.reached in
+    let test = c.loop-at-test.true in
+    let moved : IsMoved given n new = moved-from given given1 n n new was.given refl did.moved in
+    let kept : g.B.Bank.tells → AreOtherRowsKept (IsOfStripe shape at) (reading_of new) (present given tape1) (present given tape2) =
+    λ told. subst (λ (b : Given). AreOtherRowsKept (IsOfStripe shape at) (reading_of new) (present b tape1) (present b tape2)) was.given (did.others told) in
+    moved-then given m n new was.moved moved
+
+pub returns-then-is_some-clause-failed : goal.returns-then-is_some-clause-failed
+returns-then-is_some-clause-failed g c =
+    let was = c.loop-at.invariant in
+    let did = c.copy-part.ensures in
+    let given = g.B.Bank.given c.args.bank.now in
+    let given1 = g.B.Bank.given c.loop-at.bank in
+    let m = c.args.members.now in
+    let n = c.loop-at.members in
+    let new = c.copy-part.new.members in
+    let tape0 = g.B.Bank.tape c.args.bank.now in
+    let tape1 = g.B.Bank.tape c.loop-at.bank in
+    let tape2 = g.B.Bank.tape c.copy-part.new.bank in
+    let f0 = g.B.Bank.faults_of c.args.bank.now in
+    let f1 = g.B.Bank.faults_of c.loop-at.bank in
+    let f2 = g.B.Bank.faults_of c.copy-part.new.bank in
+    let shape = c.args.shape.now in
+    let span = c.args.span.now in
+    let at = c.loop-at.at in
+    let first : ℕ = c.args.span.now.lo / c.stripe_sectors-sectors.result in
+    let begins : first ≡ span.lo / stripe_sectors shape = ap (λ (n : ℕ). span.lo / n) c.stripe_sectors-sectors.ensures.value in
+    let ends : c.div_ceil-end.result ≡ ceiling span.hi (stripe_sectors shape) =
+    rounded_up c.div_ceil-end.result span.hi c.stripe_sectors-sectors.result (stripe_sectors shape) c.stripe_sectors-sectors.ensures.positive c.stripe_sectors-sectors.ensures.value c.div_ceil-end.ensures in
+    let reached = was.reached in
+    let test = c.loop-at-test.true in
+    let moved : IsMoved given n new = moved-from given given1 n n new was.given refl did.moved in
+    let kept : g.B.Bank.tells → AreOtherRowsKept (IsOfStripe shape at) (reading_of new) (present given tape1) (present given tape2) =
+    λ told. subst (λ (b : Given). AreOtherRowsKept (IsOfStripe shape at) (reading_of new) (present b tape1) (present b tape2)) was.given (did.others told) in
+    since-then m n new c.loop-at.spares c.copy-part.result.spares _ f0 f1 f2 was.counts did.counts was.failed did.failed (in-either c.loop-at.spares c.copy-part.result.spares)
+
+pub returns-then-is_some-clause-grows : goal.returns-then-is_some-clause-grows
+returns-then-is_some-clause-grows g c =
+    let was = c.loop-at.invariant in
+    let did = c.copy-part.ensures in
+    let given = g.B.Bank.given c.args.bank.now in
+    let given1 = g.B.Bank.given c.loop-at.bank in
+    let m = c.args.members.now in
+    let n = c.loop-at.members in
+    let new = c.copy-part.new.members in
+    let tape0 = g.B.Bank.tape c.args.bank.now in
+    let tape1 = g.B.Bank.tape c.loop-at.bank in
+    let tape2 = g.B.Bank.tape c.copy-part.new.bank in
+    let f0 = g.B.Bank.faults_of c.args.bank.now in
+    let f1 = g.B.Bank.faults_of c.loop-at.bank in
+    let f2 = g.B.Bank.faults_of c.copy-part.new.bank in
+    let shape = c.args.shape.now in
+    let span = c.args.span.now in
+    let at = c.loop-at.at in
+    let first : ℕ = c.args.span.now.lo / c.stripe_sectors-sectors.result in
+    let begins : first ≡ span.lo / stripe_sectors shape = ap (λ (n : ℕ). span.lo / n) c.stripe_sectors-sectors.ensures.value in
+    let ends : c.div_ceil-end.result ≡ ceiling span.hi (stripe_sectors shape) =
+    rounded_up c.div_ceil-end.result span.hi c.stripe_sectors-sectors.result (stripe_sectors shape) c.stripe_sectors-sectors.ensures.positive c.stripe_sectors-sectors.ensures.value c.div_ceil-end.ensures in
+    let reached = was.reached in
+    let test = c.loop-at-test.true in
+    let moved : IsMoved given n new = moved-from given given1 n n new was.given refl did.moved in
+    let kept : g.B.Bank.tells → AreOtherRowsKept (IsOfStripe shape at) (reading_of new) (present given tape1) (present given tape2) =
+    λ told. subst (λ (b : Given). AreOtherRowsKept (IsOfStripe shape at) (reading_of new) (present b tape1) (present b tape2)) was.given (did.others told) in
+    grows-then was.grows did.grows
+
+pub returns-then-is_some-clause-others : goal.returns-then-is_some-clause-others
+returns-then-is_some-clause-others g c =
+    let was = c.loop-at.invariant in
+    let did = c.copy-part.ensures in
+    let given = g.B.Bank.given c.args.bank.now in
+    let given1 = g.B.Bank.given c.loop-at.bank in
+    let m = c.args.members.now in
+    let n = c.loop-at.members in
+    let new = c.copy-part.new.members in
+    let tape0 = g.B.Bank.tape c.args.bank.now in
+    let tape1 = g.B.Bank.tape c.loop-at.bank in
+    let tape2 = g.B.Bank.tape c.copy-part.new.bank in
+    let f0 = g.B.Bank.faults_of c.args.bank.now in
+    let f1 = g.B.Bank.faults_of c.loop-at.bank in
+    let f2 = g.B.Bank.faults_of c.copy-part.new.bank in
+    let shape = c.args.shape.now in
+    let span = c.args.span.now in
+    let at = c.loop-at.at in
+    let first : ℕ = c.args.span.now.lo / c.stripe_sectors-sectors.result in
+    let begins : first ≡ span.lo / stripe_sectors shape = ap (λ (n : ℕ). span.lo / n) c.stripe_sectors-sectors.ensures.value in
+    let ends : c.div_ceil-end.result ≡ ceiling span.hi (stripe_sectors shape) =
+    rounded_up c.div_ceil-end.result span.hi c.stripe_sectors-sectors.result (stripe_sectors shape) c.stripe_sectors-sectors.ensures.positive c.stripe_sectors-sectors.ensures.value c.div_ceil-end.ensures in
+    let reached = was.reached in
+    let test = c.loop-at-test.true in
+    let moved : IsMoved given n new = moved-from given given1 n n new was.given refl did.moved in
+    let kept : g.B.Bank.tells → AreOtherRowsKept (IsOfStripe shape at) (reading_of new) (present given tape1) (present given tape2) =
+    λ told. subst (λ (b : Given). AreOtherRowsKept (IsOfStripe shape at) (reading_of new) (present b tape1) (present b tape2)) was.given (did.others told) in
+    λ told. rest-kept shape span given m n new c.args.from at (omega (arith, begins, reached)) (omega (arith, ends, test)) (present given tape0) (present given tape1) (present given tape2) moved (was.others told) (kept told)
+
+pub returns-then-is_some-clause-rise : goal.returns-then-is_some-clause-rise
+returns-then-is_some-clause-rise g c =
+    let was = c.loop-at.invariant in
+    let did = c.copy-part.ensures in
+    let given = g.B.Bank.given c.args.bank.now in
+    let given1 = g.B.Bank.given c.loop-at.bank in
+    let m = c.args.members.now in
+    let n = c.loop-at.members in
+    let new = c.copy-part.new.members in
+    let tape0 = g.B.Bank.tape c.args.bank.now in
+    let tape1 = g.B.Bank.tape c.loop-at.bank in
+    let tape2 = g.B.Bank.tape c.copy-part.new.bank in
+    let f0 = g.B.Bank.faults_of c.args.bank.now in
+    let f1 = g.B.Bank.faults_of c.loop-at.bank in
+    let f2 = g.B.Bank.faults_of c.copy-part.new.bank in
+    let shape = c.args.shape.now in
+    let span = c.args.span.now in
+    let at = c.loop-at.at in
+    let first : ℕ = c.args.span.now.lo / c.stripe_sectors-sectors.result in
+    let begins : first ≡ span.lo / stripe_sectors shape = ap (λ (n : ℕ). span.lo / n) c.stripe_sectors-sectors.ensures.value in
+    let ends : c.div_ceil-end.result ≡ ceiling span.hi (stripe_sectors shape) =
+    rounded_up c.div_ceil-end.result span.hi c.stripe_sectors-sectors.result (stripe_sectors shape) c.stripe_sectors-sectors.ensures.positive c.stripe_sectors-sectors.ensures.value c.div_ceil-end.ensures in
+    let reached = was.reached in
+    let test = c.loop-at-test.true in
+    let moved : IsMoved given n new = moved-from given given1 n n new was.given refl did.moved in
+    let kept : g.B.Bank.tells → AreOtherRowsKept (IsOfStripe shape at) (reading_of new) (present given tape1) (present given tape2) =
+    λ told. subst (λ (b : Given). AreOtherRowsKept (IsOfStripe shape at) (reading_of new) (present b tape1) (present b tape2)) was.given (did.others told) in
+    risen-then was.rise did.rise
+
+pub returns-then-is_some-clause-safe : goal.returns-then-is_some-clause-safe
+returns-then-is_some-clause-safe g c =
+    let was = c.loop-at.invariant in
+    let did = c.copy-part.ensures in
+    let given = g.B.Bank.given c.args.bank.now in
+    let given1 = g.B.Bank.given c.loop-at.bank in
+    let m = c.args.members.now in
+    let n = c.loop-at.members in
+    let new = c.copy-part.new.members in
+    let tape0 = g.B.Bank.tape c.args.bank.now in
+    let tape1 = g.B.Bank.tape c.loop-at.bank in
+    let tape2 = g.B.Bank.tape c.copy-part.new.bank in
+    let f0 = g.B.Bank.faults_of c.args.bank.now in
+    let f1 = g.B.Bank.faults_of c.loop-at.bank in
+    let f2 = g.B.Bank.faults_of c.copy-part.new.bank in
+    let shape = c.args.shape.now in
+    let span = c.args.span.now in
+    let at = c.loop-at.at in
+    let first : ℕ = c.args.span.now.lo / c.stripe_sectors-sectors.result in
+    let begins : first ≡ span.lo / stripe_sectors shape = ap (λ (n : ℕ). span.lo / n) c.stripe_sectors-sectors.ensures.value in
+    let ends : c.div_ceil-end.result ≡ ceiling span.hi (stripe_sectors shape) =
+    rounded_up c.div_ceil-end.result span.hi c.stripe_sectors-sectors.result (stripe_sectors shape) c.stripe_sectors-sectors.ensures.positive c.stripe_sectors-sectors.ensures.value c.div_ceil-end.ensures in
+    let reached = was.reached in
+    let test = c.loop-at-test.true in
+    let moved : IsMoved given n new = moved-from given given1 n n new was.given refl did.moved in
+    let kept : g.B.Bank.tells → AreOtherRowsKept (IsOfStripe shape at) (reading_of new) (present given tape1) (present given tape2) =
+    λ told. subst (λ (b : Given). AreOtherRowsKept (IsOfStripe shape at) (reading_of new) (present b tape1) (present b tape2)) was.given (did.others told) in
+    λ told world ledger room gone unclean able safe.
+    safe-part world given given1 ledger m n new tape0 tape1 tape2 told was.given was.moved.placed moved did.grows was.rise room gone
+    (λ first gone1. was.safe told world ledger first gone1 unclean able safe)
+    (λ then now. did.safe told world ledger then gone (λ dirty. unclean (sym was.clean ∙ dirty))
+    (subst (λ (b : Given). IsCopyable world.scope n span (disk b.start tape1)) (sym was.given) (was.copyable told world able)) now)
+
+pub returns-then-is_some-clause-copyable : goal.returns-then-is_some-clause-copyable
+returns-then-is_some-clause-copyable g c =
+    let was = c.loop-at.invariant in
+    let did = c.copy-part.ensures in
+    let given = g.B.Bank.given c.args.bank.now in
+    let given1 = g.B.Bank.given c.loop-at.bank in
+    let m = c.args.members.now in
+    let n = c.loop-at.members in
+    let new = c.copy-part.new.members in
+    let tape0 = g.B.Bank.tape c.args.bank.now in
+    let tape1 = g.B.Bank.tape c.loop-at.bank in
+    let tape2 = g.B.Bank.tape c.copy-part.new.bank in
+    let f0 = g.B.Bank.faults_of c.args.bank.now in
+    let f1 = g.B.Bank.faults_of c.loop-at.bank in
+    let f2 = g.B.Bank.faults_of c.copy-part.new.bank in
+    let shape = c.args.shape.now in
+    let span = c.args.span.now in
+    let at = c.loop-at.at in
+    let first : ℕ = c.args.span.now.lo / c.stripe_sectors-sectors.result in
+    let begins : first ≡ span.lo / stripe_sectors shape = ap (λ (n : ℕ). span.lo / n) c.stripe_sectors-sectors.ensures.value in
+    let ends : c.div_ceil-end.result ≡ ceiling span.hi (stripe_sectors shape) =
+    rounded_up c.div_ceil-end.result span.hi c.stripe_sectors-sectors.result (stripe_sectors shape) c.stripe_sectors-sectors.ensures.positive c.stripe_sectors-sectors.ensures.value c.div_ceil-end.ensures in
+    let reached = was.reached in
+    let test = c.loop-at-test.true in
+    let moved : IsMoved given n new = moved-from given given1 n n new was.given refl did.moved in
+    let kept : g.B.Bank.tells → AreOtherRowsKept (IsOfStripe shape at) (reading_of new) (present given tape1) (present given tape2) =
+    λ told. subst (λ (b : Given). AreOtherRowsKept (IsOfStripe shape at) (reading_of new) (present b tape1) (present b tape2)) was.given (did.others told) in
+    λ told world able.
+    subst (λ (b : Given). IsCopyable world.scope n span (disk b.start tape1) → IsCopyable world.scope new span (disk b.start tape2)) was.given (did.copyable told world) (was.copyable told world able)
+
+pub returns-then-is_some-clause-headers : goal.returns-then-is_some-clause-headers
+returns-then-is_some-clause-headers g c =
+    let was = c.loop-at.invariant in
+    let did = c.copy-part.ensures in
+    let given = g.B.Bank.given c.args.bank.now in
+    let given1 = g.B.Bank.given c.loop-at.bank in
+    let m = c.args.members.now in
+    let n = c.loop-at.members in
+    let new = c.copy-part.new.members in
+    let tape0 = g.B.Bank.tape c.args.bank.now in
+    let tape1 = g.B.Bank.tape c.loop-at.bank in
+    let tape2 = g.B.Bank.tape c.copy-part.new.bank in
+    let f0 = g.B.Bank.faults_of c.args.bank.now in
+    let f1 = g.B.Bank.faults_of c.loop-at.bank in
+    let f2 = g.B.Bank.faults_of c.copy-part.new.bank in
+    let shape = c.args.shape.now in
+    let span = c.args.span.now in
+    let at = c.loop-at.at in
+    let first : ℕ = c.args.span.now.lo / c.stripe_sectors-sectors.result in
+    let begins : first ≡ span.lo / stripe_sectors shape = ap (λ (n : ℕ). span.lo / n) c.stripe_sectors-sectors.ensures.value in
+    let ends : c.div_ceil-end.result ≡ ceiling span.hi (stripe_sectors shape) =
+    rounded_up c.div_ceil-end.result span.hi c.stripe_sectors-sectors.result (stripe_sectors shape) c.stripe_sectors-sectors.ensures.positive c.stripe_sectors-sectors.ensures.value c.div_ceil-end.ensures in
+    let reached = was.reached in
+    let test = c.loop-at-test.true in
+    let moved : IsMoved given n new = moved-from given given1 n n new was.given refl did.moved in
+    let kept : g.B.Bank.tells → AreOtherRowsKept (IsOfStripe shape at) (reading_of new) (present given tape1) (present given tape2) =
+    λ told. subst (λ (b : Given). AreOtherRowsKept (IsOfStripe shape at) (reading_of new) (present b tape1) (present b tape2)) was.given (did.others told) in
+    λ told s v may. was.headers told s v
+    (subst (λ (b : Given). AreHeadersKept (disk b.start tape1) (disk b.start tape2)) was.given (did.headers told) s v may)
+
+pub returns-then-is_some-clause-counts : goal.returns-then-is_some-clause-counts
+returns-then-is_some-clause-counts g c =
+    let was = c.loop-at.invariant in
+    let did = c.copy-part.ensures in
+    let given = g.B.Bank.given c.args.bank.now in
+    let given1 = g.B.Bank.given c.loop-at.bank in
+    let m = c.args.members.now in
+    let n = c.loop-at.members in
+    let new = c.copy-part.new.members in
+    let tape0 = g.B.Bank.tape c.args.bank.now in
+    let tape1 = g.B.Bank.tape c.loop-at.bank in
+    let tape2 = g.B.Bank.tape c.copy-part.new.bank in
+    let f0 = g.B.Bank.faults_of c.args.bank.now in
+    let f1 = g.B.Bank.faults_of c.loop-at.bank in
+    let f2 = g.B.Bank.faults_of c.copy-part.new.bank in
+    let shape = c.args.shape.now in
+    let span = c.args.span.now in
+    let at = c.loop-at.at in
+    let first : ℕ = c.args.span.now.lo / c.stripe_sectors-sectors.result in
+    let begins : first ≡ span.lo / stripe_sectors shape = ap (λ (n : ℕ). span.lo / n) c.stripe_sectors-sectors.ensures.value in
+    let ends : c.div_ceil-end.result ≡ ceiling span.hi (stripe_sectors shape) =
+    rounded_up c.div_ceil-end.result span.hi c.stripe_sectors-sectors.result (stripe_sectors shape) c.stripe_sectors-sectors.ensures.positive c.stripe_sectors-sectors.ensures.value c.div_ceil-end.ensures in
+    let reached = was.reached in
+    let test = c.loop-at-test.true in
+    let moved : IsMoved given n new = moved-from given given1 n n new was.given refl did.moved in
+    let kept : g.B.Bank.tells → AreOtherRowsKept (IsOfStripe shape at) (reading_of new) (present given tape1) (present given tape2) =
+    λ told. subst (λ (b : Given). AreOtherRowsKept (IsOfStripe shape at) (reading_of new) (present b tape1) (present b tape2)) was.given (did.others told) in
+    λ s. let one = was.counts s in let two = did.counts s in omega (arith, one, two)
+
+pub returns-then-is_some-clause-stands : goal.returns-then-is_some-clause-stands
+returns-then-is_some-clause-stands g c =
+    let was = c.loop-at.invariant in
+    let did = c.copy-part.ensures in
+    let given = g.B.Bank.given c.args.bank.now in
+    let given1 = g.B.Bank.given c.loop-at.bank in
+    let m = c.args.members.now in
+    let n = c.loop-at.members in
+    let new = c.copy-part.new.members in
+    let tape0 = g.B.Bank.tape c.args.bank.now in
+    let tape1 = g.B.Bank.tape c.loop-at.bank in
+    let tape2 = g.B.Bank.tape c.copy-part.new.bank in
+    let f0 = g.B.Bank.faults_of c.args.bank.now in
+    let f1 = g.B.Bank.faults_of c.loop-at.bank in
+    let f2 = g.B.Bank.faults_of c.copy-part.new.bank in
+    let shape = c.args.shape.now in
+    let span = c.args.span.now in
+    let at = c.loop-at.at in
+    let first : ℕ = c.args.span.now.lo / c.stripe_sectors-sectors.result in
+    let begins : first ≡ span.lo / stripe_sectors shape = ap (λ (n : ℕ). span.lo / n) c.stripe_sectors-sectors.ensures.value in
+    let ends : c.div_ceil-end.result ≡ ceiling span.hi (stripe_sectors shape) =
+    rounded_up c.div_ceil-end.result span.hi c.stripe_sectors-sectors.result (stripe_sectors shape) c.stripe_sectors-sectors.ensures.positive c.stripe_sectors-sectors.ensures.value c.div_ceil-end.ensures in
+    let reached = was.reached in
+    let test = c.loop-at-test.true in
+    let moved : IsMoved given n new = moved-from given given1 n n new was.given refl did.moved in
+    let kept : g.B.Bank.tells → AreOtherRowsKept (IsOfStripe shape at) (reading_of new) (present given tape1) (present given tape2) =
+    λ told. subst (λ (b : Given). AreOtherRowsKept (IsOfStripe shape at) (reading_of new) (present b tape1) (present b tape2)) was.given (did.others told) in
+    λ told list copied before. still-copied shape span given n new moved first at begins (omega (arith, reached)) (present given tape1) (present given tape2) list (kept told) (was.stands told list copied before)
+
+pub returns-then-is_some-clause-named : goal.returns-then-is_some-clause-named
+returns-then-is_some-clause-named g c = some-match _ c.copy-part.result.refusal (sym c.is_some.ensures ∙ c.if-is_some.true) c.copy-part.ensures.named
+
+pub returns-then-is_some-clause-all : goal.returns-then-is_some-clause-all
+returns-then-is_some-clause-all g c = λ none. absurd (never c.copy-part.result.refusal (sym c.is_some.ensures ∙ c.if-is_some.true) none)
+  where
+    never : (o : Option Refusal) → is_some o ≡ true → o ≡ None → ⊥
+    never None is none = absurd (cc)
+    never (Some refusal) is none = absurd (cc)
+
+-- ---- and where it is copied
+
+pub loop-at-preserved : goal.loop-at-preserved
+loop-at-preserved g c =
+    let was = c.loop-at.invariant in
+    let did = c.copy-part.ensures in
+    let given = g.B.Bank.given c.args.bank.now in
+    let given1 = g.B.Bank.given c.loop-at.bank in
+    let m = c.args.members.now in
+    let n = c.loop-at.members in
+    let new = c.copy-part.new.members in
+    let tape0 = g.B.Bank.tape c.args.bank.now in
+    let tape1 = g.B.Bank.tape c.loop-at.bank in
+    let tape2 = g.B.Bank.tape c.copy-part.new.bank in
+    let f0 = g.B.Bank.faults_of c.args.bank.now in
+    let f1 = g.B.Bank.faults_of c.loop-at.bank in
+    let f2 = g.B.Bank.faults_of c.copy-part.new.bank in
+    let shape = c.args.shape.now in
+    let span = c.args.span.now in
+    let at = c.loop-at.at in
+    let first : ℕ = c.args.span.now.lo / c.stripe_sectors-sectors.result in
+    let begins : first ≡ span.lo / stripe_sectors shape = ap (λ (n : ℕ). span.lo / n) c.stripe_sectors-sectors.ensures.value in
+    let ends : c.div_ceil-end.result ≡ ceiling span.hi (stripe_sectors shape) =
+    rounded_up c.div_ceil-end.result span.hi c.stripe_sectors-sectors.result (stripe_sectors shape) c.stripe_sectors-sectors.ensures.positive c.stripe_sectors-sectors.ensures.value c.div_ceil-end.ensures in
+    let reached = was.reached in
+    let test = c.loop-at-test.true in
+    let moved : IsMoved given n new = moved-from given given1 n n new was.given refl did.moved in
+    let kept : g.B.Bank.tells → AreOtherRowsKept (IsOfStripe shape at) (reading_of new) (present given tape1) (present given tape2) =
+    λ told. subst (λ (b : Given). AreOtherRowsKept (IsOfStripe shape at) (reading_of new) (present b tape1) (present b tape2)) was.given (did.others told) in
+    let none = none-of c.copy-part.result.refusal (sym c.is_some.ensures ∙ c.if-is_some.false) in
+    record {
+      moved = moved-then given m n new was.moved moved;
+      failed = since-then m n new c.loop-at.spares c.copy-part.result.spares _ f0 f1 f2 was.counts did.counts was.failed did.failed (in-either c.loop-at.spares c.copy-part.result.spares);
+      grows = grows-then was.grows did.grows;
+      clean = did.clean ∙ was.clean;
+      reached = omega (arith, reached);
+      within = omega (arith, begins, ends, test, reached);
+      stands = λ told list copied before. one-more shape span given n new moved first at begins (omega (arith, reached)) (present given tape1) (present given tape2) list (kept told) (was.stands told list copied before)
+          (λ row of. subst (λ (b : Given). RowStands (reading_of new) (present b tape2) shape list row) was.given
+          (did.stands none told list (tail-alike m.newest n.newest was.moved.reshape was.moved.shape was.moved.size span c.args.buffer.now list copied) row of));
+      others = λ told. rest-kept shape span given m n new c.args.from at (omega (arith, begins, reached)) (omega (arith, ends, test)) (present given tape0) (present given tape1) (present given tape2) moved (was.others told) (kept told);
+      rise = risen-then was.rise did.rise;
+      safe = λ told world ledger room gone unclean able safe.
+          safe-part world given given1 ledger m n new tape0 tape1 tape2 told was.given was.moved.placed moved did.grows was.rise room gone
+          (λ first gone1. was.safe told world ledger first gone1 unclean able safe)
+          (λ then now. did.safe told world ledger then gone (λ dirty. unclean (sym was.clean ∙ dirty))
+          (subst (λ (b : Given). IsCopyable world.scope n span (disk b.start tape1)) (sym was.given) (was.copyable told world able)) now);
+      copyable = λ told world able.
+          subst (λ (b : Given). IsCopyable world.scope n span (disk b.start tape1) → IsCopyable world.scope new span (disk b.start tape2)) was.given (did.copyable told world) (was.copyable told world able);
+      headers = λ told s v may. was.headers told s v
+          (subst (λ (b : Given). AreHeadersKept (disk b.start tape1) (disk b.start tape2)) was.given (did.headers told) s v may);
+      given = did.given ∙ was.given;
+      counts = λ s. let one = was.counts s in let two = did.counts s in omega (arith, one, two);
+    }
+
+pub returns-clause-all : goal.returns-clause-all
+returns-clause-all g c = λ none.
+    let span = c.args.span.now in
+    let shape = c.args.shape.now in
+    let first : ℕ = c.args.span.now.lo / c.stripe_sectors-sectors.result in
+    let begins : first ≡ span.lo / stripe_sectors shape = ap (λ (n : ℕ). span.lo / n) c.stripe_sectors-sectors.ensures.value in
+    let ends : c.div_ceil-end.result ≡ ceiling span.hi (stripe_sectors shape) =
+    rounded_up c.div_ceil-end.result span.hi c.stripe_sectors-sectors.result (stripe_sectors shape) c.stripe_sectors-sectors.ensures.positive c.stripe_sectors-sectors.ensures.value c.div_ceil-end.ensures in
+    let reached = c.loop-at.invariant.reached in
+    let within = c.loop-at.invariant.within in
+    let test = c.loop-at-test.false in
+    omega (arith, begins, ends, reached, within, test)

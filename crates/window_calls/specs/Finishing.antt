@@ -1,0 +1,45 @@
+-- The open window of a reshape, as an array keeps it between calls, and how it is finished.
+use Rattle.std.specs.Prelude.{◌≡◌, ℕ, ◌+◌, ◌*◌, ◌/◌, ◌<◌, ◌≤◌, true, List, Some}
+use Rattle.md_base.specs.declared.places.Shape.{Shape}
+use Rattle.md_base.specs.declared.places.Span.{Span}
+use Rattle.md_base.specs.Sectors.{Sector}
+use Rattle.md_base.specs.Shapes.{stripe_sectors}
+use Rattle.bank.specs.Tape.{Contents}
+use Rattle.geometry.specs.Geometry.{rows}
+use Rattle.superblocks.specs.declared.members.Members.{Members}
+use Rattle.superblocks.specs.Reading.{Scope, is_clean, final_shape}
+use Rattle.row_io.specs.Rows.{reading_of}
+use Rattle.list_io.specs.Full.{RowStands}
+use Rattle.shape_views.specs.Regions.{DoWithout}
+use Rattle.shape_views.specs.Views.{Disk, Ledger}
+use Rattle.shape_views.specs.Windows.{IsCopyable, ListStands, RowsStand}
+use Rattle.shape_changes.specs.Steady.{AreWritesAllowed}
+use Rattle.window_rows.specs.Copies.{tail_of, IsCopied}
+use Rattle.window_steps.specs.Recording.{AreHeadersFit}
+
+-- ---- the stripes of a window
+
+-- the row is of the first so many stripes of this shape that the span touches
+abbrev pub IsOfFirst : Shape → Span → ℕ → ℕ → Type 0
+IsOfFirst shape span count row = (span.lo / stripe_sectors shape * shape.chunk ≤ row) × (row < (span.lo / stripe_sectors shape + count) * shape.chunk)
+
+-- it is of the other ones
+abbrev pub IsOfRest : Shape → Span → ℕ → ℕ → Type 0
+IsOfRest shape span count row = ((span.lo / stripe_sectors shape + count) * shape.chunk ≤ row) × (row < (rows shape span.lo span.hi).hi)
+
+-- so many stripes are copied: each of their rows stands by this shape, with its parity, as the list
+abbrev pub AreStripesCopied : Shape → Span → ℕ → Members → Contents → (ℕ → Sector) → Type 0
+AreStripesCopied shape span count m c list = (row : ℕ) → IsOfFirst shape span count row → RowStands (reading_of m) c shape list row
+
+-- ---- the window
+
+-- The next window may be copied, so many of its stripes are, and the buffer has its sectors of the list, which is zero in its tail, and of allowed
+-- values. Outside the window the list stands, and where the array is clean the rows of these sectors too. The headers fit.
+pub record IsOpenWindow (sound : Type 0) (scope : Scope) (told : Ledger) (m : Members) (span : Span) (buffer : List ℕ) (copied : ℕ) (list : ℕ → Sector) (c : Contents) (d : Disk) : Type 0 where
+  pub able : IsCopyable scope m span d
+  pub written : AreStripesCopied (final_shape m.newest) span copied m c list
+  pub buffered : IsCopied span buffer (tail_of m.newest) list
+  pub allowed : AreWritesAllowed m told.values list
+  pub stands : ListStands (Some span) m c list
+  pub rows_are : is_clean m.newest ≡ true → DoWithout m → sound → RowsStand (Some span) m c list
+  pub headers : AreHeadersFit scope m d
