@@ -20,6 +20,7 @@ ghost use Rattle.views.specs.Rebuilding.{AreSparesFree};
 ghost use Rattle.views.specs.Lacking.{HaveFailedSince, DoesWithout, AreTooMany, AreOtherRowsKept, IsOfStripe};
 ghost use Rattle.window_rows.specs.Copies.{IsRoomFor, tail_of, IsCopied, IsStripeOf};
 ghost use Rattle.window_steps.specs.Copying.{IsOfStripeFrom};
+ghost use Rattle.window_steps.specs.Recording.{AreHeadsFewer};
 
 use bank::Bank;
 use md_base::{Refusal, Shape, Span};
@@ -83,6 +84,7 @@ fn copy_stretch<B: Bank>(
         → RowStands (reading_of members.new) (present (B.given bank.old) (B.tape bank.new)) shape.now list row }
     ensures others { B.tells → AreOtherRowsKept (IsOfStripeFrom shape.now stripe done result.done) (reading_of members.new)
         (present (B.given bank.old) (B.tape bank.old)) (present (B.given bank.old) (B.tape bank.new)) }
+    ensures heads { B.tells → AreHeadsFewer (disk (B.given bank.old).start (B.tape bank.old)) (disk (B.given bank.old).start (B.tape bank.new)) }
     ensures rise { IsRisen B.tells members.old members.new (B.tape bank.old) (B.tape bank.new) }
     ensures safe { B.tells → (world : World) → (told : Ledger) → IsCopyable world.scope members.old span.now (disk (B.given bank.old).start (B.tape bank.old))
         → IsSafeOver world (B.given bank.old) told members.old (B.tape bank.old)
@@ -134,6 +136,7 @@ fn copy_part<B: Bank>(
     ensures others { B.tells → AreOtherRowsKept (IsOfStripeFrom shape.now stripe done result.done) (reading_of members.new)
         (present (B.given bank.old) (B.tape bank.old)) (present (B.given bank.old) (B.tape bank.new)) }
     ensures named { HasLiveSlot members.new → AreNamedMissing members.new }
+    ensures heads { B.tells → AreHeadsFewer (disk (B.given bank.old).start (B.tape bank.old)) (disk (B.given bank.old).start (B.tape bank.new)) }
     ensures rise { IsRisen B.tells members.old members.new (B.tape bank.old) (B.tape bank.new) }
     ensures safe { B.tells → (world : World) → (told : Ledger) → HasRoomLeft members.old (B.tape bank.old) (B.tape bank.new)
         → AreGoneTold told members.new → IsUncleanTold told members.old
@@ -189,6 +192,7 @@ pub fn copy<B: Bank>(
     ensures others { B.tells → AreOtherRowsKept (IsOfStripe shape.now stripe) (reading_of members.new)
         (present (B.given bank.old) (B.tape bank.old)) (present (B.given bank.old) (B.tape bank.new)) }
     ensures named { result.refusal ≡ None → HasLiveSlot members.new → AreNamedMissing members.new }
+    ensures heads { B.tells → AreHeadsFewer (disk (B.given bank.old).start (B.tape bank.old)) (disk (B.given bank.old).start (B.tape bank.new)) }
     ensures rise { IsRisen B.tells members.old members.new (B.tape bank.old) (B.tape bank.new) }
     ensures safe { B.tells → (world : World) → (told : Ledger) → HasRoomLeft members.old (B.tape bank.old) (B.tape bank.new)
         → AreGoneTold told members.new → IsUncleanTold told members.old

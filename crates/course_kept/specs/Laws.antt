@@ -1,0 +1,94 @@
+-- What a step makes of the course of a reshape, by what its call leaves: on members that lost slots, with a stripe copied, recorded or zeroed.
+use Rattle.std.specs.Prelude.{◌≡◌, ◌⊎◌, ℕ, ◌+◌, ◌/◌, ◌<◌, Bool, true, false, List, Some, None}
+use Rattle.md_base.specs.declared.places.Span.{Span}
+use Rattle.md_base.specs.Sectors.{Sector, zero_sector}
+use Rattle.md_base.specs.Shapes.{stripe_sectors}
+use Rattle.bank.specs.Given.{Given}
+use Rattle.bank.specs.Tape.{Contents}
+use Rattle.geometry.specs.Geometry.{stripes, zeroed_stripes, is_critical}
+use Rattle.superblocks.specs.declared.members.Members.{Members}
+use Rattle.superblocks.specs.Reading.{Scope, is_reshaping, is_backward, shape_of, final_shape, next_window}
+use Rattle.row_io.specs.Rows.{reading_of}
+use Rattle.list_io.specs.Full.{RowStands}
+use Rattle.shape_views.specs.Regions.{ArePlaced}
+use Rattle.shape_views.specs.Views.{Disk}
+use Rattle.shape_views.specs.Windows.{ListStands, moved_past}
+use Rattle.shape_views.specs.Backups.{IsOpenUnderAll}
+use Rattle.shape_changes.specs.Marking.{AreOthersPresent}
+use Rattle.shape_ends.specs.Grown.{IsZeroPast}
+use Rattle.reshape_ends.specs.Finished.{IsZeroBehind}
+use Rattle.views.specs.Placed.{IsPlaced}
+use Rattle.views.specs.Moving.{IsMoved}
+use Rattle.views.specs.Lacking.{IsOfStripe, AreOtherRowsKept}
+use Rattle.window_rows.specs.Copies.{tail_of, IsZeroIn, IsCopied}
+use Rattle.window_steps.specs.Recording.{AreHeadsFewer, AreHeadersFit}
+use Rattle.window_steps.specs.Zeroing.{IsThrough}
+use Rattle.course_kept.specs.declared.course.Course.{Course}
+use Rattle.course_kept.specs.declared.course.Window.{Window}
+use Rattle.course_kept.specs.declared.course.Window.TheVariants.{Closed, Entered}
+use Rattle.course_kept.specs.Course.{IsStored, StandsInCourse, past_stripe}
+
+-- ---- what stands
+
+-- Members that lost slots, where all but the superblocks is as it was, stand in the same course.
+abbrev pub CoursesMove : Type 0
+CoursesMove = (given : Given) (old new : Members) (course : Course) (buffer : List ℕ) (c e : Contents) (list : ℕ → Sector) → IsPlaced given old → IsMoved given old new → AreOthersPresent c e
+    → StandsInCourse old course buffer c list → StandsInCourse new course buffer e list
+
+-- an entered window, before any stripe behind the list is zeroed
+abbrev pub entered : Span → ℕ → Bool → Course
+entered span copied sectioned = record { window = Entered span copied sectioned; zeroed = 0 }
+
+abbrev pub closed : ℕ → Course
+closed zeroed = record { window = Closed; zeroed = zeroed }
+
+-- the stripe of the new shape that is copied next
+abbrev pub next_stripe : Members → Span → ℕ → ℕ
+next_stripe m span copied = span.lo / stripe_sectors (final_shape m.newest) + copied
+
+-- Where rows of the next stripe are written and no others, all stands on as before; and where that stripe stands by the new shape, with it copied.
+abbrev pub CopiesGoOn : Type 0
+CopiesGoOn = (given : Given) (old new : Members) (span : Span) (copied : ℕ) (sectioned : Bool) (buffer : List ℕ) (c e : Contents) (list : ℕ → Sector)
+    → IsPlaced given old → IsMoved given old new → next_window old.newest ≡ Some span → copied < stripes (final_shape old.newest) span.lo span.hi
+    → (sectioned ≡ false → is_critical (shape_of old.newest) (final_shape old.newest) old.newest.size (is_backward old.newest) span ≡ false)
+    → AreOtherRowsKept (IsOfStripe (final_shape old.newest) (next_stripe old span copied)) (reading_of new) c e
+    → StandsInCourse old (entered span copied sectioned) buffer c list
+    → StandsInCourse new (entered span copied sectioned) buffer e list
+    × (((row : ℕ) → IsOfStripe (final_shape old.newest) (next_stripe old span copied) row → RowStands (reading_of new) e (final_shape old.newest) list row)
+    → StandsInCourse new (entered span (copied + 1) sectioned) buffer e list)
+
+-- The list that stands in the course has the buffer's sectors in the window, and forward zeros in the tail: it is what a copy writes.
+abbrev pub CoursesAreCopied : Type 0
+CoursesAreCopied = (scope : Scope) (given : Given) (m : Members) (span : Span) (copied : ℕ) (sectioned : Bool) (buffer : List ℕ) (c : Contents) (list : ℕ → Sector) → ArePlaced scope given m
+    → next_window m.newest ≡ Some span → StandsInCourse m (entered span copied sectioned) buffer c list → IsCopied span buffer (tail_of m.newest) list
+
+-- All stripes are copied: once the position has moved behind the window, the list stands in the new shape there, and none is open.
+abbrev pub RecordsClose : Type 0
+RecordsClose = (scope : Scope) (given : Given) (old new : Members) (span : Span) (sectioned : Bool) (buffer : List ℕ) (c e : Contents) (list : ℕ → Sector)
+    → ArePlaced scope given old → IsPlaced given old → next_window old.newest ≡ Some span → IsMoved given (moved_past span old) new → AreOthersPresent c e
+    → StandsInCourse old (entered span (stripes (final_shape old.newest) span.lo span.hi) sectioned) buffer c list → StandsInCourse new (closed 0) buffer e list
+
+-- Where rows of the next stripe behind the list are written and no others, all stands on; and where they stand as zeros, with that stripe zeroed.
+abbrev pub ZeroesGoOn : Type 0
+ZeroesGoOn = (given : Given) (old new : Members) (zeroed : ℕ) (buffer : List ℕ) (c e : Contents) (list : ℕ → Sector)
+    → IsPlaced given old → IsMoved given old new → IsThrough old.newest
+    → AreOtherRowsKept (IsOfStripe (final_shape old.newest) (past_stripe old.newest + zeroed)) (reading_of new) c e
+    → StandsInCourse old (closed zeroed) buffer c list
+    → StandsInCourse new (closed zeroed) buffer e list
+    × (((row : ℕ) → IsOfStripe (final_shape old.newest) (past_stripe old.newest + zeroed) row → RowStands (reading_of new) e (final_shape old.newest) (λ x. zero_sector) row)
+    → StandsInCourse new (closed (zeroed + 1)) buffer e list)
+
+-- All stripes behind the list are zeroed: what is behind it is zero, on the members and in the list.
+abbrev pub ZeroesAreAll : Type 0
+ZeroesAreAll = (given : Given) (m : Members) (buffer : List ℕ) (c : Contents) (list : ℕ → Sector) → IsPlaced given m → is_reshaping m.newest ≡ true → is_backward m.newest ≡ false
+    → StandsInCourse m (closed (zeroed_stripes (shape_of m.newest) (final_shape m.newest) m.newest.size (is_backward m.newest))) buffer c list → IsZeroBehind m c list
+
+-- ---- the headers
+
+-- Where a stop leaves no other headers, members that lost slots have the same stored.
+abbrev pub StoredMove : Type 0
+StoredMove = (scope : Scope) (given : Given) (old new : Members) (window : Window) (d e : Disk) → IsMoved given old new → AreHeadsFewer d e → IsStored scope old window d → IsStored scope new window e
+
+-- Headers under each of which the window's section is active fit.
+abbrev pub OpenHeadersFit : Type 0
+OpenHeadersFit = (scope : Scope) (m : Members) (span : Span) (d : Disk) → IsOpenUnderAll scope m span d → AreHeadersFit scope m d
