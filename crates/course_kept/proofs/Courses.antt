@@ -1,5 +1,5 @@
 -- The course of a reshape, through its steps.
-use Rattle.std.proofs.Common.{◌≡◌, ◌⊎◌, inl, inr, ℕ, zero, suc, ◌+◌, ◌-◌, ◌*◌, ◌/◌, ◌<◌, ◌≤◌, ◌&&◌, nat_lt, Bool, true, false, not, cond, List, Option, Some, None, refl, sym, ◌∙◌, ap, subst, arith}
+use Rattle.std.proofs.Common.{◌≡◌, ◌⊎◌, inl, inr, ℕ, zero, suc, ◌+◌, ◌-◌, ◌*◌, ◌/◌, ◌<◌, ◌≤◌, ◌&&◌, ◌^◌, nat_le, nat_lt, Bool, true, false, not, cond, List, Option, Some, None, refl, sym, ◌∙◌, ap, subst, arith}
 use Rattle.std.specs.Prelude.{min}
 use Rattle.std.proofs.lemmas.Bool.{and_parts, eqb-true, cases_lt}
 use Rattle.std.proofs.lemmas.Bool.Decides.{nat_tests}
@@ -32,7 +32,7 @@ use Rattle.shape_views.specs.Sound.{IsTail}
 use Rattle.shape_views.specs.Windows.{IsShown, ListStands, moved_past}
 use Rattle.shape_views.proofs.Stands.{moved-stands, moved-rows-stand}
 use Rattle.shape_views.proofs.UnderWay.{row-apart, row-apart-uncritical, under-way, is-reshaping}
-use Rattle.shape_changes.proofs.UpdateViews.{ends-place}
+use Rattle.shape_changes.proofs.LessViews.{ends-place}
 use Rattle.shape_ends.proofs.FitLaws.{moved-tails, backup-is, names-one, span-same}
 use Rattle.shape_ends.proofs.GrownLaws.{zero-is-sector}
 use Rattle.shape_ends.proofs.Tails.{no-tail, row-within}
@@ -102,8 +102,8 @@ less-than row b o slot e = from (nat_lt row b) refl e
     from true is e = grind (arith, nat_tests, is)
     from false is e = absurd (cc)
 
-held-below : {m : Members} → is_reshaping m.newest ≡ true → (row role slot : ℕ) → held_slot (reading_of m) role row ≡ Some slot → row < m.newest.size
-held-below {m} active row role slot held = of (role_state (reading_of m) role) held
+held-below : (m : Members) → is_reshaping m.newest ≡ true → (row role slot : ℕ) → held_slot (reading_of m) role row ≡ Some slot → row < m.newest.size
+held-below m active row role slot held = of (role_state (reading_of m) role) held
   where
     of : (state : Role) → cond (nat_lt row (rows_held (reading_of m) state)) (holder state) None ≡ Some slot → row < m.newest.size
     of (Whole s) e = less-than row m.newest.size (Some s) slot e
@@ -183,16 +183,19 @@ records-close scope given old new span sectioned buffer c e list placed was_plac
       zeros = was.zeros;
       copied = λ row none. absurd none;
       tail = moved-tails scope given old span c list placed next (λ row at. (window-stands row at).sectors);
-      zeroed = was.zeroed;
+      zeroed = λ row at. absurd (none-of-none (final_shape old.newest) (past_stripe old.newest) row at);
     })
   where
     all : ℕ
     all = stripes (final_shape old.newest) span.lo span.hi
 
     window-stands : (row : ℕ) → geometry.IsIn row (rows (final_shape old.newest) span.lo span.hi) → RowStands (reading_of old) c (final_shape old.newest) list row
-    window-stands row at = was.copied row (at.0, let high = at.1 in
-        let le : ceiling span.hi (stripe_sectors (final_shape old.newest)) * (final_shape old.newest).chunk ≤ (span.lo / stripe_sectors (final_shape old.newest) + all) * (final_shape old.newest).chunk =
-        mul-le-mul_right (final_shape old.newest).chunk (omega arith) in omega (arith, high, le))
+    window-stands row at = was.copied row (
+      at.0,
+      let high = at.1 in
+          let le : ceiling span.hi (stripe_sectors (final_shape old.newest)) * (final_shape old.newest).chunk ≤ (span.lo / stripe_sectors (final_shape old.newest) + all) * (final_shape old.newest).chunk =
+          mul-le-mul_right (final_shape old.newest).chunk (omega arith) in omega (arith, high, le),
+    )
 
     hide : (which : Bool) → ListStands (hidden_in (Entered span all which)) old c list → ListStands (Some span) old c list
     hide true stands = stands
@@ -244,10 +247,10 @@ zeroes-are-all given m buffer c list placed active forth was = record {
   past = λ row past. elim (cases_lt row m.newest.size) [
     | inl within ↦ was.zeroed row (past, high row within)
     | inr beyond ↦ record {
-        whole = λ x at. zero-is-sector;
-        sectors = λ role slot lt part held. absurd (let lt = held-below active row role slot held in omega (arith, lt, beyond));
-        parity = λ role slot lt part held. absurd (let lt = held-below active row role slot held in omega (arith, lt, beyond));
-      }
+      whole = λ x at. zero-is-sector;
+      sectors = λ role slot lt part held. absurd (let lt = held-below m active row role slot held in omega (arith, lt, beyond));
+      parity = λ role slot lt part held. absurd (let lt = held-below m active row role slot held in omega (arith, lt, beyond));
+    }
   ];
 }
   where
@@ -261,7 +264,7 @@ zeroes-are-all given m buffer c list placed active forth was = record {
     all-is = ap (λ (b : Bool). cond b 0 (m.newest.size / (final_shape m.newest).chunk - past_stripe m.newest)) forth
 
     whole-size : m.newest.size / (final_shape m.newest).chunk * (final_shape m.newest).chunk ≡ m.newest.size
-    whole-size = eqb-true _ _ (and_parts _ _ placed.fit.final_size).1
+    whole-size = eqb-true (m.newest.size / (final_shape m.newest).chunk * (final_shape m.newest).chunk) m.newest.size (and_parts (nat_le 1 m.newest.size && nat_le m.newest.size (2 ^ 48)) (is_multiple m.newest.size (final_shape m.newest).chunk) placed.fit.final_size).1
 
     high : (row : ℕ) → row < m.newest.size → row < (past_stripe m.newest + all) * (final_shape m.newest).chunk
     high row within =
@@ -309,5 +312,5 @@ open-named scope newest header span active = of scope.backup (next_window newest
 
 pub open-headers : OpenHeadersFit
 open-headers scope m span d all backup header here may other named =
-    let open = open-named scope m.newest header span (all header (subst (λ (s : ℕ). IsIn (d s 0) header) (sym (backup-is scope backup here)) may)) in
-    inl (open.0 ∙ ap (λ (s : Span). Some s) (span-same span other (names-one header span other open.1 (and_parts _ _ named).1)))
+    let active = open-named scope m.newest header span (all header (subst (λ (s : ℕ). IsIn (d s 0) header) (sym (backup-is scope backup here)) may)) in
+    inl (active.0 ∙ ap (λ (s : Span). Some s) (span-same span other (names-one header span other active.1 (and_parts _ _ named).1)))

@@ -46,7 +46,7 @@ module _ (old new : Sb) (reshape : HaveSameReshape old new) (shape : shape_of ne
   copied-before (Entered span copied sectioned) row at = subst (λ (s : Shape). IsOfStripes s (span.lo / stripe_sectors s) copied row) reshape.final at
   copied-before (Unsure span) row at = at
 
-  past-alike : past_stripe new ≡ past_stripe old
+  pub past-alike : past_stripe new ≡ past_stripe old
   past-alike = λ i. ceiling (list-alike old new reshape shape size i) (stripe_sectors (reshape.final i))
 
   zeroed-before : (zeroed row : ℕ) → IsZeroedRow new zeroed row → IsZeroedRow old zeroed row
