@@ -33,9 +33,10 @@ use Rattle.shape_views.specs.Windows.{IsShown, ListStands, moved_past}
 use Rattle.shape_views.proofs.Stands.{moved-stands, moved-rows-stand}
 use Rattle.shape_views.proofs.UnderWay.{row-apart, row-apart-uncritical, under-way, is-reshaping}
 use Rattle.shape_changes.proofs.LessViews.{ends-place}
+use Rattle.shape_ends.proofs.EndLaws.{places-alike-stand, begun-alike}
 use Rattle.shape_ends.proofs.FitLaws.{moved-tails, backup-is, names-one, span-same}
 use Rattle.shape_ends.proofs.GrownLaws.{zero-is-sector}
-use Rattle.shape_ends.proofs.Tails.{no-tail, row-within}
+use Rattle.shape_ends.proofs.Tails.{no-tail, some-listed, row-within}
 use Rattle.geometry.proofs.Rows.{rows_hold}
 use Rattle.views.specs.Placed.{IsPlaced}
 use Rattle.views.specs.Moving.{IsMoved}
@@ -48,7 +49,7 @@ use Rattle.course_kept.specs.declared.course.Course.{Course}
 use Rattle.course_kept.specs.declared.course.Window.{Window}
 use Rattle.course_kept.specs.declared.course.Window.TheVariants.{Closed, Entered, Unsure}
 use Rattle.course_kept.specs.Course.{IsOfStripes, IsZeroedRow, hidden_in, IsStoredAs, StandsInCourse, past_stripe}
-use Rattle.course_kept.specs.Laws.{CoursesMove, CopiesGoOn, CoursesAreCopied, RecordsClose, ZeroesGoOn, ZeroesAreAll, StoredMove, OpenHeadersFit, entered, closed, next_stripe}
+use Rattle.course_kept.specs.Laws.{BeginsStand, EntersStand, CoursesMove, CopiesGoOn, CoursesAreCopied, RecordsClose, ZeroesGoOn, ZeroesAreAll, StoredMove, OpenHeadersFit, entered, closed, next_stripe}
 use Rattle.course_kept.proofs.Frames.{AreBeside, stands-on, past-alike}
 
 -- ---- members that lost slots
@@ -62,7 +63,7 @@ courses-move given old new course buffer c e list placed moved others was =
       zeroed = λ row at none. none;
     })
 
--- ---- stripes
+-- ---- it begins
 
 -- no row is of no stripes
 none-of-none : (shape : Shape) (first row : ℕ) → IsOfStripes shape first 0 row → ⊥
@@ -70,6 +71,48 @@ none-of-none shape first row at = absurd (let low = at.0 in let high = at.1 in l
   where
     zero-right : (n : ℕ) → n + 0 ≡ n
     zero-right n = omega arith
+
+pub begins-stand : BeginsStand
+begins-stand scope given old plan new buffer c e list begun placed moved kept zeros stands =
+    stands-on given plan new moved (closed 0) buffer c e list (λ row. ⊥) kept (record {
+      stands = (places-alike-stand scope given old plan c list placed (begun-alike old plan begun)).0 stands;
+      window = tt;
+      zeros = zeros;
+      copied = λ row none. absurd none;
+      tail = λ x slot tail held. absurd (
+          let start : plan.newest.reshape_position ≡ 0 = begun.start ∙ ap (λ (b : Bool). cond b (list_length plan.newest) 0) tail.forth in
+          let some = some-listed plan.newest placed.fit in
+          let through = tail.through in
+          omega (arith, start, some, through));
+      zeroed = λ row at. absurd (none-of-none (final_shape plan.newest) (past_stripe plan.newest) row at);
+    }) (record {
+      shown = λ x shown none. none;
+      tail = λ x tail none. none;
+      copied = λ row at none. none;
+      zeroed = λ row at none. none;
+    })
+
+-- ---- a window is entered
+
+pub enters-stand : EntersStand
+enters-stand given old new span sectioned former buffer c e list moved kept room has was = (
+  record { stands = hide sectioned; window = (room, has); zeros = on.zeros; copied = λ row at. absurd (none-of-none (final_shape new.newest) (span.lo / stripe_sectors (final_shape new.newest)) row at); tail = on.tail; zeroed = on.zeroed },
+  record { stands = on.stands; window = (room, has); zeros = on.zeros; copied = λ row none. absurd none; tail = on.tail; zeroed = on.zeroed },
+)
+  where
+    on : StandsInCourse new (closed 0) buffer e list
+    on = stands-on given old new moved (closed 0) buffer c e list (λ row. ⊥) kept (record { stands = was.stands; window = tt; zeros = was.zeros; copied = was.copied; tail = was.tail; zeroed = was.zeroed }) (record {
+      shown = λ x shown none. none;
+      tail = λ x tail none. none;
+      copied = λ row at none. none;
+      zeroed = λ row at none. none;
+    })
+
+    hide : (which : Bool) → ListStands (hidden_in (Entered span 0 which)) new e list
+    hide true = λ x slot shown held. on.stands x slot (record { within = shown.within; outside = refl }) held
+    hide false = on.stands
+
+-- ---- stripes
 
 -- a row of some stripes isn't one of the next
 of-before : (shape : Shape) (first count row : ℕ) → IsOfStripes shape first count row → IsOfStripe shape (first + count) row → ⊥

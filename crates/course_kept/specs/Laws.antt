@@ -7,7 +7,7 @@ use Rattle.bank.specs.Given.{Given}
 use Rattle.bank.specs.Tape.{Contents}
 use Rattle.geometry.specs.Geometry.{stripes, zeroed_stripes, is_critical}
 use Rattle.superblocks.specs.declared.members.Members.{Members}
-use Rattle.superblocks.specs.Reading.{Scope, is_reshaping, is_backward, shape_of, final_shape, next_window}
+use Rattle.superblocks.specs.Reading.{Scope, is_reshaping, is_backward, shape_of, final_shape, list_length, next_window}
 use Rattle.row_io.specs.Rows.{reading_of}
 use Rattle.list_io.specs.Full.{RowStands}
 use Rattle.shape_views.specs.Regions.{ArePlaced}
@@ -15,17 +15,18 @@ use Rattle.shape_views.specs.Views.{Disk}
 use Rattle.shape_views.specs.Windows.{ListStands, moved_past}
 use Rattle.shape_views.specs.Backups.{IsOpenUnderAll}
 use Rattle.shape_changes.specs.Marking.{AreOthersPresent}
+use Rattle.shape_ends.specs.Ends.{IsBegun}
 use Rattle.shape_ends.specs.Grown.{IsZeroPast}
 use Rattle.reshape_ends.specs.Finished.{IsZeroBehind}
 use Rattle.views.specs.Placed.{IsPlaced}
 use Rattle.views.specs.Moving.{IsMoved}
 use Rattle.views.specs.Lacking.{IsOfStripe, AreOtherRowsKept}
-use Rattle.window_rows.specs.Copies.{tail_of, IsZeroIn, IsCopied}
+use Rattle.window_rows.specs.Copies.{tail_of, HasWindow, IsRoomFor, IsZeroIn, IsCopied}
 use Rattle.window_steps.specs.Recording.{AreHeadsFewer, AreHeadersFit}
 use Rattle.window_steps.specs.Zeroing.{IsThrough}
 use Rattle.course_kept.specs.declared.course.Course.{Course}
 use Rattle.course_kept.specs.declared.course.Window.{Window}
-use Rattle.course_kept.specs.declared.course.Window.TheVariants.{Closed, Entered}
+use Rattle.course_kept.specs.declared.course.Window.TheVariants.{Closed, Entered, Unsure}
 use Rattle.course_kept.specs.Course.{IsStored, StandsInCourse, past_stripe}
 
 -- ---- what stands
@@ -42,6 +43,9 @@ entered span copied sectioned = record { window = Entered span copied sectioned;
 abbrev pub closed : ℕ → Course
 closed zeroed = record { window = Closed; zeroed = zeroed }
 
+abbrev pub unsure : Span → Course
+unsure span = record { window = Unsure span; zeroed = 0 }
+
 -- the stripe of the new shape that is copied next
 abbrev pub next_stripe : Members → Span → ℕ → ℕ
 next_stripe m span copied = span.lo / stripe_sectors (final_shape m.newest) + copied
@@ -56,6 +60,18 @@ CopiesGoOn = (given : Given) (old new : Members) (span : Span) (copied : ℕ) (s
     → StandsInCourse new (entered span copied sectioned) buffer e list
     × (((row : ℕ) → IsOfStripe (final_shape old.newest) (next_stripe old span copied) row → RowStands (reading_of new) e (final_shape old.newest) list row)
     → StandsInCourse new (entered span (copied + 1) sectioned) buffer e list)
+
+-- A reshape has begun, and nothing of it is done yet: the list that stood stands in its course, forward with zeros behind its end.
+abbrev pub BeginsStand : Type 0
+BeginsStand = (scope : Scope) (given : Given) (old plan new : Members) (buffer : List ℕ) (c e : Contents) (list : ℕ → Sector) → IsBegun old plan → ArePlaced scope given plan → IsMoved given plan new
+    → AreOtherRowsKept (λ row. ⊥) (reading_of new) c e → (is_backward plan.newest ≡ false → IsZeroPast (list_length plan.newest) list)
+    → ListStands None old c list → StandsInCourse new (closed 0) buffer e list
+
+-- The next window's sectors are in the buffer: it is entered, with its section stored or not, or unsure.
+abbrev pub EntersStand : Type 0
+EntersStand = (given : Given) (old new : Members) (span : Span) (sectioned : Bool) (former buffer : List ℕ) (c e : Contents) (list : ℕ → Sector) → IsMoved given old new
+    → AreOtherRowsKept (λ row. ⊥) (reading_of new) c e → IsRoomFor span buffer → HasWindow span buffer list → StandsInCourse old (closed 0) former c list
+    → StandsInCourse new (entered span 0 sectioned) buffer e list × StandsInCourse new (unsure span) buffer e list
 
 -- The list that stands in the course has the buffer's sectors in the window, and forward zeros in the tail: it is what a copy writes.
 abbrev pub CoursesAreCopied : Type 0

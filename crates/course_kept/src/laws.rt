@@ -1,6 +1,16 @@
 //! Laws of the course of a reshape. Each function's contract is the law.
 
-ghost use Rattle.course_kept.specs.Laws.{CoursesMove, CopiesGoOn, CoursesAreCopied, RecordsClose, ZeroesGoOn, ZeroesAreAll, StoredMove, OpenHeadersFit};
+ghost use Rattle.course_kept.specs.Laws.{BeginsStand, EntersStand, CoursesMove, CopiesGoOn, CoursesAreCopied, RecordsClose, ZeroesGoOn, ZeroesAreAll, StoredMove, OpenHeadersFit};
+
+/// A reshape begins.
+pub fn a_begun_reshape_stands()
+    ensures { BeginsStand }
+{}
+
+/// A window is entered.
+pub fn an_entered_window_stands()
+    ensures { EntersStand }
+{}
 
 /// Members that lost slots stand in the same course.
 pub fn a_course_moves()
