@@ -22,7 +22,8 @@ use Rattle.views.specs.Placed.{IsPlaced}
 use Rattle.views.specs.Moving.{IsMoved}
 use Rattle.views.specs.Lacking.{IsOfStripe, AreOtherRowsKept}
 use Rattle.window_rows.specs.Copies.{tail_of, HasWindow, IsRoomFor, IsZeroIn, IsCopied}
-use Rattle.window_steps.specs.Recording.{AreHeadsFewer, AreHeadersFit}
+use Rattle.window_steps.specs.Copying.{AreHeadersKept}
+use Rattle.window_steps.specs.Recording.{AreHeadersFit}
 use Rattle.window_steps.specs.Zeroing.{IsThrough}
 use Rattle.course_kept.specs.declared.course.Course.{Course}
 use Rattle.course_kept.specs.declared.course.Window.{Window}
@@ -103,7 +104,7 @@ ZeroesAreAll = (given : Given) (m : Members) (buffer : List ℕ) (c : Contents) 
 
 -- Where a stop leaves no other headers, members that lost slots have the same stored.
 abbrev pub StoredMove : Type 0
-StoredMove = (scope : Scope) (given : Given) (old new : Members) (window : Window) (d e : Disk) → IsMoved given old new → AreHeadsFewer d e → IsStored scope old window d → IsStored scope new window e
+StoredMove = (scope : Scope) (given : Given) (old new : Members) (window : Window) (d e : Disk) → IsMoved given old new → AreHeadersKept d e → IsStored scope old window d → IsStored scope new window e
 
 -- Headers under each of which the window's section is active fit.
 abbrev pub OpenHeadersFit : Type 0

@@ -54,10 +54,10 @@ use Rattle.window_steps.specs.Recording.{AreOthersFewer, AreHeadersFit, IsCopied
 -- ---- where they are placed
 
 -- a scope with a backup that is long enough, and no member's slot
-abbrev roomy : Sb → Scope
+abbrev pub roomy : Sb → Scope
 roomy newest = record { uuid = []; given = 2 ^ 32; backup = Some 32; sizes = record { slots = 33; sectors = λ s. 8 + reach_of newest } }
 
-placed-roomy : (given : Given) (m : Members) → IsPlaced given m → ArePlaced (roomy m.newest) given m
+pub placed-roomy : (given : Given) (m : Members) → IsPlaced given m → ArePlaced (roomy m.newest) given m
 placed-roomy given m placed = record {
   fit = placed.fit;
   roles = placed.roles;
@@ -99,7 +99,7 @@ module _ (given : Given) (m : Members) (span : Span) where
       record { room = record { small = room.small; known = room.known; short = room.short; within = room.within }; behind = f.behind; none = f.none; unlost = f.unlost }
 
 -- as many rows are held
-past-rows : (m : Members) (span : Span) (state : Role) → rows_held (reading_of (moved_past span m)) state ≡ rows_held (reading_of m) state
+pub past-rows : (m : Members) (span : Span) (state : Role) → rows_held (reading_of (moved_past span m)) state ≡ rows_held (reading_of m) state
 past-rows m span (Whole slot) = refl
 past-rows m span (Recovering slot) = refl
 past-rows m span Missing = refl

@@ -25,10 +25,6 @@ use Rattle.safe_updates.specs.Named.{AreNamedMissing}
 abbrev pub AreOthersFewer : Disk → Disk → Type 0
 AreOthersFewer d e = (s k : ℕ) (v : Sector) → k ≢ 8 → IsIn (e s k) v → IsIn (d s k) v
 
--- a stop leaves nothing new in the first sector of any slot, where the backup has its header
-abbrev pub AreHeadsFewer : Disk → Disk → Type 0
-AreHeadsFewer d e = (s : ℕ) (v : Sector) → IsIn (e s 0) v → IsIn (d s 0) v
-
 -- each section that a header names, of those that a stop leaves in the backup, is that of the next window, or lies in the new region
 abbrev pub AreHeadersFit : Scope → Members → Disk → Type 0
 AreHeadersFit scope m d = (backup : ℕ) (header : Sector) → scope.backup ≡ Some backup → IsIn (d backup 0) header → IsHeaderFit scope m.newest header

@@ -19,8 +19,7 @@ ghost use Rattle.views.specs.Moving.{Grows, IsMoved};
 ghost use Rattle.views.specs.Rebuilding.{AreSparesFree};
 ghost use Rattle.views.specs.Lacking.{HaveFailedSince, DoesWithout, AreTooMany, AreOtherRowsKept, IsOfStripe};
 ghost use Rattle.window_rows.specs.Copies.{IsRoomFor, tail_of, IsCopied, IsStripeOf};
-ghost use Rattle.window_steps.specs.Copying.{IsOfStripeFrom};
-ghost use Rattle.window_steps.specs.Recording.{AreHeadsFewer};
+ghost use Rattle.window_steps.specs.Copying.{IsOfStripeFrom, AreHeadersKept};
 
 use bank::Bank;
 use md_base::{Refusal, Shape, Span};
@@ -84,13 +83,13 @@ fn copy_stretch<B: Bank>(
         → RowStands (reading_of members.new) (present (B.given bank.old) (B.tape bank.new)) shape.now list row }
     ensures others { B.tells → AreOtherRowsKept (IsOfStripeFrom shape.now stripe done result.done) (reading_of members.new)
         (present (B.given bank.old) (B.tape bank.old)) (present (B.given bank.old) (B.tape bank.new)) }
-    ensures heads { B.tells → AreHeadsFewer (disk (B.given bank.old).start (B.tape bank.old)) (disk (B.given bank.old).start (B.tape bank.new)) }
     ensures rise { IsRisen B.tells members.old members.new (B.tape bank.old) (B.tape bank.new) }
     ensures safe { B.tells → (world : World) → (told : Ledger) → IsCopyable world.scope members.old span.now (disk (B.given bank.old).start (B.tape bank.old))
         → IsSafeOver world (B.given bank.old) told members.old (B.tape bank.old)
         → KeepsSafe world (B.given bank.old) told members.new (B.tape bank.old) (B.tape bank.new) }
     ensures copyable { B.tells → (world : World) → IsCopyable world.scope members.old span.now (disk (B.given bank.old).start (B.tape bank.old))
         → IsCopyable world.scope members.new span.now (disk (B.given bank.old).start (B.tape bank.new)) }
+    ensures headers { B.tells → AreHeadersKept (disk (B.given bank.old).start (B.tape bank.old)) (disk (B.given bank.old).start (B.tape bank.new)) }
     ensures given { B.given bank.new ≡ B.given bank.old }
     ensures counts { NeverFalls (B.faults_of bank.old) (B.faults_of bank.new) }
 {
@@ -136,7 +135,6 @@ fn copy_part<B: Bank>(
     ensures others { B.tells → AreOtherRowsKept (IsOfStripeFrom shape.now stripe done result.done) (reading_of members.new)
         (present (B.given bank.old) (B.tape bank.old)) (present (B.given bank.old) (B.tape bank.new)) }
     ensures named { HasLiveSlot members.new → AreNamedMissing members.new }
-    ensures heads { B.tells → AreHeadsFewer (disk (B.given bank.old).start (B.tape bank.old)) (disk (B.given bank.old).start (B.tape bank.new)) }
     ensures rise { IsRisen B.tells members.old members.new (B.tape bank.old) (B.tape bank.new) }
     ensures safe { B.tells → (world : World) → (told : Ledger) → HasRoomLeft members.old (B.tape bank.old) (B.tape bank.new)
         → AreGoneTold told members.new → IsUncleanTold told members.old
@@ -145,6 +143,7 @@ fn copy_part<B: Bank>(
         → KeepsSafe world (B.given bank.old) told members.new (B.tape bank.old) (B.tape bank.new) }
     ensures copyable { B.tells → (world : World) → IsCopyable world.scope members.old span.now (disk (B.given bank.old).start (B.tape bank.old))
         → IsCopyable world.scope members.new span.now (disk (B.given bank.old).start (B.tape bank.new)) }
+    ensures headers { B.tells → AreHeadersKept (disk (B.given bank.old).start (B.tape bank.old)) (disk (B.given bank.old).start (B.tape bank.new)) }
     ensures given { B.given bank.new ≡ B.given bank.old }
     ensures counts { NeverFalls (B.faults_of bank.old) (B.faults_of bank.new) }
 {
@@ -191,8 +190,7 @@ pub fn copy<B: Bank>(
         → RowStands (reading_of members.new) (present (B.given bank.old) (B.tape bank.new)) shape.now list row }
     ensures others { B.tells → AreOtherRowsKept (IsOfStripe shape.now stripe) (reading_of members.new)
         (present (B.given bank.old) (B.tape bank.old)) (present (B.given bank.old) (B.tape bank.new)) }
-    ensures named { result.refusal ≡ None → HasLiveSlot members.new → AreNamedMissing members.new }
-    ensures heads { B.tells → AreHeadsFewer (disk (B.given bank.old).start (B.tape bank.old)) (disk (B.given bank.old).start (B.tape bank.new)) }
+    ensures named { HasLiveSlot members.new → AreNamedMissing members.new }
     ensures rise { IsRisen B.tells members.old members.new (B.tape bank.old) (B.tape bank.new) }
     ensures safe { B.tells → (world : World) → (told : Ledger) → HasRoomLeft members.old (B.tape bank.old) (B.tape bank.new)
         → AreGoneTold told members.new → IsUncleanTold told members.old
@@ -201,6 +199,7 @@ pub fn copy<B: Bank>(
         → KeepsSafe world (B.given bank.old) told members.new (B.tape bank.old) (B.tape bank.new) }
     ensures copyable { B.tells → (world : World) → IsCopyable world.scope members.old span.now (disk (B.given bank.old).start (B.tape bank.old))
         → IsCopyable world.scope members.new span.now (disk (B.given bank.old).start (B.tape bank.new)) }
+    ensures headers { B.tells → AreHeadersKept (disk (B.given bank.old).start (B.tape bank.old)) (disk (B.given bank.old).start (B.tape bank.new)) }
     ensures given { B.given bank.new ≡ B.given bank.old }
     ensures counts { NeverFalls (B.faults_of bank.old) (B.faults_of bank.new) }
 {

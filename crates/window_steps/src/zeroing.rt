@@ -18,8 +18,7 @@ ghost use Rattle.views.specs.Moving.{Grows, IsMoved};
 ghost use Rattle.views.specs.Rebuilding.{AreSparesFree};
 ghost use Rattle.views.specs.Lacking.{HaveFailedSince, DoesWithout, AreTooMany, AreOtherRowsKept, IsOfStripe};
 ghost use Rattle.window_rows.specs.Copies.{tail_of, IsZeroIn, IsPastStripe};
-ghost use Rattle.window_steps.specs.Copying.{IsOfStripeFrom};
-ghost use Rattle.window_steps.specs.Recording.{AreHeadsFewer};
+ghost use Rattle.window_steps.specs.Copying.{AreHeadersKept, IsOfStripeFrom};
 ghost use Rattle.window_steps.specs.Zeroing.{IsThrough};
 
 use crate::copying::{Part, Stepped, Stretch};
@@ -60,7 +59,7 @@ fn zero_stretch<B: Bank>(
         → RowStands (reading_of members.new) (present (B.given bank.old) (B.tape bank.new)) shape.now list row }
     ensures others { B.tells → AreOtherRowsKept (IsOfStripeFrom shape.now stripe done result.done) (reading_of members.new)
         (present (B.given bank.old) (B.tape bank.old)) (present (B.given bank.old) (B.tape bank.new)) }
-    ensures heads { B.tells → AreHeadsFewer (disk (B.given bank.old).start (B.tape bank.old)) (disk (B.given bank.old).start (B.tape bank.new)) }
+    ensures headers { B.tells → AreHeadersKept (disk (B.given bank.old).start (B.tape bank.old)) (disk (B.given bank.old).start (B.tape bank.new)) }
     ensures rise { IsRisen B.tells members.old members.new (B.tape bank.old) (B.tape bank.new) }
     ensures safe { B.tells → (world : World) → (told : Ledger)
         → IsSafeOver world (B.given bank.old) told members.old (B.tape bank.old)
@@ -107,7 +106,7 @@ fn zero_part<B: Bank>(
     ensures others { B.tells → AreOtherRowsKept (IsOfStripeFrom shape.now stripe done result.done) (reading_of members.new)
         (present (B.given bank.old) (B.tape bank.old)) (present (B.given bank.old) (B.tape bank.new)) }
     ensures named { HasLiveSlot members.new → AreNamedMissing members.new }
-    ensures heads { B.tells → AreHeadsFewer (disk (B.given bank.old).start (B.tape bank.old)) (disk (B.given bank.old).start (B.tape bank.new)) }
+    ensures headers { B.tells → AreHeadersKept (disk (B.given bank.old).start (B.tape bank.old)) (disk (B.given bank.old).start (B.tape bank.new)) }
     ensures rise { IsRisen B.tells members.old members.new (B.tape bank.old) (B.tape bank.new) }
     ensures safe { B.tells → (world : World) → (told : Ledger) → HasRoomLeft members.old (B.tape bank.old) (B.tape bank.new)
         → AreGoneTold told members.new → IsUncleanTold told members.old
@@ -155,7 +154,7 @@ pub fn zero<B: Bank>(
     ensures others { B.tells → AreOtherRowsKept (IsOfStripe shape.now stripe) (reading_of members.new)
         (present (B.given bank.old) (B.tape bank.old)) (present (B.given bank.old) (B.tape bank.new)) }
     ensures named { HasLiveSlot members.new → AreNamedMissing members.new }
-    ensures heads { B.tells → AreHeadsFewer (disk (B.given bank.old).start (B.tape bank.old)) (disk (B.given bank.old).start (B.tape bank.new)) }
+    ensures headers { B.tells → AreHeadersKept (disk (B.given bank.old).start (B.tape bank.old)) (disk (B.given bank.old).start (B.tape bank.new)) }
     ensures rise { IsRisen B.tells members.old members.new (B.tape bank.old) (B.tape bank.new) }
     ensures safe { B.tells → (world : World) → (told : Ledger) → HasRoomLeft members.old (B.tape bank.old) (B.tape bank.new)
         → AreGoneTold told members.new → IsUncleanTold told members.old

@@ -17,9 +17,8 @@ use Rattle.views.proofs.LackingLaws.{since-same, since-then, in-either}
 use Rattle.views.proofs.LackingLists.{none-of}
 use Rattle.views.proofs.SafeStretch.{safe-none}
 use Rattle.views.proofs.MendedParts.{safe-part}
-use Rattle.window_steps.specs.Copying.{IsOfStripeFrom}
+use Rattle.window_steps.specs.Copying.{IsOfStripeFrom, AreHeadersKept}
 use Rattle.window_steps.proofs.CopyLaws.{row-later, window-alike, tail-alike, refused-of, others-join}
-use Rattle.window_steps.specs.Recording.{AreHeadsFewer}
 use Rattle.window_steps.proofs.copying.copy.Goals as goal
 
 pub loop-done-init : goal.loop-done-init
@@ -36,10 +35,10 @@ loop-done-init g c =
       named = λ some. absurd (omega (arith, some));
       stands = λ told list copied row at. absurd (let low = at.0 in let high = at.1 in omega (arith, low, high));
       others = λ told row out role slot held. refl;
-      heads = λ told s v may. may;
       rise = risen-none m tape0 tape0 (λ told. omega arith);
       safe = λ told world ledger room gone unclean able safe. safe-none (OpensFit world) world.scope given ledger m tape0 safe;
       copyable = λ told world able. able;
+      headers = λ told s v may. may;
       given = refl;
       counts = λ s. omega arith;
     }
@@ -122,6 +121,14 @@ returns-then-is_some-clause-copyable g c = λ told world able.
     subst (λ (b : Given). IsCopyable world.scope c.loop-done.members c.args.span.now (disk b.start tape1) → IsCopyable world.scope c.copy_part-part.new.members c.args.span.now (disk b.start tape2)) was.given
     (did.copyable told world) (was.copyable told world able)
 
+pub returns-then-is_some-clause-headers : goal.returns-then-is_some-clause-headers
+returns-then-is_some-clause-headers g c = λ told s v may.
+    let was = c.loop-done.invariant in
+    let tape1 = g.B.Bank.tape c.loop-done.bank in
+    let tape2 = g.B.Bank.tape c.copy_part-part.new.bank in
+    was.headers told s v
+    (subst (λ (b : Given). AreHeadersKept (disk b.start tape1) (disk b.start tape2)) was.given (c.copy_part-part.ensures.headers told) s v may)
+
 pub loop-done-smaller : goal.loop-done-smaller
 loop-done-smaller g c =
     let did = c.copy_part-part.ensures in
@@ -161,7 +168,6 @@ loop-done-preserved g c =
             (did.stands told list (tail-alike m.newest n.newest was.moved.reshape was.moved.shape was.moved.size c.args.span.now c.args.buffer.now list copied) row (late, at.1))
       ];
       others = λ told. others-join given c.args.shape.now c.args.stripe 0 c.loop-done.done c.copy_part-part.result.done (omega arith) did.reached n new (present given tape0) (present given tape1) (present given tape2) moved (was.others told) (kept told);
-      heads = λ told s v may. was.heads told s v (subst (λ (b : Given). AreHeadsFewer (disk b.start tape1) (disk b.start tape2)) was.given (did.heads told) s v may);
       rise = risen-then was.rise did.rise;
       safe = λ told world ledger room gone unclean able safe.
           safe-part world given given1 ledger m n new tape0 tape1 tape2 told was.given was.moved.placed moved did.grows was.rise room gone
@@ -170,6 +176,8 @@ loop-done-preserved g c =
           (subst (λ (b : Given). IsCopyable world.scope n c.args.span.now (disk b.start tape1)) (sym was.given) (was.copyable told world able)) now);
       copyable = λ told world able.
           subst (λ (b : Given). IsCopyable world.scope n c.args.span.now (disk b.start tape1) → IsCopyable world.scope new c.args.span.now (disk b.start tape2)) was.given (did.copyable told world) (was.copyable told world able);
+      headers = λ told s v may. was.headers told s v
+          (subst (λ (b : Given). AreHeadersKept (disk b.start tape1) (disk b.start tape2)) was.given (did.headers told) s v may);
       given = did.given ∙ was.given;
       counts = λ s. let one = was.counts s in let two = did.counts s in omega (arith, one, two);
     }
@@ -191,15 +199,8 @@ returns-clause-others g c = λ told row out.
     was.others told row (λ at. out ((let low = at.0 in omega (arith, low)), (let high = at.1 in omega (arith, high, within, same))))
 
 pub returns-clause-named : goal.returns-clause-named
-returns-clause-named g c = λ none.
+returns-clause-named g c =
     let end = c.loop-done-test.false in
     let same = c.from-chunk.ensures in
     let some = chunk_some c.args.shape.now (force-valid c.args.members.now.newest c.requires.placed.fit c.args.shape.now (inr c.requires.shape)) in
     c.loop-done.invariant.named (omega (arith, end, same, some))
-
-pub returns-then-is_some-clause-heads : goal.returns-then-is_some-clause-heads
-returns-then-is_some-clause-heads g c = λ told s v may.
-    let was = c.loop-done.invariant in
-    let tape1 = g.B.Bank.tape c.loop-done.bank in
-    let tape2 = g.B.Bank.tape c.copy_part-part.new.bank in
-    was.heads told s v (subst (λ (b : Given). AreHeadsFewer (disk b.start tape1) (disk b.start tape2)) was.given (c.copy_part-part.ensures.heads told) s v may)

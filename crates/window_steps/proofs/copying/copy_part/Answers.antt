@@ -1,4 +1,4 @@
-use Rattle.std.proofs.Common.{◌≡◌, Bool, true, false, Option, refl, sym, ◌∙◌, subst, arith, inl}
+use Rattle.std.proofs.Common.{◌≡◌, Bool, true, false, Option, refl, sym, ◌∙◌, subst, arith}
 use Rattle.std.specs.Prelude.{MatchOption}
 use Rattle.md_base.specs.declared.answers.Refusal.{Refusal}
 use Rattle.md_base.specs.declared.places.Shape.{Shape}
@@ -22,7 +22,6 @@ use Rattle.views.proofs.LackingLaws.{since-then, in-second}
 use Rattle.views.proofs.LackingWrites.{others-then, others-same}
 use Rattle.views.proofs.SafeStretch.{safe-then, over-at, keeps-from}
 use Rattle.window_steps.proofs.CopyLaws.{row-later, copyable-later, kept-less}
-use Rattle.window_steps.specs.Recording.{AreHeadsFewer}
 use Rattle.window_steps.proofs.copying.copy_part.Goals as goal
 
 pub name_missing-spares-requires-clause-free : goal.name_missing-spares-requires-clause-free
@@ -129,11 +128,12 @@ returns-clause-copyable g c = λ told world able.
     (λ header may. kept-less (disk given.start tape1 (backup_of world.scope) 0) (disk given.start tape2 (backup_of world.scope) 0) (last (backup_of world.scope) 0 (λ e. absurd (cc))) header may)
     (did.copyable told world able)
 
-pub returns-clause-heads : goal.returns-clause-heads
-returns-clause-heads g c = λ told s v may.
+pub returns-clause-headers : goal.returns-clause-headers
+returns-clause-headers g c = λ told s v may.
+    let given = g.B.Bank.given c.args.bank.now in
     let did = c.copy_stretch-done.ensures in
     let tape1 = g.B.Bank.tape c.copy_stretch-done.new.bank in
     let tape2 = g.B.Bank.tape c.name_missing-spares.new.bank in
-    let named : AreHeadsFewer (disk (g.B.Bank.given c.args.bank.now).start tape1) (disk (g.B.Bank.given c.args.bank.now).start tape2) =
-    subst (λ (b : Given). AreHeadsFewer (disk b.start tape1) (disk b.start tape2)) did.given (λ s1 v1 may1. c.name_missing-spares.ensures.rest told s1 0 v1 (inl (λ e. absurd (cc))) may1) in
-    did.heads told s v (named s v may)
+    let kept = subst (λ (b : Given). EachMark g.B.Bank.tells b.start tape1 tape2 (AreDataKept (disk b.start tape1))) did.given c.name_missing-spares.ensures.«data» in
+    let last = marks_last kept told in
+    did.headers told s v (kept-less (disk given.start tape1 s 0) (disk given.start tape2 s 0) (last s 0 (λ e. absurd (cc))) v may)

@@ -98,5 +98,7 @@ returns-clause-copyable g c = λ told world able.
     copyable-later world.scope m n (subst (HaveSameReshape m.newest) (sym same) (reshape-same m.newest)) (ap shape_of same) (ap (λ (x : Sb). x.size) same) c.args.span.now (disk given.start tape0) (disk given.start tape1)
     (λ header may. subst (λ (l : List Sector). IsIn l header) (kept.1 (backup_of world.scope) 0 (omega arith)) may) able
 
-pub returns-clause-heads : goal.returns-clause-heads
-returns-clause-heads g c = λ told s v may. let kept = marks_last c.copy_stripe-copied.ensures.each_mark told in subst (λ (l : List Sector). IsIn l v) (kept.1 s 0 (omega arith)) may
+pub returns-clause-headers : goal.returns-clause-headers
+returns-clause-headers g c = λ told s v may.
+    let kept = marks_last c.copy_stripe-copied.ensures.each_mark told in
+    subst (λ (l : List Sector). IsIn l v) (kept.1 s 0 (omega arith)) may
