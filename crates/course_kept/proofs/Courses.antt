@@ -29,7 +29,7 @@ use Rattle.region_laws.specs.Regions.{IsDirected}
 use Rattle.shape_views.specs.Regions.{backup_of, open_by, place_by, ArePlaced, AreShapesFit}
 use Rattle.shape_views.specs.Views.{Disk}
 use Rattle.shape_views.specs.Sound.{IsTail}
-use Rattle.shape_views.specs.Windows.{IsShown, ListStands, moved_past}
+use Rattle.shape_views.specs.Windows.{IsShown, ListStands, RowsStand, moved_past}
 use Rattle.shape_views.proofs.Stands.{moved-stands, moved-rows-stand}
 use Rattle.shape_views.proofs.UnderWay.{row-apart, row-apart-uncritical, under-way, is-reshaping}
 use Rattle.shape_changes.proofs.LessViews.{ends-place}
@@ -54,9 +54,9 @@ use Rattle.course_kept.proofs.Frames.{AreBeside, stands-on, past-alike}
 
 -- ---- members that lost slots
 
-pub courses-move : CoursesMove
-courses-move given old new course buffer c e list placed moved others was =
-    stands-on given old new moved course buffer c e list (λ row. ⊥) (others-same given (λ row. ⊥) old new c e moved placed others) was (record {
+pub courses-move : (sound : Type 0) → CoursesMove sound
+courses-move sound given old new course buffer c e list placed moved others was =
+    stands-on sound given old new moved course buffer c e list (λ row. ⊥) (others-same given (λ row. ⊥) old new c e moved placed others) was (record {
       shown = λ x shown none. none;
       tail = λ x tail none. none;
       copied = λ row at none. none;
@@ -72,9 +72,9 @@ none-of-none shape first row at = absurd (let low = at.0 in let high = at.1 in l
     zero-right : (n : ℕ) → n + 0 ≡ n
     zero-right n = omega arith
 
-pub begins-stand : BeginsStand
-begins-stand scope given old plan new buffer c e list begun placed moved kept zeros stands =
-    stands-on given plan new moved (closed 0) buffer c e list (λ row. ⊥) kept (record {
+pub begins-stand : (sound : Type 0) → BeginsStand sound
+begins-stand sound scope given old plan new buffer c e list begun placed moved kept zeros stands rows =
+    stands-on sound given plan new moved (closed 0) buffer c e list (λ row. ⊥) kept (record {
       stands = (places-alike-stand scope given old plan c list placed (begun-alike old plan begun)).0 stands;
       window = tt;
       zeros = zeros;
@@ -85,6 +85,7 @@ begins-stand scope given old plan new buffer c e list begun placed moved kept ze
           let through = tail.through in
           omega (arith, start, some, through));
       zeroed = λ row at. absurd (none-of-none (final_shape plan.newest) (past_stripe plan.newest) row at);
+      rows = λ so. (places-alike-stand scope given old plan c list placed (begun-alike old plan begun)).1 (rows so);
     }) (record {
       shown = λ x shown none. none;
       tail = λ x tail none. none;
@@ -94,14 +95,14 @@ begins-stand scope given old plan new buffer c e list begun placed moved kept ze
 
 -- ---- a window is entered
 
-pub enters-stand : EntersStand
-enters-stand given old new span sectioned former buffer c e list moved kept room has was = (
-  record { stands = hide sectioned; window = (room, has); zeros = on.zeros; copied = λ row at. absurd (none-of-none (final_shape new.newest) (span.lo / stripe_sectors (final_shape new.newest)) row at); tail = on.tail; zeroed = on.zeroed },
-  record { stands = on.stands; window = (room, has); zeros = on.zeros; copied = λ row none. absurd none; tail = on.tail; zeroed = on.zeroed },
+pub enters-stand : (sound : Type 0) → EntersStand sound
+enters-stand sound given old new span sectioned former buffer c e list moved kept room has was = (
+  record { stands = hide sectioned; window = (room, has); zeros = on.zeros; copied = λ row at. absurd (none-of-none (final_shape new.newest) (span.lo / stripe_sectors (final_shape new.newest)) row at); tail = on.tail; zeroed = on.zeroed; rows = λ so. hide-rows sectioned (on.rows so) },
+  record { stands = on.stands; window = (room, has); zeros = on.zeros; copied = λ row none. absurd none; tail = on.tail; zeroed = on.zeroed; rows = on.rows },
 )
   where
-    on : StandsInCourse new (closed 0) buffer e list
-    on = stands-on given old new moved (closed 0) buffer c e list (λ row. ⊥) kept (record { stands = was.stands; window = tt; zeros = was.zeros; copied = was.copied; tail = was.tail; zeroed = was.zeroed }) (record {
+    on : StandsInCourse sound new (closed 0) buffer e list
+    on = stands-on sound given old new moved (closed 0) buffer c e list (λ row. ⊥) kept (record { stands = was.stands; window = tt; zeros = was.zeros; copied = was.copied; tail = was.tail; zeroed = was.zeroed; rows = was.rows }) (record {
       shown = λ x shown none. none;
       tail = λ x tail none. none;
       copied = λ row at none. none;
@@ -111,6 +112,10 @@ enters-stand given old new span sectioned former buffer c e list moved kept room
     hide : (which : Bool) → ListStands (hidden_in (Entered span 0 which)) new e list
     hide true = λ x slot shown held. on.stands x slot (record { within = shown.within; outside = refl }) held
     hide false = on.stands
+
+    hide-rows : (which : Bool) → RowsStand None new e list → RowsStand (hidden_in (Entered span 0 which)) new e list
+    hide-rows true rows = λ x shown. rows x (record { within = shown.within; outside = refl })
+    hide-rows false rows = rows
 
 -- ---- stripes
 
@@ -169,11 +174,11 @@ module _ (given : Given) (old : Members) (span : Span) (copied : ℕ) (sectioned
   shown-apart : (x : ℕ) → IsShown (hidden_in (Entered span copied sectioned)) old.newest x → IsOfStripe (final_shape old.newest) (next_stripe old span copied) (place_by old.newest x).row → ⊥
   shown-apart x shown at = apart x (place_by old.newest x).row sectioned refl shown (of-window (final_shape old.newest) span copied (place_by old.newest x).row left at) refl
 
-pub copies-go-on : CopiesGoOn
-copies-go-on given old new span copied sectioned buffer c e list placed moved next left plain kept was = (on, more)
+pub copies-go-on : (sound : Type 0) → CopiesGoOn sound
+copies-go-on sound given old new span copied sectioned buffer c e list placed moved next left plain kept was = (on, more)
   where
-    on : StandsInCourse new (entered span copied sectioned) buffer e list
-    on = stands-on given old new moved (entered span copied sectioned) buffer c e list (IsOfStripe (final_shape old.newest) (next_stripe old span copied)) kept was (record {
+    on : StandsInCourse sound new (entered span copied sectioned) buffer e list
+    on = stands-on sound given old new moved (entered span copied sectioned) buffer c e list (IsOfStripe (final_shape old.newest) (next_stripe old span copied)) kept was (record {
       shown = λ x shown at. shown-apart given old span copied sectioned placed next left plain x shown at;
       tail = λ x tail at. no-tail old.newest span x next tail;
       copied = λ row of at. of-before (final_shape old.newest) (span.lo / stripe_sectors (final_shape old.newest)) copied row of at;
@@ -181,7 +186,7 @@ copies-go-on given old new span copied sectioned buffer c e list placed moved ne
     })
 
     more : ((row : ℕ) → IsOfStripe (final_shape old.newest) (next_stripe old span copied) row → RowStands (reading_of new) e (final_shape old.newest) list row)
-        → StandsInCourse new (entered span (copied + 1) sectioned) buffer e list
+        → StandsInCourse sound new (entered span (copied + 1) sectioned) buffer e list
     more done = record {
       stands = hidden-on sectioned on.stands;
       window = on.window;
@@ -193,14 +198,19 @@ copies-go-on given old new span copied sectioned buffer c e list placed moved ne
       ];
       tail = on.tail;
       zeroed = on.zeroed;
+      rows = λ so. rows-hidden sectioned (on.rows so);
     }
       where
+        rows-hidden : (which : Bool) → RowsStand (hidden_in (Entered span copied which)) new e list → RowsStand (hidden_in (Entered span (copied + 1) which)) new e list
+        rows-hidden true rows = rows
+        rows-hidden false rows = rows
+
         hidden-on : (which : Bool) → ListStands (hidden_in (Entered span copied which)) new e list → ListStands (hidden_in (Entered span (copied + 1) which)) new e list
         hidden-on true stands = stands
         hidden-on false stands = stands
 
-pub courses-copied : CoursesAreCopied
-courses-copied scope given m span copied sectioned buffer c list placed next was = record {
+pub courses-copied : (sound : Type 0) → CoursesAreCopied sound
+courses-copied sound scope given m span copied sectioned buffer c list placed next was = record {
   window = was.window.1;
   zeros = λ x at. by (is_backward m.newest) refl x at;
 }
@@ -218,15 +228,16 @@ courses-copied scope given m span copied sectioned buffer c list placed next was
 
 -- ---- the window is recorded
 
-pub records-close : RecordsClose
-records-close scope given old new span sectioned buffer c e list placed was_placed next moved others was =
-    courses-move given (moved_past span old) new (closed 0) buffer c e list (past-placed given old span was_placed next) moved others (record {
+pub records-close : (sound : Type 0) → RecordsClose sound
+records-close sound scope given old new span sectioned buffer c e list placed was_placed next moved others was =
+    courses-move sound given (moved_past span old) new (closed 0) buffer c e list (past-placed given old span was_placed next) moved others (record {
       stands = moved-stands scope given old span c list placed next (λ row at. (window-stands row at).sectors) (hide sectioned was.stands);
       window = tt;
       zeros = was.zeros;
       copied = λ row none. absurd none;
       tail = moved-tails scope given old span c list placed next (λ row at. (window-stands row at).sectors);
       zeroed = λ row at. absurd (none-of-none (final_shape old.newest) (past_stripe old.newest) row at);
+      rows = λ so. moved-rows-stand scope given old span c list placed next window-stands (hide-rows sectioned (was.rows so));
     })
   where
     all : ℕ
@@ -244,18 +255,22 @@ records-close scope given old new span sectioned buffer c e list placed was_plac
     hide true stands = stands
     hide false stands = λ x slot shown held. stands x slot (record { within = shown.within; outside = refl }) held
 
+    hide-rows : (which : Bool) → RowsStand (hidden_in (Entered span all which)) old c list → RowsStand (Some span) old c list
+    hide-rows true rows = rows
+    hide-rows false rows = λ x shown. rows x (record { within = shown.within; outside = refl })
+
 -- ---- a stripe behind the list is zeroed
 
-pub zeroes-go-on : ZeroesGoOn
-zeroes-go-on given old new zeroed buffer c e list placed moved through kept was = (on, more)
+pub zeroes-go-on : (sound : Type 0) → ZeroesGoOn sound
+zeroes-go-on sound given old new zeroed buffer c e list placed moved through kept was = (on, more)
   where
     past-low : (row : ℕ) → IsOfStripe (final_shape old.newest) (past_stripe old.newest + zeroed) row → past_stripe old.newest * (final_shape old.newest).chunk ≤ row
     past-low row at =
         let low : past_stripe old.newest * (final_shape old.newest).chunk ≤ (past_stripe old.newest + zeroed) * (final_shape old.newest).chunk = mul-le-mul_right (final_shape old.newest).chunk (omega arith) in
         (let a = at.0 in omega (arith, a, low))
 
-    on : StandsInCourse new (closed zeroed) buffer e list
-    on = stands-on given old new moved (closed zeroed) buffer c e list (IsOfStripe (final_shape old.newest) (past_stripe old.newest + zeroed)) kept was (record {
+    on : StandsInCourse sound new (closed zeroed) buffer e list
+    on = stands-on sound given old new moved (closed zeroed) buffer c e list (IsOfStripe (final_shape old.newest) (past_stripe old.newest + zeroed)) kept was (record {
       shown = λ x shown at. absurd (
           let shape = (ends-place old.newest x through.active shown.within).1 through.last in
           let below = (rows_hold (final_shape old.newest) (record { lo = 0; hi = list_length old.newest }) x placed.fit.valid.final (omega arith, shown.within)).1 in
@@ -268,7 +283,7 @@ zeroes-go-on given old new zeroed buffer c e list placed moved through kept was 
     })
 
     more : ((row : ℕ) → IsOfStripe (final_shape old.newest) (past_stripe old.newest + zeroed) row → RowStands (reading_of new) e (final_shape old.newest) (λ x. zero_sector) row)
-        → StandsInCourse new (closed (zeroed + 1)) buffer e list
+        → StandsInCourse sound new (closed (zeroed + 1)) buffer e list
     more done = record {
       stands = on.stands;
       window = on.window;
@@ -281,10 +296,11 @@ zeroes-go-on given old new zeroed buffer c e list placed moved through kept was 
             (done row (subst (λ (n : ℕ). IsOfStripe (final_shape old.newest) (n + zeroed) row) (past-alike old.newest new.newest moved.reshape moved.shape moved.size)
             (subst (λ (s : Shape). IsOfStripe s (past_stripe new.newest + zeroed) row) moved.reshape.final last)))
       ];
+      rows = on.rows;
     }
 
-pub zeroes-are-all : ZeroesAreAll
-zeroes-are-all given m buffer c list placed active forth was = record {
+pub zeroes-are-all : (sound : Type 0) → ZeroesAreAll sound
+zeroes-are-all sound given m buffer c list placed active forth was = record {
   zeros = was.zeros forth;
   tail = was.tail;
   past = λ row past. elim (cases_lt row m.newest.size) [

@@ -14,9 +14,10 @@ use Rattle.superblocks.specs.Reading.{is_backward, shape_of, final_shape, list_l
 use Rattle.row_io.specs.Rows.{reading_of, held_slot}
 use Rattle.row_io.proofs.Losses.{holder-of}
 use Rattle.list_io.specs.Full.{RowStands}
+use Rattle.flat_history.specs.Stands.{shape_for}
 use Rattle.shape_views.specs.Regions.{place_by}
 use Rattle.shape_views.specs.Sound.{IsTail}
-use Rattle.shape_views.specs.Windows.{IsShown, ListStands}
+use Rattle.shape_views.specs.Windows.{IsShown, ListStands, RowsStand}
 use Rattle.shape_views.proofs.Stands.{StandsAt}
 use Rattle.shape_ends.specs.Fits.{AreTailsStanding}
 use Rattle.views.specs.Placed.{HaveSameReshape}
@@ -54,8 +55,8 @@ module _ (old new : Sb) (reshape : HaveSameReshape old new) (shape : shape_of ne
 
 -- ---- rows that are written besides
 
-module _ (given : Given) (old new : Members) (moved : IsMoved given old new) (course : Course) (buffer : List ℕ) (c e : Contents) (list : ℕ → Sector) (among : ℕ → Type 0)
-    (kept : AreOtherRowsKept among (reading_of new) c e) (was : StandsInCourse old course buffer c list) where
+module _ (sound : Type 0) (given : Given) (old new : Members) (moved : IsMoved given old new) (course : Course) (buffer : List ℕ) (c e : Contents) (list : ℕ → Sector) (among : ℕ → Type 0)
+    (kept : AreOtherRowsKept among (reading_of new) c e) (was : StandsInCourse sound old course buffer c list) where
   row-on : (shape : Shape) (l : ℕ → Sector) (row : ℕ) → (among row → ⊥) → RowStands (reading_of old) c shape l row → RowStands (reading_of new) e shape l row
   row-on shape l row out stands = row-later given old new moved shape l row c e (kept row out) stands
 
@@ -82,6 +83,10 @@ module _ (given : Given) (old new : Members) (moved : IsMoved given old new) (co
         ∙ ap (λ (n : ℕ). c slot (n + (place_by old.newest x).row)) (moved.offsets slot)
         ∙ was.stands x slot (shown-before x shown) (held-moved moved (place_by old.newest x).role (place_by old.newest x).row slot held)) slot
 
+    rows-on : RowsStand (hidden_in course.window) old c list → RowsStand (hidden_in course.window) new e list
+    rows-on rows x shown = subst (λ (s : Shape). RowStands (reading_of new) e s list (place s x).row) (sym (for-alike old.newest new.newest moved.reshape moved.shape moved.size x))
+        (row-on (shape_for old.newest x) list (place_by old.newest x).row (beside.shown x (shown-before x shown)) (rows x (shown-before x shown)))
+
     tail-on : AreTailsStanding new e list
     tail-on x slot tail = subst (λ (s : Shape). StandsAt new e list x (place s x)) (sym moved.reshape.final)
         (λ slot held. let before = tail-before old.newest new.newest moved.reshape moved.shape moved.size x tail in
@@ -89,7 +94,7 @@ module _ (given : Given) (old new : Members) (moved : IsMoved given old new) (co
         ∙ ap (λ (n : ℕ). c slot (n + (place (final_shape old.newest) x).row)) (moved.offsets slot)
         ∙ was.tail x slot before (held-moved moved (place (final_shape old.newest) x).role (place (final_shape old.newest) x).row slot held)) slot
 
-    pub stands-on : StandsInCourse new course buffer e list
+    pub stands-on : StandsInCourse sound new course buffer e list
     stands-on = record {
       stands = list-on;
       window = was.window;
@@ -99,4 +104,5 @@ module _ (given : Given) (old new : Members) (moved : IsMoved given old new) (co
       tail = tail-on;
       zeroed = λ row at. let before = zeroed-before old.newest new.newest moved.reshape moved.shape moved.size course.zeroed row at in
           final-row-on (λ x. zero_sector) row (beside.zeroed row before) (was.zeroed row before);
+      rows = λ so. rows-on (was.rows so);
     }

@@ -13,7 +13,7 @@ use Rattle.row_io.specs.Rows.{reading_of}
 use Rattle.list_io.specs.Full.{RowStands}
 use Rattle.shape_views.specs.Regions.{backup_of, open_by}
 use Rattle.shape_views.specs.Views.{Disk}
-use Rattle.shape_views.specs.Windows.{HasNoSection, ListStands}
+use Rattle.shape_views.specs.Windows.{HasNoSection, ListStands, RowsStand}
 use Rattle.shape_views.specs.Backups.{IsOpenUnderAll, IsOpenOrNot}
 use Rattle.shape_ends.specs.Fits.{AreTailsStanding}
 use Rattle.shape_ends.specs.Grown.{IsZeroPast}
@@ -89,11 +89,13 @@ pub record IsCourseOf (newest : Sb) (course : Course) : Type 0 where
   pub few : course.zeroed ≤ zeroed_stripes (shape_of newest) (final_shape newest) newest.size (is_backward newest)
 
 -- The list stands on the members, but for the span that is hidden, whose sectors the buffer has; forward it is zero behind its end. The rows that are copied
--- stand by the new shape, with their parity; so does the tail, and the zeroed rows as zeros.
-pub record StandsInCourse (m : Members) (course : Course) (buffer : List ℕ) (c : Contents) (list : ℕ → Sector) : Type 0 where
+-- stand by the new shape, with their parity; so does the tail, and the zeroed rows as zeros. Where the epoch opened sound, so does the row of each sector that
+-- isn't hidden.
+pub record StandsInCourse (sound : Type 0) (m : Members) (course : Course) (buffer : List ℕ) (c : Contents) (list : ℕ → Sector) : Type 0 where
   pub stands : ListStands (hidden_in course.window) m c list
   pub window : HasWindowIn course.window buffer list
   pub zeros : is_backward m.newest ≡ false → IsZeroPast (list_length m.newest) list
   pub copied : (row : ℕ) → IsCopiedRow m.newest course.window row → RowStands (reading_of m) c (final_shape m.newest) list row
   pub tail : AreTailsStanding m c list
   pub zeroed : (row : ℕ) → IsZeroedRow m.newest course.zeroed row → RowStands (reading_of m) c (final_shape m.newest) (λ x. zero_sector) row
+  pub rows : sound → RowsStand (hidden_in course.window) m c list

@@ -12,7 +12,7 @@ use Rattle.row_io.specs.Rows.{reading_of}
 use Rattle.list_io.specs.Full.{RowStands}
 use Rattle.shape_views.specs.Regions.{ArePlaced}
 use Rattle.shape_views.specs.Views.{Disk}
-use Rattle.shape_views.specs.Windows.{ListStands, moved_past}
+use Rattle.shape_views.specs.Windows.{ListStands, RowsStand, moved_past}
 use Rattle.shape_views.specs.Backups.{IsOpenUnderAll}
 use Rattle.shape_changes.specs.Marking.{AreOthersPresent}
 use Rattle.shape_ends.specs.Ends.{IsBegun}
@@ -33,9 +33,9 @@ use Rattle.course_kept.specs.Course.{IsStored, StandsInCourse, past_stripe}
 -- ---- what stands
 
 -- Members that lost slots, where all but the superblocks is as it was, stand in the same course.
-abbrev pub CoursesMove : Type 0
-CoursesMove = (given : Given) (old new : Members) (course : Course) (buffer : List ℕ) (c e : Contents) (list : ℕ → Sector) → IsPlaced given old → IsMoved given old new → AreOthersPresent c e
-    → StandsInCourse old course buffer c list → StandsInCourse new course buffer e list
+abbrev pub CoursesMove : (sound : Type 0) → Type 0
+CoursesMove sound = (given : Given) (old new : Members) (course : Course) (buffer : List ℕ) (c e : Contents) (list : ℕ → Sector) → IsPlaced given old → IsMoved given old new → AreOthersPresent c e
+    → StandsInCourse sound old course buffer c list → StandsInCourse sound new course buffer e list
 
 -- an entered window, before any stripe behind the list is zeroed
 abbrev pub entered : Span → ℕ → Bool → Course
@@ -52,53 +52,53 @@ abbrev pub next_stripe : Members → Span → ℕ → ℕ
 next_stripe m span copied = span.lo / stripe_sectors (final_shape m.newest) + copied
 
 -- Where rows of the next stripe are written and no others, all stands on as before; and where that stripe stands by the new shape, with it copied.
-abbrev pub CopiesGoOn : Type 0
-CopiesGoOn = (given : Given) (old new : Members) (span : Span) (copied : ℕ) (sectioned : Bool) (buffer : List ℕ) (c e : Contents) (list : ℕ → Sector)
+abbrev pub CopiesGoOn : (sound : Type 0) → Type 0
+CopiesGoOn sound = (given : Given) (old new : Members) (span : Span) (copied : ℕ) (sectioned : Bool) (buffer : List ℕ) (c e : Contents) (list : ℕ → Sector)
     → IsPlaced given old → IsMoved given old new → next_window old.newest ≡ Some span → copied < stripes (final_shape old.newest) span.lo span.hi
     → (sectioned ≡ false → is_critical (shape_of old.newest) (final_shape old.newest) old.newest.size (is_backward old.newest) span ≡ false)
     → AreOtherRowsKept (IsOfStripe (final_shape old.newest) (next_stripe old span copied)) (reading_of new) c e
-    → StandsInCourse old (entered span copied sectioned) buffer c list
-    → StandsInCourse new (entered span copied sectioned) buffer e list
+    → StandsInCourse sound old (entered span copied sectioned) buffer c list
+    → StandsInCourse sound new (entered span copied sectioned) buffer e list
     × (((row : ℕ) → IsOfStripe (final_shape old.newest) (next_stripe old span copied) row → RowStands (reading_of new) e (final_shape old.newest) list row)
-    → StandsInCourse new (entered span (copied + 1) sectioned) buffer e list)
+    → StandsInCourse sound new (entered span (copied + 1) sectioned) buffer e list)
 
 -- A reshape has begun, and nothing of it is done yet: the list that stood stands in its course, forward with zeros behind its end.
-abbrev pub BeginsStand : Type 0
-BeginsStand = (scope : Scope) (given : Given) (old plan new : Members) (buffer : List ℕ) (c e : Contents) (list : ℕ → Sector) → IsBegun old plan → ArePlaced scope given plan → IsMoved given plan new
+abbrev pub BeginsStand : (sound : Type 0) → Type 0
+BeginsStand sound = (scope : Scope) (given : Given) (old plan new : Members) (buffer : List ℕ) (c e : Contents) (list : ℕ → Sector) → IsBegun old plan → ArePlaced scope given plan → IsMoved given plan new
     → AreOtherRowsKept (λ row. ⊥) (reading_of new) c e → (is_backward plan.newest ≡ false → IsZeroPast (list_length plan.newest) list)
-    → ListStands None old c list → StandsInCourse new (closed 0) buffer e list
+    → ListStands None old c list → (sound → RowsStand None old c list) → StandsInCourse sound new (closed 0) buffer e list
 
 -- The next window's sectors are in the buffer: it is entered, with its section stored or not, or unsure.
-abbrev pub EntersStand : Type 0
-EntersStand = (given : Given) (old new : Members) (span : Span) (sectioned : Bool) (former buffer : List ℕ) (c e : Contents) (list : ℕ → Sector) → IsMoved given old new
-    → AreOtherRowsKept (λ row. ⊥) (reading_of new) c e → IsRoomFor span buffer → HasWindow span buffer list → StandsInCourse old (closed 0) former c list
-    → StandsInCourse new (entered span 0 sectioned) buffer e list × StandsInCourse new (unsure span) buffer e list
+abbrev pub EntersStand : (sound : Type 0) → Type 0
+EntersStand sound = (given : Given) (old new : Members) (span : Span) (sectioned : Bool) (former buffer : List ℕ) (c e : Contents) (list : ℕ → Sector) → IsMoved given old new
+    → AreOtherRowsKept (λ row. ⊥) (reading_of new) c e → IsRoomFor span buffer → HasWindow span buffer list → StandsInCourse sound old (closed 0) former c list
+    → StandsInCourse sound new (entered span 0 sectioned) buffer e list × StandsInCourse sound new (unsure span) buffer e list
 
 -- The list that stands in the course has the buffer's sectors in the window, and forward zeros in the tail: it is what a copy writes.
-abbrev pub CoursesAreCopied : Type 0
-CoursesAreCopied = (scope : Scope) (given : Given) (m : Members) (span : Span) (copied : ℕ) (sectioned : Bool) (buffer : List ℕ) (c : Contents) (list : ℕ → Sector) → ArePlaced scope given m
-    → next_window m.newest ≡ Some span → StandsInCourse m (entered span copied sectioned) buffer c list → IsCopied span buffer (tail_of m.newest) list
+abbrev pub CoursesAreCopied : (sound : Type 0) → Type 0
+CoursesAreCopied sound = (scope : Scope) (given : Given) (m : Members) (span : Span) (copied : ℕ) (sectioned : Bool) (buffer : List ℕ) (c : Contents) (list : ℕ → Sector) → ArePlaced scope given m
+    → next_window m.newest ≡ Some span → StandsInCourse sound m (entered span copied sectioned) buffer c list → IsCopied span buffer (tail_of m.newest) list
 
 -- All stripes are copied: once the position has moved behind the window, the list stands in the new shape there, and none is open.
-abbrev pub RecordsClose : Type 0
-RecordsClose = (scope : Scope) (given : Given) (old new : Members) (span : Span) (sectioned : Bool) (buffer : List ℕ) (c e : Contents) (list : ℕ → Sector)
+abbrev pub RecordsClose : (sound : Type 0) → Type 0
+RecordsClose sound = (scope : Scope) (given : Given) (old new : Members) (span : Span) (sectioned : Bool) (buffer : List ℕ) (c e : Contents) (list : ℕ → Sector)
     → ArePlaced scope given old → IsPlaced given old → next_window old.newest ≡ Some span → IsMoved given (moved_past span old) new → AreOthersPresent c e
-    → StandsInCourse old (entered span (stripes (final_shape old.newest) span.lo span.hi) sectioned) buffer c list → StandsInCourse new (closed 0) buffer e list
+    → StandsInCourse sound old (entered span (stripes (final_shape old.newest) span.lo span.hi) sectioned) buffer c list → StandsInCourse sound new (closed 0) buffer e list
 
 -- Where rows of the next stripe behind the list are written and no others, all stands on; and where they stand as zeros, with that stripe zeroed.
-abbrev pub ZeroesGoOn : Type 0
-ZeroesGoOn = (given : Given) (old new : Members) (zeroed : ℕ) (buffer : List ℕ) (c e : Contents) (list : ℕ → Sector)
+abbrev pub ZeroesGoOn : (sound : Type 0) → Type 0
+ZeroesGoOn sound = (given : Given) (old new : Members) (zeroed : ℕ) (buffer : List ℕ) (c e : Contents) (list : ℕ → Sector)
     → IsPlaced given old → IsMoved given old new → IsThrough old.newest
     → AreOtherRowsKept (IsOfStripe (final_shape old.newest) (past_stripe old.newest + zeroed)) (reading_of new) c e
-    → StandsInCourse old (closed zeroed) buffer c list
-    → StandsInCourse new (closed zeroed) buffer e list
+    → StandsInCourse sound old (closed zeroed) buffer c list
+    → StandsInCourse sound new (closed zeroed) buffer e list
     × (((row : ℕ) → IsOfStripe (final_shape old.newest) (past_stripe old.newest + zeroed) row → RowStands (reading_of new) e (final_shape old.newest) (λ x. zero_sector) row)
-    → StandsInCourse new (closed (zeroed + 1)) buffer e list)
+    → StandsInCourse sound new (closed (zeroed + 1)) buffer e list)
 
 -- All stripes behind the list are zeroed: what is behind it is zero, on the members and in the list.
-abbrev pub ZeroesAreAll : Type 0
-ZeroesAreAll = (given : Given) (m : Members) (buffer : List ℕ) (c : Contents) (list : ℕ → Sector) → IsPlaced given m → is_reshaping m.newest ≡ true → is_backward m.newest ≡ false
-    → StandsInCourse m (closed (zeroed_stripes (shape_of m.newest) (final_shape m.newest) m.newest.size (is_backward m.newest))) buffer c list → IsZeroBehind m c list
+abbrev pub ZeroesAreAll : (sound : Type 0) → Type 0
+ZeroesAreAll sound = (given : Given) (m : Members) (buffer : List ℕ) (c : Contents) (list : ℕ → Sector) → IsPlaced given m → is_reshaping m.newest ≡ true → is_backward m.newest ≡ false
+    → StandsInCourse sound m (closed (zeroed_stripes (shape_of m.newest) (final_shape m.newest) m.newest.size (is_backward m.newest))) buffer c list → IsZeroBehind m c list
 
 -- ---- the headers
 

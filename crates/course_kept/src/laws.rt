@@ -1,45 +1,46 @@
 //! Laws of the course of a reshape. Each function's contract is the law.
 
+ghost use Rattle.std.specs.Prelude.{⊤};
 ghost use Rattle.course_kept.specs.Laws.{BeginsStand, EntersStand, CoursesMove, CopiesGoOn, CoursesAreCopied, RecordsClose, ZeroesGoOn, ZeroesAreAll, StoredMove, OpenHeadersFit};
 
 /// A reshape begins.
 pub fn a_begun_reshape_stands()
-    ensures { BeginsStand }
+    ensures { BeginsStand ⊤ }
 {}
 
 /// A window is entered.
 pub fn an_entered_window_stands()
-    ensures { EntersStand }
+    ensures { EntersStand ⊤ }
 {}
 
 /// Members that lost slots stand in the same course.
 pub fn a_course_moves()
-    ensures { CoursesMove }
+    ensures { CoursesMove ⊤ }
 {}
 
 /// A stripe of the window is copied.
 pub fn a_copy_goes_on()
-    ensures { CopiesGoOn }
+    ensures { CopiesGoOn ⊤ }
 {}
 
 /// What a copy writes is the list that stands.
 pub fn a_course_is_copied()
-    ensures { CoursesAreCopied }
+    ensures { CoursesAreCopied ⊤ }
 {}
 
 /// The window is recorded.
 pub fn a_record_closes()
-    ensures { RecordsClose }
+    ensures { RecordsClose ⊤ }
 {}
 
 /// A stripe behind the list is zeroed.
 pub fn a_zeroing_goes_on()
-    ensures { ZeroesGoOn }
+    ensures { ZeroesGoOn ⊤ }
 {}
 
 /// All stripes behind the list are zeroed.
 pub fn all_is_zeroed()
-    ensures { ZeroesAreAll }
+    ensures { ZeroesAreAll ⊤ }
 {}
 
 /// The headers that a stop leaves stay as they are.
