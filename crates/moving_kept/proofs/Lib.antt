@@ -1,0 +1,3 @@
+pub mod MembersMove
+pub mod Quiet
+pub mod Steps
