@@ -49,7 +49,7 @@ use Rattle.course_kept.specs.declared.course.Course.{Course}
 use Rattle.course_kept.specs.declared.course.Window.{Window}
 use Rattle.course_kept.specs.declared.course.Window.TheVariants.{Closed, Entered, Unsure}
 use Rattle.course_kept.specs.Course.{IsOfStripes, IsZeroedRow, hidden_in, IsStoredAs, StandsInCourse, past_stripe}
-use Rattle.course_kept.specs.Laws.{BeginsStand, EntersStand, CoursesMove, CopiesGoOn, CoursesAreCopied, RecordsClose, ZeroesGoOn, ZeroesAreAll, StoredMove, OpenHeadersFit, entered, closed, next_stripe}
+use Rattle.course_kept.specs.Laws.{BeginsStand, EntersStand, CoursesMove, CopiesGoOn, CoursesAreCopied, WindowsAreCopied, RecordsClose, ZeroesGoOn, ZeroesAreAll, StoredMove, OpenHeadersFit, entered, closed, next_stripe}
 use Rattle.course_kept.proofs.Frames.{AreBeside, stands-on, past-alike}
 
 -- ---- members that lost slots
@@ -228,36 +228,41 @@ courses-copied sound scope given m span copied sectioned buffer c list placed ne
 
 -- ---- the window is recorded
 
-pub records-close : (sound : Type 0) → RecordsClose sound
-records-close sound scope given old new span sectioned buffer c e list placed was_placed next moved others was =
-    courses-move sound given (moved_past span old) new (closed 0) buffer c e list (past-placed given old span was_placed next) moved others (record {
-      stands = moved-stands scope given old span c list placed next (λ row at. (window-stands row at).sectors) (hide sectioned was.stands);
-      window = tt;
-      zeros = was.zeros;
-      copied = λ row none. absurd none;
-      tail = moved-tails scope given old span c list placed next (λ row at. (window-stands row at).sectors);
-      zeroed = λ row at. absurd (none-of-none (final_shape old.newest) (past_stripe old.newest) row at);
-      rows = λ so. moved-rows-stand scope given old span c list placed next window-stands (hide-rows sectioned (was.rows so));
-    })
+pub windows-copied : (sound : Type 0) → WindowsAreCopied sound
+windows-copied sound m span sectioned buffer c list was = record {
+  window = λ row at. was.copied row (
+    at.0,
+    let high = at.1 in
+        let le : ceiling span.hi (stripe_sectors (final_shape m.newest)) * (final_shape m.newest).chunk ≤ (span.lo / stripe_sectors (final_shape m.newest) + stripes (final_shape m.newest) span.lo span.hi) * (final_shape m.newest).chunk =
+        mul-le-mul_right (final_shape m.newest).chunk (omega arith) in omega (arith, high, le),
+  );
+  stands = hide sectioned was.stands;
+  rows_are = λ so. hide-rows sectioned (was.rows so);
+}
   where
     all : ℕ
-    all = stripes (final_shape old.newest) span.lo span.hi
+    all = stripes (final_shape m.newest) span.lo span.hi
 
-    window-stands : (row : ℕ) → geometry.IsIn row (rows (final_shape old.newest) span.lo span.hi) → RowStands (reading_of old) c (final_shape old.newest) list row
-    window-stands row at = was.copied row (
-      at.0,
-      let high = at.1 in
-          let le : ceiling span.hi (stripe_sectors (final_shape old.newest)) * (final_shape old.newest).chunk ≤ (span.lo / stripe_sectors (final_shape old.newest) + all) * (final_shape old.newest).chunk =
-          mul-le-mul_right (final_shape old.newest).chunk (omega arith) in omega (arith, high, le),
-    )
-
-    hide : (which : Bool) → ListStands (hidden_in (Entered span all which)) old c list → ListStands (Some span) old c list
+    hide : (which : Bool) → ListStands (hidden_in (Entered span all which)) m c list → ListStands (Some span) m c list
     hide true stands = stands
     hide false stands = λ x slot shown held. stands x slot (record { within = shown.within; outside = refl }) held
 
-    hide-rows : (which : Bool) → RowsStand (hidden_in (Entered span all which)) old c list → RowsStand (Some span) old c list
+    hide-rows : (which : Bool) → RowsStand (hidden_in (Entered span all which)) m c list → RowsStand (Some span) m c list
     hide-rows true rows = rows
     hide-rows false rows = λ x shown. rows x (record { within = shown.within; outside = refl })
+
+pub records-close : (sound : Type 0) → RecordsClose sound
+records-close sound scope given old new span sectioned buffer c e list placed was_placed next moved others was =
+    let done = windows-copied sound old span sectioned buffer c list was in
+    courses-move sound given (moved_past span old) new (closed 0) buffer c e list (past-placed given old span was_placed next) moved others (record {
+      stands = moved-stands scope given old span c list placed next (λ row at. (done.window row at).sectors) done.stands;
+      window = tt;
+      zeros = was.zeros;
+      copied = λ row none. absurd none;
+      tail = moved-tails scope given old span c list placed next (λ row at. (done.window row at).sectors);
+      zeroed = λ row at. absurd (none-of-none (final_shape old.newest) (past_stripe old.newest) row at);
+      rows = λ so. moved-rows-stand scope given old span c list placed next done.window (done.rows_are so);
+    })
 
 -- ---- a stripe behind the list is zeroed
 

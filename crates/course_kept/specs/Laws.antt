@@ -5,7 +5,8 @@ use Rattle.md_base.specs.Sectors.{Sector, zero_sector}
 use Rattle.md_base.specs.Shapes.{stripe_sectors}
 use Rattle.bank.specs.Given.{Given}
 use Rattle.bank.specs.Tape.{Contents}
-use Rattle.geometry.specs.Geometry.{stripes, zeroed_stripes, is_critical}
+use Rattle.geometry.specs.Geometry.{stripes, rows, zeroed_stripes, is_critical}
+use Rattle.geometry.specs.Geometry as geometry
 use Rattle.superblocks.specs.declared.members.Members.{Members}
 use Rattle.superblocks.specs.Reading.{Scope, is_reshaping, is_backward, shape_of, final_shape, list_length, next_window}
 use Rattle.row_io.specs.Rows.{reading_of}
@@ -78,6 +79,16 @@ EntersStand sound = (given : Given) (old new : Members) (span : Span) (sectioned
 abbrev pub CoursesAreCopied : (sound : Type 0) → Type 0
 CoursesAreCopied sound = (scope : Scope) (given : Given) (m : Members) (span : Span) (copied : ℕ) (sectioned : Bool) (buffer : List ℕ) (c : Contents) (list : ℕ → Sector) → ArePlaced scope given m
     → next_window m.newest ≡ Some span → StandsInCourse sound m (entered span copied sectioned) buffer c list → IsCopied span buffer (tail_of m.newest) list
+
+-- All stripes of the window are copied: its rows stand by the new shape, and the list outside it, with its rows.
+pub record IsWindowCopied (sound : Type 0) (m : Members) (span : Span) (c : Contents) (list : ℕ → Sector) : Type 0 where
+  pub window : (row : ℕ) → geometry.IsIn row (rows (final_shape m.newest) span.lo span.hi) → RowStands (reading_of m) c (final_shape m.newest) list row
+  pub stands : ListStands (Some span) m c list
+  pub rows_are : sound → RowsStand (Some span) m c list
+
+abbrev pub WindowsAreCopied : (sound : Type 0) → Type 0
+WindowsAreCopied sound = (m : Members) (span : Span) (sectioned : Bool) (buffer : List ℕ) (c : Contents) (list : ℕ → Sector)
+    → StandsInCourse sound m (entered span (stripes (final_shape m.newest) span.lo span.hi) sectioned) buffer c list → IsWindowCopied sound m span c list
 
 -- All stripes are copied: once the position has moved behind the window, the list stands in the new shape there, and none is open.
 abbrev pub RecordsClose : (sound : Type 0) → Type 0

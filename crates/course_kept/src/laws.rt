@@ -1,7 +1,7 @@
 //! Laws of the course of a reshape. Each function's contract is the law.
 
 ghost use Rattle.std.specs.Prelude.{⊤};
-ghost use Rattle.course_kept.specs.Laws.{BeginsStand, EntersStand, CoursesMove, CopiesGoOn, CoursesAreCopied, RecordsClose, ZeroesGoOn, ZeroesAreAll, StoredMove, OpenHeadersFit};
+ghost use Rattle.course_kept.specs.Laws.{BeginsStand, EntersStand, CoursesMove, CopiesGoOn, CoursesAreCopied, WindowsAreCopied, RecordsClose, ZeroesGoOn, ZeroesAreAll, StoredMove, OpenHeadersFit};
 
 /// A reshape begins.
 pub fn a_begun_reshape_stands()
@@ -26,6 +26,11 @@ pub fn a_copy_goes_on()
 /// What a copy writes is the list that stands.
 pub fn a_course_is_copied()
     ensures { CoursesAreCopied ⊤ }
+{}
+
+/// All stripes of a window are copied.
+pub fn a_window_is_copied()
+    ensures { WindowsAreCopied ⊤ }
 {}
 
 /// The window is recorded.

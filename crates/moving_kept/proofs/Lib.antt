@@ -1,3 +1,6 @@
 pub mod MembersMove
+pub mod Newest
 pub mod Quiet
+pub mod Refusals
 pub mod Steps
+pub mod MoreSteps

@@ -1,7 +1,9 @@
 -- A call that leaves the list as it is, and enters losses and one event behind them.
-use Rattle.std.proofs.Common.{◌≡◌, ◌⊎◌, inl, inr, ℕ, ◌<◌, ◌≤◌, ◌==◌, ◌&&◌, ◌||◌, Bool, true, false, List, [], ◌∷◌, ◌++◌, length, refl, sym, ◌∙◌, ap, subst, arith, append_assoc, append-nil}
+use Rattle.std.proofs.Common.{◌≡◌, ◌⊎◌, inl, inr, ℕ, ◌<◌, ◌≤◌, ◌==◌, ◌&&◌, ◌||◌, Bool, true, false, Option, List, [], ◌∷◌, ◌++◌, length, refl, sym, ◌∙◌, ap, subst, arith, append_assoc, append-nil}
 use Rattle.std.specs.Prelude.{IsFalse, IsTrue, IfSome, fold, slice_index_or, ⊤}
 use Rattle.std.specs.List.{list_any}
+use Rattle.std.specs.Option.{option_map_or}
+use Rattle.std.proofs.lemmas.List.Sums.{fold-append}
 use Rattle.md_base.specs.Sectors.{Sector}
 use Rattle.md_base.specs.Shapes.{has_slot}
 use Rattle.md_base.specs.declared.answers.Who.{Who}
@@ -9,7 +11,7 @@ use Rattle.bank.specs.declared.bank.Operation.{Operation}
 use Rattle.bank.specs.Given.{Given, sizes}
 use Rattle.bank.specs.Tape.{disk}
 use Rattle.superblocks.specs.declared.members.Members.{Members}
-use Rattle.superblocks.specs.Reading.{Scope, is_clean, list_length, role_count}
+use Rattle.superblocks.specs.Reading.{Scope, Reading, is_clean, shape_of, list_length, role_count}
 use Rattle.row_io.specs.Rows.{reading_of, present, is_missing}
 use Rattle.flat_history.specs.declared.events.Entry.{Entry}
 use Rattle.flat_history.specs.declared.events.Event.{Event}
@@ -18,12 +20,12 @@ use Rattle.flat_history.specs.declared.events.LostCause.TheVariants.{Fault}
 use Rattle.flat_history.specs.Epochs.{HasRoomForEvents, OpensAlike}
 use Rattle.flat_history.specs.Flat.{now, values_of, values_after, length_of}
 use Rattle.flat_history.specs.Growing.{grown}
-use Rattle.flat_history.specs.Legal.{told_left, MayBeInner, IsInnerOrLast, IsLegalEvent}
+use Rattle.flat_history.specs.Legal.{told_left, level_at, level_after, MayBeInner, IsInnerOrLast, IsLegalEvent}
 use Rattle.flat_history.specs.Losses.{is_gone_after, is_unsynced, loses, unsettles, is_resync_end}
 use Rattle.flat_history.specs.OneShape.{is_lost, is_unsettled}
 use Rattle.flat_history.specs.Plain.{entries_of}
 use Rattle.flat_history.specs.Sound.{OpensFit}
-use Rattle.flat_history.specs.World.{World, opening_list}
+use Rattle.flat_history.specs.World.{World, reading_at, opening_list}
 use Rattle.history_laws.proofs.OneShapeGrowing.{AreFaults}
 use Rattle.shape_views.specs.Regions.{DoWithout}
 use Rattle.shape_views.specs.Views.{Ledger}
@@ -37,7 +39,7 @@ use Rattle.call_entries.proofs.LosingLaws.{entries-both}
 use Rattle.kept_history.specs.Recorded.{IsHistoryKept, IsLegalCall, IsReshapedCall, IsCallGoing, MayFollow, entry_of, ends_reshape, gives_some}
 use Rattle.kept_history.specs.Safe.{world_in, IsFilledRight, IsSafeHistory}
 use Rattle.kept_history.specs.Told.{told_now, told_by}
-use Rattle.kept_history.proofs.Growing.{longer-by, opening-grown, fit-grown, gone-grown, takes-grown, unsynced-grown, now-grown, alike-before, room-before, room-now}
+use Rattle.kept_history.proofs.Growing.{reading-grown, opening-grown, fit-grown, gone-grown, takes-grown, unsynced-grown, now-grown, alike-before, room-before, room-now}
 use Rattle.kept_history.proofs.Tests.{none-before}
 use Rattle.kept_history.proofs.Ledgers.{more-then, any-gone}
 use Rattle.kept_history.proofs.Longer.{regains-none}
@@ -50,12 +52,13 @@ use Rattle.course_kept.specs.declared.course.Course.{Course}
 use Rattle.course_kept.specs.Course.{IsCourseOf, IsStored, StandsInCourse}
 use Rattle.moving_kept.specs.Moving.{AreReshaping, AreToldGone, HasListInCourse, IsMoving}
 
--- An event that leaves the list, settles nothing and neither ends a reshape nor gives a role.
+-- An event that leaves the list and the level, settles nothing and neither ends a reshape nor gives a role.
 pub record IsQuiet (event : Event) : Type 0 where
   pub adds : adds_only event ≡ true
   pub gives : gives_some event ≡ false
   pub ends : ends_reshape event ≡ false
   pub still : (x : ℕ) (values : List Sector) → values_after x values event ≡ values
+  pub level : (n : ℕ) → level_after n event ≡ n
 
 -- ---- losses
 
@@ -92,6 +95,13 @@ ends-losses (Lost role Fault ∷ xs) tail are none = ends-losses xs tail are non
 ends-losses (SpareLost slot ∷ xs) tail are none = ends-losses xs tail are none
 ends-losses (event ∷ xs) tail are none = absurd are
 
+-- nor changes the level
+level-losses : (who : Who) (end n : ℕ) (xs tail : List Event) → AreLossEvents xs → fold (λ level e. level_after level e.event) n (entries_of who end (xs ++ tail)) ≡ fold (λ level e. level_after level e.event) n (entries_of who end tail)
+level-losses who end n [] tail are = refl
+level-losses who end n (Lost role Fault ∷ xs) tail are = level-losses who end n xs tail are
+level-losses who end n (SpareLost slot ∷ xs) tail are = level-losses who end n xs tail are
+level-losses who end n (event ∷ xs) tail are = absurd are
+
 or-false : (a b : Bool) → a ≡ false → b ≡ false → (a || b) ≡ false
 or-false true b e f = absurd (cc)
 or-false false b e f = f
@@ -112,10 +122,13 @@ pub record IsQuietCall (given : Given) (tape : List Operation) (scope : Scope) (
   pub listed : DoWithout new → IsFilledRight (world_in given tape scope first) entries
       → HasListInCourse (OpensFit (world_in given tape scope first)) new course' buffer' (present given tape') (now (opening_list (world_in given tape scope first)) entries)
   pub legal : IsFilledRight (world_in given tape' scope first) (entries ++ entries_of who end (losses_of roles spares ++ event ∷ []))
+      → AreToldGone (world_in given tape' scope first) (entries ++ entries_of who end (losses_of roles spares)) new
+      → level_at (world_in given tape' scope first) (entries ++ entries_of who end (losses_of roles spares)) ≡ level_at (world_in given tape scope first) entries
       → IsLegalEvent (world_in given tape' scope first) (entries ++ entries_of who end (losses_of roles spares)) (entry_of who end event) [] event
 
 -- What it leaves, of what is kept over a bank that tells its contents.
-pub record IsLeftBy (given : Given) (scope : Scope) (first : ℕ) (all : List Entry) (new : Members) (carried : ℕ → Bool) (course' : Course) (buffer' : List ℕ) (tape' : List Operation) : Type 0 where
+pub record IsLeftBy (given : Given) (tape : List Operation) (scope : Scope) (first : ℕ) (entries all : List Entry) (new : Members) (carried : ℕ → Bool) (course' : Course) (buffer' : List ℕ) (tape' : List Operation) : Type 0 where
+  pub levelled : level_at (world_in given tape' scope first) all ≡ level_at (world_in given tape scope first) entries
   pub gone : AreToldGone (world_in given tape' scope first) all new
   pub unclean : is_clean new.newest ≡ false → (is_unsynced (world_in given tape' scope first) all || is_unsettled all) ≡ true
   pub recorded : IsHistoryKept (IsFilledRight (world_in given tape' scope first) all) (world_in given tape' scope first) (list_length new.newest) all
@@ -135,9 +148,9 @@ module _ (given : Given) (tape : List Operation) (scope : Scope) (first : ℕ) (
     (unclean : is_clean old.newest ≡ false → (is_unsynced (world_in given tape scope first) entries || is_unsettled entries) ≡ true)
     (recorded : IsHistoryKept (IsFilledRight (world_in given tape scope first) entries) (world_in given tape scope first) (list_length old.newest) entries)
     (safe : IsFilledRight (world_in given tape scope first) entries → HasRoomForEvents (world_in given tape scope first) → OpensAlike (world_in given tape scope first)
-        → IsSafeHistory ⊥ (world_in given tape scope first) given old carried true entries)
+    → IsSafeHistory ⊥ (world_in given tape scope first) given old carried true entries)
     (now_safe : IsFilledRight (world_in given tape scope first) entries → HasRoomForEvents (world_in given tape scope first) → OpensAlike (world_in given tape scope first)
-        → IsSafeOver (world_in given tape scope first) given (told_now (world_in given tape scope first) carried true entries) old tape)
+    → IsSafeOver (world_in given tape scope first) given (told_now (world_in given tape scope first) carried true entries) old tape)
     (call : IsQuietCall given tape scope first entries old new carried course' buffer' who roles spares event (tape ++ ops) (length (tape ++ ops))) where
   abbrev world : World
   world = world_in given tape scope first
@@ -193,6 +206,23 @@ module _ (given : Given) (tape : List Operation) (scope : Scope) (first : ℕ) (
   gone-all : AreToldGone later all new
   gone-all role lt miss = any-gone later role entries added (regains-none later role added gives-all) (gone-counts added (λ role lt has. told-losses role roles spares who end (event ∷ []) lt has) role lt miss)
 
+  gone-more : AreToldGone later (entries ++ more) new
+  gone-more role lt miss = any-gone later role entries more (regains-none later role more gives-more) (gone-counts more lost-more role lt miss)
+
+  level-from : (xs : List Event) → fold (λ level e. level_after level e.event) (level_at world entries) (entries_of who end xs) ≡ level_at world entries
+      → level_at later (entries ++ entries_of who end xs) ≡ level_at world entries
+  level-from xs same =
+      ap (λ (found : Option Reading). fold (λ level e. level_after level e.event) (option_map_or (λ r. r.newest.level) found 5) (entries ++ entries_of who end xs)) (reading-grown world ops first recorded.begun)
+      ∙ fold-append (λ level e. level_after level e.event) (option_map_or (λ r. r.newest.level) (reading_at world world.first) 5) entries (entries_of who end xs)
+      ∙ same
+
+  level-more : level_at later (entries ++ more) ≡ level_at world entries
+  level-more = level-from losses (subst (λ (l : List Event). fold (λ level e. level_after level e.event) (level_at world entries) (entries_of who end l) ≡ level_at world entries) (append-nil losses)
+      (level-losses who end (level_at world entries) losses [] (losses-are roles spares)))
+
+  level-all : level_at later all ≡ level_at world entries
+  level-all = level-from (losses ++ event ∷ []) (level-losses who end (level_at world entries) losses (event ∷ []) (losses-are roles spares) ∙ quiet.level (level_at world entries))
+
   -- ---- what is told
 
   begun : first ≤ length tape
@@ -225,7 +255,7 @@ module _ (given : Given) (tape : List Operation) (scope : Scope) (first : ℕ) (
   -- ---- the history
 
   legal-call : IsFilledRight later all → IsLegalCall later entries who end (losses ++ event ∷ [])
-  legal-call fills = legal-losses later entries who end losses (event ∷ []) (losses-are roles spares) (call.legal fills, tt, tt)
+  legal-call fills = legal-losses later entries who end losses (event ∷ []) (losses-are roles spares) (call.legal fills gone-more level-more, tt, tt)
 
   recorded-all : IsHistoryKept (IsFilledRight later all) later (list_length new.newest) all
   recorded-all = kept-call (IsFilledRight world entries) (IsFilledRight later all) world ops (list_length old.newest) (list_length new.newest) entries who (losses ++ event ∷ []) goes recorded fills-before caller
@@ -275,8 +305,9 @@ module _ (given : Given) (tape : List Operation) (scope : Scope) (first : ℕ) (
     now-all : IsSafeOver later given (told_now later carried true all) new (tape ++ ops)
     now-all = subst (λ (fit : Type 0). IsSafeNow fit scope given (told_now later carried true all) new (disk given.start (tape ++ ops))) (sym (fit-grown world ops begun)) last
 
-  quiet-leaves : IsLeftBy given scope first all new carried course' buffer' (tape ++ ops)
+  quiet-leaves : IsLeftBy given tape scope first entries all new carried course' buffer' (tape ++ ops)
   quiet-leaves = record {
+    levelled = level-all;
     gone = gone-all;
     unclean = unclean-all;
     recorded = recorded-all;
@@ -293,31 +324,32 @@ pub quiet-moves : (tells : Type 0) (given : Given) (tape tape' : List Operation)
     → IsMoving tells given tape scope first entries old carried course buffer left → IsCallGoing entries who → IsFalse (who.caller == 254) → (tells → end ≡ length tape') → Grows tells tape tape' → IsQuiet event
     → AreReshaping scope given new → role_count new.newest ≤ 16
     → ((role : ℕ) → role < role_count new.newest → is_missing (reading_of new) role ≡ true → ((role < role_count old.newest) × (is_missing (reading_of old) role ≡ true)) ⊎ (has_slot roles role ≡ true))
-    → list_length new.newest ≡ list_length old.newest → is_clean new.newest ≡ is_clean old.newest → IsCourseOf new.newest course' → (tells → IsStored scope new course'.window (disk given.start tape'))
+    → list_length new.newest ≡ list_length old.newest → (shape_of new.newest).level ≡ (shape_of old.newest).level → is_clean new.newest ≡ is_clean old.newest → IsCourseOf new.newest course' → (tells → IsStored scope new course'.window (disk given.start tape'))
     → IfSome (told_left (entries ++ entries_of who end (losses_of roles spares ++ event ∷ []))) (λ n. n ≡ left')
     → (tells → IsQuietCall given tape scope first entries old new carried course' buffer' who roles spares event tape' end)
     → IsMoving tells given tape' scope first (entries ++ entries_of who end (losses_of roles spares ++ event ∷ [])) new carried course' buffer' left'
-quiet-moves tells given tape tape' scope first entries old new carried course course' buffer buffer' left left' who end roles spares event was goes caller at_end grows quiet members few missing sized clean
+quiet-moves tells given tape tape' scope first entries old new carried course course' buffer buffer' left left' who end roles spares event was goes caller at_end grows quiet members few missing sized level clean
     course_is stored told call = record {
-  slots = was.slots;
-  members_are = members;
-  course_is = course_is;
-  sizes_are = was.sizes_are;
-  left_told = told;
-  gone = λ t. (leaves t).gone;
-  unclean = λ t. (leaves t).unclean;
-  recorded = λ t. (leaves t).recorded;
-  stored = stored;
-  listed = λ t. (leaves t).listed;
-  safe = λ t. (leaves t).safe;
-  now_safe = λ t. (leaves t).now_safe;
-}
+      slots = was.slots;
+      members_are = members;
+      course_is = course_is;
+      sizes_are = was.sizes_are;
+      left_told = told;
+      levelled = λ t. (leaves t).levelled ∙ was.levelled t ∙ sym level;
+      gone = λ t. (leaves t).gone;
+      unclean = λ t. (leaves t).unclean;
+      recorded = λ t. (leaves t).recorded;
+      stored = stored;
+      listed = λ t. (leaves t).listed;
+      safe = λ t. (leaves t).safe;
+      now_safe = λ t. (leaves t).now_safe;
+    }
   where
     Then : List Operation → ℕ → Type 0
     Then l e = IsQuietCall given tape scope first entries old new carried course' buffer' who roles spares event l e
-        → IsLeftBy given scope first (entries ++ entries_of who e (losses_of roles spares ++ event ∷ [])) new carried course' buffer' l
+        → IsLeftBy given tape scope first entries (entries ++ entries_of who e (losses_of roles spares ++ event ∷ [])) new carried course' buffer' l
 
-    leaves : tells → IsLeftBy given scope first (entries ++ entries_of who end (losses_of roles spares ++ event ∷ [])) new carried course' buffer' tape'
+    leaves : tells → IsLeftBy given tape scope first entries (entries ++ entries_of who end (losses_of roles spares ++ event ∷ [])) new carried course' buffer' tape'
     leaves t =
         let g = grows.more t in
         subst (λ (l : List Operation). Then l end) (sym g.1)

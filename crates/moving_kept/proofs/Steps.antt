@@ -66,16 +66,16 @@ not-zero : (n : ℕ) → n ≢ 0 → (n == 0) ≡ false
 not-zero n ne = grind (arith, nat_tests, ne)
 
 pub quiet-step : (kind : StepKind) (left : ℕ) → IsStepBetween kind → left ≢ 0 → IsQuiet (Step kind left)
-quiet-step EntersWindow left is some = record { adds = refl; gives = refl; ends = not-zero left some; still = λ x values. refl }
-quiet-step CopiesStripe left is some = record { adds = refl; gives = refl; ends = not-zero left some; still = λ x values. refl }
-quiet-step RecordsWindow left is some = record { adds = refl; gives = refl; ends = not-zero left some; still = λ x values. refl }
-quiet-step ZeroesStripe left is some = record { adds = refl; gives = refl; ends = not-zero left some; still = λ x values. refl }
+quiet-step EntersWindow left is some = record { adds = refl; gives = refl; ends = not-zero left some; still = λ x values. refl; level = λ n. refl }
+quiet-step CopiesStripe left is some = record { adds = refl; gives = refl; ends = not-zero left some; still = λ x values. refl; level = λ n. refl }
+quiet-step RecordsWindow left is some = record { adds = refl; gives = refl; ends = not-zero left some; still = λ x values. refl; level = λ n. refl }
+quiet-step ZeroesStripe left is some = record { adds = refl; gives = refl; ends = not-zero left some; still = λ x values. refl; level = λ n. refl }
 quiet-step kind left is some = absurd is
 
 -- ---- the steps that are left
 
 -- behind losses as many as before, or any
-told-behind : (steps : ℕ) (entries : List Entry) (who : Who) (end : ℕ) (xs : List Event) → AreLossEvents xs → IfSome (told_left entries) (λ n. n ≡ steps) → IfSome (told_left (entries ++ entries_of who end xs)) (λ n. n ≡ steps)
+pub told-behind : (steps : ℕ) (entries : List Entry) (who : Who) (end : ℕ) (xs : List Event) → AreLossEvents xs → IfSome (told_left entries) (λ n. n ≡ steps) → IfSome (told_left (entries ++ entries_of who end xs)) (λ n. n ≡ steps)
 told-behind steps entries who end xs are was =
     subst (λ (l : List Event). IfSome (told_left (entries ++ entries_of who end l)) (λ n. n ≡ steps)) (append-nil xs)
     (left-more steps entries who end (xs ++ []) was (left-behind steps who end xs [] are (λ left is. is)))
@@ -111,7 +111,7 @@ told-step entries who end xs kind left are =
 abbrev pub AreMissingSince : Members → Members → ℕ → Type 0
 AreMissingSince old new roles = (role : ℕ) → role < role_count new.newest → is_missing (reading_of new) role ≡ true → (is_missing (reading_of old) role ≡ true) ⊎ (has_slot roles role ≡ true)
 
-missing-moved : {given : Given} {old new : Members} (roles : ℕ) → IsMoved given old new → AreMissingSince old new roles
+pub missing-moved : {given : Given} {old new : Members} (roles : ℕ) → IsMoved given old new → AreMissingSince old new roles
     → (role : ℕ) → role < role_count new.newest → is_missing (reading_of new) role ≡ true → ((role < role_count old.newest) × (is_missing (reading_of old) role ≡ true)) ⊎ (has_slot roles role ≡ true)
 missing-moved {old = old} {new = new} roles moved since role lt gone = elim (since role lt gone) [
   | inl was ↦ inl (subst (λ (n : ℕ). role < n) (count-alike old.newest new.newest moved.reshape moved.shape moved.size) lt, was)
@@ -152,22 +152,23 @@ pub copied-moves : (tells : Type 0) (given : Given) (tape tape' : List Operation
 copied-moves tells given tape tape' scope first entries old new carried span copied sectioned buffer left who end roles spares was goes caller at_end grows more some moved few since clean rise headers others stands safe =
     quiet-moves tells given tape tape' scope first entries old new carried (entered span copied sectioned) (entered span (copied + 1) sectioned) buffer buffer (left + 1) left who end roles spares (Step CopiesStripe left)
     was goes caller at_end grows (quiet-step CopiesStripe left tt some) (reshaping-moved scope given old new moved was.members_are) few (missing-moved roles moved since)
-    (list-alike old.newest new.newest moved.reshape moved.shape moved.size) clean course_is (λ t. stored (was.stored t) (headers t)) (told-step entries who end (losses_of roles spares) CopiesStripe left (losses-are roles spares))
+    (list-alike old.newest new.newest moved.reshape moved.shape moved.size) (ap (λ (s : Shape). s.level) moved.shape) clean course_is (λ t. stored (was.stored t) (headers t)) (told-step entries who end (losses_of roles spares) CopiesStripe left (losses-are roles spares))
     (λ t. record {
       rise = rise t;
       keeps = λ told fills more_told room gone unclean now. safe t (world_in given tape scope first) told room gone unclean
           (able-kept scope given old span copied sectioned (disk given.start tape) was.course_is.window (was.stored t).section) now;
       listed = λ does fills. on t (was.listed t (without-before given old new moved does) fills);
-      legal = λ fills. step-is (world_in given tape' scope first) (entries ++ entries_of who end (losses_of roles spares)) (entry_of who end (Step CopiesStripe left)) CopiesStripe left
+      legal = λ fills gone level. step-is (world_in given tape' scope first) (entries ++ entries_of who end (losses_of roles spares)) (entry_of who end (Step CopiesStripe left)) CopiesStripe left
           (told-behind (left + 1) entries who end (losses_of roles spares) (losses-are roles spares) was.left_told);
     })
   where
     course_is : IsCourseOf new.newest (entered span (copied + 1) sectioned)
     course_is = record {
       window = (
-          window-alike old.newest new.newest moved.reshape moved.shape moved.size ∙ was.course_is.window.0,
-          subst (λ (s : Shape). copied + 1 ≤ stripes s span.lo span.hi) (sym moved.reshape.final) (omega (arith, more)),
-          λ critical. was.course_is.window.2 (sym (critical-alike old.newest new.newest moved.reshape moved.shape moved.size span) ∙ critical));
+        window-alike old.newest new.newest moved.reshape moved.shape moved.size ∙ was.course_is.window.0,
+        subst (λ (s : Shape). copied + 1 ≤ stripes s span.lo span.hi) (sym moved.reshape.final) (omega (arith, more)),
+        λ critical. was.course_is.window.2 (sym (critical-alike old.newest new.newest moved.reshape moved.shape moved.size span) ∙ critical),
+      );
       through = λ some. absurd (omega (arith, some));
       few = omega arith;
     }

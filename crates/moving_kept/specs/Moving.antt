@@ -5,12 +5,12 @@ use Rattle.bank.specs.declared.bank.Operation.{Operation}
 use Rattle.bank.specs.Given.{Given, sizes}
 use Rattle.bank.specs.Tape.{Contents, disk}
 use Rattle.superblocks.specs.declared.members.Members.{Members}
-use Rattle.superblocks.specs.Reading.{Scope, is_reshaping, is_clean, list_length, role_count}
+use Rattle.superblocks.specs.Reading.{Scope, is_reshaping, is_clean, shape_of, list_length, role_count}
 use Rattle.row_io.specs.Rows.{reading_of, present, is_missing}
 use Rattle.flat_history.specs.declared.events.Entry.{Entry}
 use Rattle.flat_history.specs.Epochs.{HasRoomForEvents, OpensAlike}
 use Rattle.flat_history.specs.Flat.{now}
-use Rattle.flat_history.specs.Legal.{told_left}
+use Rattle.flat_history.specs.Legal.{told_left, level_at}
 use Rattle.flat_history.specs.Losses.{is_gone_after, is_unsynced}
 use Rattle.flat_history.specs.OneShape.{is_unsettled}
 use Rattle.flat_history.specs.Sound.{OpensFit}
@@ -56,6 +56,7 @@ pub record IsMoving (tells : Type 0) (given : Given) (tape : List Operation) (sc
   pub course_is : IsCourseOf members.newest course
   pub sizes_are : scope.sizes ≡ sizes given
   pub left_told : IfSome (told_left entries) (λ n. n ≡ left)
+  pub levelled : tells → level_at (world_in given tape scope first) entries ≡ (shape_of members.newest).level
   pub gone : tells → AreToldGone (world_in given tape scope first) entries members
   pub unclean : tells → is_clean members.newest ≡ false → (is_unsynced (world_in given tape scope first) entries || is_unsettled entries) ≡ true
   pub recorded : tells → IsHistoryKept (IsFilledRight (world_in given tape scope first) entries) (world_in given tape scope first) (list_length members.newest) entries
