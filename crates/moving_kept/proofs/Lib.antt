@@ -4,3 +4,4 @@ pub mod Quiet
 pub mod Refusals
 pub mod Steps
 pub mod MoreSteps
+pub mod Staying
