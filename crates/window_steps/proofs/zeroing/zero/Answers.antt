@@ -15,9 +15,10 @@ use Rattle.views.proofs.LackingLaws.{since-same, since-then, in-either}
 use Rattle.views.proofs.LackingLists.{none-of}
 use Rattle.views.proofs.SafeStretch.{safe-none}
 use Rattle.views.proofs.MendedParts.{safe-part}
-use Rattle.window_steps.specs.Copying.{IsOfStripeFrom}
+use Rattle.window_steps.specs.Copying.{IsOfStripeFrom, AreHeadersKept}
 use Rattle.window_steps.proofs.CopyLaws.{row-later, refused-of, others-join}
 use Rattle.window_steps.proofs.ZeroLaws.{through-moved, past-stripe-moved, zero-moved}
+use Rattle.bank.specs.Tape.{disk}
 use Rattle.window_steps.proofs.zeroing.zero.Goals as goal
 
 pub loop-done-init : goal.loop-done-init
@@ -34,6 +35,7 @@ loop-done-init g c =
       named = λ some. absurd (omega (arith, some));
       stands = λ told list zeros row at. absurd (let low = at.0 in let high = at.1 in omega (arith, low, high));
       others = λ told row out role slot held. refl;
+      headers = λ told s v may. may;
       rise = risen-none m tape0 tape0 (λ told. omega arith);
       safe = λ told world ledger room gone unclean safe. safe-none (OpensFit world) world.scope given ledger m tape0 safe;
       given = refl;
@@ -149,6 +151,7 @@ loop-done-preserved g c =
             (did.stands told list (zero-moved given m n was.moved list zeros) row (late, at.1))
       ];
       others = λ told. others-join given c.args.shape.now c.args.stripe 0 c.loop-done.done c.zero_part-part.result.done (omega arith) did.reached n new (present given tape0) (present given tape1) (present given tape2) moved (was.others told) (kept told);
+      headers = λ told s v may. was.headers told s v (subst (λ (b : Given). AreHeadersKept (disk b.start tape1) (disk b.start tape2)) was.given (did.headers told) s v may);
       rise = risen-then was.rise did.rise;
       safe = λ told world ledger room gone unclean safe.
           safe-part world given given1 ledger m n new tape0 tape1 tape2 told was.given was.moved.placed moved did.grows was.rise room gone
@@ -180,3 +183,10 @@ returns-clause-named g c =
     let same = c.from-chunk.ensures in
     let some = chunk_some c.args.shape.now (force-valid c.args.members.now.newest c.requires.placed.fit c.args.shape.now (inr c.requires.shape)) in
     c.loop-done.invariant.named (omega (arith, end, same, some))
+
+pub returns-then-is_some-clause-headers : goal.returns-then-is_some-clause-headers
+returns-then-is_some-clause-headers g c = λ told s v may.
+    let was = c.loop-done.invariant in
+    let tape1 = g.B.Bank.tape c.loop-done.bank in
+    let tape2 = g.B.Bank.tape c.zero_part-part.new.bank in
+    was.headers told s v (subst (λ (b : Given). AreHeadersKept (disk b.start tape1) (disk b.start tape2)) was.given (c.zero_part-part.ensures.headers told) s v may)

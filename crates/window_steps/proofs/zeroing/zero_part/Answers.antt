@@ -1,4 +1,4 @@
-use Rattle.std.proofs.Common.{◌≡◌, Bool, true, false, Option, refl, sym, ◌∙◌, subst, arith}
+use Rattle.std.proofs.Common.{◌≡◌, Bool, true, false, Option, refl, sym, ◌∙◌, subst, arith, inl}
 use Rattle.std.specs.Prelude.{MatchOption}
 use Rattle.md_base.specs.declared.answers.Refusal.{Refusal}
 use Rattle.md_base.specs.declared.places.Shape.{Shape}
@@ -13,12 +13,13 @@ use Rattle.views.specs.Moving.{IsMoved}
 use Rattle.views.specs.Rebuilding.{AreSparesFree}
 use Rattle.views.specs.Lacking.{DoesWithout, AreTooMany}
 use Rattle.views.proofs.HeldRows.{shape-without-before}
-use Rattle.window_steps.specs.Copying.{IsOfStripeFrom}
+use Rattle.window_steps.specs.Copying.{IsOfStripeFrom, AreHeadersKept}
 use Rattle.views.proofs.MovedLaws.{moved-then, moved-from, grows-then}
 use Rattle.views.proofs.LackingLaws.{since-then, in-second}
 use Rattle.views.proofs.LackingWrites.{others-then, others-same}
 use Rattle.views.proofs.SafeStretch.{safe-then, over-at, keeps-from}
 use Rattle.window_steps.proofs.CopyLaws.{row-later}
+use Rattle.bank.specs.Tape.{disk}
 use Rattle.window_steps.proofs.zeroing.zero_part.Goals as goal
 
 pub name_missing-spares-requires-clause-free : goal.name_missing-spares-requires-clause-free
@@ -109,3 +110,12 @@ returns-clause-safe g c = λ told world ledger room gone unclean safe.
     safe-then (OpensFit world) world.scope given ledger n c.name_missing-spares.new.members tape0 tape1 tape2 one
     (keeps-from world given given1 ledger c.name_missing-spares.new.members tape1 tape2 did.given
     (named.safe told world ledger (room-then tape2 told room did.rise) gone (λ dirty. unclean (sym did.clean ∙ dirty)) (over-at world given given1 ledger n tape1 did.given one.next)))
+
+pub returns-clause-headers : goal.returns-clause-headers
+returns-clause-headers g c = λ told s v may.
+    let did = c.zero_stretch-done.ensures in
+    let tape1 = g.B.Bank.tape c.zero_stretch-done.new.bank in
+    let tape2 = g.B.Bank.tape c.name_missing-spares.new.bank in
+    let named : AreHeadersKept (disk (g.B.Bank.given c.args.bank.now).start tape1) (disk (g.B.Bank.given c.args.bank.now).start tape2) =
+    subst (λ (b : Given). AreHeadersKept (disk b.start tape1) (disk b.start tape2)) did.given (λ s1 v1 may1. c.name_missing-spares.ensures.rest told s1 0 v1 (inl (λ e. absurd (cc))) may1) in
+    did.headers told s v (named s v may)

@@ -1,4 +1,4 @@
-use Rattle.std.proofs.Common.{◌≡◌, inr, ℕ, ◌+◌, ◌-◌, ◌*◌, subst, arith}
+use Rattle.std.proofs.Common.{◌≡◌, inr, ℕ, ◌+◌, ◌-◌, ◌*◌, subst, arith, List}
 use Rattle.superblocks.specs.Reading.{data_offset_of}
 use Rattle.list_io.specs.Full.{RowStands}
 use Rattle.bank.specs.Given.{Given}
@@ -13,6 +13,9 @@ use Rattle.views.proofs.MarkedLaws.{grows-marks}
 use Rattle.views.proofs.LackingLaws.{since-lost}
 use Rattle.window_steps.proofs.CopyLaws.{out-of}
 use Rattle.window_steps.proofs.ZeroLaws.{safe-zeroed}
+use Rattle.md_base.specs.Sectors.{Sector}
+use Rattle.bank.specs.Tape.{IsIn}
+use Rattle.row_io.proofs.Turns.{marks_last}
 use Rattle.window_steps.proofs.zeroing.zero_stretch.Goals as goal
 
 pub zero_stripe-zeroed-requires-clause-rows : goal.zero_stripe-zeroed-requires-clause-rows
@@ -78,3 +81,6 @@ returns-clause-others g c = λ told row out role slot held.
     let tape1 = g.B.Bank.tape c.zero_stripe-zeroed.new.bank in
     subst (λ (b : Given). present b tape1 slot (data_offset_of (reading_of c.zero_stripe-zeroed.new.members) slot + row) ≡ present given tape0 slot (data_offset_of (reading_of c.zero_stripe-zeroed.new.members) slot + row)) did.given
     (did.others told row (out-of (c.args.stripe * c.args.shape.now.chunk) c.args.done c.zero_stripe-zeroed.result.done row out) slot)
+
+pub returns-clause-headers : goal.returns-clause-headers
+returns-clause-headers g c = λ told s v may. let kept = marks_last c.zero_stripe-zeroed.ensures.each_mark told in subst (λ (l : List Sector). IsIn l v) (kept.1 s 0 (omega arith)) may

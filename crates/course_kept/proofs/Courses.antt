@@ -1,0 +1,380 @@
+-- The course of a reshape, through its steps.
+use Rattle.std.proofs.Common.{◌≡◌, ◌⊎◌, inl, inr, ℕ, zero, suc, ◌+◌, ◌-◌, ◌*◌, ◌/◌, ◌<◌, ◌≤◌, ◌&&◌, ◌^◌, nat_le, nat_lt, Bool, true, false, not, cond, List, Option, Some, None, refl, sym, ◌∙◌, ap, subst, arith}
+use Rattle.std.specs.Prelude.{min}
+use Rattle.std.proofs.lemmas.Bool.{and_parts, eqb-true, cases_lt}
+use Rattle.std.proofs.lemmas.Bool.Decides.{nat_tests}
+use Rattle.std.proofs.Math.Nat.{mul-le-mul_right}
+use Rattle.std.specs.Option.{option_map_or}
+use Rattle.md_base.specs.declared.places.Shape.{Shape}
+use Rattle.md_base.specs.declared.places.Span.{Span}
+use Rattle.md_base.specs.declared.status.Role.{Role}
+use Rattle.md_base.specs.declared.status.Role.TheVariants.{Whole, Recovering, Missing}
+use Rattle.md_base.specs.Sectors.{Sector, zero_sector}
+use Rattle.md_base.specs.Shapes.{stripe_sectors, data_disks, is_multiple, has_slot}
+use Rattle.bank.specs.Given.{Given}
+use Rattle.bank.specs.Tape.{Contents, IsIn}
+use Rattle.sb1.specs.declared.sb.Sb.{Sb}
+use Rattle.layout.specs.Layout.{place}
+use Rattle.geometry.specs.Geometry.{ceiling, stripes, rows, zeroed_stripes, is_critical}
+use Rattle.geometry.specs.Geometry as geometry
+use Rattle.superblocks.specs.declared.members.Members.{Members}
+use Rattle.superblocks.specs.Reading.{Scope, is_reshaping, is_backward, shape_of, final_shape, list_length, next_window, role_state, rows_held, holder}
+use Rattle.superblocks.specs.Update.{own_in}
+use Rattle.row_io.specs.Rows.{reading_of, held_slot}
+use Rattle.list_io.specs.Full.{RowStands}
+use Rattle.backup.specs.Section.{is_header_of, names_span, has_section}
+use Rattle.flat_history.specs.Stands.{covers}
+use Rattle.flat_history.specs.ActiveSection.{section_for}
+use Rattle.region_laws.specs.Regions.{IsDirected}
+use Rattle.shape_views.specs.Regions.{backup_of, open_by, place_by, ArePlaced, AreShapesFit}
+use Rattle.shape_views.specs.Views.{Disk}
+use Rattle.shape_views.specs.Sound.{IsTail}
+use Rattle.shape_views.specs.Windows.{IsShown, ListStands, RowsStand, moved_past}
+use Rattle.shape_views.proofs.Stands.{moved-stands, moved-rows-stand}
+use Rattle.shape_views.proofs.UnderWay.{row-apart, row-apart-uncritical, under-way, is-reshaping}
+use Rattle.shape_changes.proofs.LessViews.{ends-place}
+use Rattle.shape_ends.proofs.EndLaws.{places-alike-stand, begun-alike}
+use Rattle.shape_ends.proofs.FitLaws.{moved-tails, backup-is, names-one, span-same}
+use Rattle.shape_ends.proofs.GrownLaws.{zero-is-sector}
+use Rattle.shape_ends.proofs.Tails.{no-tail, some-listed, row-within}
+use Rattle.geometry.proofs.Rows.{rows_hold}
+use Rattle.views.specs.Placed.{IsPlaced}
+use Rattle.views.specs.Moving.{IsMoved}
+use Rattle.views.specs.Lacking.{IsOfStripe}
+use Rattle.views.proofs.LackingWrites.{others-same}
+use Rattle.window_rows.specs.Copies.{tail_of, IsZeroIn, IsCopied}
+use Rattle.window_steps.proofs.CopyLaws.{open-alike}
+use Rattle.window_steps.proofs.PastLaws.{header-alike, past-placed}
+use Rattle.course_kept.specs.declared.course.Course.{Course}
+use Rattle.course_kept.specs.declared.course.Window.{Window}
+use Rattle.course_kept.specs.declared.course.Window.TheVariants.{Closed, Entered, Unsure}
+use Rattle.course_kept.specs.Course.{IsOfStripes, IsZeroedRow, hidden_in, IsStoredAs, StandsInCourse, past_stripe}
+use Rattle.course_kept.specs.Laws.{BeginsStand, EntersStand, CoursesMove, CopiesGoOn, CoursesAreCopied, WindowsAreCopied, RecordsClose, ZeroesGoOn, ZeroesAreAll, StoredMove, OpenHeadersFit, entered, closed, next_stripe}
+use Rattle.course_kept.proofs.Frames.{AreBeside, stands-on, past-alike}
+
+-- ---- members that lost slots
+
+pub courses-move : (sound : Type 0) → CoursesMove sound
+courses-move sound given old new course buffer c e list placed moved others was =
+    stands-on sound given old new moved course buffer c e list (λ row. ⊥) (others-same given (λ row. ⊥) old new c e moved placed others) was (record {
+      shown = λ x shown none. none;
+      tail = λ x tail none. none;
+      copied = λ row at none. none;
+      zeroed = λ row at none. none;
+    })
+
+-- ---- it begins
+
+-- no row is of no stripes
+none-of-none : (shape : Shape) (first row : ℕ) → IsOfStripes shape first 0 row → ⊥
+none-of-none shape first row at = absurd (let low = at.0 in let high = at.1 in let same : (first + 0) * shape.chunk ≡ first * shape.chunk = ap (λ (n : ℕ). n * shape.chunk) (zero-right first) in omega (arith, low, high, same))
+  where
+    zero-right : (n : ℕ) → n + 0 ≡ n
+    zero-right n = omega arith
+
+pub begins-stand : (sound : Type 0) → BeginsStand sound
+begins-stand sound scope given old plan new buffer c e list begun placed moved kept zeros stands rows =
+    stands-on sound given plan new moved (closed 0) buffer c e list (λ row. ⊥) kept (record {
+      stands = (places-alike-stand scope given old plan c list placed (begun-alike old plan begun)).0 stands;
+      window = tt;
+      zeros = zeros;
+      copied = λ row none. absurd none;
+      tail = λ x slot tail held. absurd (
+          let start : plan.newest.reshape_position ≡ 0 = begun.start ∙ ap (λ (b : Bool). cond b (list_length plan.newest) 0) tail.forth in
+          let some = some-listed plan.newest placed.fit in
+          let through = tail.through in
+          omega (arith, start, some, through));
+      zeroed = λ row at. absurd (none-of-none (final_shape plan.newest) (past_stripe plan.newest) row at);
+      rows = λ so. (places-alike-stand scope given old plan c list placed (begun-alike old plan begun)).1 (rows so);
+    }) (record {
+      shown = λ x shown none. none;
+      tail = λ x tail none. none;
+      copied = λ row at none. none;
+      zeroed = λ row at none. none;
+    })
+
+-- ---- a window is entered
+
+pub enters-stand : (sound : Type 0) → EntersStand sound
+enters-stand sound given old new span sectioned former buffer c e list moved kept room has was = (
+  record { stands = hide sectioned; window = (room, has); zeros = on.zeros; copied = λ row at. absurd (none-of-none (final_shape new.newest) (span.lo / stripe_sectors (final_shape new.newest)) row at); tail = on.tail; zeroed = on.zeroed; rows = λ so. hide-rows sectioned (on.rows so) },
+  record { stands = on.stands; window = (room, has); zeros = on.zeros; copied = λ row none. absurd none; tail = on.tail; zeroed = on.zeroed; rows = on.rows },
+)
+  where
+    on : StandsInCourse sound new (closed 0) buffer e list
+    on = stands-on sound given old new moved (closed 0) buffer c e list (λ row. ⊥) kept (record { stands = was.stands; window = tt; zeros = was.zeros; copied = was.copied; tail = was.tail; zeroed = was.zeroed; rows = was.rows }) (record {
+      shown = λ x shown none. none;
+      tail = λ x tail none. none;
+      copied = λ row at none. none;
+      zeroed = λ row at none. none;
+    })
+
+    hide : (which : Bool) → ListStands (hidden_in (Entered span 0 which)) new e list
+    hide true = λ x slot shown held. on.stands x slot (record { within = shown.within; outside = refl }) held
+    hide false = on.stands
+
+    hide-rows : (which : Bool) → RowsStand None new e list → RowsStand (hidden_in (Entered span 0 which)) new e list
+    hide-rows true rows = λ x shown. rows x (record { within = shown.within; outside = refl })
+    hide-rows false rows = rows
+
+-- ---- stripes
+
+-- a row of some stripes isn't one of the next
+of-before : (shape : Shape) (first count row : ℕ) → IsOfStripes shape first count row → IsOfStripe shape (first + count) row → ⊥
+of-before shape first count row at next = absurd (let high = at.1 in let low = next.0 in omega (arith, high, low))
+
+-- one of one stripe more is of these or of the next
+of-more : (shape : Shape) (first count row : ℕ) → IsOfStripes shape first (count + 1) row → IsOfStripes shape first count row ⊎ IsOfStripe shape (first + count) row
+of-more shape first count row at = elim (cases_lt row ((first + count) * shape.chunk)) [
+  | inl less ↦ inl (at.0, less)
+  | inr more ↦ inr (more, subst (λ (n : ℕ). row < n * shape.chunk) (one-more first count) at.1)
+]
+  where
+    one-more : (a b : ℕ) → a + (b + 1) ≡ a + b + 1
+    one-more a b = omega arith
+
+-- a row of the next stripe of a window is one that the window writes
+of-window : (shape : Shape) (span : Span) (copied row : ℕ) → copied < stripes shape span.lo span.hi → IsOfStripe shape (span.lo / stripe_sectors shape + copied) row → geometry.IsIn row (rows shape span.lo span.hi)
+of-window shape span copied row left at =
+    let first : ℕ = span.lo / stripe_sectors shape in
+    let last : ℕ = ceiling span.hi (stripe_sectors shape) in
+    let low : first * shape.chunk ≤ (first + copied) * shape.chunk = mul-le-mul_right shape.chunk (omega arith) in
+    let high : (first + copied + 1) * shape.chunk ≤ last * shape.chunk = mul-le-mul_right shape.chunk (omega (arith, left)) in
+    (let a = at.0 in omega (arith, a, low), let b = at.1 in omega (arith, b, high))
+
+-- a row that a slot holds while a reshape is active is one of its rows
+less-than : (row b : ℕ) (o : Option ℕ) (slot : ℕ) → cond (nat_lt row b) o None ≡ Some slot → row < b
+less-than row b o slot e = from (nat_lt row b) refl e
+  where
+    from : (t : Bool) → nat_lt row b ≡ t → cond t o None ≡ Some slot → row < b
+    from true is e = grind (arith, nat_tests, is)
+    from false is e = absurd (cc)
+
+held-below : (m : Members) → is_reshaping m.newest ≡ true → (row role slot : ℕ) → held_slot (reading_of m) role row ≡ Some slot → row < m.newest.size
+held-below m active row role slot held = of (role_state (reading_of m) role) held
+  where
+    of : (state : Role) → cond (nat_lt row (rows_held (reading_of m) state)) (holder state) None ≡ Some slot → row < m.newest.size
+    of (Whole s) e = less-than row m.newest.size (Some s) slot e
+    of (Recovering s) e = absurd (
+        let lt = less-than row (rows_held (reading_of m) (Recovering s)) (Some s) slot e in
+        let none : rows_held (reading_of m) (Recovering s) ≡ 0 = ap (λ (b : Bool). cond b 0 (option_map_or (λ sb. sb.recovery_offset) (own_in m.own s) 0)) active in
+        omega (arith, lt, none))
+    of Missing e = absurd (let lt = less-than row 0 None slot e in omega (arith, lt))
+
+-- ---- a stripe is copied
+
+module _ (given : Given) (old : Members) (span : Span) (copied : ℕ) (sectioned : Bool) (placed : IsPlaced given old) (next : next_window old.newest ≡ Some span)
+    (left : copied < stripes (final_shape old.newest) span.lo span.hi)
+    (plain : sectioned ≡ false → is_critical (shape_of old.newest) (final_shape old.newest) old.newest.size (is_backward old.newest) span ≡ false) where
+  apart : (x row : ℕ) (which : Bool) → sectioned ≡ which → IsShown (hidden_in (Entered span copied which)) old.newest x → geometry.IsIn row (rows (final_shape old.newest) span.lo span.hi)
+      → (place_by old.newest x).row ≡ row → ⊥
+  apart x row true is shown written same = row-apart old.newest placed.fit span next row written x shown.within shown.outside same
+  apart x row false is shown written same = row-apart-uncritical old.newest placed.fit span next row written (plain is) x shown.within same
+
+  shown-apart : (x : ℕ) → IsShown (hidden_in (Entered span copied sectioned)) old.newest x → IsOfStripe (final_shape old.newest) (next_stripe old span copied) (place_by old.newest x).row → ⊥
+  shown-apart x shown at = apart x (place_by old.newest x).row sectioned refl shown (of-window (final_shape old.newest) span copied (place_by old.newest x).row left at) refl
+
+pub copies-go-on : (sound : Type 0) → CopiesGoOn sound
+copies-go-on sound given old new span copied sectioned buffer c e list placed moved next left plain kept was = (on, more)
+  where
+    on : StandsInCourse sound new (entered span copied sectioned) buffer e list
+    on = stands-on sound given old new moved (entered span copied sectioned) buffer c e list (IsOfStripe (final_shape old.newest) (next_stripe old span copied)) kept was (record {
+      shown = λ x shown at. shown-apart given old span copied sectioned placed next left plain x shown at;
+      tail = λ x tail at. no-tail old.newest span x next tail;
+      copied = λ row of at. of-before (final_shape old.newest) (span.lo / stripe_sectors (final_shape old.newest)) copied row of at;
+      zeroed = λ row of at. none-of-none (final_shape old.newest) (past_stripe old.newest) row of;
+    })
+
+    more : ((row : ℕ) → IsOfStripe (final_shape old.newest) (next_stripe old span copied) row → RowStands (reading_of new) e (final_shape old.newest) list row)
+        → StandsInCourse sound new (entered span (copied + 1) sectioned) buffer e list
+    more done = record {
+      stands = hidden-on sectioned on.stands;
+      window = on.window;
+      zeros = on.zeros;
+      copied = λ row at. elim (of-more (final_shape new.newest) (span.lo / stripe_sectors (final_shape new.newest)) copied row at) [
+        | inl before ↦ on.copied row before
+        | inr last ↦ subst (λ (s : Shape). RowStands (reading_of new) e s list row) (sym moved.reshape.final)
+            (done row (subst (λ (s : Shape). IsOfStripe s (span.lo / stripe_sectors s + copied) row) moved.reshape.final last))
+      ];
+      tail = on.tail;
+      zeroed = on.zeroed;
+      rows = λ so. rows-hidden sectioned (on.rows so);
+    }
+      where
+        rows-hidden : (which : Bool) → RowsStand (hidden_in (Entered span copied which)) new e list → RowsStand (hidden_in (Entered span (copied + 1) which)) new e list
+        rows-hidden true rows = rows
+        rows-hidden false rows = rows
+
+        hidden-on : (which : Bool) → ListStands (hidden_in (Entered span copied which)) new e list → ListStands (hidden_in (Entered span (copied + 1) which)) new e list
+        hidden-on true stands = stands
+        hidden-on false stands = stands
+
+pub courses-copied : (sound : Type 0) → CoursesAreCopied sound
+courses-copied sound scope given m span copied sectioned buffer c list placed next was = record {
+  window = was.window.1;
+  zeros = λ x at. by (is_backward m.newest) refl x at;
+}
+  where
+    by : (back : Bool) → is_backward m.newest ≡ back → (x : ℕ) → geometry.IsIn x (tail_of m.newest) → list x ≡ zero_sector
+    by false is x at = was.zeros is x at.0
+    by true is x at = absurd (
+        let le : data_disks (final_shape m.newest) ≤ data_disks (shape_of m.newest) = subst (IsDirected (shape_of m.newest) (final_shape m.newest)) is (under-way m.newest placed.fit (is-reshaping m.newest span next)).directed in
+        let both : data_disks (final_shape m.newest) * m.newest.size ≡ list_length m.newest = ap (λ (k : ℕ). k * m.newest.size) (least (data_disks (shape_of m.newest)) (data_disks (final_shape m.newest)) le) in
+        let low = at.0 in let high = at.1 in
+        omega (arith, both, low, high))
+      where
+        least : (a b : ℕ) → b ≤ a → b ≡ min a b
+        least a b le = omega (arith, le)
+
+-- ---- the window is recorded
+
+pub windows-copied : (sound : Type 0) → WindowsAreCopied sound
+windows-copied sound m span sectioned buffer c list was = record {
+  window = λ row at. was.copied row (
+    at.0,
+    let high = at.1 in
+        let le : ceiling span.hi (stripe_sectors (final_shape m.newest)) * (final_shape m.newest).chunk ≤ (span.lo / stripe_sectors (final_shape m.newest) + stripes (final_shape m.newest) span.lo span.hi) * (final_shape m.newest).chunk =
+        mul-le-mul_right (final_shape m.newest).chunk (omega arith) in omega (arith, high, le),
+  );
+  stands = hide sectioned was.stands;
+  rows_are = λ so. hide-rows sectioned (was.rows so);
+}
+  where
+    all : ℕ
+    all = stripes (final_shape m.newest) span.lo span.hi
+
+    hide : (which : Bool) → ListStands (hidden_in (Entered span all which)) m c list → ListStands (Some span) m c list
+    hide true stands = stands
+    hide false stands = λ x slot shown held. stands x slot (record { within = shown.within; outside = refl }) held
+
+    hide-rows : (which : Bool) → RowsStand (hidden_in (Entered span all which)) m c list → RowsStand (Some span) m c list
+    hide-rows true rows = rows
+    hide-rows false rows = λ x shown. rows x (record { within = shown.within; outside = refl })
+
+pub records-close : (sound : Type 0) → RecordsClose sound
+records-close sound scope given old new span sectioned buffer c e list placed was_placed next moved others was =
+    let done = windows-copied sound old span sectioned buffer c list was in
+    courses-move sound given (moved_past span old) new (closed 0) buffer c e list (past-placed given old span was_placed next) moved others (record {
+      stands = moved-stands scope given old span c list placed next (λ row at. (done.window row at).sectors) done.stands;
+      window = tt;
+      zeros = was.zeros;
+      copied = λ row none. absurd none;
+      tail = moved-tails scope given old span c list placed next (λ row at. (done.window row at).sectors);
+      zeroed = λ row at. absurd (none-of-none (final_shape old.newest) (past_stripe old.newest) row at);
+      rows = λ so. moved-rows-stand scope given old span c list placed next done.window (done.rows_are so);
+    })
+
+-- ---- a stripe behind the list is zeroed
+
+pub zeroes-go-on : (sound : Type 0) → ZeroesGoOn sound
+zeroes-go-on sound given old new zeroed buffer c e list placed moved through kept was = (on, more)
+  where
+    past-low : (row : ℕ) → IsOfStripe (final_shape old.newest) (past_stripe old.newest + zeroed) row → past_stripe old.newest * (final_shape old.newest).chunk ≤ row
+    past-low row at =
+        let low : past_stripe old.newest * (final_shape old.newest).chunk ≤ (past_stripe old.newest + zeroed) * (final_shape old.newest).chunk = mul-le-mul_right (final_shape old.newest).chunk (omega arith) in
+        (let a = at.0 in omega (arith, a, low))
+
+    on : StandsInCourse sound new (closed zeroed) buffer e list
+    on = stands-on sound given old new moved (closed zeroed) buffer c e list (IsOfStripe (final_shape old.newest) (past_stripe old.newest + zeroed)) kept was (record {
+      shown = λ x shown at. absurd (
+          let shape = (ends-place old.newest x through.active shown.within).1 through.last in
+          let below = (rows_hold (final_shape old.newest) (record { lo = 0; hi = list_length old.newest }) x placed.fit.valid.final (omega arith, shown.within)).1 in
+          let row : (place_by old.newest x).row ≡ (place (final_shape old.newest) x).row = ap (λ (s : Shape). (place s x).row) shape in
+          let far = past-low (place_by old.newest x).row at in
+          omega (arith, row, below, far));
+      tail = λ x tail at. absurd (let below = row-within old.newest placed.fit x tail in let far = past-low (place (final_shape old.newest) x).row at in omega (arith, below, far));
+      copied = λ row of at. of;
+      zeroed = λ row of at. of-before (final_shape old.newest) (past_stripe old.newest) zeroed row of at;
+    })
+
+    more : ((row : ℕ) → IsOfStripe (final_shape old.newest) (past_stripe old.newest + zeroed) row → RowStands (reading_of new) e (final_shape old.newest) (λ x. zero_sector) row)
+        → StandsInCourse sound new (closed (zeroed + 1)) buffer e list
+    more done = record {
+      stands = on.stands;
+      window = on.window;
+      zeros = on.zeros;
+      copied = on.copied;
+      tail = on.tail;
+      zeroed = λ row at. elim (of-more (final_shape new.newest) (past_stripe new.newest) zeroed row at) [
+        | inl before ↦ on.zeroed row before
+        | inr last ↦ subst (λ (s : Shape). RowStands (reading_of new) e s (λ x. zero_sector) row) (sym moved.reshape.final)
+            (done row (subst (λ (n : ℕ). IsOfStripe (final_shape old.newest) (n + zeroed) row) (past-alike old.newest new.newest moved.reshape moved.shape moved.size)
+            (subst (λ (s : Shape). IsOfStripe s (past_stripe new.newest + zeroed) row) moved.reshape.final last)))
+      ];
+      rows = on.rows;
+    }
+
+pub zeroes-are-all : (sound : Type 0) → ZeroesAreAll sound
+zeroes-are-all sound given m buffer c list placed active forth was = record {
+  zeros = was.zeros forth;
+  tail = was.tail;
+  past = λ row past. elim (cases_lt row m.newest.size) [
+    | inl within ↦ was.zeroed row (past, high row within)
+    | inr beyond ↦ record {
+      whole = λ x at. zero-is-sector;
+      sectors = λ role slot lt part held. absurd (let lt = held-below m active row role slot held in omega (arith, lt, beyond));
+      parity = λ role slot lt part held. absurd (let lt = held-below m active row role slot held in omega (arith, lt, beyond));
+    }
+  ];
+}
+  where
+    shape : Shape
+    shape = final_shape m.newest
+
+    all : ℕ
+    all = zeroed_stripes (shape_of m.newest) (final_shape m.newest) m.newest.size (is_backward m.newest)
+
+    all-is : all ≡ m.newest.size / (final_shape m.newest).chunk - past_stripe m.newest
+    all-is = ap (λ (b : Bool). cond b 0 (m.newest.size / (final_shape m.newest).chunk - past_stripe m.newest)) forth
+
+    whole-size : m.newest.size / (final_shape m.newest).chunk * (final_shape m.newest).chunk ≡ m.newest.size
+    whole-size = eqb-true (m.newest.size / (final_shape m.newest).chunk * (final_shape m.newest).chunk) m.newest.size (and_parts (nat_le 1 m.newest.size && nat_le m.newest.size (2 ^ 48)) (is_multiple m.newest.size (final_shape m.newest).chunk) placed.fit.final_size).1
+
+    high : (row : ℕ) → row < m.newest.size → row < (past_stripe m.newest + all) * (final_shape m.newest).chunk
+    high row within =
+        let is = all-is in
+        let le : m.newest.size / (final_shape m.newest).chunk * (final_shape m.newest).chunk ≤ (past_stripe m.newest + all) * (final_shape m.newest).chunk = mul-le-mul_right (final_shape m.newest).chunk (omega (arith, is)) in
+        let size = whole-size in
+        omega (arith, within, le, size)
+
+-- ---- the headers
+
+pub stored-moves : StoredMove
+stored-moves scope given old new window d e moved fewer was = record {
+  section = of window was.section;
+  headers = λ backup header here may. header-alike old.newest new.newest moved.reshape moved.shape moved.size scope header (was.headers backup header here (fewer backup header may));
+}
+  where
+    alike : (header : Sector) → open_by scope new.newest header ≡ open_by scope old.newest header
+    alike header = open-alike old.newest new.newest moved.reshape moved.shape moved.size scope header
+
+    of : (window : Window) → IsStoredAs scope old window d → IsStoredAs scope new window e
+    of Closed is = λ header may. alike header ∙ is header (fewer (backup_of scope) header may)
+    of (Entered span copied true) is = λ header may. alike header ∙ is header (fewer (backup_of scope) header may)
+    of (Entered span copied false) is = λ header may. alike header ∙ is header (fewer (backup_of scope) header may)
+    of (Unsure span) is = λ header may. elim (is header (fewer (backup_of scope) header may)) [
+      | inl none ↦ inl (alike header ∙ none)
+      | inr some ↦ inr (alike header ∙ some)
+    ]
+
+-- an active section is named by its header
+open-named : (scope : Scope) (newest : Sb) (header : Sector) (span : Span) → open_by scope newest header ≡ Some span → (next_window newest ≡ Some span) × (names_span header span ≡ true)
+open-named scope newest header span active = of scope.backup (next_window newest) active
+  where
+    chosen : (backup : ℕ) (window : Span) (t : Bool) → (has_slot scope.given backup && has_section scope.uuid (scope.sizes.sectors backup) (λ k. header) window) ≡ t
+        → ◌≡◌ {A = Option Span} (cond t (Some window) None) (Some span) → (◌≡◌ {A = Option Span} (Some window) (Some span)) × (names_span header span ≡ true)
+    chosen backup window true there is = (is, subst (λ (s : Span). names_span header s ≡ true) (some-is is) (and_parts _ _ (and_parts _ _ (and_parts _ _ there).1).0).1)
+      where
+        some-is : ◌≡◌ {A = Option Span} (Some window) (Some span) → window ≡ span
+        some-is e = cc
+    chosen backup window false there is = absurd (cc)
+
+    of : (backup : Option ℕ) (window : Option Span) → section_for scope (λ s k. header) backup window ≡ Some span → (window ≡ Some span) × (names_span header span ≡ true)
+    of None window is = absurd (cc)
+    of (Some b) None is = absurd (cc)
+    of (Some b) (Some window) is = chosen b window (has_slot scope.given b && has_section scope.uuid (scope.sizes.sectors b) (λ k. header) window) refl is
+
+pub open-headers : OpenHeadersFit
+open-headers scope m span d all backup header here may other named =
+    let active = open-named scope m.newest header span (all header (subst (λ (s : ℕ). IsIn (d s 0) header) (sym (backup-is scope backup here)) may)) in
+    inl (active.0 ∙ ap (λ (s : Span). Some s) (span-same span other (names-one header span other active.1 (and_parts _ _ named).1)))

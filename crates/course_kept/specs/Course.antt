@@ -1,0 +1,101 @@
+-- How far a reshape has come: its window, what headers a stop leaves of it in the backup, and the rows that stand by the new shape already.
+use Rattle.std.specs.Prelude.{◌≡◌, ◌⊎◌, ℕ, ◌+◌, ◌*◌, ◌/◌, ◌<◌, ◌≤◌, Bool, true, false, List, Option, Some, None, ⊤}
+use Rattle.md_base.specs.declared.places.Shape.{Shape}
+use Rattle.md_base.specs.declared.places.Span.{Span}
+use Rattle.md_base.specs.Sectors.{Sector, zero_sector}
+use Rattle.md_base.specs.Shapes.{stripe_sectors}
+use Rattle.bank.specs.Tape.{Contents, IsIn}
+use Rattle.sb1.specs.declared.sb.Sb.{Sb}
+use Rattle.geometry.specs.Geometry.{ceiling, stripes, is_critical, zeroed_stripes}
+use Rattle.superblocks.specs.declared.members.Members.{Members}
+use Rattle.superblocks.specs.Reading.{Scope, is_backward, shape_of, final_shape, list_length, next_window}
+use Rattle.row_io.specs.Rows.{reading_of}
+use Rattle.list_io.specs.Full.{RowStands}
+use Rattle.shape_views.specs.Regions.{backup_of, open_by}
+use Rattle.shape_views.specs.Views.{Disk}
+use Rattle.shape_views.specs.Windows.{HasNoSection, ListStands, RowsStand}
+use Rattle.shape_views.specs.Backups.{IsOpenUnderAll, IsOpenOrNot}
+use Rattle.shape_ends.specs.Fits.{AreTailsStanding}
+use Rattle.shape_ends.specs.Grown.{IsZeroPast}
+use Rattle.window_rows.specs.Copies.{HasWindow, IsRoomFor}
+use Rattle.window_steps.specs.Recording.{AreHeadersFit}
+use Rattle.window_steps.specs.Zeroing.{IsThrough}
+use Rattle.course_kept.specs.declared.course.Course.{Course}
+use Rattle.course_kept.specs.declared.course.Window.{Window}
+use Rattle.course_kept.specs.declared.course.Window.TheVariants.{Closed, Entered, Unsure}
+
+-- ---- the window
+
+-- The window is the next one; at most all its stripes are copied, and where it is critical its section is stored.
+abbrev pub IsWindowOf : Sb → Window → Type 0
+IsWindowOf newest Closed = ⊤
+IsWindowOf newest (Entered span copied sectioned) = (next_window newest ≡ Some span) × (copied ≤ stripes (final_shape newest) span.lo span.hi)
+    × (is_critical (shape_of newest) (final_shape newest) newest.size (is_backward newest) span ≡ true → sectioned ≡ true)
+IsWindowOf newest (Unsure span) = next_window newest ≡ Some span
+
+-- the span that is read from the section alone, as long as its rows may be written: that of an entered window whose section is stored
+abbrev pub hidden_in : Window → Option Span
+hidden_in Closed = None
+hidden_in (Entered span copied true) = Some span
+hidden_in (Entered span copied false) = None
+hidden_in (Unsure span) = None
+
+-- the buffer has the sectors of the window under way
+abbrev pub HasWindowIn : Window → List ℕ → (ℕ → Sector) → Type 0
+HasWindowIn Closed buffer list = ⊤
+HasWindowIn (Entered span copied sectioned) buffer list = IsRoomFor span buffer × HasWindow span buffer list
+HasWindowIn (Unsure span) buffer list = IsRoomFor span buffer × HasWindow span buffer list
+
+-- ---- the backup's header
+
+-- By each header that a stop leaves no section is active, or the window's is; of an unsure window either.
+abbrev pub IsStoredAs : Scope → Members → Window → Disk → Type 0
+IsStoredAs scope m Closed d = HasNoSection scope m d
+IsStoredAs scope m (Entered span copied true) d = IsOpenUnderAll scope m span d
+IsStoredAs scope m (Entered span copied false) d = HasNoSection scope m d
+IsStoredAs scope m (Unsure span) d = IsOpenOrNot scope m span d
+
+-- so it is, and each section that a header names is that of the next window, or lies in the new region
+pub record IsStored (scope : Scope) (m : Members) (window : Window) (d : Disk) : Type 0 where
+  pub section : IsStoredAs scope m window d
+  pub headers : AreHeadersFit scope m d
+
+-- ---- rows
+
+-- a row of so many stripes of a shape, from this stripe on
+abbrev pub IsOfStripes : Shape → ℕ → ℕ → ℕ → Type 0
+IsOfStripes shape first count row = (first * shape.chunk ≤ row) × (row < (first + count) * shape.chunk)
+
+-- a row of the window that is copied
+abbrev pub IsCopiedRow : Sb → Window → ℕ → Type 0
+IsCopiedRow newest Closed row = ⊥
+IsCopiedRow newest (Entered span copied sectioned) row = IsOfStripes (final_shape newest) (span.lo / stripe_sectors (final_shape newest)) copied row
+IsCopiedRow newest (Unsure span) row = ⊥
+
+-- the first stripe behind the list
+abbrev pub past_stripe : Sb → ℕ
+past_stripe newest = ceiling (list_length newest) (stripe_sectors (final_shape newest))
+
+-- a row behind the list that is zeroed
+abbrev pub IsZeroedRow : Sb → ℕ → ℕ → Type 0
+IsZeroedRow newest zeroed row = IsOfStripes (final_shape newest) (past_stripe newest) zeroed row
+
+-- ---- what is kept
+
+-- Stripes are zeroed only once the reshape has gone through the list, and no more than there are.
+pub record IsCourseOf (newest : Sb) (course : Course) : Type 0 where
+  pub window : IsWindowOf newest course.window
+  pub through : 0 < course.zeroed → IsThrough newest
+  pub few : course.zeroed ≤ zeroed_stripes (shape_of newest) (final_shape newest) newest.size (is_backward newest)
+
+-- The list stands on the members, but for the span that is hidden, whose sectors the buffer has; forward it is zero behind its end. The rows that are copied
+-- stand by the new shape, with their parity; so does the tail, and the zeroed rows as zeros. Where the epoch opened sound, so does the row of each sector that
+-- isn't hidden.
+pub record StandsInCourse (sound : Type 0) (m : Members) (course : Course) (buffer : List ℕ) (c : Contents) (list : ℕ → Sector) : Type 0 where
+  pub stands : ListStands (hidden_in course.window) m c list
+  pub window : HasWindowIn course.window buffer list
+  pub zeros : is_backward m.newest ≡ false → IsZeroPast (list_length m.newest) list
+  pub copied : (row : ℕ) → IsCopiedRow m.newest course.window row → RowStands (reading_of m) c (final_shape m.newest) list row
+  pub tail : AreTailsStanding m c list
+  pub zeroed : (row : ℕ) → IsZeroedRow m.newest course.zeroed row → RowStands (reading_of m) c (final_shape m.newest) (λ x. zero_sector) row
+  pub rows : sound → RowsStand (hidden_in course.window) m c list

@@ -1,0 +1,122 @@
+-- What a step makes of the course of a reshape, by what its call leaves: on members that lost slots, with a stripe copied, recorded or zeroed.
+use Rattle.std.specs.Prelude.{◌≡◌, ◌⊎◌, ℕ, ◌+◌, ◌/◌, ◌<◌, Bool, true, false, List, Some, None}
+use Rattle.md_base.specs.declared.places.Span.{Span}
+use Rattle.md_base.specs.Sectors.{Sector, zero_sector}
+use Rattle.md_base.specs.Shapes.{stripe_sectors}
+use Rattle.bank.specs.Given.{Given}
+use Rattle.bank.specs.Tape.{Contents}
+use Rattle.geometry.specs.Geometry.{stripes, rows, zeroed_stripes, is_critical}
+use Rattle.geometry.specs.Geometry as geometry
+use Rattle.superblocks.specs.declared.members.Members.{Members}
+use Rattle.superblocks.specs.Reading.{Scope, is_reshaping, is_backward, shape_of, final_shape, list_length, next_window}
+use Rattle.row_io.specs.Rows.{reading_of}
+use Rattle.list_io.specs.Full.{RowStands}
+use Rattle.shape_views.specs.Regions.{ArePlaced}
+use Rattle.shape_views.specs.Views.{Disk}
+use Rattle.shape_views.specs.Windows.{ListStands, RowsStand, moved_past}
+use Rattle.shape_views.specs.Backups.{IsOpenUnderAll}
+use Rattle.shape_changes.specs.Marking.{AreOthersPresent}
+use Rattle.shape_ends.specs.Ends.{IsBegun}
+use Rattle.shape_ends.specs.Grown.{IsZeroPast}
+use Rattle.reshape_ends.specs.Finished.{IsZeroBehind}
+use Rattle.views.specs.Placed.{IsPlaced}
+use Rattle.views.specs.Moving.{IsMoved}
+use Rattle.views.specs.Lacking.{IsOfStripe, AreOtherRowsKept}
+use Rattle.window_rows.specs.Copies.{tail_of, HasWindow, IsRoomFor, IsZeroIn, IsCopied}
+use Rattle.window_steps.specs.Copying.{AreHeadersKept}
+use Rattle.window_steps.specs.Recording.{AreHeadersFit}
+use Rattle.window_steps.specs.Zeroing.{IsThrough}
+use Rattle.course_kept.specs.declared.course.Course.{Course}
+use Rattle.course_kept.specs.declared.course.Window.{Window}
+use Rattle.course_kept.specs.declared.course.Window.TheVariants.{Closed, Entered, Unsure}
+use Rattle.course_kept.specs.Course.{IsStored, StandsInCourse, past_stripe}
+
+-- ---- what stands
+
+-- Members that lost slots, where all but the superblocks is as it was, stand in the same course.
+abbrev pub CoursesMove : (sound : Type 0) → Type 0
+CoursesMove sound = (given : Given) (old new : Members) (course : Course) (buffer : List ℕ) (c e : Contents) (list : ℕ → Sector) → IsPlaced given old → IsMoved given old new → AreOthersPresent c e
+    → StandsInCourse sound old course buffer c list → StandsInCourse sound new course buffer e list
+
+-- an entered window, before any stripe behind the list is zeroed
+abbrev pub entered : Span → ℕ → Bool → Course
+entered span copied sectioned = record { window = Entered span copied sectioned; zeroed = 0 }
+
+abbrev pub closed : ℕ → Course
+closed zeroed = record { window = Closed; zeroed = zeroed }
+
+abbrev pub unsure : Span → Course
+unsure span = record { window = Unsure span; zeroed = 0 }
+
+-- the stripe of the new shape that is copied next
+abbrev pub next_stripe : Members → Span → ℕ → ℕ
+next_stripe m span copied = span.lo / stripe_sectors (final_shape m.newest) + copied
+
+-- Where rows of the next stripe are written and no others, all stands on as before; and where that stripe stands by the new shape, with it copied.
+abbrev pub CopiesGoOn : (sound : Type 0) → Type 0
+CopiesGoOn sound = (given : Given) (old new : Members) (span : Span) (copied : ℕ) (sectioned : Bool) (buffer : List ℕ) (c e : Contents) (list : ℕ → Sector)
+    → IsPlaced given old → IsMoved given old new → next_window old.newest ≡ Some span → copied < stripes (final_shape old.newest) span.lo span.hi
+    → (sectioned ≡ false → is_critical (shape_of old.newest) (final_shape old.newest) old.newest.size (is_backward old.newest) span ≡ false)
+    → AreOtherRowsKept (IsOfStripe (final_shape old.newest) (next_stripe old span copied)) (reading_of new) c e
+    → StandsInCourse sound old (entered span copied sectioned) buffer c list
+    → StandsInCourse sound new (entered span copied sectioned) buffer e list
+    × (((row : ℕ) → IsOfStripe (final_shape old.newest) (next_stripe old span copied) row → RowStands (reading_of new) e (final_shape old.newest) list row)
+    → StandsInCourse sound new (entered span (copied + 1) sectioned) buffer e list)
+
+-- A reshape has begun, and nothing of it is done yet: the list that stood stands in its course, forward with zeros behind its end.
+abbrev pub BeginsStand : (sound : Type 0) → Type 0
+BeginsStand sound = (scope : Scope) (given : Given) (old plan new : Members) (buffer : List ℕ) (c e : Contents) (list : ℕ → Sector) → IsBegun old plan → ArePlaced scope given plan → IsMoved given plan new
+    → AreOtherRowsKept (λ row. ⊥) (reading_of new) c e → (is_backward plan.newest ≡ false → IsZeroPast (list_length plan.newest) list)
+    → ListStands None old c list → (sound → RowsStand None old c list) → StandsInCourse sound new (closed 0) buffer e list
+
+-- The next window's sectors are in the buffer: it is entered, with its section stored or not, or unsure.
+abbrev pub EntersStand : (sound : Type 0) → Type 0
+EntersStand sound = (given : Given) (old new : Members) (span : Span) (sectioned : Bool) (former buffer : List ℕ) (c e : Contents) (list : ℕ → Sector) → IsMoved given old new
+    → AreOtherRowsKept (λ row. ⊥) (reading_of new) c e → IsRoomFor span buffer → HasWindow span buffer list → StandsInCourse sound old (closed 0) former c list
+    → StandsInCourse sound new (entered span 0 sectioned) buffer e list × StandsInCourse sound new (unsure span) buffer e list
+
+-- The list that stands in the course has the buffer's sectors in the window, and forward zeros in the tail: it is what a copy writes.
+abbrev pub CoursesAreCopied : (sound : Type 0) → Type 0
+CoursesAreCopied sound = (scope : Scope) (given : Given) (m : Members) (span : Span) (copied : ℕ) (sectioned : Bool) (buffer : List ℕ) (c : Contents) (list : ℕ → Sector) → ArePlaced scope given m
+    → next_window m.newest ≡ Some span → StandsInCourse sound m (entered span copied sectioned) buffer c list → IsCopied span buffer (tail_of m.newest) list
+
+-- All stripes of the window are copied: its rows stand by the new shape, and the list outside it, with its rows.
+pub record IsWindowCopied (sound : Type 0) (m : Members) (span : Span) (c : Contents) (list : ℕ → Sector) : Type 0 where
+  pub window : (row : ℕ) → geometry.IsIn row (rows (final_shape m.newest) span.lo span.hi) → RowStands (reading_of m) c (final_shape m.newest) list row
+  pub stands : ListStands (Some span) m c list
+  pub rows_are : sound → RowsStand (Some span) m c list
+
+abbrev pub WindowsAreCopied : (sound : Type 0) → Type 0
+WindowsAreCopied sound = (m : Members) (span : Span) (sectioned : Bool) (buffer : List ℕ) (c : Contents) (list : ℕ → Sector)
+    → StandsInCourse sound m (entered span (stripes (final_shape m.newest) span.lo span.hi) sectioned) buffer c list → IsWindowCopied sound m span c list
+
+-- All stripes are copied: once the position has moved behind the window, the list stands in the new shape there, and none is open.
+abbrev pub RecordsClose : (sound : Type 0) → Type 0
+RecordsClose sound = (scope : Scope) (given : Given) (old new : Members) (span : Span) (sectioned : Bool) (buffer : List ℕ) (c e : Contents) (list : ℕ → Sector)
+    → ArePlaced scope given old → IsPlaced given old → next_window old.newest ≡ Some span → IsMoved given (moved_past span old) new → AreOthersPresent c e
+    → StandsInCourse sound old (entered span (stripes (final_shape old.newest) span.lo span.hi) sectioned) buffer c list → StandsInCourse sound new (closed 0) buffer e list
+
+-- Where rows of the next stripe behind the list are written and no others, all stands on; and where they stand as zeros, with that stripe zeroed.
+abbrev pub ZeroesGoOn : (sound : Type 0) → Type 0
+ZeroesGoOn sound = (given : Given) (old new : Members) (zeroed : ℕ) (buffer : List ℕ) (c e : Contents) (list : ℕ → Sector)
+    → IsPlaced given old → IsMoved given old new → IsThrough old.newest
+    → AreOtherRowsKept (IsOfStripe (final_shape old.newest) (past_stripe old.newest + zeroed)) (reading_of new) c e
+    → StandsInCourse sound old (closed zeroed) buffer c list
+    → StandsInCourse sound new (closed zeroed) buffer e list
+    × (((row : ℕ) → IsOfStripe (final_shape old.newest) (past_stripe old.newest + zeroed) row → RowStands (reading_of new) e (final_shape old.newest) (λ x. zero_sector) row)
+    → StandsInCourse sound new (closed (zeroed + 1)) buffer e list)
+
+-- All stripes behind the list are zeroed: what is behind it is zero, on the members and in the list.
+abbrev pub ZeroesAreAll : (sound : Type 0) → Type 0
+ZeroesAreAll sound = (given : Given) (m : Members) (buffer : List ℕ) (c : Contents) (list : ℕ → Sector) → IsPlaced given m → is_reshaping m.newest ≡ true → is_backward m.newest ≡ false
+    → StandsInCourse sound m (closed (zeroed_stripes (shape_of m.newest) (final_shape m.newest) m.newest.size (is_backward m.newest))) buffer c list → IsZeroBehind m c list
+
+-- ---- the headers
+
+-- Where a stop leaves no other headers, members that lost slots have the same stored.
+abbrev pub StoredMove : Type 0
+StoredMove = (scope : Scope) (given : Given) (old new : Members) (window : Window) (d e : Disk) → IsMoved given old new → AreHeadersKept d e → IsStored scope old window d → IsStored scope new window e
+
+-- Headers under each of which the window's section is active fit.
+abbrev pub OpenHeadersFit : Type 0
+OpenHeadersFit = (scope : Scope) (m : Members) (span : Span) (d : Disk) → IsOpenUnderAll scope m span d → AreHeadersFit scope m d

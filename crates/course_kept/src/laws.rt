@@ -1,0 +1,59 @@
+//! Laws of the course of a reshape. Each function's contract is the law.
+
+ghost use Rattle.std.specs.Prelude.{⊤};
+ghost use Rattle.course_kept.specs.Laws.{BeginsStand, EntersStand, CoursesMove, CopiesGoOn, CoursesAreCopied, WindowsAreCopied, RecordsClose, ZeroesGoOn, ZeroesAreAll, StoredMove, OpenHeadersFit};
+
+/// A reshape begins.
+pub fn a_begun_reshape_stands()
+    ensures { BeginsStand ⊤ }
+{}
+
+/// A window is entered.
+pub fn an_entered_window_stands()
+    ensures { EntersStand ⊤ }
+{}
+
+/// Members that lost slots stand in the same course.
+pub fn a_course_moves()
+    ensures { CoursesMove ⊤ }
+{}
+
+/// A stripe of the window is copied.
+pub fn a_copy_goes_on()
+    ensures { CopiesGoOn ⊤ }
+{}
+
+/// What a copy writes is the list that stands.
+pub fn a_course_is_copied()
+    ensures { CoursesAreCopied ⊤ }
+{}
+
+/// All stripes of a window are copied.
+pub fn a_window_is_copied()
+    ensures { WindowsAreCopied ⊤ }
+{}
+
+/// The window is recorded.
+pub fn a_record_closes()
+    ensures { RecordsClose ⊤ }
+{}
+
+/// A stripe behind the list is zeroed.
+pub fn a_zeroing_goes_on()
+    ensures { ZeroesGoOn ⊤ }
+{}
+
+/// All stripes behind the list are zeroed.
+pub fn all_is_zeroed()
+    ensures { ZeroesAreAll ⊤ }
+{}
+
+/// The headers that a stop leaves stay as they are.
+pub fn a_stored_window_moves()
+    ensures { StoredMove }
+{}
+
+/// Headers of an active section fit.
+pub fn open_headers_fit()
+    ensures { OpenHeadersFit }
+{}

@@ -1,0 +1,8 @@
+pub mod MembersMove
+pub mod Newest
+pub mod Quiet
+pub mod Refusals
+pub mod Steps
+pub mod MoreSteps
+pub mod Staying
+pub mod Entering

@@ -1,0 +1,58 @@
+-- Members of an array in a reshape stay so, where slots are lost or the position moves.
+use Rattle.std.proofs.Common.{◌≡◌, ◌||◌, not, cond, Some, None, sym, ◌∙◌, ap}
+use Rattle.std.specs.Prelude.{min}
+use Rattle.md_base.specs.declared.places.Span.{Span}
+use Rattle.bank.specs.Given.{Given}
+use Rattle.superblocks.specs.declared.members.Members.{Members}
+use Rattle.superblocks.specs.Reading.{Scope, shape_of, next_window, holder}
+use Rattle.md_base.specs.declared.answers.Refusal.TheVariants.{BackupAbsent}
+use Rattle.geometry.specs.Geometry.{unit}
+use Rattle.flat_history.specs.Stands.{backup_absent, has_room}
+use Rattle.shape_views.specs.Regions.{ArePlaced}
+use Rattle.shape_views.specs.Windows.{moved_past}
+use Rattle.shape_views.proofs.Stands.{moved-is-placed}
+use Rattle.views.specs.Placed.{HaveSameReshape}
+use Rattle.views.specs.Moving.{IsMoved}
+use Rattle.views.proofs.Fit.{list-alike}
+use Rattle.window_steps.proofs.PastLaws.{free-moved}
+use Rattle.moving_kept.specs.Moving.{AreReshaping}
+
+-- the backup's room is the same
+backup-alike : (scope : Scope) (old new : Members) → HaveSameReshape old.newest new.newest → shape_of new.newest ≡ shape_of old.newest → new.newest.size ≡ old.newest.size
+    → backup_absent scope new.newest ≡ backup_absent scope old.newest
+backup-alike scope old new reshape shape size =
+    λ i. cond (not (reshape.reshaping i) || has_room scope (min (unit (shape i) (reshape.final i)) (list-alike old.newest new.newest reshape shape size i))) None (Some BackupAbsent)
+
+module _ (scope : Scope) (given : Given) (old new : Members) (moved : IsMoved given old new) where
+  pub backed-moved : ArePlaced scope given old → ArePlaced scope given new
+  backed-moved was = record {
+    fit = moved.placed.fit;
+    roles = moved.placed.roles;
+    holders = moved.placed.holders;
+    behind = moved.placed.behind;
+    members_own = λ role slot held. was.members_own role slot (moved.held role slot held);
+    apart = moved.placed.apart;
+    backup = backup-alike scope old new moved.reshape moved.shape moved.size ∙ was.backup;
+  }
+
+  pub reshaping-moved : AreReshaping scope given old → AreReshaping scope given new
+  reshaping-moved was = record {
+    placed = moved.placed;
+    backed = backed-moved was.backed;
+    active = moved.reshape.reshaping ∙ was.active;
+    whole = λ role slot is. was.whole role slot (sym (moved.states role slot (ap holder is)) ∙ is);
+    unlost = moved.unlost;
+    free = moved.free was.free;
+    spares = moved.spares was.spares;
+  }
+
+pub reshaping-past : (scope : Scope) (given : Given) (old new : Members) (span : Span) → next_window old.newest ≡ Some span → IsMoved given (moved_past span old) new → AreReshaping scope given old → AreReshaping scope given new
+reshaping-past scope given old new span next moved was = record {
+  placed = moved.placed;
+  backed = backed-moved scope given (moved_past span old) new moved (moved-is-placed scope given old span was.backed next);
+  active = moved.reshape.reshaping ∙ was.active;
+  whole = λ role slot is. was.whole role slot (sym (moved.states role slot (ap holder is)) ∙ is);
+  unlost = moved.unlost;
+  free = free-moved given old new span moved was.free;
+  spares = moved.spares was.spares;
+}

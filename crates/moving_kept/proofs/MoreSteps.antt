@@ -1,0 +1,158 @@
+-- More steps of a reshape under way: a stripe behind the list is zeroed, a window is recorded; and steps that are refused.
+use Rattle.std.proofs.Common.{◌≡◌, ◌≢◌, ◌⊎◌, inl, inr, ℕ, ◌+◌, ◌<◌, ◌≤◌, ◌==◌, Bool, true, false, List, [], ◌∷◌, ◌++◌, length, refl, sym, ◌∙◌, ap, subst, arith}
+use Rattle.std.specs.Prelude.{IsFalse, IfSome, ⊤}
+use Rattle.md_base.specs.Sectors.{Sector, zero_sector}
+use Rattle.md_base.specs.Shapes.{has_slot}
+use Rattle.md_base.specs.declared.answers.Refusal.{Refusal}
+use Rattle.md_base.specs.declared.answers.Who.{Who}
+use Rattle.md_base.specs.declared.places.Shape.{Shape}
+use Rattle.md_base.specs.declared.places.Span.{Span}
+use Rattle.bank.specs.declared.bank.Operation.{Operation}
+use Rattle.bank.specs.Given.{Given}
+use Rattle.bank.specs.Tape.{IsIn, disk}
+use Rattle.geometry.specs.Geometry.{stripes, zeroed_stripes}
+use Rattle.superblocks.specs.declared.members.Members.{Members}
+use Rattle.superblocks.specs.Reading.{Scope, is_clean, is_backward, shape_of, final_shape, list_length, next_window, role_count}
+use Rattle.row_io.specs.Rows.{reading_of, present, is_missing}
+use Rattle.list_io.specs.Full.{RowStands}
+use Rattle.flat_history.specs.declared.events.Entry.{Entry}
+use Rattle.flat_history.specs.declared.events.Event.TheVariants.{Refused, Step}
+use Rattle.flat_history.specs.declared.events.StepKind.TheVariants.{Checkpointed as RecordsWindow, Zeroed as ZeroesStripe}
+use Rattle.flat_history.specs.Flat.{now, length_of, values_of}
+use Rattle.flat_history.specs.Plain.{entries_of}
+use Rattle.flat_history.specs.Sound.{OpensFit}
+use Rattle.flat_history.specs.World.{World, opening_list}
+use Rattle.shape_views.specs.Regions.{DoWithout}
+use Rattle.shape_views.specs.Views.{Ledger}
+use Rattle.shape_views.specs.Windows.{HasNoSection, moved_past}
+use Rattle.shape_changes.specs.Marking.{AreOthersPresent}
+use Rattle.shape_changes.specs.Safety.{HasRoomLeft, IsRisen}
+use Rattle.shape_changes.specs.Steady.{IsMoreTold, IsSafeOver, KeepsSafe, AreGoneTold, IsUncleanTold}
+use Rattle.shape_ends.specs.Grown.{IsZeroPast}
+use Rattle.views.specs.Moving.{Grows, IsMoved}
+use Rattle.views.specs.Lacking.{IsOfStripe, AreTooMany, AreOtherRowsKept}
+use Rattle.views.proofs.Fit.{list-alike}
+use Rattle.views.proofs.HeldRows.{without-before}
+use Rattle.call_entries.specs.Losing.{losses_of}
+use Rattle.call_entries.proofs.CallLaws.{losses-are}
+use Rattle.window_rows.specs.Copies.{tail_of, IsZeroIn}
+use Rattle.window_steps.specs.Copying.{AreHeadersKept}
+use Rattle.window_steps.specs.Recording.{AreHeadersFit, IsCopiedWindow}
+use Rattle.window_steps.specs.Zeroing.{IsThrough}
+use Rattle.window_steps.proofs.ZeroLaws.{through-moved}
+use Rattle.kept_history.specs.Recorded.{IsCallGoing, entry_of}
+use Rattle.kept_history.specs.Safe.{world_in}
+use Rattle.kept_history.specs.Told.{told_now}
+use Rattle.course_kept.specs.declared.course.Window.TheVariants.{Closed}
+use Rattle.course_kept.specs.Course.{IsCourseOf, IsStored, past_stripe}
+use Rattle.course_kept.specs.Laws.{closed, entered, IsWindowCopied}
+use Rattle.course_kept.proofs.Courses.{zeroes-go-on, stored-moves, windows-copied, records-close}
+use Rattle.moving_kept.specs.Moving.{HasListInCourse, IsMoving}
+use Rattle.moving_kept.proofs.MembersMove.{reshaping-moved, reshaping-past}
+use Rattle.moving_kept.proofs.Newest.{newest-now}
+use Rattle.moving_kept.proofs.Quiet.{quiet-moves}
+use Rattle.moving_kept.proofs.Steps.{AreMissingSince, quiet-step, missing-moved, step-is, told-behind, told-step}
+
+-- ---- a stripe behind the list is zeroed
+
+pub zeroed-moves : (tells : Type 0) (given : Given) (tape tape' : List Operation) (scope : Scope) (first : ℕ) (entries : List Entry) (old new : Members) (carried : ℕ → Bool)
+    (zeroed : ℕ) (buffer : List ℕ) (left : ℕ) (who : Who) (end roles spares : ℕ)
+    → IsMoving tells given tape scope first entries old carried (closed zeroed) buffer (left + 1) → IsCallGoing entries who → IsFalse (who.caller == 254) → (tells → end ≡ length tape') → Grows tells tape tape'
+    → IsThrough old.newest → zeroed < zeroed_stripes (shape_of old.newest) (final_shape old.newest) old.newest.size (is_backward old.newest) → left ≢ 0
+    → IsMoved given old new → role_count new.newest ≤ 16 → AreMissingSince old new roles → is_clean new.newest ≡ is_clean old.newest
+    → (tells → IsRisen ⊤ old new tape tape') → (tells → AreHeadersKept (disk given.start tape) (disk given.start tape'))
+    → (tells → AreOtherRowsKept (IsOfStripe (final_shape old.newest) (past_stripe old.newest + zeroed)) (reading_of new) (present given tape) (present given tape'))
+    → (tells → (list : ℕ → Sector) → IsZeroIn (tail_of old.newest) list → (row : ℕ) → IsOfStripe (final_shape old.newest) (past_stripe old.newest + zeroed) row
+    → RowStands (reading_of new) (present given tape') (final_shape old.newest) list row)
+    → (tells → (world : World) → (told : Ledger) → HasRoomLeft old tape tape' → AreGoneTold told new → IsUncleanTold told old
+    → IsSafeOver world given told old tape → KeepsSafe world given told new tape tape')
+    → IsMoving tells given tape' scope first (entries ++ entries_of who end (losses_of roles spares ++ Step ZeroesStripe left ∷ [])) new carried (closed (zeroed + 1)) buffer left
+zeroed-moves tells given tape tape' scope first entries old new carried zeroed buffer left who end roles spares was goes caller at_end grows through more some moved few since clean rise headers others stands safe =
+    quiet-moves tells given tape tape' scope first entries old new carried (closed zeroed) (closed (zeroed + 1)) buffer buffer (left + 1) left who end roles spares (Step ZeroesStripe left)
+    was goes caller at_end grows (quiet-step ZeroesStripe left tt some) (reshaping-moved scope given old new moved was.members_are) few (missing-moved roles moved since)
+    (list-alike old.newest new.newest moved.reshape moved.shape moved.size) (ap (λ (s : Shape). s.level) moved.shape) clean course_is
+    (λ t. stored-moves scope given old new Closed (disk given.start tape) (disk given.start tape') moved (headers t) (was.stored t))
+    (told-step entries who end (losses_of roles spares) ZeroesStripe left (losses-are roles spares))
+    (λ t. record {
+      rise = rise t;
+      keeps = λ told fills more_told room gone unclean here. safe t (world_in given tape scope first) told room gone unclean here;
+      listed = λ does fills. on t (was.listed t (without-before given old new moved does) fills);
+      legal = λ fills gone level. step-is (world_in given tape' scope first) (entries ++ entries_of who end (losses_of roles spares)) (entry_of who end (Step ZeroesStripe left)) ZeroesStripe left
+          (told-behind (left + 1) entries who end (losses_of roles spares) (losses-are roles spares) was.left_told);
+    })
+  where
+    course_is : IsCourseOf new.newest (closed (zeroed + 1))
+    course_is = record {
+      window = tt;
+      through = λ some. through-moved given old new moved through;
+      few = subst (λ (n : ℕ). zeroed + 1 ≤ n) (sym (λ i. zeroed_stripes (moved.shape i) (moved.reshape.final i) (moved.size i) (moved.reshape.backward i))) (omega (arith, more));
+    }
+
+    on : tells → HasListInCourse (OpensFit (world_in given tape scope first)) old (closed zeroed) buffer (present given tape) (now (opening_list (world_in given tape scope first)) entries)
+        → HasListInCourse (OpensFit (world_in given tape scope first)) new (closed (zeroed + 1)) buffer (present given tape') (now (opening_list (world_in given tape scope first)) entries)
+    on t l = record {
+      list = l.list;
+      is = λ x lt. l.is x (subst (λ (n : ℕ). x < n) (list-alike old.newest new.newest moved.reshape moved.shape moved.size) lt);
+      stands = (zeroes-go-on (OpensFit (world_in given tape scope first)) given old new zeroed buffer (present given tape) (present given tape') l.list was.members_are.placed moved through (others t) l.stands).1
+          (λ row at. stands t (λ x. zero_sector) (λ x at. refl) row at);
+    }
+
+-- ---- a window is recorded
+
+pub recorded-moves : (tells : Type 0) (given : Given) (tape tape' : List Operation) (scope : Scope) (first : ℕ) (entries : List Entry) (old new : Members) (carried : ℕ → Bool)
+    (span : Span) (sectioned : Bool) (buffer : List ℕ) (left : ℕ) (who : Who) (end roles spares : ℕ)
+    → IsMoving tells given tape scope first entries old carried (entered span (stripes (final_shape old.newest) span.lo span.hi) sectioned) buffer (left + 1)
+    → IsCallGoing entries who → IsFalse (who.caller == 254) → (tells → end ≡ length tape') → Grows tells tape tape' → left ≢ 0
+    → IsMoved given (moved_past span old) new → role_count new.newest ≤ 16 → AreMissingSince old new roles → DoWithout old → is_clean new.newest ≡ is_clean old.newest
+    → (tells → IsRisen ⊤ old new tape tape') → (tells → AreOthersPresent (present given tape) (present given tape'))
+    → (tells → AreHeadersFit scope old (disk given.start tape) → HasNoSection scope new (disk given.start tape') × AreHeadersFit scope new (disk given.start tape'))
+    → (tells → (world : World) → (told : Ledger) → HasRoomLeft old tape tape' → AreGoneTold told new → IsUncleanTold told old → (list : ℕ → Sector)
+    → IsCopiedWindow (OpensFit world) world.scope told old span list (present given tape) (disk given.start tape)
+    → IsSafeOver world given told old tape → KeepsSafe world given told new tape tape')
+    → IsMoving tells given tape' scope first (entries ++ entries_of who end (losses_of roles spares ++ Step RecordsWindow left ∷ [])) new carried (closed 0) buffer left
+recorded-moves tells given tape tape' scope first entries old new carried span sectioned buffer left who end roles spares was goes caller at_end grows some moved few since does clean rise others plain safe =
+    quiet-moves tells given tape tape' scope first entries old new carried (entered span (stripes (final_shape old.newest) span.lo span.hi) sectioned) (closed 0) buffer buffer (left + 1) left who end roles spares (Step RecordsWindow left)
+    was goes caller at_end grows (quiet-step RecordsWindow left tt some) (reshaping-past scope given old new span was.course_is.window.0 moved was.members_are) few (missing-moved roles moved since)
+    (list-alike (moved_past span old).newest new.newest moved.reshape moved.shape moved.size) (ap (λ (s : Shape). s.level) moved.shape) clean
+    (record { window = tt; through = λ some. absurd (omega (arith, some)); few = omega arith })
+    (λ t. let now = plain t (was.stored t).headers in record { section = now.0; headers = now.1 })
+    (told-step entries who end (losses_of roles spares) RecordsWindow left (losses-are roles spares))
+    (λ t. record {
+      rise = rise t;
+      keeps = λ told fills more_told room gone unclean here.
+          let l = was.listed t does fills in
+          safe t (world_in given tape scope first) told room gone unclean l.list (copied t told more_told l) here;
+      listed = λ enough fills. on t (was.listed t does fills);
+      legal = λ fills gone level. step-is (world_in given tape' scope first) (entries ++ entries_of who end (losses_of roles spares)) (entry_of who end (Step RecordsWindow left)) RecordsWindow left
+          (told-behind (left + 1) entries who end (losses_of roles spares) (losses-are roles spares) was.left_told);
+    })
+  where
+    all : ℕ
+    all = stripes (final_shape old.newest) span.lo span.hi
+
+    copied : (t : tells) → (told : Ledger) → IsMoreTold (told_now (world_in given tape scope first) carried true entries) told
+        → (l : HasListInCourse (OpensFit (world_in given tape scope first)) old (entered span (stripes (final_shape old.newest) span.lo span.hi) sectioned) buffer (present given tape) (now (opening_list (world_in given tape scope first)) entries))
+        → IsCopiedWindow (OpensFit (world_in given tape scope first)) scope told old span l.list (present given tape) (disk given.start tape)
+    copied t told more l = record {
+      allowed = λ x lt. more.values x (within x lt) (l.list x) (subst (λ (v : Sector). IsIn (values_of (opening_list (world_in given tape scope first)) entries x) v) (sym (l.is x lt))
+          (newest-now (opening_list (world_in given tape scope first)) entries x (within x lt)));
+      window = done.window;
+      stands = done.stands;
+      rows_are = λ is enough so. done.rows_are so;
+      headers = (was.stored t).headers;
+    }
+      where
+        done : IsWindowCopied (OpensFit (world_in given tape scope first)) old span (present given tape) l.list
+        done = windows-copied (OpensFit (world_in given tape scope first)) old span sectioned buffer (present given tape) l.list l.stands
+
+        within : (x : ℕ) → x < list_length old.newest → x < length_of (length (opening_list (world_in given tape scope first))) entries
+        within x lt = let size = (was.recorded t).sized in omega (arith, lt, size)
+
+    on : tells → HasListInCourse (OpensFit (world_in given tape scope first)) old (entered span (stripes (final_shape old.newest) span.lo span.hi) sectioned) buffer (present given tape) (now (opening_list (world_in given tape scope first)) entries)
+        → HasListInCourse (OpensFit (world_in given tape scope first)) new (closed 0) buffer (present given tape') (now (opening_list (world_in given tape scope first)) entries)
+    on t l = record {
+      list = l.list;
+      is = λ x lt. l.is x (subst (λ (n : ℕ). x < n) (list-alike (moved_past span old).newest new.newest moved.reshape moved.shape moved.size) lt);
+      stands = records-close (OpensFit (world_in given tape scope first)) scope given old new span sectioned buffer (present given tape) (present given tape') l.list was.members_are.backed was.members_are.placed
+          was.course_is.window.0 moved (others t) l.stands;
+    }

@@ -1,0 +1,85 @@
+-- A refusal is right by the history, in an array that is in a reshape.
+use Rattle.std.proofs.Common.{◌≡◌, ◌⊎◌, inl, inr, ℕ, zero, suc, ◌+◌, ◌-◌, ◌<◌, ◌≤◌, Bool, true, false, cond, List, refl, sym, ◌∙◌, ap, subst, arith}
+use Rattle.md_base.specs.declared.answers.Refusal.{Refusal}
+use Rattle.md_base.specs.declared.answers.Refusal.TheVariants.{TooManyMissing, PastEnd, NotResynced, BackupFault}
+use Rattle.md_base.specs.declared.places.Shape.{Shape}
+use Rattle.md_base.specs.Search.{count_below}
+use Rattle.md_base.specs.Shapes.{tolerance, tolerance_of}
+use Rattle.bank.specs.Given.{Given}
+use Rattle.superblocks.specs.declared.members.Members.{Members}
+use Rattle.superblocks.specs.Reading.{shape_of, final_shape, role_count}
+use Rattle.superblocks.proofs.ValidFields.{few-roles}
+use Rattle.row_io.specs.Rows.{reading_of, is_missing}
+use Rattle.flat_history.specs.declared.events.Entry.{Entry}
+use Rattle.flat_history.specs.declared.events.Event.{Event}
+use Rattle.flat_history.specs.declared.events.Event.TheVariants.{Refused}
+use Rattle.flat_history.specs.Legal.{level_at, IsTooManyMissing, IsRefusedRight}
+use Rattle.flat_history.specs.Losses.{is_gone_after}
+use Rattle.flat_history.specs.World.{World}
+use Rattle.shape_ends.proofs.EndLaws.{fewer-pass}
+use Rattle.views.specs.Placed.{IsPlaced, IsInForce}
+use Rattle.views.specs.Lacking.{lacking, LacksTooMany, AreTooMany}
+use Rattle.views.proofs.Fit.{force-disks}
+use Rattle.moving_kept.specs.Moving.{AreToldGone}
+use Rattle.moving_kept.proofs.Quiet.{IsQuiet}
+
+-- a refusal is quiet
+pub quiet-refusal : (refusal : Refusal) → IsQuiet (Refused refusal)
+quiet-refusal refusal = record { adds = refl; gives = refl; ends = refl; still = λ x values. refl; level = λ n. refl }
+
+-- as many pass below more
+count-longer : (f : ℕ → Bool) (n k : ℕ) → count_below n f ≤ count_below (n + k) f
+unfolding count_below
+count-longer f n zero = subst (λ (m : ℕ). count_below n f ≤ count_below m f) (same n) (omega arith)
+  where
+    same : (n : ℕ) → n ≡ n + 0
+    same n = omega arith
+count-longer f n (suc k) = subst (λ (m : ℕ). count_below n f ≤ count_below m f) (next n k) (let le = count-longer f n k in of (f (n + k)) le)
+  where
+    next : (n k : ℕ) → suc (n + k) ≡ n + suc k
+    next n k = omega arith
+
+    of : (b : Bool) → count_below n f ≤ count_below (n + k) f → count_below n f ≤ count_below (n + k) f + cond b 1 0
+    of true le = omega (arith, le)
+    of false le = omega (arith, le)
+
+count-within : (f : ℕ → Bool) (n m : ℕ) → n ≤ m → count_below n f ≤ count_below m f
+count-within f n m le = subst (λ (k : ℕ). count_below n f ≤ count_below k f) (whole n m le) (count-longer f n (m - n))
+  where
+    whole : (n m : ℕ) → n ≤ m → n + (m - n) ≡ m
+    whole n m le = omega (arith, le)
+
+-- what a refusal tells to be missing, and to be tolerated
+abbrev missing-told : Refusal → ℕ
+missing-told (TooManyMissing count most) = count
+missing-told refusal = 0
+
+abbrev tolerated-told : Refusal → ℕ
+tolerated-told (TooManyMissing count most) = most
+tolerated-told refusal = 0
+
+module _ (world : World) (before : List Entry) (given : Given) (m : Members) (placed : IsPlaced given m) (gone : AreToldGone world before m) (level : level_at world before ≡ (shape_of m.newest).level) where
+  lacks-right : (shape : Shape) (count most : ℕ) → IsInForce m.newest shape → shape.level ≡ (shape_of m.newest).level → LacksTooMany shape m (TooManyMissing count most) → IsTooManyMissing world before count most
+  lacks-right shape count most force same lacks =
+      let is : count ≡ lacking shape m = ap missing-told lacks.told in
+      let t : most ≡ tolerance shape = ap tolerated-told lacks.told in
+      let above = lacks.above in
+      let few = few-roles m.newest placed.fit.valid in
+      let within = force-disks m.newest placed.fit shape force in
+      let pass : count_below shape.disks (is_missing (reading_of m)) ≤ count_below shape.disks (is_gone_after world before) =
+      fewer-pass shape.disks (is_missing (reading_of m)) (is_gone_after world before) (λ j lt miss. gone j (omega (arith, lt, within)) miss) in
+      let all = count-within (is_gone_after world before) shape.disks 32 (omega (arith, few, within)) in
+      record {
+        above = omega (arith, above, is, t);
+        gone = omega (arith, is, pass, all);
+        tolerated = t ∙ ap tolerance_of (same ∙ sym level);
+      }
+
+  pub refused-right : (refusal : Refusal) → AreTooMany m refusal → IsRefusedRight world before refusal
+  refused-right (TooManyMissing count most) (inl old) = lacks-right (shape_of m.newest) count most (inl refl) refl old
+  refused-right (TooManyMissing count most) (inr new) = lacks-right (final_shape m.newest) count most (inr refl) placed.fit.level new.1
+  refused-right (PastEnd visible) (inl old) = absurd (let e = old.told in cc)
+  refused-right (PastEnd visible) (inr new) = absurd (let e = new.1.told in cc)
+  refused-right (NotResynced role) (inl old) = absurd (let e = old.told in cc)
+  refused-right (NotResynced role) (inr new) = absurd (let e = new.1.told in cc)
+  refused-right refusal why = tt

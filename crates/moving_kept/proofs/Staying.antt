@@ -1,0 +1,126 @@
+-- A call that leaves the course of the reshape as it is: it reads, or it is refused.
+use Rattle.std.proofs.Common.{◌≡◌, ◌⊎◌, inl, inr, ℕ, ◌<◌, ◌≤◌, ◌==◌, Bool, true, List, [], ◌∷◌, ◌++◌, length, refl, sym, ◌∙◌, ap, subst}
+use Rattle.std.specs.Prelude.{IsFalse, IfSome, ⊤}
+use Rattle.md_base.specs.Sectors.{Sector}
+use Rattle.md_base.specs.declared.answers.Refusal.{Refusal}
+use Rattle.md_base.specs.declared.answers.Refusal.TheVariants.{BackupFault}
+use Rattle.md_base.specs.declared.answers.Who.{Who}
+use Rattle.md_base.specs.declared.places.Shape.{Shape}
+use Rattle.bank.specs.declared.bank.Operation.{Operation}
+use Rattle.bank.specs.Given.{Given}
+use Rattle.bank.specs.Tape.{Contents, disk}
+use Rattle.sb1.specs.declared.sb.Sb.{Sb}
+use Rattle.geometry.specs.Geometry.{is_critical, stripes, zeroed_stripes}
+use Rattle.superblocks.specs.declared.members.Members.{Members}
+use Rattle.superblocks.specs.Reading.{Scope, is_clean, is_backward, shape_of, final_shape, next_window, role_count}
+use Rattle.row_io.specs.Rows.{present}
+use Rattle.flat_history.specs.declared.events.Entry.{Entry}
+use Rattle.flat_history.specs.declared.events.Event.{Event}
+use Rattle.flat_history.specs.declared.events.Event.TheVariants.{Refused}
+use Rattle.flat_history.specs.Flat.{now}
+use Rattle.flat_history.specs.Legal.{level_at, IsRefusedRight, IsLegalEvent}
+use Rattle.flat_history.specs.Plain.{entries_of}
+use Rattle.flat_history.specs.Sound.{OpensFit}
+use Rattle.flat_history.specs.World.{World, opening_list}
+use Rattle.shape_views.specs.Views.{Ledger}
+use Rattle.shape_changes.specs.Safety.{HasRoomLeft, IsRisen}
+use Rattle.shape_changes.specs.Steady.{IsMoreTold, IsSafeOver, KeepsSafe, AreGoneTold, IsUncleanTold}
+use Rattle.views.specs.Placed.{HaveSameReshape}
+use Rattle.views.specs.Moving.{Grows, IsMoved}
+use Rattle.views.specs.Lacking.{AreTooMany}
+use Rattle.views.proofs.Fit.{list-alike}
+use Rattle.views.proofs.HeldRows.{without-before}
+use Rattle.call_entries.specs.Losing.{losses_of}
+use Rattle.call_entries.proofs.CallLaws.{losses-are}
+use Rattle.call_entries.proofs.LeftLaws.{TellLeft, left-behind, left-more}
+use Rattle.window_steps.specs.Copying.{AreHeadersKept}
+use Rattle.window_steps.proofs.CopyLaws.{window-alike, critical-alike}
+use Rattle.window_steps.proofs.ZeroLaws.{through-moved}
+use Rattle.kept_history.specs.Recorded.{IsCallGoing, entry_of}
+use Rattle.kept_history.specs.Safe.{world_in, IsFilledRight}
+use Rattle.kept_history.specs.Told.{told_now}
+use Rattle.course_kept.specs.declared.course.Course.{Course}
+use Rattle.course_kept.specs.declared.course.Window.{Window}
+use Rattle.course_kept.specs.declared.course.Window.TheVariants.{Closed, Entered, Unsure}
+use Rattle.course_kept.specs.Course.{IsWindowOf, IsCourseOf, StandsInCourse}
+use Rattle.course_kept.proofs.Courses.{stored-moves}
+use Rattle.moving_kept.specs.Moving.{AreToldGone, HasListInCourse, IsMoving}
+use Rattle.moving_kept.proofs.MembersMove.{reshaping-moved}
+use Rattle.moving_kept.proofs.Quiet.{IsQuiet, quiet-moves}
+use Rattle.moving_kept.proofs.Refusals.{quiet-refusal, refused-right}
+use Rattle.moving_kept.proofs.Steps.{AreMissingSince, missing-moved}
+
+-- ---- the course on members that moved
+
+window-moved : (old new : Sb) → HaveSameReshape old new → shape_of new ≡ shape_of old → new.size ≡ old.size → (window : Window) → IsWindowOf old window → IsWindowOf new window
+window-moved old new reshape shape size Closed is = tt
+window-moved old new reshape shape size (Entered span copied sectioned) is = (
+  window-alike old new reshape shape size ∙ is.0,
+  subst (λ (s : Shape). copied ≤ stripes s span.lo span.hi) (sym reshape.final) is.1,
+  λ critical. is.2 (sym (critical-alike old new reshape shape size span) ∙ critical),
+)
+window-moved old new reshape shape size (Unsure span) is = window-alike old new reshape shape size ∙ is
+
+pub course-moved : (given : Given) (old new : Members) (course : Course) → IsMoved given old new → IsCourseOf old.newest course → IsCourseOf new.newest course
+course-moved given old new course moved was = record {
+  window = window-moved old.newest new.newest moved.reshape moved.shape moved.size course.window was.window;
+  through = λ some. through-moved given old new moved (was.through some);
+  few = subst (λ (n : ℕ). course.zeroed ≤ n) (sym (λ i. zeroed_stripes (moved.shape i) (moved.reshape.final i) (moved.size i) (moved.reshape.backward i))) was.few;
+}
+
+-- ---- a call that leaves it
+
+pub stays-moves : (tells : Type 0) (given : Given) (tape tape' : List Operation) (scope : Scope) (first : ℕ) (entries : List Entry) (old new : Members) (carried : ℕ → Bool)
+    (course : Course) (buffer : List ℕ) (left : ℕ) (who : Who) (end roles spares : ℕ) (event : Event)
+    → IsMoving tells given tape scope first entries old carried course buffer left → IsCallGoing entries who → IsFalse (who.caller == 254) → (tells → end ≡ length tape') → Grows tells tape tape'
+    → IsQuiet event → TellLeft left who end (event ∷ []) → IsMoved given old new → role_count new.newest ≤ 16 → AreMissingSince old new roles → is_clean new.newest ≡ is_clean old.newest
+    → (tells → IsRisen ⊤ old new tape tape') → (tells → AreHeadersKept (disk given.start tape) (disk given.start tape'))
+    → (tells → (sound : Type 0) (list : ℕ → Sector) → StandsInCourse sound old course buffer (present given tape) list → StandsInCourse sound new course buffer (present given tape') list)
+    → (tells → (told : Ledger) → IsFilledRight (world_in given tape scope first) entries → IsMoreTold (told_now (world_in given tape scope first) carried true entries) told
+    → HasRoomLeft old tape tape' → AreGoneTold told new → IsUncleanTold told old → IsSafeOver (world_in given tape scope first) given told old tape → KeepsSafe (world_in given tape scope first) given told new tape tape')
+    → (tells → IsFilledRight (world_in given tape' scope first) (entries ++ entries_of who end (losses_of roles spares ++ event ∷ []))
+    → AreToldGone (world_in given tape' scope first) (entries ++ entries_of who end (losses_of roles spares)) new
+    → level_at (world_in given tape' scope first) (entries ++ entries_of who end (losses_of roles spares)) ≡ level_at (world_in given tape scope first) entries
+    → IsLegalEvent (world_in given tape' scope first) (entries ++ entries_of who end (losses_of roles spares)) (entry_of who end event) [] event)
+    → IsMoving tells given tape' scope first (entries ++ entries_of who end (losses_of roles spares ++ event ∷ [])) new carried course buffer left
+stays-moves tells given tape tape' scope first entries old new carried course buffer left who end roles spares event was goes caller at_end grows quiet tell moved few since clean rise headers stands keeps legal =
+    quiet-moves tells given tape tape' scope first entries old new carried course course buffer buffer left left who end roles spares event
+    was goes caller at_end grows quiet (reshaping-moved scope given old new moved was.members_are) few (missing-moved roles moved since)
+    (list-alike old.newest new.newest moved.reshape moved.shape moved.size) (ap (λ (s : Shape). s.level) moved.shape) clean (course-moved given old new course moved was.course_is)
+    (λ t. stored-moves scope given old new course.window (disk given.start tape) (disk given.start tape') moved (headers t) (was.stored t))
+    (left-more left entries who end (losses_of roles spares ++ event ∷ []) was.left_told (left-behind left who end (losses_of roles spares) (event ∷ []) (losses-are roles spares) tell))
+    (λ t. record {
+      rise = rise t;
+      keeps = keeps t;
+      listed = λ does fills.
+          let l = was.listed t (without-before given old new moved does) fills in
+          record {
+            list = l.list;
+            is = λ x lt. l.is x (subst (λ (n : ℕ). x < n) (list-alike old.newest new.newest moved.reshape moved.shape moved.size) lt);
+            stands = stands t (OpensFit (world_in given tape scope first)) l.list l.stands;
+          };
+      legal = legal t;
+    })
+
+-- ---- a call that is refused
+
+pub refused-moves : (tells : Type 0) (given : Given) (tape tape' : List Operation) (scope : Scope) (first : ℕ) (entries : List Entry) (old new : Members) (carried : ℕ → Bool)
+    (course : Course) (buffer : List ℕ) (left : ℕ) (who : Who) (end roles spares : ℕ) (refusal : Refusal)
+    → IsMoving tells given tape scope first entries old carried course buffer left → IsCallGoing entries who → IsFalse (who.caller == 254) → (tells → end ≡ length tape') → Grows tells tape tape'
+    → IsMoved given old new → role_count new.newest ≤ 16 → AreMissingSince old new roles → is_clean new.newest ≡ is_clean old.newest → (refusal ≡ BackupFault) ⊎ AreTooMany new refusal
+    → (tells → IsRisen ⊤ old new tape tape') → (tells → AreHeadersKept (disk given.start tape) (disk given.start tape'))
+    → (tells → (sound : Type 0) (list : ℕ → Sector) → StandsInCourse sound old course buffer (present given tape) list → StandsInCourse sound new course buffer (present given tape') list)
+    → (tells → (told : Ledger) → IsFilledRight (world_in given tape scope first) entries → IsMoreTold (told_now (world_in given tape scope first) carried true entries) told
+    → HasRoomLeft old tape tape' → AreGoneTold told new → IsUncleanTold told old → IsSafeOver (world_in given tape scope first) given told old tape → KeepsSafe (world_in given tape scope first) given told new tape tape')
+    → IsMoving tells given tape' scope first (entries ++ entries_of who end (losses_of roles spares ++ Refused refusal ∷ [])) new carried course buffer left
+refused-moves tells given tape tape' scope first entries old new carried course buffer left who end roles spares refusal was goes caller at_end grows moved few since clean why rise headers stands keeps =
+    stays-moves tells given tape tape' scope first entries old new carried course buffer left who end roles spares (Refused refusal) was goes caller at_end grows (quiet-refusal refusal) (λ told is. is) moved few since clean rise headers stands keeps
+    (λ t fills gone level. right t gone level why)
+  where
+    right : tells → AreToldGone (world_in given tape' scope first) (entries ++ entries_of who end (losses_of roles spares)) new
+        → level_at (world_in given tape' scope first) (entries ++ entries_of who end (losses_of roles spares)) ≡ level_at (world_in given tape scope first) entries
+        → (refusal ≡ BackupFault) ⊎ AreTooMany new refusal
+        → IsLegalEvent (world_in given tape' scope first) (entries ++ entries_of who end (losses_of roles spares)) (entry_of who end (Refused refusal)) [] (Refused refusal)
+    right t gone level (inl is) = subst (λ (r : Refusal). IsRefusedRight (world_in given tape' scope first) (entries ++ entries_of who end (losses_of roles spares)) r) (sym is) tt
+    right t gone level (inr many) = refused-right (world_in given tape' scope first) (entries ++ entries_of who end (losses_of roles spares)) given new moved.placed gone
+        (level ∙ was.levelled t ∙ ap (λ (s : Shape). s.level) (sym moved.shape)) refusal many

@@ -1,0 +1,191 @@
+-- The steps of a reshape under way: each keeps the record, and takes one of the steps that are left.
+use Rattle.std.proofs.Common.{◌≡◌, ◌≢◌, ◌⊎◌, inl, inr, ℕ, ◌+◌, ◌<◌, ◌≤◌, ◌==◌, Bool, true, false, cond, Option, Some, None, List, [], ◌∷◌, ◌++◌, length, refl, sym, ◌∙◌, ap, subst, arith, append-nil}
+use Rattle.std.specs.Prelude.{IsFalse, IfSome, MatchBool, fold, ⊤}
+use Rattle.std.specs.List.{list_any}
+use Rattle.std.proofs.lemmas.Bool.Decides.{nat_tests}
+use Rattle.md_base.specs.Sectors.{Sector}
+use Rattle.md_base.specs.Shapes.{has_slot}
+use Rattle.md_base.specs.declared.answers.Who.{Who}
+use Rattle.md_base.specs.declared.places.Shape.{Shape}
+use Rattle.md_base.specs.declared.places.Span.{Span}
+use Rattle.bank.specs.declared.bank.Operation.{Operation}
+use Rattle.bank.specs.Given.{Given}
+use Rattle.bank.specs.Tape.{disk}
+use Rattle.sb1.specs.declared.sb.Sb.{Sb}
+use Rattle.geometry.specs.Geometry.{stripes, is_critical}
+use Rattle.superblocks.specs.declared.members.Members.{Members}
+use Rattle.superblocks.specs.Reading.{Scope, is_clean, is_backward, shape_of, final_shape, role_count}
+use Rattle.row_io.specs.Rows.{reading_of, present, is_missing}
+use Rattle.list_io.specs.Full.{RowStands}
+use Rattle.flat_history.specs.declared.events.Entry.{Entry}
+use Rattle.flat_history.specs.declared.events.Event.{Event}
+use Rattle.flat_history.specs.declared.events.Event.TheVariants.{Lost, SpareLost, Step}
+use Rattle.flat_history.specs.declared.events.LostCause.TheVariants.{Fault}
+use Rattle.flat_history.specs.declared.events.StepKind.{StepKind}
+use Rattle.flat_history.specs.declared.events.StepKind.TheVariants.{Entered as EntersWindow, Copied as CopiesStripe, Checkpointed as RecordsWindow, Zeroed as ZeroesStripe}
+use Rattle.flat_history.specs.Flat.{now}
+use Rattle.flat_history.specs.Legal.{told_left, known_left, call_before, disturbs, left_after, is_free_step, IsStep}
+use Rattle.flat_history.specs.Plain.{entries_of}
+use Rattle.flat_history.specs.Sound.{OpensFit}
+use Rattle.flat_history.specs.World.{World, opening_list}
+use Rattle.shape_views.specs.Views.{Disk, Ledger}
+use Rattle.shape_views.specs.Windows.{IsCopyable}
+use Rattle.shape_changes.specs.Safety.{HasRoomLeft, IsRisen}
+use Rattle.shape_changes.specs.Steady.{IsSafeOver, KeepsSafe, AreGoneTold, IsUncleanTold}
+use Rattle.views.specs.Moving.{Grows, IsMoved}
+use Rattle.views.specs.Lacking.{IsOfStripe, AreOtherRowsKept}
+use Rattle.views.proofs.Fit.{list-alike, count-alike}
+use Rattle.views.proofs.HeldRows.{without-before}
+use Rattle.call_entries.specs.Losing.{losses_of}
+use Rattle.call_entries.proofs.CallLaws.{AreLossEvents, losses-are}
+use Rattle.call_entries.proofs.LeftLaws.{left-behind, left-more, fold-left}
+use Rattle.window_rows.specs.Copies.{tail_of, IsCopied}
+use Rattle.window_steps.specs.Copying.{AreHeadersKept}
+use Rattle.kept_history.specs.Recorded.{IsCallGoing, entry_of}
+use Rattle.kept_history.specs.Safe.{world_in, IsFilledRight}
+use Rattle.window_steps.proofs.CopyLaws.{window-alike, critical-alike}
+use Rattle.course_kept.specs.declared.course.Window.TheVariants.{Entered}
+use Rattle.course_kept.specs.Course.{IsWindowOf, IsCourseOf, IsStoredAs, IsStored}
+use Rattle.course_kept.specs.Laws.{entered, next_stripe}
+use Rattle.course_kept.proofs.Courses.{copies-go-on, courses-copied, stored-moves}
+use Rattle.moving_kept.specs.Moving.{HasListInCourse, IsMoving}
+use Rattle.moving_kept.proofs.MembersMove.{reshaping-moved}
+use Rattle.moving_kept.proofs.Quiet.{IsQuiet, quiet-moves}
+
+-- ---- a step
+
+-- the steps between the begin of a reshape and its end
+abbrev pub IsStepBetween : StepKind → Type 0
+IsStepBetween EntersWindow = ⊤
+IsStepBetween CopiesStripe = ⊤
+IsStepBetween RecordsWindow = ⊤
+IsStepBetween ZeroesStripe = ⊤
+IsStepBetween kind = ⊥
+
+not-zero : (n : ℕ) → n ≢ 0 → (n == 0) ≡ false
+not-zero n ne = grind (arith, nat_tests, ne)
+
+pub quiet-step : (kind : StepKind) (left : ℕ) → IsStepBetween kind → left ≢ 0 → IsQuiet (Step kind left)
+quiet-step EntersWindow left is some = record { adds = refl; gives = refl; ends = not-zero left some; still = λ x values. refl; level = λ n. refl }
+quiet-step CopiesStripe left is some = record { adds = refl; gives = refl; ends = not-zero left some; still = λ x values. refl; level = λ n. refl }
+quiet-step RecordsWindow left is some = record { adds = refl; gives = refl; ends = not-zero left some; still = λ x values. refl; level = λ n. refl }
+quiet-step ZeroesStripe left is some = record { adds = refl; gives = refl; ends = not-zero left some; still = λ x values. refl; level = λ n. refl }
+quiet-step kind left is some = absurd is
+
+-- ---- the steps that are left
+
+-- behind losses as many as before, or any
+pub told-behind : (steps : ℕ) (entries : List Entry) (who : Who) (end : ℕ) (xs : List Event) → AreLossEvents xs → IfSome (told_left entries) (λ n. n ≡ steps) → IfSome (told_left (entries ++ entries_of who end xs)) (λ n. n ≡ steps)
+told-behind steps entries who end xs are was =
+    subst (λ (l : List Event). IfSome (told_left (entries ++ entries_of who end l)) (λ n. n ≡ steps)) (append-nil xs)
+    (left-more steps entries who end (xs ++ []) was (left-behind steps who end xs [] are (λ left is. is)))
+
+-- a step that is one less is legal
+pub step-is : (world : World) (before : List Entry) (e : Entry) (kind : StepKind) (left : ℕ) → IfSome (told_left before) (λ n. n ≡ left + 1) → IsStep world before e [] kind left
+step-is world before e kind left told = free (is_free_step world before kind) (known (list_any (λ e. disturbs e.event) (call_before before e ++ [])) (told_left before) told)
+  where
+    known : (b : Bool) (o : Option ℕ) → IfSome o (λ n. n ≡ left + 1) → IfSome (cond b None o) (λ n. left + 1 ≡ n)
+    known true o is = tt
+    known false None is = tt
+    known false (Some n) is = sym is
+
+    free : (b : Bool) → IfSome (known_left before e []) (λ n. left + 1 ≡ n) → MatchBool b ⊤ (IfSome (known_left before e []) (λ n. left + 1 ≡ n))
+    free true is = tt
+    free false is = is
+
+-- what is left behind it is what it tells
+pub told-step : (entries : List Entry) (who : Who) (end : ℕ) (xs : List Event) (kind : StepKind) (left : ℕ) → AreLossEvents xs
+    → IfSome (told_left (entries ++ entries_of who end (xs ++ Step kind left ∷ []))) (λ n. n ≡ left)
+told-step entries who end xs kind left are =
+    subst (λ (o : Option ℕ). IfSome o (λ n. n ≡ left)) (sym (fold-left None entries (entries_of who end (xs ++ Step kind left ∷ [])) ∙ of xs are (told_left entries))) refl
+  where
+    of : (xs : List Event) → AreLossEvents xs → (start : Option ℕ) → fold (λ left e. left_after left e.event) start (entries_of who end (xs ++ Step kind left ∷ [])) ≡ Some left
+    of [] are start = refl
+    of (Lost role Fault ∷ xs) are start = of xs are None
+    of (SpareLost slot ∷ xs) are start = of xs are None
+    of (event ∷ xs) are start = absurd are
+
+-- ---- members that only moved
+
+-- what is missing then was missing, or is one of the roles that were lost
+abbrev pub AreMissingSince : Members → Members → ℕ → Type 0
+AreMissingSince old new roles = (role : ℕ) → role < role_count new.newest → is_missing (reading_of new) role ≡ true → (is_missing (reading_of old) role ≡ true) ⊎ (has_slot roles role ≡ true)
+
+pub missing-moved : {given : Given} {old new : Members} (roles : ℕ) → IsMoved given old new → AreMissingSince old new roles
+    → (role : ℕ) → role < role_count new.newest → is_missing (reading_of new) role ≡ true → ((role < role_count old.newest) × (is_missing (reading_of old) role ≡ true)) ⊎ (has_slot roles role ≡ true)
+missing-moved {old = old} {new = new} roles moved since role lt gone = elim (since role lt gone) [
+  | inl was ↦ inl (subst (λ (n : ℕ). role < n) (count-alike old.newest new.newest moved.reshape moved.shape moved.size) lt, was)
+  | inr has ↦ inr has
+]
+
+-- ---- a stripe is copied
+
+-- An entered window may be copied, by the headers that are kept of it.
+pub able-kept : (scope : Scope) (given : Given) (m : Members) (span : Span) (copied : ℕ) (sectioned : Bool) (d : Disk) → IsWindowOf m.newest (Entered span copied sectioned)
+    → IsStoredAs scope m (Entered span copied sectioned) d → IsCopyable scope m span d
+able-kept scope given m span copied true d window stored = record { next = window.0; kept = inl stored }
+able-kept scope given m span copied false d window stored = record { next = window.0; kept = inr (plain (is_critical (shape_of m.newest) (final_shape m.newest) m.newest.size (is_backward m.newest) span) refl) }
+  where
+    plain : (b : Bool) → is_critical (shape_of m.newest) (final_shape m.newest) m.newest.size (is_backward m.newest) span ≡ b → b ≡ false
+    plain false is = refl
+    plain true is = absurd (let must = window.2 is in cc)
+
+plain-of : (newest : Sb) (span : Span) (copied : ℕ) (sectioned : Bool) → IsWindowOf newest (Entered span copied sectioned) → sectioned ≡ false
+    → is_critical (shape_of newest) (final_shape newest) newest.size (is_backward newest) span ≡ false
+plain-of newest span copied sectioned window none = by (is_critical (shape_of newest) (final_shape newest) newest.size (is_backward newest) span) refl
+  where
+    by : (b : Bool) → is_critical (shape_of newest) (final_shape newest) newest.size (is_backward newest) span ≡ b → b ≡ false
+    by false is = refl
+    by true is = absurd (let must = window.2 is in let both = sym must ∙ none in cc)
+
+pub copied-moves : (tells : Type 0) (given : Given) (tape tape' : List Operation) (scope : Scope) (first : ℕ) (entries : List Entry) (old new : Members) (carried : ℕ → Bool)
+    (span : Span) (copied : ℕ) (sectioned : Bool) (buffer : List ℕ) (left : ℕ) (who : Who) (end roles spares : ℕ)
+    → IsMoving tells given tape scope first entries old carried (entered span copied sectioned) buffer (left + 1) → IsCallGoing entries who → IsFalse (who.caller == 254) → (tells → end ≡ length tape') → Grows tells tape tape'
+    → copied < stripes (final_shape old.newest) span.lo span.hi → left ≢ 0 → IsMoved given old new → role_count new.newest ≤ 16 → AreMissingSince old new roles → is_clean new.newest ≡ is_clean old.newest
+    → (tells → IsRisen ⊤ old new tape tape') → (tells → AreHeadersKept (disk given.start tape) (disk given.start tape'))
+    → (tells → AreOtherRowsKept (IsOfStripe (final_shape old.newest) (next_stripe old span copied)) (reading_of new) (present given tape) (present given tape'))
+    → (tells → (list : ℕ → Sector) → IsCopied span buffer (tail_of old.newest) list → (row : ℕ) → IsOfStripe (final_shape old.newest) (next_stripe old span copied) row
+    → RowStands (reading_of new) (present given tape') (final_shape old.newest) list row)
+    → (tells → (world : World) → (told : Ledger) → HasRoomLeft old tape tape' → AreGoneTold told new → IsUncleanTold told old → IsCopyable world.scope old span (disk given.start tape)
+    → IsSafeOver world given told old tape → KeepsSafe world given told new tape tape')
+    → IsMoving tells given tape' scope first (entries ++ entries_of who end (losses_of roles spares ++ Step CopiesStripe left ∷ [])) new carried (entered span (copied + 1) sectioned) buffer left
+copied-moves tells given tape tape' scope first entries old new carried span copied sectioned buffer left who end roles spares was goes caller at_end grows more some moved few since clean rise headers others stands safe =
+    quiet-moves tells given tape tape' scope first entries old new carried (entered span copied sectioned) (entered span (copied + 1) sectioned) buffer buffer (left + 1) left who end roles spares (Step CopiesStripe left)
+    was goes caller at_end grows (quiet-step CopiesStripe left tt some) (reshaping-moved scope given old new moved was.members_are) few (missing-moved roles moved since)
+    (list-alike old.newest new.newest moved.reshape moved.shape moved.size) (ap (λ (s : Shape). s.level) moved.shape) clean course_is (λ t. stored (was.stored t) (headers t)) (told-step entries who end (losses_of roles spares) CopiesStripe left (losses-are roles spares))
+    (λ t. record {
+      rise = rise t;
+      keeps = λ told fills more_told room gone unclean now. safe t (world_in given tape scope first) told room gone unclean
+          (able-kept scope given old span copied sectioned (disk given.start tape) was.course_is.window (was.stored t).section) now;
+      listed = λ does fills. on t (was.listed t (without-before given old new moved does) fills);
+      legal = λ fills gone level. step-is (world_in given tape' scope first) (entries ++ entries_of who end (losses_of roles spares)) (entry_of who end (Step CopiesStripe left)) CopiesStripe left
+          (told-behind (left + 1) entries who end (losses_of roles spares) (losses-are roles spares) was.left_told);
+    })
+  where
+    course_is : IsCourseOf new.newest (entered span (copied + 1) sectioned)
+    course_is = record {
+      window = (
+        window-alike old.newest new.newest moved.reshape moved.shape moved.size ∙ was.course_is.window.0,
+        subst (λ (s : Shape). copied + 1 ≤ stripes s span.lo span.hi) (sym moved.reshape.final) (omega (arith, more)),
+        λ critical. was.course_is.window.2 (sym (critical-alike old.newest new.newest moved.reshape moved.shape moved.size span) ∙ critical),
+      );
+      through = λ some. absurd (omega (arith, some));
+      few = omega arith;
+    }
+
+    stored : IsStored scope old (Entered span copied sectioned) (disk given.start tape) → AreHeadersKept (disk given.start tape) (disk given.start tape') → IsStored scope new (Entered span (copied + 1) sectioned) (disk given.start tape')
+    stored before kept = more_copied sectioned (stored-moves scope given old new (Entered span copied sectioned) (disk given.start tape) (disk given.start tape') moved kept before)
+      where
+        more_copied : (which : Bool) → IsStored scope new (Entered span copied which) (disk given.start tape') → IsStored scope new (Entered span (copied + 1) which) (disk given.start tape')
+        more_copied true is = record { section = is.section; headers = is.headers }
+        more_copied false is = record { section = is.section; headers = is.headers }
+
+    on : tells → HasListInCourse (OpensFit (world_in given tape scope first)) old (entered span copied sectioned) buffer (present given tape) (now (opening_list (world_in given tape scope first)) entries)
+        → HasListInCourse (OpensFit (world_in given tape scope first)) new (entered span (copied + 1) sectioned) buffer (present given tape') (now (opening_list (world_in given tape scope first)) entries)
+    on t l = record {
+      list = l.list;
+      is = λ x lt. l.is x (subst (λ (n : ℕ). x < n) (list-alike old.newest new.newest moved.reshape moved.shape moved.size) lt);
+      stands = (copies-go-on (OpensFit (world_in given tape scope first)) given old new span copied sectioned buffer (present given tape) (present given tape') l.list was.members_are.placed moved was.course_is.window.0 more
+          (plain-of old.newest span copied sectioned was.course_is.window) (others t) l.stands).1
+          (λ row at. stands t l.list (courses-copied (OpensFit (world_in given tape scope first)) scope given old span copied sectioned buffer (present given tape) l.list was.members_are.backed was.course_is.window.0 l.stands) row at);
+    }

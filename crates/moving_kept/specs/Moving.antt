@@ -1,0 +1,69 @@
+-- What an array keeps that is in a reshape, over plain data.
+use Rattle.std.specs.Prelude.{◌≡◌, ℕ, ◌<◌, ◌≤◌, ◌||◌, Bool, true, false, List, length, IfSome}
+use Rattle.md_base.specs.Sectors.{Sector}
+use Rattle.bank.specs.declared.bank.Operation.{Operation}
+use Rattle.bank.specs.Given.{Given, sizes}
+use Rattle.bank.specs.Tape.{Contents, disk}
+use Rattle.superblocks.specs.declared.members.Members.{Members}
+use Rattle.superblocks.specs.Reading.{Scope, is_reshaping, is_clean, shape_of, list_length, role_count}
+use Rattle.row_io.specs.Rows.{reading_of, present, is_missing}
+use Rattle.flat_history.specs.declared.events.Entry.{Entry}
+use Rattle.flat_history.specs.Epochs.{HasRoomForEvents, OpensAlike}
+use Rattle.flat_history.specs.Flat.{now}
+use Rattle.flat_history.specs.Legal.{told_left, level_at}
+use Rattle.flat_history.specs.Losses.{is_gone_after, is_unsynced}
+use Rattle.flat_history.specs.OneShape.{is_unsettled}
+use Rattle.flat_history.specs.Sound.{OpensFit}
+use Rattle.flat_history.specs.World.{World, opening_list}
+use Rattle.shape_views.specs.Regions.{ArePlaced, DoWithout}
+use Rattle.shape_changes.specs.Steady.{AreUnlost, IsSafeOver}
+use Rattle.shape_ends.specs.Plans.{HasNoneRecovering}
+use Rattle.views.specs.Placed.{IsPlaced}
+use Rattle.views.specs.Rebuilding.{AreSparesFree}
+use Rattle.kept_history.specs.Recorded.{IsHistoryKept}
+use Rattle.kept_history.specs.Safe.{world_in, IsFilledRight, IsSafeHistory}
+use Rattle.kept_history.specs.Told.{told_now}
+use Rattle.course_kept.specs.declared.course.Course.{Course}
+use Rattle.course_kept.specs.Course.{IsCourseOf, IsStored, StandsInCourse}
+
+-- The members of an array in a reshape: each has its place, the backup is none of them and has room for the sections, and no slot recovers a role.
+pub record AreReshaping (scope : Scope) (given : Given) (members : Members) : Type 0 where
+  pub placed : IsPlaced given members
+  pub backed : ArePlaced scope given members
+  pub active : is_reshaping members.newest ≡ true
+  pub whole : HasNoneRecovering members
+  pub unlost : AreUnlost members
+  pub free : AreSparesFree given members
+  pub spares : length members.spares ≤ 32
+
+-- each role that is missing is gone by the history
+abbrev pub AreToldGone : World → List Entry → Members → Type 0
+AreToldGone world entries members = (role : ℕ) → role < role_count members.newest → is_missing (reading_of members) role ≡ true → is_gone_after world entries role ≡ true
+
+-- The list of the history stands in the course of the reshape.
+pub record HasListInCourse (sound : Type 0) (members : Members) (course : Course) (buffer : List ℕ) (c : Contents) (current : ℕ → Sector) : Type 0 where
+  pub list : ℕ → Sector
+  pub is : (x : ℕ) → x < list_length members.newest → list x ≡ current x
+  pub stands : StandsInCourse sound members course buffer c list
+
+-- A reshape is active in the array, and this is how far it has come; so many steps are left. What is missing was told so, and a dirty mark; over a bank that
+-- tells its contents the history is legal and reaches to the tape's end, the backup's headers say how far the window has come, the list stands where what is
+-- filled in is right, and each mark so far is safe.
+pub record IsMoving (tells : Type 0) (given : Given) (tape : List Operation) (scope : Scope) (first : ℕ) (entries : List Entry)
+    (members : Members) (carried : ℕ → Bool) (course : Course) (buffer : List ℕ) (left : ℕ) : Type 0 where
+  pub slots : given.slots ≤ 32
+  pub members_are : AreReshaping scope given members
+  pub course_is : IsCourseOf members.newest course
+  pub sizes_are : scope.sizes ≡ sizes given
+  pub left_told : IfSome (told_left entries) (λ n. n ≡ left)
+  pub levelled : tells → level_at (world_in given tape scope first) entries ≡ (shape_of members.newest).level
+  pub gone : tells → AreToldGone (world_in given tape scope first) entries members
+  pub unclean : tells → is_clean members.newest ≡ false → (is_unsynced (world_in given tape scope first) entries || is_unsettled entries) ≡ true
+  pub recorded : tells → IsHistoryKept (IsFilledRight (world_in given tape scope first) entries) (world_in given tape scope first) (list_length members.newest) entries
+  pub stored : tells → IsStored scope members course.window (disk given.start tape)
+  pub listed : tells → DoWithout members → IsFilledRight (world_in given tape scope first) entries
+      → HasListInCourse (OpensFit (world_in given tape scope first)) members course buffer (present given tape) (now (opening_list (world_in given tape scope first)) entries)
+  pub safe : tells → IsFilledRight (world_in given tape scope first) entries → HasRoomForEvents (world_in given tape scope first) → OpensAlike (world_in given tape scope first)
+      → IsSafeHistory ⊥ (world_in given tape scope first) given members carried true entries
+  pub now_safe : tells → IsFilledRight (world_in given tape scope first) entries → HasRoomForEvents (world_in given tape scope first) → OpensAlike (world_in given tape scope first)
+      → IsSafeOver (world_in given tape scope first) given (told_now (world_in given tape scope first) carried true entries) members tape

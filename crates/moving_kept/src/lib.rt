@@ -1,0 +1,2 @@
+//! What an array keeps from call to call that is in a reshape: definitions, and laws of its record.
+#![tactic(auto)]
