@@ -1,0 +1,10 @@
+pub mod Tests
+pub mod Growing
+pub mod Ledgers
+pub mod Marks
+pub mod Calls
+pub mod Longer
+pub mod Records
+pub mod Reshapes
+pub mod KeptCalls
+pub mod Changes
