@@ -19,7 +19,7 @@ use Rattle.flat_history.proofs.SoundLaws.{fit-before, throughout-grown}
 use Rattle.history_laws.proofs.OneShapeGrowing.{entries-both}
 use Rattle.shape_views.specs.Views.{Ledger, IsSeenRight}
 use Rattle.shape_changes.specs.Safety.{HasLiveSlot, IsRisen}
-use Rattle.shape_changes.specs.Steady.{AreViewsRight, IsMoreTold, IsSafeNow, IsSafeOver, KeepsSafe}
+use Rattle.shape_changes.specs.Steady.{IsMoreTold, IsSafeNow, IsSafeOver, KeepsSafe}
 use Rattle.shape_changes.proofs.Steady.{safe-is-seen, views-told}
 use Rattle.kept_history.specs.Safe.{world_in, IsFilledRight, IsCounted, IsNowRight, IsSafeHistory}
 use Rattle.kept_history.specs.Told.{told_now, told_by}

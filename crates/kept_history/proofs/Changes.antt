@@ -1,11 +1,9 @@
 -- A call that changes the list's length leaves the history safe: each of its marks is seen right without the change, or with it.
-use Rattle.std.proofs.Common.{◌≡◌, inl, inr, ℕ, zero, suc, ◌+◌, ◌-◌, ◌<◌, ◌≤◌, ◌&&◌, ◌||◌, ◌==◌, ◌⊎◌, Bool, true, false, not, cond, Option, Some, None, List, [], ◌∷◌, ◌++◌, length, take, drop, remove, refl, sym, ◌∙◌, ap, ap₂, subst, arith, length-append, append_assoc}
-use Rattle.std.specs.Prelude.{⊤, IsTrue, fold}
+use Rattle.std.proofs.Common.{◌≡◌, inl, inr, ℕ, suc, ◌+◌, ◌<◌, ◌≤◌, ◌||◌, Bool, true, false, cond, Option, Some, None, List, [], ◌∷◌, ◌++◌, length, take, drop, remove, refl, sym, ◌∙◌, ap, ap₂, subst, arith, length-append, append_assoc}
+use Rattle.std.specs.Prelude.{⊤, IsTrue}
 use Rattle.std.specs.List.{list_any}
 use Rattle.std.specs.Option.{option_map_or}
-use Rattle.std.proofs.Math.Seq.{take-append_seam, drop-append_seam, take-length}
-use Rattle.std.proofs.lemmas.List.Sums.{fold-append}
-use Rattle.md_base.specs.Sectors.{Sector}
+use Rattle.std.proofs.Math.Seq.{drop-append_seam, take-length}
 use Rattle.md_base.specs.declared.answers.Who.{Who}
 use Rattle.bank.specs.declared.bank.Operation.{Operation}
 use Rattle.bank.specs.Given.{Given, sizes}
@@ -15,7 +13,7 @@ use Rattle.superblocks.specs.Reading.{Scope, list_length}
 use Rattle.flat_history.specs.declared.events.Entry.{Entry}
 use Rattle.flat_history.specs.declared.events.Event.{Event}
 use Rattle.flat_history.specs.declared.events.Event.TheVariants.{Resized}
-use Rattle.flat_history.specs.CrashSafe.{is_resized, last_resized, first_end, up_to, first_with_losses, losses_behind, MayBeLeftOut}
+use Rattle.flat_history.specs.CrashSafe.{is_resized, last_resized, first_end, up_to, MayBeLeftOut}
 use Rattle.flat_history.specs.Flat.{length_of, values_of}
 use Rattle.flat_history.specs.Growing.{grown, EndBy}
 use Rattle.flat_history.specs.Legal.{is_all_gone}
@@ -26,12 +24,12 @@ use Rattle.history_laws.proofs.OneShapeGrowing.{one, entries-both}
 use Rattle.shape_views.specs.Views.{Disk, Ledger, IsSettled, IsViewRight, IsSeenRight, ledger_of}
 use Rattle.shape_views.proofs.Stands.{window-inside}
 use Rattle.shape_views.proofs.WindowLaws.{open-window}
-use Rattle.shape_changes.specs.Changing.{AreEitherRight, IsSpentByEither, IsSafeChange}
+use Rattle.shape_changes.specs.Changing.{IsSpentByEither, IsSafeChange}
 use Rattle.shape_changes.specs.Safety.{HasLiveSlot, IsRisen}
-use Rattle.shape_changes.specs.Steady.{IsMoreTold, IsNamedNow, IsSafeNow, IsSafeOver}
+use Rattle.shape_changes.specs.Steady.{IsMoreTold, IsSafeNow}
 use Rattle.shape_changes.proofs.Steady.{safe-is-seen, losing-stays-safe}
 use Rattle.shape_changes.proofs.Without.{without-none}
-use Rattle.kept_history.specs.Safe.{world_in, IsFilledRight, told_without, IsUnkept, IsNowRight, IsSafeHistory}
+use Rattle.kept_history.specs.Safe.{world_in, IsFilledRight, told_without, IsNowRight, IsSafeHistory}
 use Rattle.kept_history.specs.Told.{told_now, told_by}
 use Rattle.kept_history.proofs.Calls.{LeavesSoundFrom, sound-later, counted-later}
 use Rattle.kept_history.proofs.Growing.{fit-grown}
@@ -122,11 +120,11 @@ module _ (claims : Type 0) (given : Given) (tape : List Operation) (scope : Scop
     (last : IsMoreTold more (told_now (grown (world_in given tape scope first) ops) carried' reshaping' (entries ++ entries_of who (length (tape ++ ops)) ((early ++ Resized n ∷ losses) ++ late))))
     (none_later : list_any (λ e. is_resized e.event) (entries_of who (length (tape ++ ops)) (losses ++ late)) ≡ false)
     (unkept : (HasLiveSlot new → ⊥)
-      → IsTrue (is_all_gone (grown (world_in given tape scope first) ops) (length (tape ++ ops))
-      (up_to (entries ++ entries_of who (length (tape ++ ops)) ((early ++ Resized n ∷ losses) ++ late)) (length (entries ++ entries_of who (length (tape ++ ops)) early))))
-      × IsMoreTold told (told_without (length (entries ++ entries_of who (length (tape ++ ops)) early)) (grown (world_in given tape scope first) ops)
-      (entries ++ entries_of who (length (tape ++ ops)) ((early ++ Resized n ∷ losses) ++ late))
-      (told_now (grown (world_in given tape scope first) ops) carried' true (entries ++ entries_of who (length (tape ++ ops)) ((early ++ Resized n ∷ losses) ++ late))))) where
+    → IsTrue (is_all_gone (grown (world_in given tape scope first) ops) (length (tape ++ ops))
+    (up_to (entries ++ entries_of who (length (tape ++ ops)) ((early ++ Resized n ∷ losses) ++ late)) (length (entries ++ entries_of who (length (tape ++ ops)) early))))
+    × IsMoreTold told (told_without (length (entries ++ entries_of who (length (tape ++ ops)) early)) (grown (world_in given tape scope first) ops)
+    (entries ++ entries_of who (length (tape ++ ops)) ((early ++ Resized n ∷ losses) ++ late))
+    (told_now (grown (world_in given tape scope first) ops) carried' true (entries ++ entries_of who (length (tape ++ ops)) ((early ++ Resized n ∷ losses) ++ late))))) where
   abbrev world : World
   world = world_in given tape scope first
 
@@ -201,19 +199,19 @@ module _ (claims : Type 0) (given : Given) (tape : List Operation) (scope : Scop
       → IsSeenBefore given tape scope first entries who events ops sizes_are within ends fills (disk given.start (take mark (tape ++ ops))) c
   seen-early mark low high c drawn = elim (change.marks.each tt mark low (omega (arith, high)) c (record { eighth = λ s _. drawn s 8; ninth = λ s _. drawn s 9 })) [
     | inl seen ↦ record {
-        j = length (entries ++ before);
-        some = let count = few early in omega (arith, count);
-        most = let count = few early in let one = parts (early ++ Resized n ∷ losses) late in let two = parts early (Resized n ∷ losses) in omega (arith, count, one, two);
-        seen = subst (λ (fit : Type 0). IsSeenRight fit scope given (judged_by later all (length entries) (length (entries ++ before))) (disk given.start (take mark (tape ++ ops))) c) (sym fit-is)
-            (seen-told (OpensFit world) scope given told (judged_by later all (length entries) (length (entries ++ before))) told-judged (disk given.start (take mark (tape ++ ops))) c seen);
-      }
+      j = length (entries ++ before);
+      some = let count = few early in omega (arith, count);
+      most = let count = few early in let one = parts (early ++ Resized n ∷ losses) late in let two = parts early (Resized n ∷ losses) in omega (arith, count, one, two);
+      seen = subst (λ (fit : Type 0). IsSeenRight fit scope given (judged_by later all (length entries) (length (entries ++ before))) (disk given.start (take mark (tape ++ ops))) c) (sym fit-is)
+          (seen-told (OpensFit world) scope given told (judged_by later all (length entries) (length (entries ++ before))) told-judged (disk given.start (take mark (tape ++ ops))) c seen);
+    }
     | inr seen ↦ record {
-        j = length (entries ++ with_it);
-        some = let count = few (early ++ Resized n ∷ losses) in omega (arith, count);
-        most = let count = few (early ++ Resized n ∷ losses) in let one = parts (early ++ Resized n ∷ losses) late in omega (arith, count, one);
-        seen = subst (λ (fit : Type 0). IsSeenRight fit scope given (judged_by later all (length entries) (length (entries ++ with_it))) (disk given.start (take mark (tape ++ ops))) c) (sym fit-is)
-            (seen-told (OpensFit world) scope given more (judged_by later all (length entries) (length (entries ++ with_it))) more-judged (disk given.start (take mark (tape ++ ops))) c seen);
-      }
+      j = length (entries ++ with_it);
+      some = let count = few (early ++ Resized n ∷ losses) in omega (arith, count);
+      most = let count = few (early ++ Resized n ∷ losses) in let one = parts (early ++ Resized n ∷ losses) late in omega (arith, count, one);
+      seen = subst (λ (fit : Type 0). IsSeenRight fit scope given (judged_by later all (length entries) (length (entries ++ with_it))) (disk given.start (take mark (tape ++ ops))) c) (sym fit-is)
+          (seen-told (OpensFit world) scope given more (judged_by later all (length entries) (length (entries ++ with_it))) more-judged (disk given.start (take mark (tape ++ ops))) c seen);
+    }
   ]
 
   -- ---- its end
@@ -232,16 +230,16 @@ module _ (claims : Type 0) (given : Given) (tape : List Operation) (scope : Scop
     | inl named ↦ inl (subst (λ (fit : Type 0). IsSafeNow fit scope given (told_now later carried' reshaping' all) new (disk given.start (tape ++ ops))) (sym fit-is)
         (now-more (OpensFit world) scope given more (told_now later carried' reshaping' all) new (disk given.start (tape ++ ops)) last (inl named.steady)))
     | inr spent ↦ inr (record {
-        place = place;
-        left_out = left-out spent.none;
-        spent = subst (λ (fit : Type 0). IsSpentByEither fit scope given (told_without place later all (told_now later carried' true all)) (told_now later carried' reshaping' all) new (disk given.start (tape ++ ops))) (sym fit-is) (record {
-          right = λ c drawn. elim (spent.right c drawn) [
-            | inl seen ↦ inl (seen-told (OpensFit world) scope given told (told_without place later all (told_now later carried' true all)) (unkept spent.none).1 (disk given.start (tape ++ ops)) c seen)
-            | inr seen ↦ inr (seen-told (OpensFit world) scope given more (told_now later carried' reshaping' all) last (disk given.start (tape ++ ops)) c seen)
-          ];
-          none = spent.none;
-        });
-      })
+      place = place;
+      left_out = left-out spent.none;
+      spent = subst (λ (fit : Type 0). IsSpentByEither fit scope given (told_without place later all (told_now later carried' true all)) (told_now later carried' reshaping' all) new (disk given.start (tape ++ ops))) (sym fit-is) (record {
+        right = λ c drawn. elim (spent.right c drawn) [
+          | inl seen ↦ inl (seen-told (OpensFit world) scope given told (told_without place later all (told_now later carried' true all)) (unkept spent.none).1 (disk given.start (tape ++ ops)) c seen)
+          | inr seen ↦ inr (seen-told (OpensFit world) scope given more (told_now later carried' reshaping' all) last (disk given.start (tape ++ ops)) c seen)
+        ];
+        none = spent.none;
+      });
+    })
   ]
 
   seen-last : (c : Contents) → IsDrawn (disk given.start (tape ++ ops)) c → IsSeenAfter given tape scope first entries who events ops sizes_are within ends fills (disk given.start (tape ++ ops)) c
@@ -249,11 +247,11 @@ module _ (claims : Type 0) (given : Given) (tape : List Operation) (scope : Scop
     | inl safe ↦ whole (safe-is-seen (OpensFit later) scope given (told_now later carried' reshaping' all) new (tape ++ ops) safe c (record { eighth = λ s _. drawn s 8; ninth = λ s _. drawn s 9 }))
     | inr unkept ↦ elim (unkept.spent.right c (record { eighth = λ s _. drawn s 8; ninth = λ s _. drawn s 9 })) [
       | inl seen ↦ record {
-          judged = remove (take (length all) all) unkept.place;
-          by = inr (unkept.place, unkept.left_out, refl);
-          seen = seen-told (OpensFit later) scope given (told_without unkept.place later all (told_now later carried' true all)) (ledger_of later all (length all) (length all) (remove (take (length all) all) unkept.place))
-              (without-ledger later carried' true unkept.place all) (disk given.start (tape ++ ops)) c seen;
-        }
+        judged = remove (take (length all) all) unkept.place;
+        by = inr (unkept.place, unkept.left_out, refl);
+        seen = seen-told (OpensFit later) scope given (told_without unkept.place later all (told_now later carried' true all)) (ledger_of later all (length all) (length all) (remove (take (length all) all) unkept.place))
+            (without-ledger later carried' true unkept.place all) (disk given.start (tape ++ ops)) c seen;
+      }
       | inr seen ↦ whole seen
     ]
   ]

@@ -1,17 +1,15 @@
 -- Entries of a call that goes on stay legal with more of its entries behind them, and as the tape grows.
-use Rattle.std.proofs.Common.{◌≡◌, inl, inr, ℕ, zero, suc, ◌+◌, ◌*◌, ◌⊎◌, ◌<◌, ◌≤◌, ◌==◌, ◌&&◌, ◌||◌, Bool, true, false, not, cond, Option, Some, None, List, [], ◌∷◌, ◌++◌, length, take, drop, fold, unwrap_or, MatchOption, MatchBool, refl, sym, ◌∙◌, ap, ap₂, subst, arith, append_assoc}
+use Rattle.std.proofs.Common.{◌≡◌, inl, inr, ℕ, zero, suc, ◌+◌, ◌*◌, ◌⊎◌, ◌≤◌, ◌||◌, Bool, true, false, not, cond, Option, Some, None, List, [], ◌∷◌, ◌++◌, length, take, fold, unwrap_or, MatchOption, MatchBool, refl, sym, ◌∙◌, ap, ap₂, subst, append_assoc}
 use Rattle.std.specs.Prelude.{IfSome, IsTrue, filter, ⊤}
 use Rattle.std.specs.Option.{option_map_or}
 use Rattle.std.specs.List.{list_any}
-use Rattle.std.proofs.lemmas.List.{take-append-drop, take-take}
 use Rattle.std.proofs.lemmas.List.Folds.{list_any-append}
 use Rattle.md_base.specs.Sectors.{Sector}
 use Rattle.md_base.specs.Search.{count_below, any_below, all_below}
 use Rattle.md_base.specs.Shapes.{tolerance_of, data_disks}
-use Rattle.md_base.specs.declared.places.Shape.{Shape}
 use Rattle.md_base.specs.declared.answers.Refusal.{Refusal}
 use Rattle.md_base.specs.declared.answers.Refusal.TheVariants.{PastEnd, TooManyMissing, NotResynced}
-use Rattle.md_base.proofs.Counted.{count_below-same, all_below-implied}
+use Rattle.md_base.proofs.Counted.{all_below-implied}
 use Rattle.bank.specs.declared.bank.Operation.{Operation}
 use Rattle.bank.specs.Tape.{Contents}
 use Rattle.superblocks.specs.Reading.{Reading, role_count, target_of}
@@ -23,10 +21,10 @@ use Rattle.flat_history.specs.declared.events.StepKind.{StepKind}
 use Rattle.flat_history.specs.declared.events.StepKind.TheVariants.{Begun, Entered, Finished, WindowFinished}
 use Rattle.flat_history.specs.Flat.{is_same_call, last_of, length_of, visible_of}
 use Rattle.flat_history.specs.Growing.{grown, EndBy}
-use Rattle.flat_history.specs.Legal.{is_loss, last_but_losses, is_all_gone, before_last_step, end_before, target_at, size_at, IsLengthOfTarget, IsLengthOfLevel, IsUnkeptLength, ChangesLength, IsResizedBy, IsResizedAfter, IsResized, call_before, disturbs, told_left, known_left, is_free_step, IsStep, level_after, level_at, IsTooManyMissing, IsRefusedRight, IsLegalEvent}
-use Rattle.flat_history.specs.Losses.{regains, gives_back, is_gone_after, is_unsynced}
+use Rattle.flat_history.specs.Legal.{is_loss, last_but_losses, is_all_gone, before_last_step, end_before, IsLengthOfTarget, IsLengthOfLevel, IsUnkeptLength, ChangesLength, IsResizedBy, IsResizedAfter, IsResized, call_before, disturbs, told_left, known_left, is_free_step, IsStep, level_after, level_at, IsRefusedRight, IsLegalEvent}
+use Rattle.flat_history.specs.Losses.{regains, gives_back, is_gone_after}
 use Rattle.flat_history.specs.Stands.{stands}
-use Rattle.flat_history.specs.World.{World, until, contents_at, reading_at, opening_list}
+use Rattle.flat_history.specs.World.{World, contents_at, reading_at}
 use Rattle.kept_history.specs.Recorded.{MayGoOn, IsLengthKept, gives_some}
 use Rattle.kept_history.proofs.Tests.{neither, or-left}
 use Rattle.kept_history.proofs.Growing.{contents-grown, reading-grown, opening-grown, unsynced-grown, gone-grown}

@@ -1,13 +1,11 @@
 -- What is kept of the history after a call, by what the call entered.
-use Rattle.std.proofs.Common.{◌≡◌, inl, inr, ℕ, ◌+◌, ◌≤◌, ◌<◌, ◌==◌, ◌&&◌, ◌||◌, ◌⊎◌, Bool, true, false, cond, Option, Some, None, List, [], ◌∷◌, ◌++◌, length, take, take_all, drop, unwrap_or, MatchBool, MatchOption, refl, sym, ◌∙◌, ap, ap₂, subst, subst₂, arith, append_assoc, append-nil}
-use Rattle.std.specs.Prelude.{IsFalse, IsTrue, ⊤}
-use Rattle.std.specs.Bool.{OnTrue}
+use Rattle.std.proofs.Common.{◌≡◌, inl, inr, ℕ, ◌≤◌, ◌==◌, ◌&&◌, ◌⊎◌, Bool, true, false, cond, Option, Some, None, List, [], ◌∷◌, ◌++◌, length, take, take_all, drop, unwrap_or, MatchBool, refl, sym, ◌∙◌, ap, subst, subst₂, arith, append_assoc, append-nil}
+use Rattle.std.specs.Prelude.{IsFalse, ⊤}
 use Rattle.std.specs.List.{list_any, All}
 use Rattle.std.specs.Option.{option_map_or}
 use Rattle.std.proofs.lemmas.Bool.Decides.{nat_tests}
 use Rattle.std.proofs.lemmas.List.{take-append-drop, take-take, length-take-le}
 use Rattle.std.proofs.lemmas.List.Elements.{All-nil, All-append, All-cons, All-head, All-tail}
-use Rattle.md_base.specs.Sectors.{Sector}
 use Rattle.md_base.specs.declared.answers.Who.{Who}
 use Rattle.bank.specs.declared.bank.Operation.{Operation}
 use Rattle.bank.specs.Tape.{Contents, value_after}
@@ -15,10 +13,10 @@ use Rattle.flat_history.specs.declared.events.Entry.{Entry}
 use Rattle.flat_history.specs.declared.events.Event.{Event}
 use Rattle.flat_history.specs.declared.events.Event.TheVariants.{Lost, SpareLost, Rebuilt, Resized, Step, Refused}
 use Rattle.flat_history.specs.declared.events.LostCause.TheVariants.{Fault}
-use Rattle.flat_history.specs.Flat.{is_same_call, rest_of_call, last_of, length_of, next_number}
+use Rattle.flat_history.specs.Flat.{is_same_call, rest_of_call, last_of, next_number}
 use Rattle.flat_history.specs.Growing.{grown, EndBy, BeginAnother}
 use Rattle.flat_history.specs.Legal.{GoesOn, IsNumbered, IsInnerOrLast, IsOfOpening, IsLegalEvent, IsLegalEntry, call_end, AreLegal, IsLegal}
-use Rattle.flat_history.specs.OneShape.{IsOfCall, IsCallOpen}
+use Rattle.flat_history.specs.OneShape.{IsOfCall}
 use Rattle.flat_history.specs.Plain.{entries_of}
 use Rattle.flat_history.specs.Stands.{stands}
 use Rattle.flat_history.specs.Transfers.{last_end_from}
