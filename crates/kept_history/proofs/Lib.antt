@@ -8,3 +8,5 @@ pub mod Records
 pub mod Reshapes
 pub mod KeptCalls
 pub mod Changes
+pub mod Entered
+pub mod Lists

@@ -58,7 +58,7 @@ filter-ends mark p (x ∷ xs) ends = by (p x) (filter-ends mark p xs ends.1)
     by true rest = (ends.0, rest)
     by false rest = rest
 
-take-ends : (mark n : ℕ) (xs : List Entry) → EndBy mark xs → EndBy mark (take n xs)
+pub take-ends : (mark n : ℕ) (xs : List Entry) → EndBy mark xs → EndBy mark (take n xs)
 take-ends mark zero xs ends = tt
 take-ends mark (suc n) [] ends = tt
 take-ends mark (suc n) (x ∷ xs) ends = (ends.0, take-ends mark n xs ends.1)
@@ -116,7 +116,7 @@ module _ (world : World) (ops : List Operation) (within : world.first ≤ length
   unkept-grown before Finished end n ends made is = target-grown (before_last_step before) n (take-ends (length world.tape) _ before ends) is
   unkept-grown before kind end n ends made is = absurd is
 
-  all-gone : (end : ℕ) (xs ys : List Entry) → end ≤ length world.tape → EndBy (length world.tape) xs → list_any (λ e. gives_some e.event) ys ≡ false
+  pub all-gone : (end : ℕ) (xs ys : List Entry) → end ≤ length world.tape → EndBy (length world.tape) xs → list_any (λ e. gives_some e.event) ys ≡ false
       → is_all_gone world end xs ≡ true → is_all_gone later end (xs ++ ys) ≡ true
   all-gone end xs ys made ends none is = ap (λ (found : Option Reading). option_map_or (λ r. all_below (role_count r.newest) (is_gone_after later (xs ++ ys))) found false) (reading-grown world ops end made) ∙ by (reading_at world end) is
     where

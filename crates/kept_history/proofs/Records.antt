@@ -74,7 +74,7 @@ own-begins who before (e ∷ added) number own =
 
 -- ---- where entries end
 
-end-snoc : (first : ℕ) (xs : List Entry) (e : Entry) → last_end_from first (xs ++ e ∷ []) ≡ e.end
+pub end-snoc : (first : ℕ) (xs : List Entry) (e : Entry) → last_end_from first (xs ++ e ∷ []) ≡ e.end
 end-snoc first xs e = ap (λ (o : Option Entry). option_map_or (λ e. e.end) o first) (last-snoc xs e)
 
 -- a call ends within what its entries end within
