@@ -1,5 +1,5 @@
 -- A call whose marks are seen right by one ledger leaves the history safe.
-use Rattle.std.proofs.Common.{◌≡◌, inl, inr, ℕ, ◌+◌, ◌<◌, ◌≤◌, Bool, None, List, ◌++◌, length, take, refl, sym, ◌∙◌, ap, subst, arith, length-append}
+use Rattle.std.proofs.Common.{◌≡◌, inl, inr, ℕ, ◌+◌, ◌<◌, ◌≤◌, Bool, true, None, List, ◌++◌, length, take, sym, ◌∙◌, ap, subst, arith, length-append}
 use Rattle.std.specs.Prelude.{⊤}
 use Rattle.std.proofs.Math.Seq.{take-length}
 use Rattle.md_base.specs.declared.answers.Who.{Who}
@@ -20,12 +20,13 @@ use Rattle.history_laws.proofs.OneShapeGrowing.{entries-both}
 use Rattle.shape_views.specs.Views.{Ledger, IsSeenRight}
 use Rattle.shape_changes.specs.Safety.{HasLiveSlot, IsRisen}
 use Rattle.shape_changes.specs.Steady.{IsMoreTold, IsSafeNow, IsSafeOver, KeepsSafe}
-use Rattle.shape_changes.proofs.Steady.{safe-is-seen, views-told}
+use Rattle.shape_changes.proofs.Steady.{views-told}
 use Rattle.kept_history.specs.Safe.{world_in, IsFilledRight, IsCounted, IsNowRight, IsSafeHistory}
 use Rattle.kept_history.specs.Told.{told_now, told_by}
 use Rattle.kept_history.proofs.Growing.{reading-grown, fit-grown}
-use Rattle.kept_history.proofs.Ledgers.{judged_by, more-then, told-ledger, now-ledger}
+use Rattle.kept_history.proofs.Ledgers.{judged_by, more-then, told-ledger}
 use Rattle.kept_history.proofs.Marks.{length-entries, IsSeenBefore, IsSeenAfter, safe-marks}
+use Rattle.kept_history.proofs.Seen.{seen-now}
 
 -- ---- what a stop may leave
 
@@ -72,7 +73,7 @@ module _ (claims : Type 0) (given : Given) (tape : List Operation) (scope : Scop
     (fills : IsFilledRight (grown (world_in given tape scope first) ops) (entries ++ entries_of who (length (tape ++ ops)) (early ++ late)))
     (was : IsSafeHistory claims (world_in given tape scope first) given old carried reshaping entries) (rise : IsRisen ⊤ old new tape (tape ++ ops))
     (sound : claims → OpensFit (grown (world_in given tape scope first) ops) → LeavesSoundFrom (world_in given tape scope first) ops)
-    (less : IsMoreTold told (told_by (grown (world_in given tape scope first) ops) carried' reshaping' entries (entries_of who (length (tape ++ ops)) early)))
+    (less : IsMoreTold told (told_by (grown (world_in given tape scope first) ops) (λ number. true) true entries (entries_of who (length (tape ++ ops)) early)))
     (stretch : KeepsSafe (world_in given tape scope first) given told new tape (tape ++ ops))
     (last : IsSafeOver (world_in given tape scope first) given (told_now (grown (world_in given tape scope first) ops) carried' reshaping' (entries ++ entries_of who (length (tape ++ ops)) (early ++ late))) new (tape ++ ops)) where
   abbrev world : World
@@ -101,9 +102,9 @@ module _ (claims : Type 0) (given : Given) (tape : List Operation) (scope : Scop
 
   told-early : IsMoreTold told judge
   told-early =
-      more-then told (told_by later carried' reshaping' entries more) judge less
-      (subst (λ (l : List Entry). IsMoreTold (told_by later carried' reshaping' entries more) (judged_by later l (length entries) (length (entries ++ more)))) (sym all-is)
-      (told-ledger later carried' reshaping' entries more rest))
+      more-then told (told_by later (λ number. true) true entries more) judge less
+      (subst (λ (l : List Entry). IsMoreTold (told_by later (λ number. true) true entries more) (judged_by later l (length entries) (length (entries ++ more)))) (sym all-is)
+      (told-ledger later (λ number. true) true entries more rest))
 
   seen-early : (mark : ℕ) → length tape ≤ mark → mark < end → (c : Contents) → IsDrawn (disk given.start (take mark (tape ++ ops))) c
       → IsSeenBefore given tape scope first entries who (early ++ late) ops sizes_are within ends fills (disk given.start (take mark (tape ++ ops))) c
@@ -124,12 +125,7 @@ module _ (claims : Type 0) (given : Given) (tape : List Operation) (scope : Scop
   now-last = subst (λ (fit : Type 0). IsSafeNow fit scope given (told_now later carried' reshaping' all) new (disk given.start (tape ++ ops))) (sym (fit-grown world ops within)) last
 
   seen-last : (c : Contents) → IsDrawn (disk given.start (tape ++ ops)) c → IsSeenAfter given tape scope first entries who (early ++ late) ops sizes_are within ends fills (disk given.start (tape ++ ops)) c
-  seen-last c drawn = record {
-    judged = take (length all) all;
-    by = inl refl;
-    seen = views-told (OpensFit later) given (told_now later carried' reshaping' all) (judged_by later all (length all) (length all)) (now-ledger later carried' reshaping' all) scope (disk given.start (tape ++ ops))
-        (safe-is-seen (OpensFit later) scope given (told_now later carried' reshaping' all) new (tape ++ ops) now-last) c (record { eighth = λ s _. drawn s 8; ninth = λ s _. drawn s 9 });
-  }
+  seen-last = seen-now given tape scope first entries who (early ++ late) ops sizes_are within ends fills new carried' reshaping' (inl now-last)
 
   pub safe-call : IsSafeHistory claims later given new carried' reshaping' all
   safe-call = record {
@@ -144,7 +140,7 @@ abbrev pub IsSafeThen : Type 0 → Given → List Operation → Scope → ℕ �
 IsSafeThen claims given tape scope first entries old new carried' reshaping' who early late told tape' end =
     IsFilledRight (world_in given tape' scope first) (entries ++ entries_of who end (early ++ late)) → IsRisen ⊤ old new tape tape'
     → (claims → OpensFit (world_in given tape' scope first) → (mark : ℕ) → length tape ≤ mark → mark ≤ length tape' → LeavesSound (world_in given tape' scope first) mark)
-    → IsMoreTold told (told_by (world_in given tape' scope first) carried' reshaping' entries (entries_of who end early))
+    → IsMoreTold told (told_by (world_in given tape' scope first) (λ number. true) true entries (entries_of who end early))
     → KeepsSafe (world_in given tape scope first) given told new tape tape'
     → IsSafeOver (world_in given tape scope first) given (told_now (world_in given tape' scope first) carried' reshaping' (entries ++ entries_of who end (early ++ late))) new tape'
     → IsSafeHistory claims (world_in given tape' scope first) given new carried' reshaping' (entries ++ entries_of who end (early ++ late))

@@ -1,5 +1,5 @@
 -- A call that changes the list's length leaves the history safe: each of its marks is seen right without the change, or with it.
-use Rattle.std.proofs.Common.{◌≡◌, inl, inr, ℕ, suc, ◌+◌, ◌<◌, ◌≤◌, ◌||◌, Bool, true, false, cond, Option, Some, None, List, [], ◌∷◌, ◌++◌, length, take, drop, remove, refl, sym, ◌∙◌, ap, ap₂, subst, arith, length-append, append_assoc}
+use Rattle.std.proofs.Common.{◌≡◌, inl, inr, ℕ, suc, ◌+◌, ◌<◌, ◌≤◌, ◌||◌, Bool, true, false, cond, Option, Some, None, List, [], ◌∷◌, ◌++◌, length, take, drop, refl, sym, ◌∙◌, ap, ap₂, subst, arith, length-append, append_assoc}
 use Rattle.std.specs.Prelude.{⊤, IsTrue}
 use Rattle.std.specs.List.{list_any}
 use Rattle.std.specs.Option.{option_map_or}
@@ -7,88 +7,32 @@ use Rattle.std.proofs.Math.Seq.{drop-append_seam, take-length}
 use Rattle.md_base.specs.declared.answers.Who.{Who}
 use Rattle.bank.specs.declared.bank.Operation.{Operation}
 use Rattle.bank.specs.Given.{Given, sizes}
-use Rattle.bank.specs.Tape.{Contents, IsDrawn, IsIn, disk}
+use Rattle.bank.specs.Tape.{Contents, IsDrawn, disk}
 use Rattle.superblocks.specs.declared.members.Members.{Members}
-use Rattle.superblocks.specs.Reading.{Scope, list_length}
+use Rattle.superblocks.specs.Reading.{Scope}
 use Rattle.flat_history.specs.declared.events.Entry.{Entry}
 use Rattle.flat_history.specs.declared.events.Event.{Event}
 use Rattle.flat_history.specs.declared.events.Event.TheVariants.{Resized}
 use Rattle.flat_history.specs.CrashSafe.{is_resized, last_resized, first_end, up_to, MayBeLeftOut}
-use Rattle.flat_history.specs.Flat.{length_of, values_of}
 use Rattle.flat_history.specs.Growing.{grown, EndBy}
 use Rattle.flat_history.specs.Legal.{is_all_gone}
 use Rattle.flat_history.specs.Plain.{entries_of}
 use Rattle.flat_history.specs.Sound.{OpensFit}
-use Rattle.flat_history.specs.World.{World, opening_list}
+use Rattle.flat_history.specs.World.{World}
 use Rattle.history_laws.proofs.OneShapeGrowing.{one, entries-both}
-use Rattle.shape_views.specs.Views.{Disk, Ledger, IsSettled, IsViewRight, IsSeenRight, ledger_of}
-use Rattle.shape_views.proofs.Stands.{window-inside}
-use Rattle.shape_views.proofs.WindowLaws.{open-window}
+use Rattle.shape_views.specs.Views.{Disk, Ledger, IsSeenRight}
 use Rattle.shape_changes.specs.Changing.{IsSpentByEither, IsSafeChange}
 use Rattle.shape_changes.specs.Safety.{HasLiveSlot, IsRisen}
-use Rattle.shape_changes.specs.Steady.{IsMoreTold, IsSafeNow}
-use Rattle.shape_changes.proofs.Steady.{safe-is-seen, losing-stays-safe}
-use Rattle.shape_changes.proofs.Without.{without-none}
+use Rattle.shape_changes.specs.Steady.{IsMoreTold, IsSafeNow, IsSafeOver, IsSafeStretch}
 use Rattle.kept_history.specs.Safe.{world_in, IsFilledRight, told_without, IsNowRight, IsSafeHistory}
 use Rattle.kept_history.specs.Told.{told_now, told_by}
 use Rattle.kept_history.proofs.Calls.{LeavesSoundFrom, sound-later, counted-later}
 use Rattle.kept_history.proofs.Growing.{fit-grown}
-use Rattle.kept_history.proofs.Ledgers.{judged_by, more-then, told-ledger, now-ledger}
+use Rattle.kept_history.proofs.Ledgers.{judged_by, more-then, told-ledger}
 use Rattle.kept_history.proofs.Marks.{length-entries, IsSeenBefore, IsSeenAfter, safe-marks}
+use Rattle.kept_history.proofs.Seen.{seen-told, now-more, seen-now}
 
--- ---- one image
-
--- what is seen right is so where more is told
-module _ (sound : Type 0) (scope : Scope) (given : Given) (told more : Ledger) (is : IsMoreTold told more) (d : Disk) where
-  settled-told : (view : Members) → list_length view.newest ≡ told.size → IsSettled scope view told.values d → IsSettled scope view more.values d
-  settled-told view sized settled = record {
-    list = settled.list;
-    allowed = λ x lt. is.values x (omega (arith, lt, sized)) (settled.list x) (settled.allowed x lt);
-    rows = settled.rows;
-  }
-
-  view-told : (view : Members) → IsViewRight sound scope given told view d → IsViewRight sound scope given more view d
-  view-told view right = record {
-    placed = right.placed;
-    sized = right.sized ∙ is.size;
-    reshaping = λ active. is.reshaping (right.reshaping active);
-    gone = λ role lt missing. is.gone role (right.gone role lt missing);
-    unclean = λ dirty. is.unclean (right.unclean dirty);
-    held = λ header may x slot outside holds v there.
-        let below = outside.within in
-        let sized = right.sized in
-        is.values x (omega (arith, below, sized)) v (right.held header may x slot outside holds v there);
-    sections = λ header may span active x low high v there.
-        let inside = window-inside view.newest right.placed.fit span (open-window scope view.newest header span active) in
-        let sized = right.sized in
-        is.values x (omega (arith, high, inside, sized)) v (right.sections header may span active x low high v there);
-    settled = λ clean few premise. settled-told view right.sized (right.settled clean few premise);
-  }
-
-  pub seen-told : (c : Contents) → IsSeenRight sound scope given told d c → IsSeenRight sound scope given more d c
-  seen-told c seen = record { found = seen.found; is = seen.is; view = seen.view; same = seen.same; right = view-told seen.view seen.right }
-
--- so what a stop may leave now is right where more is told
-pub now-more : (sound : Type 0) (scope : Scope) (given : Given) (told more : Ledger) (members : Members) (d : Disk) → IsMoreTold told more → IsSafeNow sound scope given told members d
-    → IsSafeNow sound scope given more members d
-now-more sound scope given told more members d is safe =
-    subst (λ (m : Members). IsSafeNow sound scope given more m d) (without-none members) (losing-stays-safe sound scope given 0 told more members d is safe)
-
--- ---- the history without a change of length
-
--- what is told without it is what its entries tell without it
-without-ledger : (world : World) (carried : ℕ → Bool) (reshaping : Bool) (place : ℕ) (entries : List Entry)
-    → IsMoreTold (told_without place world entries (told_now world carried reshaping entries)) (ledger_of world entries (length entries) (length entries) (remove (take (length entries) entries) place))
-without-ledger world carried reshaping place entries =
-    let by = now-ledger world carried reshaping entries in
-    record {
-      size = ap (λ (l : List Entry). length_of (length (opening_list world)) (remove l place)) (sym (take-length entries));
-      values = λ x lt v may. subst (λ (l : List Entry). IsIn (values_of (opening_list world) (remove l place) x) v) (sym (take-length entries)) may;
-      gone = by.gone;
-      unclean = by.unclean;
-      reshaping = λ is. refl;
-      carried = λ number is. refl;
-    }
+-- ---- the place of the change
 
 none-resized : (xs : List Entry) → list_any (λ e. is_resized e.event) xs ≡ false → last_resized xs ≡ None
 none-resized [] none = refl
@@ -122,9 +66,8 @@ module _ (claims : Type 0) (given : Given) (tape : List Operation) (scope : Scop
     (unkept : (HasLiveSlot new → ⊥)
     → IsTrue (is_all_gone (grown (world_in given tape scope first) ops) (length (tape ++ ops))
     (up_to (entries ++ entries_of who (length (tape ++ ops)) ((early ++ Resized n ∷ losses) ++ late)) (length (entries ++ entries_of who (length (tape ++ ops)) early))))
-    × IsMoreTold told (told_without (length (entries ++ entries_of who (length (tape ++ ops)) early)) (grown (world_in given tape scope first) ops)
-    (entries ++ entries_of who (length (tape ++ ops)) ((early ++ Resized n ∷ losses) ++ late))
-    (told_now (grown (world_in given tape scope first) ops) carried' true (entries ++ entries_of who (length (tape ++ ops)) ((early ++ Resized n ∷ losses) ++ late))))) where
+    × IsMoreTold told (told_without (grown (world_in given tape scope first) ops) (entries ++ entries_of who (length (tape ++ ops)) ((early ++ Resized n ∷ losses) ++ late))
+    (length (entries ++ entries_of who (length (tape ++ ops)) early)))) where
   abbrev world : World
   world = world_in given tape scope first
 
@@ -232,9 +175,9 @@ module _ (claims : Type 0) (given : Given) (tape : List Operation) (scope : Scop
     | inr spent ↦ inr (record {
       place = place;
       left_out = left-out spent.none;
-      spent = subst (λ (fit : Type 0). IsSpentByEither fit scope given (told_without place later all (told_now later carried' true all)) (told_now later carried' reshaping' all) new (disk given.start (tape ++ ops))) (sym fit-is) (record {
+      spent = subst (λ (fit : Type 0). IsSpentByEither fit scope given (told_without later all place) (told_now later carried' reshaping' all) new (disk given.start (tape ++ ops))) (sym fit-is) (record {
         right = λ c drawn. elim (spent.right c drawn) [
-          | inl seen ↦ inl (seen-told (OpensFit world) scope given told (told_without place later all (told_now later carried' true all)) (unkept spent.none).1 (disk given.start (tape ++ ops)) c seen)
+          | inl seen ↦ inl (seen-told (OpensFit world) scope given told (told_without later all place) (unkept spent.none).1 (disk given.start (tape ++ ops)) c seen)
           | inr seen ↦ inr (seen-told (OpensFit world) scope given more (told_now later carried' reshaping' all) last (disk given.start (tape ++ ops)) c seen)
         ];
         none = spent.none;
@@ -243,26 +186,7 @@ module _ (claims : Type 0) (given : Given) (tape : List Operation) (scope : Scop
   ]
 
   seen-last : (c : Contents) → IsDrawn (disk given.start (tape ++ ops)) c → IsSeenAfter given tape scope first entries who events ops sizes_are within ends fills (disk given.start (tape ++ ops)) c
-  seen-last c drawn = elim now-either [
-    | inl safe ↦ whole (safe-is-seen (OpensFit later) scope given (told_now later carried' reshaping' all) new (tape ++ ops) safe c (record { eighth = λ s _. drawn s 8; ninth = λ s _. drawn s 9 }))
-    | inr unkept ↦ elim (unkept.spent.right c (record { eighth = λ s _. drawn s 8; ninth = λ s _. drawn s 9 })) [
-      | inl seen ↦ record {
-        judged = remove (take (length all) all) unkept.place;
-        by = inr (unkept.place, unkept.left_out, refl);
-        seen = seen-told (OpensFit later) scope given (told_without unkept.place later all (told_now later carried' true all)) (ledger_of later all (length all) (length all) (remove (take (length all) all) unkept.place))
-            (without-ledger later carried' true unkept.place all) (disk given.start (tape ++ ops)) c seen;
-      }
-      | inr seen ↦ whole seen
-    ]
-  ]
-    where
-      whole : IsSeenRight (OpensFit later) scope given (told_now later carried' reshaping' all) (disk given.start (tape ++ ops)) c
-          → IsSeenAfter given tape scope first entries who events ops sizes_are within ends fills (disk given.start (tape ++ ops)) c
-      whole seen = record {
-        judged = take (length all) all;
-        by = inl refl;
-        seen = seen-told (OpensFit later) scope given (told_now later carried' reshaping' all) (judged_by later all (length all) (length all)) (now-ledger later carried' reshaping' all) (disk given.start (tape ++ ops)) c seen;
-      }
+  seen-last = seen-now given tape scope first entries who events ops sizes_are within ends fills new carried' reshaping' now-either
 
   pub safe-change : IsSafeHistory claims later given new carried' reshaping' all
   safe-change = record {
@@ -271,3 +195,39 @@ module _ (claims : Type 0) (given : Given) (tape : List Operation) (scope : Scop
     now = now-either;
     counted = counted-later world old new ops within rise was.counted;
   }
+
+-- ---- a call that tells more, and keeps the length
+
+-- where no live slot is left, what was told before is told at its end too
+safe-either : (sound : Type 0) (scope : Scope) (given : Given) (told more all : Ledger) (new : Members) (tape tape' : List Operation) → IsSafeChange sound scope given told more new tape tape'
+    → IsMoreTold more all → ((HasLiveSlot new → ⊥) → IsMoreTold told all) → IsSafeNow sound scope given all new (disk given.start tape')
+safe-either sound scope given told more all new tape tape' change most less = elim change.next [
+  | inl named ↦ now-more sound scope given more all new (disk given.start tape') most (inl named.steady)
+  | inr spent ↦ inr (record {
+    right = λ c drawn. elim (spent.right c drawn) [
+      | inl seen ↦ seen-told sound scope given told all (less spent.none) (disk given.start tape') c seen
+      | inr seen ↦ seen-told sound scope given more all most (disk given.start tape') c seen
+    ];
+    none = spent.none;
+  })
+]
+
+-- Where the call tells as much as both, it is a stretch by that.
+pub either-stretch : (sound : Type 0) (scope : Scope) (given : Given) (told more all : Ledger) (new : Members) (tape tape' : List Operation) → IsMoreTold told all → IsMoreTold more all
+    → IsSafeChange sound scope given told more new tape tape' → IsSafeStretch sound scope given all new tape tape'
+either-stretch sound scope given told more all new tape tape' less most change = record {
+  marks = record {
+    longer = change.marks.longer;
+    earlier = change.marks.earlier;
+    each = λ so mark low high c drawn. elim (change.marks.each so mark low high c drawn) [
+      | inl seen ↦ seen-told sound scope given told all less (disk given.start (take mark tape')) c seen
+      | inr seen ↦ seen-told sound scope given more all most (disk given.start (take mark tape')) c seen
+    ];
+  };
+  next = safe-either sound scope given told more all new tape tape' change most (λ none. less);
+}
+
+-- And at its end it is safe by the whole history, where that tells as much as the later ledger; where no live slot is left, as the former one too.
+pub either-last : (world : World) (given : Given) (told more all : Ledger) (new : Members) (tape tape' : List Operation) → IsSafeChange (OpensFit world) world.scope given told more new tape tape'
+    → IsMoreTold more all → ((HasLiveSlot new → ⊥) → IsMoreTold told all) → IsSafeOver world given all new tape'
+either-last world given told more all new tape tape' change most less = safe-either (OpensFit world) world.scope given told more all new tape tape' change most less

@@ -1,6 +1,6 @@
 -- What a call tells by the sort of its events: most only add to what was told.
-use Rattle.std.proofs.Common.{◌≡◌, inl, inr, ℕ, ◌+◌, ◌<◌, ◌≤◌, ◌==◌, ◌&&◌, ◌||◌, Bool, true, false, cond, Option, List, [], ◌∷◌, ◌++◌, length, take, fold, refl, sym, ◌∙◌, ap, ap₂, subst, arith, append_assoc}
-use Rattle.std.specs.Prelude.{IsTrue, slice_index_or}
+use Rattle.std.proofs.Common.{◌≡◌, inl, inr, ℕ, ◌<◌, ◌&&◌, ◌||◌, Bool, true, false, cond, Option, List, [], ◌∷◌, ◌++◌, length, fold, refl, sym, ◌∙◌, ap, ap₂, subst}
+use Rattle.std.specs.Prelude.{IsTrue}
 use Rattle.std.specs.List.{list_any, list_all}
 use Rattle.std.proofs.lemmas.List.Folds.{list_any-append}
 use Rattle.std.proofs.lemmas.List.Sums.{fold-append}
@@ -14,12 +14,11 @@ use Rattle.flat_history.specs.declared.events.Event.TheVariants.{Wrote, Torn, Fl
 use Rattle.flat_history.specs.declared.events.LostCause.TheVariants.{Fault}
 use Rattle.flat_history.specs.declared.events.StepKind.TheVariants.{ResyncEnded}
 use Rattle.flat_history.specs.Flat.{length_after, length_of, covers, sector_at, behind, values_after, first_values, values_of, now}
-use Rattle.flat_history.specs.Losses.{takes, loses, settles, unsettles, is_unsynced, is_gone_after}
+use Rattle.flat_history.specs.Losses.{takes, loses, settles, is_unsynced, is_gone_after}
 use Rattle.flat_history.specs.OneShape.{is_lost, is_unsettled}
 use Rattle.flat_history.specs.Plain.{loses_role, entries_of}
 use Rattle.flat_history.specs.World.{World, reading_at, opening_list}
 use Rattle.history_laws.proofs.OneShapeGrowing.{AreFaults}
-use Rattle.shape_views.specs.Views.{Ledger}
 use Rattle.shape_changes.specs.Steady.{IsMoreTold, settled_ledger}
 use Rattle.kept_history.specs.Recorded.{gives_some}
 use Rattle.kept_history.specs.Told.{told_now, told_by}
@@ -101,7 +100,7 @@ lengths-stay n (x ∷ xs) adds =
     let parts = both (adds_only x.event) (list_all (λ e. adds_only e.event) xs) adds in
     ap (λ (m : ℕ). length_of m xs) (length-stays n x.event parts.0) ∙ lengths-stay n xs parts.1
 
-settle-none : (xs : List Entry) → AreAdding xs → list_any (λ e. settles e.event) xs ≡ false
+pub settle-none : (xs : List Entry) → AreAdding xs → list_any (λ e. settles e.event) xs ≡ false
 settle-none [] adds = refl
 settle-none (x ∷ xs) adds =
     let parts = both (adds_only x.event) (list_all (λ e. adds_only e.event) xs) adds in

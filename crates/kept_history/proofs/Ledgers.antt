@@ -35,6 +35,10 @@ more-then told mid more first second = record {
   carried = λ number is. second.carried number (first.carried number is);
 }
 
+-- whatever reshape may be active in it, and whatever numbers are known
+pub told-any : (world : World) (carried : ℕ → Bool) (reshaping : Bool) (entries more : List Entry) → IsMoreTold (told_by world carried reshaping entries more) (told_by world (λ number. true) true entries more)
+told-any world carried reshaping entries more = record { size = refl; values = λ x lt v may. may; gone = λ role is. is; unclean = λ is. is; reshaping = λ is. refl; carried = λ number is. refl }
+
 -- ---- what is gone
 
 module _ (world : World) (role : ℕ) where
@@ -66,7 +70,7 @@ module _ (world : World) (role : ℕ) where
       ap (λ (b : Bool). fold (gone_surely world role) b xs) parts.0 ∙ surely-none xs parts.1
 
   -- behind more entries
-  gone-behind : (xs ys : List Entry) → is_gone_after world (xs ++ ys) role ≡ fold (gone_surely world role) (is_gone_after world xs role) ys
+  pub gone-behind : (xs ys : List Entry) → is_gone_after world (xs ++ ys) role ≡ fold (gone_surely world role) (is_gone_after world xs role) ys
   unfolding is_gone_after
   gone-behind xs ys = fold-append (gone_surely world role) false xs ys
 
@@ -158,6 +162,17 @@ none-ends (e ∷ more) none =
     let parts = neither (settles e.event) (list_any (λ e. settles e.event) more) none in
     ap₂ (λ (a b : Bool). a || b) (ends-nothing e.event parts.0) (none-ends more parts.1)
 
+-- what may be unclean in a call is so behind it, where it settles nothing
+pub unclean-now : (world : World) (entries more : List Entry) → list_any (λ e. settles e.event) more ≡ false → (is_unsynced world entries || (is_unsettled entries || list_any (λ e. unsettles e.event) more)) ≡ true
+    → (is_unsynced world (entries ++ more) || is_unsettled (entries ++ more)) ≡ true
+unclean-now world entries more settled is =
+    ap (λ (a : Bool). a || is_unsettled (entries ++ more)) (unsynced-still world entries more (none-ends more settled))
+    ∙ by (is_unsynced world entries) is
+  where
+    by : (a : Bool) → (a || (is_unsettled entries || list_any (λ e. unsettles e.event) more)) ≡ true → (a || is_unsettled (entries ++ more)) ≡ true
+    by true is = refl
+    by false is = unsettled-behind entries more ∙ any-unsettled (is_unsettled entries) more settled is
+
 -- ---- a mark that is judged
 
 -- what the first j entries tell of a mark by which the first k were made
@@ -246,17 +261,10 @@ module _ (world : World) (carried : ℕ → Bool) (reshaping : Bool) where
     size = refl;
     values = λ x lt v may. may;
     gone = λ role is. any-gone world role entries more (gives role) is;
-    unclean = λ is. ap₂ (λ (a b : Bool). a || b) (unsynced-still world entries more (none-ends more settled)) refl ∙ by (is_unsynced world entries) is;
+    unclean = λ is. unclean-now world entries more settled is;
     reshaping = λ is. is;
     carried = λ number is. is;
   }
-    where
-      unsettled : (is_unsettled entries || list_any (λ e. unsettles e.event) more) ≡ true → is_unsettled (entries ++ more) ≡ true
-      unsettled is = unsettled-behind entries more ∙ any-unsettled (is_unsettled entries) more settled is
-
-      by : (a : Bool) → (a || (is_unsettled entries || list_any (λ e. unsettles e.event) more)) ≡ true → (a || is_unsettled (entries ++ more)) ≡ true
-      by true is = refl
-      by false is = unsettled is
 
 -- A call tells more than the history before it, where its entries keep the length and each value that a sector may have.
 pub told-more : (world : World) (old new : ℕ → Bool) (was is_now : Bool) (entries more : List Entry) → length_of (length (opening_list world)) (entries ++ more) ≡ length_of (length (opening_list world)) entries

@@ -10,3 +10,7 @@ pub mod KeptCalls
 pub mod Changes
 pub mod Entered
 pub mod Lists
+pub mod Seen
+pub mod Idle
+pub mod Unkept
+pub mod Turned

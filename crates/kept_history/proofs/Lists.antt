@@ -1,5 +1,5 @@
 -- What each sector of the list holds, by a history that may change the length.
-use Rattle.std.proofs.Common.{◌≡◌, inl, inr, ℕ, zero, suc, ◌+◌, ◌<◌, ◌≤◌, ◌&&◌, Bool, true, false, cond, nat_lt, Option, Some, None, List, [], ◌∷◌, ◌++◌, length, take, drop, fold, min, refl, sym, ◌∙◌, ap, subst, arith, append_assoc, append-nil}
+use Rattle.std.proofs.Common.{◌≡◌, inl, ℕ, zero, suc, ◌+◌, ◌<◌, ◌≤◌, Bool, true, false, cond, nat_lt, Option, Some, None, List, [], ◌∷◌, ◌++◌, length, take, drop, fold, min, refl, sym, ◌∙◌, ap, subst, arith, append_assoc, append-nil}
 use Rattle.std.specs.Prelude.{slice_index_or}
 use Rattle.std.specs.Option.{option_map_or}
 use Rattle.std.proofs.lemmas.Bool.Decides.{nat_tests}
@@ -10,9 +10,9 @@ use Rattle.flat_history.specs.declared.events.Event.{Event}
 use Rattle.flat_history.specs.declared.events.Event.TheVariants.{Wrote, Torn, Flushed, Resized, Stopped}
 use Rattle.flat_history.specs.Flat.{is_same_call, rest_of_call, length_after, length_of, limit_of, visible_of, covers, sector_at, behind, resized, values_after, first_values, values_of, now}
 use Rattle.flat_history.specs.Legal.{call_end, IsLegalEvent, AreLegal, IsLegal}
-use Rattle.flat_history.specs.Transfers.{last_end_from, EndsWithinOver}
+use Rattle.flat_history.specs.Transfers.{last_end_from}
 use Rattle.flat_history.specs.World.{World, until, opening_list}
-use Rattle.flat_history.proofs.OneShapeLegal.{last-snoc, list-until}
+use Rattle.flat_history.proofs.OneShapeLegal.{list-until}
 use Rattle.kept_history.proofs.Entered.{AreAdding, lengths-stay, all-stay, values-more, length-more}
 use Rattle.kept_history.proofs.Records.{end-snoc}
 

@@ -9,7 +9,8 @@ use Rattle.md_base.specs.declared.places.Shape.{Shape}
 use Rattle.bank.specs.declared.bank.Operation.{Operation}
 use Rattle.flat_history.specs.declared.events.Entry.{Entry}
 use Rattle.flat_history.specs.declared.events.Event.{Event}
-use Rattle.flat_history.specs.declared.events.Event.TheVariants.{Rebuilt, Step}
+use Rattle.flat_history.specs.declared.events.Event.TheVariants.{Lost, SpareLost, Rebuilt, Step}
+use Rattle.flat_history.specs.declared.events.LostCause.TheVariants.{Fault}
 use Rattle.flat_history.specs.declared.events.StepKind.TheVariants.{Begun, Finished}
 use Rattle.flat_history.specs.Flat.{is_same_call, last_of}
 use Rattle.flat_history.specs.Growing.{grown, EndBy, BeginAnother}
@@ -20,6 +21,7 @@ use Rattle.flat_history.specs.Plain.{entries_of}
 use Rattle.flat_history.specs.Reshaped.{AreTooManyGone, behind, comes_with_finish, comes_with_step, IsConsistentAt, IsFinishedRight, is_done, open_plans, planned_shape, ArePlansDone, IsReshapedBy, AreReshaped, IsReshaped}
 use Rattle.flat_history.specs.World.{World, until}
 use Rattle.flat_history.proofs.LegalLaws.{both, another-last, another-behind}
+use Rattle.history_laws.proofs.OneShapeGrowing.{AreFaults}
 use Rattle.history_laws.proofs.ReshapedLaws.{reshapes-stay-right}
 use Rattle.kept_history.specs.Recorded.{entry_of, IsReshapedCall, ends_reshape, IsCallGoing, gives_some}
 use Rattle.kept_history.proofs.Tests.{neither}
@@ -48,6 +50,22 @@ call-ends_none world before who end [] none = tt
 call-ends_none world before who end (event ∷ events) none =
     let parts = neither (ends_reshape event) (list_any ends_reshape events) none in
     (ends-none world before (entry_of who end event) (entries_of who end events) parts.0, call-ends_none world (before ++ entry_of who end event ∷ []) who end events parts.1)
+
+-- losses before other events end nothing
+pub reshaped-losses : (world : World) (before : List Entry) (who : Who) (end : ℕ) (xs tail : List Event) → AreFaults xs → IsReshapedCall world (before ++ entries_of who end xs) who end tail
+    → IsReshapedCall world before who end (xs ++ tail)
+reshaped-losses world before who end [] tail are call = subst (λ (l : List Entry). IsReshapedCall world l who end tail) (append-nil before) call
+reshaped-losses world before who end (Lost role Fault ∷ xs) tail are call = (
+  ends-none world before (entry_of who end (Lost role Fault)) (entries_of who end (xs ++ tail)) refl,
+  reshaped-losses world (before ++ entry_of who end (Lost role Fault) ∷ []) who end xs tail are
+      (subst (λ (l : List Entry). IsReshapedCall world l who end tail) (sym (append_assoc before (entry_of who end (Lost role Fault) ∷ []) (entries_of who end xs))) call),
+)
+reshaped-losses world before who end (SpareLost slot ∷ xs) tail are call = (
+  ends-none world before (entry_of who end (SpareLost slot)) (entries_of who end (xs ++ tail)) refl,
+  reshaped-losses world (before ++ entry_of who end (SpareLost slot) ∷ []) who end xs tail are
+      (subst (λ (l : List Entry). IsReshapedCall world l who end tail) (sym (append_assoc before (entry_of who end (SpareLost slot) ∷ []) (entries_of who end xs))) call),
+)
+reshaped-losses world before who end (event ∷ xs) tail are call = absurd are
 
 -- where no plan is open, an entry that leaves no step owes nothing
 pub unplanned : (world : World) (before : List Entry) (e : Entry) (rest : List Entry) (b : Bool) → open_plans before ≡ [] → OnTrue b (ArePlansDone world before e rest (open_plans before))

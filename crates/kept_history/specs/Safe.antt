@@ -1,5 +1,5 @@
 -- When the marks of an epoch are safe, and what a stop may leave now, whether the array is reshaped or not.
-use Rattle.std.specs.Prelude.{◌≡◌, ◌⊎◌, ℕ, ◌+◌, ◌≤◌, Bool, true, false, List, length, remove, Some}
+use Rattle.std.specs.Prelude.{◌≡◌, ◌⊎◌, ℕ, ◌+◌, ◌≤◌, ◌||◌, Bool, true, false, List, length, remove, Some}
 use Rattle.std.specs.List.{list_any}
 use Rattle.bank.specs.declared.bank.Operation.{Operation}
 use Rattle.bank.specs.Given.{Given}
@@ -9,7 +9,8 @@ use Rattle.superblocks.specs.Reading.{Scope, Reading}
 use Rattle.flat_history.specs.declared.events.Entry.{Entry}
 use Rattle.flat_history.specs.World.{World, opening_list, reading_at}
 use Rattle.flat_history.specs.Flat.{length_of, values_of}
-use Rattle.flat_history.specs.Losses.{loses}
+use Rattle.flat_history.specs.Losses.{loses, is_gone_after, is_unsynced}
+use Rattle.flat_history.specs.OneShape.{is_unsettled}
 use Rattle.flat_history.specs.CrashSafe.{MayBeLeftOut}
 use Rattle.flat_history.specs.Growing.{IsSafeThroughout}
 use Rattle.flat_history.specs.Sound.{OpensFit, LeavesSoundThroughout}
@@ -37,15 +38,22 @@ pub record IsCounted (world : World) (members : Members) : Type 0 where
   pub is : reading_at world world.first ≡ Some found
   pub events : members.newest.events + world.first ≤ found.newest.events + length world.tape
 
--- the same is told, but the list is the one without the change of length at this place
-abbrev pub told_without : ℕ → World → List Entry → Ledger → Ledger
-told_without place world entries told = record told { size = length_of (length (opening_list world)) (remove entries place); values = values_of (opening_list world) (remove entries place) }
+-- the whole history tells it, but the list is the one without the change of length at this place
+abbrev pub told_without : World → List Entry → ℕ → Ledger
+told_without world entries place = record {
+  size = length_of (length (opening_list world)) (remove entries place);
+  values = values_of (opening_list world) (remove entries place);
+  gone = is_gone_after world entries;
+  unclean = is_unsynced world entries || is_unsettled entries;
+  reshaping = true;
+  carried = λ number. true;
+}
 
 -- No live slot is left, and none had kept the last change of length: each view is right with it or without it, and nothing is written any more.
 pub record IsUnkept (world : World) (given : Given) (members : Members) (carried : ℕ → Bool) (reshaping : Bool) (entries : List Entry) : Type 0 where
   pub place : ℕ
   pub left_out : MayBeLeftOut world entries (length entries) place
-  pub spent : IsSpentByEither (OpensFit world) world.scope given (told_without place world entries (told_now world carried true entries)) (told_now world carried reshaping entries)
+  pub spent : IsSpentByEither (OpensFit world) world.scope given (told_without world entries place) (told_now world carried reshaping entries)
       members (disk given.start world.tape)
 
 -- What a stop may leave now is right by what the whole history tells.
