@@ -14,3 +14,4 @@ pub mod Seen
 pub mod Idle
 pub mod Unkept
 pub mod Turned
+pub mod Turns
