@@ -1,0 +1,37 @@
+-- A call keeps what is kept of the history.
+use Rattle.std.proofs.Common.{◌≡◌, inl, inr, ℕ, ◌==◌, List, ◌++◌, length, ◌∙◌, ap, arith}
+use Rattle.std.specs.Prelude.{IsFalse}
+use Rattle.md_base.specs.Sectors.{Sector}
+use Rattle.md_base.specs.declared.answers.Who.{Who}
+use Rattle.bank.specs.declared.bank.Operation.{Operation}
+use Rattle.flat_history.specs.declared.events.Entry.{Entry}
+use Rattle.flat_history.specs.declared.events.Event.{Event}
+use Rattle.flat_history.specs.Flat.{length_of}
+use Rattle.flat_history.specs.Growing.{grown}
+use Rattle.flat_history.specs.Plain.{entries_of}
+use Rattle.flat_history.specs.Transfers.{last_end_from}
+use Rattle.flat_history.specs.World.{World, opening_list}
+use Rattle.kept_history.specs.Recorded.{IsHistoryKept, IsLegalCall, IsReshapedCall, IsCallGoing, MayFollow}
+use Rattle.kept_history.proofs.Growing.{longer-by, opening-grown}
+use Rattle.kept_history.proofs.Marks.{ends-call}
+use Rattle.kept_history.proofs.Records.{legal-later}
+use Rattle.kept_history.proofs.Reshapes.{reshaped-later}
+
+-- The call begins or goes on, its events are legal and end right what they end, and its entries end with it; it may change the list's length.
+pub kept-call : (right right' : Type 0) (world : World) (ops : List Operation) (size size' : ℕ) (entries : List Entry) (who : Who) (events : List Event) (goes : IsCallGoing entries who)
+    → IsHistoryKept right world size entries → (right' → right) → IsFalse (who.caller == 254)
+    → (right' → MayFollow (grown world ops) goes.call (entries_of who (length (world.tape ++ ops)) events))
+    → length_of (length (opening_list world)) (entries ++ entries_of who (length (world.tape ++ ops)) events) ≡ size'
+    → last_end_from world.first (entries ++ entries_of who (length (world.tape ++ ops)) events) ≡ length (world.tape ++ ops)
+    → (right' → IsLegalCall (grown world ops) entries who (length (world.tape ++ ops)) events)
+    → (right' → IsReshapedCall (grown world ops) entries who (length (world.tape ++ ops)) events)
+    → IsHistoryKept right' (grown world ops) size' (entries ++ entries_of who (length (world.tape ++ ops)) events)
+kept-call right right' world ops size size' entries who events goes was before other follows sized ended legal reshaped = record {
+  begun = let longer = longer-by world.tape ops in omega (arith, was.begun, longer);
+  sized = ap (λ (l : List Sector). length_of (length l) (entries ++ entries_of who (length (world.tape ++ ops)) events)) (opening-grown world ops was.begun) ∙ sized;
+  legal = λ so. legal-later world ops entries who events goes other (elim (follows so) [ inl fixed ↦ inl fixed.kept | inr none ↦ inr none ]) was.ends (let at = was.ended in omega (arith, at))
+      (was.legal (before so)) (legal so);
+  reshaped = λ so. reshaped-later world ops entries who events goes (elim (follows so) [ inl fixed ↦ inl fixed.steps | inr none ↦ inr none ]) was.ends (was.reshaped (before so)) (reshaped so);
+  ends = ends-call (length world.tape) entries who (length (world.tape ++ ops)) events (longer-by world.tape ops) was.ends;
+  ended = ended;
+}

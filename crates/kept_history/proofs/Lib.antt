@@ -1,0 +1,17 @@
+pub mod Tests
+pub mod Growing
+pub mod Ledgers
+pub mod Marks
+pub mod Calls
+pub mod Longer
+pub mod Records
+pub mod Reshapes
+pub mod KeptCalls
+pub mod Changes
+pub mod Entered
+pub mod Lists
+pub mod Seen
+pub mod Idle
+pub mod Unkept
+pub mod Turned
+pub mod Turns

@@ -1,0 +1,90 @@
+-- Which roles are gone behind a step that turns the shape, and when what is filled in is right.
+use Rattle.std.proofs.Common.{◌≡◌, inl, inr, ℕ, ◌<◌, ◌≤◌, ◌&&◌, ◌||◌, Bool, true, false, not, Option, Some, List, [], ◌∷◌, ◌++◌, length, nat_le, refl, sym, ◌∙◌, ap, ap₂, arith}
+use Rattle.std.specs.List.{list_any}
+use Rattle.std.proofs.lemmas.Bool.Decides.{nat_tests}
+use Rattle.md_base.specs.Search.{count_below}
+use Rattle.md_base.specs.Shapes.{tolerance_of}
+use Rattle.bank.specs.declared.bank.Operation.{Operation}
+use Rattle.superblocks.specs.Reading.{Reading, shape_of}
+use Rattle.flat_history.specs.declared.events.Entry.{Entry}
+use Rattle.flat_history.specs.declared.events.Event.{Event}
+use Rattle.flat_history.specs.declared.events.Event.TheVariants.{Lost, Step}
+use Rattle.flat_history.specs.declared.events.StepKind.TheVariants.{Begun, TakenOver}
+use Rattle.flat_history.specs.Growing.{grown, EndBy}
+use Rattle.flat_history.specs.Legal.{level_at, IsTooManyMissing}
+use Rattle.flat_history.specs.Losses.{takes, gives_back, loses, is_gone_after}
+use Rattle.flat_history.specs.OneShape.{is_lost}
+use Rattle.flat_history.specs.Plain.{loses_role}
+use Rattle.flat_history.specs.Sound.{FillsRight}
+use Rattle.flat_history.specs.World.{World, reading_at}
+use Rattle.flat_history.proofs.GoneCounts.{few_missing}
+use Rattle.flat_history.proofs.SoundLaws.{fit-before}
+use Rattle.kept_history.specs.Safe.{IsFilledRight}
+use Rattle.kept_history.proofs.Growing.{takes-grown}
+use Rattle.kept_history.proofs.Ledgers.{gone-behind}
+use Rattle.kept_history.proofs.Tests.{neither, none-before}
+
+-- ---- a reshape begins
+
+module _ (world : World) (entries : List Entry) (e : Entry) (left : ℕ) (r : Reading) (is : e.event ≡ Step Begun left) (found : reading_at world e.end ≡ Some r) where
+  -- what it does to a role
+  turned : (role : ℕ) → is_gone_after world (entries ++ e ∷ []) role ≡ (is_gone_after world entries role && not (nat_le (shape_of r.newest).disks role) || false)
+  turned role =
+      gone-behind world role entries (e ∷ [])
+      ∙ ap₂ (λ (o : Option Reading) (event : Event). is_gone_after world entries role && not (gives_back o role event) || takes o role event) found is
+
+  below-old : (old role : ℕ) → role < old → nat_le old role ≡ false
+  below-old old role lt = grind (arith, nat_tests, lt)
+
+  from-old : (old role : ℕ) → old ≤ role → nat_le old role ≡ true
+  from-old old role le = grind (arith, nat_tests, le)
+
+  kept : (b : Bool) → (b && true || false) ≡ b
+  kept true = refl
+  kept false = refl
+
+  given : (b : Bool) → (b && false || false) ≡ false
+  given true = refl
+  given false = refl
+
+  -- a role of the old shape is gone as before
+  pub begun-old : (role : ℕ) → role < (shape_of r.newest).disks → is_gone_after world (entries ++ e ∷ []) role ≡ is_gone_after world entries role
+  begun-old role lt = turned role ∙ ap (λ (b : Bool). is_gone_after world entries role && not b || false) (below-old (shape_of r.newest).disks role lt) ∙ kept (is_gone_after world entries role)
+
+  -- and one that the reshape takes anew isn't
+  pub begun-new : (role : ℕ) → (shape_of r.newest).disks ≤ role → is_gone_after world (entries ++ e ∷ []) role ≡ false
+  begun-new role le = turned role ∙ ap (λ (b : Bool). is_gone_after world entries role && not b || false) (from-old (shape_of r.newest).disks role le) ∙ given (is_gone_after world entries role)
+
+-- ---- what is filled in
+
+-- it is right before more entries
+pub filled-before : (world : World) (ops : List Operation) (entries added : List Entry) → world.first ≤ length world.tape → EndBy (length world.tape) entries → IsFilledRight (grown world ops) (entries ++ added) → IsFilledRight world entries
+filled-before world ops entries added within ends (inl none) = inl (λ role. sym (takes-grown world ops entries role ends) ∙ none-before (loses (grown world ops) role) entries added (none role))
+filled-before world ops entries added within ends (inr fit) = inr (fit-before world ops within fit)
+
+abbrev pub is_taken_over : Event → Bool
+is_taken_over (Step TakenOver left) = true
+is_taken_over event = false
+
+takes-told : (found : Option Reading) (role : ℕ) (event : Event) → is_taken_over event ≡ false → takes found role event ≡ loses_role role event
+takes-told found role (Lost lost cause) none = refl
+takes-told found role (Step TakenOver left) none = absurd (cc)
+takes-told found role event none = refl
+
+told-only : (world : World) (role : ℕ) (xs : List Entry) → list_any (λ e. is_taken_over e.event) xs ≡ false → list_any (loses world role) xs ≡ is_lost xs role
+told-only world role [] none = refl
+told-only world role (x ∷ xs) none =
+    let parts = neither (is_taken_over x.event) (list_any (λ e. is_taken_over e.event) xs) none in
+    ap₂ (λ (a b : Bool). a || b) (takes-told (reading_at world x.end) role x.event parts.0) (told-only world role xs parts.1)
+
+-- where no level is taken over it is so where no role is told lost, or the epoch opened fit
+pub filled-told : (world : World) (entries : List Entry) → list_any (λ e. is_taken_over e.event) entries ≡ false → FillsRight world entries → IsFilledRight world entries
+filled-told world entries none (inl whole) = inl (λ role. told-only world role entries none ∙ whole role)
+filled-told world entries none (inr fit) = inr fit
+
+-- ---- a refusal
+
+-- too many roles are missing, and each is gone
+pub too-many : (world : World) (entries : List Entry) (disks tolerance : ℕ) (missing : ℕ → Bool) → disks ≤ 32 → ((role : ℕ) → role < disks → missing role ≡ true → is_gone_after world entries role ≡ true)
+    → tolerance < count_below disks missing → tolerance ≡ tolerance_of (level_at world entries) → IsTooManyMissing world entries (count_below disks missing) tolerance
+too-many world entries disks tolerance missing few told above level = record { above = above; gone = few_missing (is_gone_after world entries) disks missing few told; tolerated = level }

@@ -1,0 +1,3 @@
+pub mod Told
+pub mod Safe
+pub mod Recorded

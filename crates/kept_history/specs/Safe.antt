@@ -1,0 +1,70 @@
+-- When the marks of an epoch are safe, and what a stop may leave now, whether the array is reshaped or not.
+use Rattle.std.specs.Prelude.{◌≡◌, ◌⊎◌, ℕ, ◌+◌, ◌≤◌, ◌||◌, Bool, true, false, List, length, remove, Some}
+use Rattle.std.specs.List.{list_any}
+use Rattle.bank.specs.declared.bank.Operation.{Operation}
+use Rattle.bank.specs.Given.{Given}
+use Rattle.bank.specs.Tape.{disk}
+use Rattle.superblocks.specs.declared.members.Members.{Members}
+use Rattle.superblocks.specs.Reading.{Scope, Reading}
+use Rattle.flat_history.specs.declared.events.Entry.{Entry}
+use Rattle.flat_history.specs.World.{World, opening_list, reading_at}
+use Rattle.flat_history.specs.Flat.{length_of, values_of}
+use Rattle.flat_history.specs.Losses.{loses, is_gone_after, is_unsynced}
+use Rattle.flat_history.specs.OneShape.{is_unsettled}
+use Rattle.flat_history.specs.CrashSafe.{MayBeLeftOut}
+use Rattle.flat_history.specs.Growing.{IsSafeThroughout}
+use Rattle.flat_history.specs.Sound.{OpensFit, LeavesSoundThroughout}
+use Rattle.shape_views.specs.Views.{Ledger}
+use Rattle.shape_changes.specs.Changing.{IsSpentByEither}
+use Rattle.shape_changes.specs.Safety.{HasLiveSlot}
+use Rattle.shape_changes.specs.Steady.{IsSafeOver}
+use Rattle.kept_history.specs.Told.{told_now}
+
+-- an epoch's world
+abbrev pub world_in : Given → List Operation → Scope → ℕ → World
+world_in given tape scope first = record { start = given.start; tape = tape; scope = scope; first = first }
+
+-- no entry takes a role's holder away
+abbrev pub TakesNone : World → List Entry → Type 0
+TakesNone world entries = (role : ℕ) → list_any (loses world role) entries ≡ false
+
+-- What is filled in is right: there is nothing to fill in, or the epoch opened fit.
+abbrev pub IsFilledRight : World → List Entry → Type 0
+IsFilledRight world entries = TakesNone world entries ⊎ OpensFit world
+
+-- the event count rose by no more than the operations since the opening
+pub record IsCounted (world : World) (members : Members) : Type 0 where
+  pub found : Reading
+  pub is : reading_at world world.first ≡ Some found
+  pub events : members.newest.events + world.first ≤ found.newest.events + length world.tape
+
+-- the whole history tells it, but the list is the one without the change of length at this place
+abbrev pub told_without : World → List Entry → ℕ → Ledger
+told_without world entries place = record {
+  size = length_of (length (opening_list world)) (remove entries place);
+  values = values_of (opening_list world) (remove entries place);
+  gone = is_gone_after world entries;
+  unclean = is_unsynced world entries || is_unsettled entries;
+  reshaping = true;
+  carried = λ number. true;
+}
+
+-- No live slot is left, and none had kept the last change of length: each view is right with it or without it, and nothing is written any more.
+pub record IsUnkept (world : World) (given : Given) (members : Members) (carried : ℕ → Bool) (reshaping : Bool) (entries : List Entry) : Type 0 where
+  pub place : ℕ
+  pub left_out : MayBeLeftOut world entries (length entries) place
+  pub spent : IsSpentByEither (OpensFit world) world.scope given (told_without world entries place) (told_now world carried reshaping entries)
+      members (disk given.start world.tape)
+
+-- What a stop may leave now is right by what the whole history tells.
+abbrev pub IsNowRight : World → Given → Members → (ℕ → Bool) → Bool → List Entry → Type 0
+IsNowRight world given members carried reshaping entries =
+    IsSafeOver world given (told_now world carried reshaping entries) members world.tape ⊎ IsUnkept world given members carried reshaping entries
+
+-- Every mark so far is safe, and leaves sound images where that is claimed of the array; what a stop may leave now is right, and the next update may
+-- start; as long as a live slot is left, the event count has room.
+pub record IsSafeHistory (claims : Type 0) (world : World) (given : Given) (members : Members) (carried : ℕ → Bool) (reshaping : Bool) (entries : List Entry) : Type 0 where
+  pub past : IsSafeThroughout world entries
+  pub sound : claims → OpensFit world → LeavesSoundThroughout world
+  pub now : IsNowRight world given members carried reshaping entries
+  pub counted : HasLiveSlot members → IsCounted world members
