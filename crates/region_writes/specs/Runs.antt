@@ -32,17 +32,17 @@ pub record IsRelied (newest : Sb) (relied : ℕ) (run : Run) : Type 0 where
   pub some : run.synced ≡ false → (x : ℕ) × (run.first ≤ x) × (x < run.end) × (relied_rows newest relied run.shape ≤ (place run.shape x).row)
 
 -- two runs, of which the second may be empty; where it isn't, it begins at the position
-pub record AreRuns (newest : Sb) (relied first to : ℕ) (low high : Run) : Type 0 where
-  pub low : IsRun newest low
-  pub high : IsRun newest high
-  pub low_relied : IsRelied newest relied low
-  pub high_relied : IsRelied newest relied high
-  pub begins : low.first ≡ first
-  pub some : low.first < low.end
-  pub meet : high.first ≡ low.end
-  pub ends : high.end ≡ to
-  pub apart : low.end < to → (is_reshaping newest ≡ true) × (low.end ≡ newest.reshape_position)
-  pub empty : (low.end ≡ to) → high.shape ≡ low.shape
+pub record AreRuns (newest : Sb) (relied first to : ℕ) (one two : Run) : Type 0 where
+  pub low : IsRun newest one
+  pub high : IsRun newest two
+  pub low_relied : IsRelied newest relied one
+  pub high_relied : IsRelied newest relied two
+  pub begins : one.first ≡ first
+  pub some : one.first < one.end
+  pub meet : two.first ≡ one.end
+  pub ends : two.end ≡ to
+  pub apart : one.end < to → (is_reshaping newest ≡ true) × (one.end ≡ newest.reshape_position)
+  pub empty : one.end ≡ to → two.shape ≡ one.shape
 
 -- these rows are those that the run touches
 pub record AreRowsOf (run : Run) (size : ℕ) (rows : List ℕ) : Type 0 where

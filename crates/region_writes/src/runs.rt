@@ -1,6 +1,6 @@
 //! The runs that a write of the list is cut in, each placed by one shape.
 
-ghost use Rattle.std.specs.Prelude.{◌≡◌, ◌⊎◌, ◌×◌, ◌<◌, ◌≤◌, ◌==◌, length, None, MatchOption, true};
+ghost use Rattle.std.specs.Prelude.{◌≡◌, ◌⊎◌, ◌<◌, ◌≤◌, length, None, MatchOption, true};
 ghost use Rattle.superblocks.specs.Reading.{is_reshaping, list_length, role_count};
 ghost use Rattle.shape_views.specs.Regions.{AreShapesFit};
 ghost use Rattle.views.specs.Placed.{IsInForce};
@@ -54,7 +54,7 @@ fn run_at(members: &Members, from: u64, to: u64, relied: u64) -> Run
 }
 
 /// Cuts the sectors of the list from `first` up to `to` at the position, where parity is relied on up to sector `relied`.
-pub fn cut(members: &Members, first: u64, to: u64, relied: u64) -> Cut
+pub fn runs_of(members: &Members, first: u64, to: u64, relied: u64) -> Cut
     requires fit { AreShapesFit members.now.newest }
     requires some { first < to }
     requires within { to ≤ list_length members.now.newest }
