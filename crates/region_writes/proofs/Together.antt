@@ -8,11 +8,12 @@ use Rattle.md_base.specs.declared.places.Shape.{Shape}
 use Rattle.md_base.specs.declared.places.Span.{Span}
 use Rattle.md_base.specs.declared.places.Side.{Side}
 use Rattle.md_base.specs.declared.places.Side.TheVariants.{Old, New}
+use Rattle.md_base.specs.Shapes.{data_disks}
 use Rattle.sb1.specs.declared.sb.Sb.{Sb}
 use Rattle.layout.specs.Layout.{place}
 use Rattle.geometry.specs.Geometry.{unit, list_end, side, window}
 use Rattle.geometry.specs.Geometry as geometry
-use Rattle.region_laws.specs.Regions.{IsUnderWay}
+use Rattle.region_laws.specs.Regions.{IsDirected, IsUnderWay}
 use Rattle.region_laws.proofs.RegionLaws.{IsDivided, by-old, by-new, regions-apart, forward-is, backward-is}
 use Rattle.superblocks.specs.Reading.{is_reshaping, is_backward, shape_of, final_shape, list_length, next_window}
 use Rattle.flat_history.specs.Stands.{shape_at, shape_for, covers}
@@ -115,6 +116,27 @@ module _ (newest : Sb) (fit : AreShapesFit newest) (active : is_reshaping newest
           let sx : side (is_backward newest) newest.reshape_position x ≡ Old = ap (λ (b : Bool). side b newest.reshape_position x) is ∙ ap (λ (b : Bool). if b then New else Old) (not-le newest.reshape_position x low) in
           let sy : side (is_backward newest) newest.reshape_position y ≡ New = ap (λ (b : Bool). side b newest.reshape_position y) is ∙ ap (λ (b : Bool). if b then New else Old) (is-le newest.reshape_position y high) in
           regions-apart (shape_of newest) (final_shape newest) newest.size (is_backward newest) newest.reshape_position y x way y-in x-in sy sx (sym (by Old New sx sy))
+
+  -- the shape below the position has as many data disks as the one behind it, or more
+  pub wider-low : (x y : ℕ) → x < newest.reshape_position → newest.reshape_position ≤ y → data_disks (shape_for newest y) ≤ data_disks (shape_for newest x)
+  wider-low x y low high = of (is_backward newest) refl way.directed
+    where
+      by : (s t : Side) → side (is_backward newest) newest.reshape_position x ≡ s → side (is_backward newest) newest.reshape_position y ≡ t → data_disks (shape_at newest t) ≤ data_disks (shape_at newest s)
+          → data_disks (shape_for newest y) ≤ data_disks (shape_for newest x)
+      by s t sx sy le =
+          let a = ap data_disks (shape-on newest active x s sx) in
+          let b = ap data_disks (shape-on newest active y t sy) in
+          omega (arith, a, b, le)
+
+      of : (b : Bool) → is_backward newest ≡ b → IsDirected (shape_of newest) (final_shape newest) b → data_disks (shape_for newest y) ≤ data_disks (shape_for newest x)
+      of false is le =
+          let sx : side (is_backward newest) newest.reshape_position x ≡ New = ap (λ (b : Bool). side b newest.reshape_position x) is ∙ ap (λ (b : Bool). if b then New else Old) (is-lt x newest.reshape_position low) in
+          let sy : side (is_backward newest) newest.reshape_position y ≡ Old = ap (λ (b : Bool). side b newest.reshape_position y) is ∙ ap (λ (b : Bool). if b then New else Old) (not-lt y newest.reshape_position high) in
+          by New Old sx sy le
+      of true is le =
+          let sx : side (is_backward newest) newest.reshape_position x ≡ Old = ap (λ (b : Bool). side b newest.reshape_position x) is ∙ ap (λ (b : Bool). if b then New else Old) (not-le newest.reshape_position x low) in
+          let sy : side (is_backward newest) newest.reshape_position y ≡ New = ap (λ (b : Bool). side b newest.reshape_position y) is ∙ ap (λ (b : Bool). if b then New else Old) (is-le newest.reshape_position y high) in
+          by Old New sx sy le
 
 -- ---- sectors that stand in one row
 

@@ -95,4 +95,5 @@ module _ (old new : Sb) (reshape : HaveSameReshape old new) (shape : shape_of ne
     ends = are.ends;
     apart = λ more. (let cut = are.apart more in (reshape.reshaping ∙ cut.0, cut.1 ∙ sym reshape.position));
     empty = are.empty;
+    wider = are.wider;
   }

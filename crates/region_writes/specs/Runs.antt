@@ -2,6 +2,7 @@
 use Rattle.std.specs.Prelude.{◌≡◌, ◌⊎◌, ℕ, ◌-◌, ◌<◌, ◌≤◌, true, false, List, length, Contains, Option, Some}
 use Rattle.md_base.specs.declared.places.Span.{Span}
 use Rattle.md_base.specs.declared.places.Shape.{Shape}
+use Rattle.md_base.specs.Shapes.{data_disks}
 use Rattle.md_base.specs.declared.answers.Refusal.{Refusal}
 use Rattle.md_base.specs.Sectors.{Sector}
 use Rattle.sb1.specs.declared.sb.Sb.{Sb}
@@ -31,7 +32,7 @@ pub record IsRelied (newest : Sb) (relied : ℕ) (run : Run) : Type 0 where
   pub rows : run.synced ≡ true → (x : ℕ) → run.first ≤ x → x < run.end → (place run.shape x).row < relied_rows newest relied run.shape
   pub some : run.synced ≡ false → (x : ℕ) × (run.first ≤ x) × (x < run.end) × (relied_rows newest relied run.shape ≤ (place run.shape x).row)
 
--- two runs, of which the second may be empty; where it isn't, it begins at the position
+-- Two runs, of which the second may be empty; where it isn't, it begins at the position, and the first one's shape has as many data disks or more.
 pub record AreRuns (newest : Sb) (relied first to : ℕ) (one two : Run) : Type 0 where
   pub low : IsRun newest one
   pub high : IsRun newest two
@@ -43,6 +44,7 @@ pub record AreRuns (newest : Sb) (relied first to : ℕ) (one two : Run) : Type 
   pub ends : two.end ≡ to
   pub apart : one.end < to → (is_reshaping newest ≡ true) × (one.end ≡ newest.reshape_position)
   pub empty : one.end ≡ to → two.shape ≡ one.shape
+  pub wider : data_disks two.shape ≤ data_disks one.shape
 
 -- these rows are those that the run touches
 pub record AreRowsOf (run : Run) (size : ℕ) (rows : List ℕ) : Type 0 where

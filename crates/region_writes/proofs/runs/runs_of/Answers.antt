@@ -1,5 +1,8 @@
-use Rattle.std.proofs.Common.{◌≡◌, inl, inr, ℕ, ◌<◌, ◌≤◌, true, refl, sym, ◌∙◌, subst, arith}
-use Rattle.superblocks.specs.Reading.{is_reshaping, list_length}
+use Rattle.std.proofs.Common.{◌≡◌, inl, inr, ℕ, ◌<◌, ◌≤◌, true, refl, sym, ap, arith}
+use Rattle.md_base.specs.Shapes.{data_disks}
+use Rattle.superblocks.specs.Reading.{is_reshaping}
+use Rattle.flat_history.specs.Stands.{shape_for}
+use Rattle.region_writes.proofs.Together.{wider-low}
 use Rattle.region_writes.proofs.runs.runs_of.Goals as goal
 
 pub returns-then-low-to : goal.returns-then-low-to
@@ -25,6 +28,7 @@ returns-then-low-to c =
       ends = refl;
       apart = λ more. absurd (omega (arith, more, end));
       empty = λ whole. refl;
+      wider = omega arith;
     }
 
 pub returns : goal.returns
@@ -50,4 +54,17 @@ returns c =
       ];
       apart = λ less. cut;
       empty = λ whole. absurd (omega (arith, more, whole));
+      wider =
+          let newest = c.args.members.now.newest in
+          let first = one.first in
+          let some = one.some in
+          let begins = two.first in
+          let later = two.some in
+          let at = cut.1 in
+          let low : shape_for newest c.args.first ≡ c.run_at-low.result.shape = one.run.one c.args.first (omega (arith, first)) some in
+          let high : shape_for newest c.run_at-low.result.end ≡ c.run_at.result.shape = two.run.one c.run_at-low.result.end (omega (arith, begins)) later in
+          let le = wider-low newest c.requires.fit cut.0 c.args.first c.run_at-low.result.end (omega (arith, some, at)) (omega (arith, at)) in
+          let a = ap data_disks low in
+          let b = ap data_disks high in
+          omega (arith, le, a, b);
     }
