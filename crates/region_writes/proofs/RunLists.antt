@@ -8,32 +8,33 @@ use Rattle.md_base.specs.Sectors.{Sector}
 use Rattle.md_base.specs.Shapes.{is_valid_shape}
 use Rattle.md_base.specs.declared.places.Shape.{Shape}
 use Rattle.md_base.specs.declared.places.Span.{Span}
+use Rattle.md_base.specs.declared.status.Role.TheVariants.{Recovering}
 use Rattle.bank.specs.Given.{Given}
 use Rattle.bank.specs.Tape.{Contents, IsIn}
 use Rattle.sb1.specs.declared.sb.Sb.{Sb}
 use Rattle.layout.specs.Layout.{place}
-use Rattle.layout.proofs.Places.{place-role_below}
+use Rattle.layout.proofs.Places.{place-role_below, place-sector_below}
 use Rattle.parity.specs.Rows.{IsSector, sector_of}
 use Rattle.superblocks.specs.declared.members.Members.{Members}
-use Rattle.superblocks.specs.Reading.{list_length, role_state, holder, data_offset_of}
+use Rattle.superblocks.specs.Reading.{is_reshaping, shape_of, list_length, role_state, holder, data_offset_of}
 use Rattle.row_io.specs.Rows.{reading_of, held_slot}
 use Rattle.row_io.proofs.Losses.{holder-of}
 use Rattle.list_io.specs.Full.{full_sector, AreWholeIn, RowStands}
 use Rattle.list_io.specs.Buffers.{buffered}
-use Rattle.list_io.specs.Writing.{IsWritten, AreDataFrom}
+use Rattle.list_io.specs.Writing.{IsWritten, AreDataFrom, HasFull}
 use Rattle.list_io.proofs.FullLaws.{full-data, full-same}
 use Rattle.flat_history.specs.Stands.{shape_for}
 use Rattle.shape_views.specs.Regions.{place_by}
 use Rattle.shape_views.specs.Windows.{IsShown, ListStands}
 use Rattle.shape_views.proofs.Alike.{valid-for}
-use Rattle.shape_views.proofs.Stands.{data-at, data-from}
+use Rattle.shape_views.proofs.Stands.{data-at, data-from, for-still, final-still, list-still}
 use Rattle.shape_changes.specs.Marking.{AreOthersPresent}
 use Rattle.shape_changes.specs.Steady.{AreWritesAllowed}
 use Rattle.views.specs.Placed.{AreWhole, IsPlaced, IsInForce}
 use Rattle.views.specs.Moving.{IsMoved}
 use Rattle.views.specs.Lacking.{DataStandsAmong, AreOtherRowsKept, AreRowsRead}
 use Rattle.views.proofs.Elements.{contains_or_not}
-use Rattle.views.proofs.Fit.{force-valid, list-alike, for-alike}
+use Rattle.views.proofs.Fit.{fit-multiple, force-valid, list-alike, for-alike}
 use Rattle.views.proofs.HeldRows.{held-moved}
 use Rattle.views.proofs.MovedLaws.{moved-then}
 use Rattle.views.proofs.LackingLists.{data-held}
@@ -41,7 +42,7 @@ use Rattle.views.proofs.LackingWrites.{list-in, list-in-is, list-with, list-with
 use Rattle.region_rows.specs.Stretches.{RowsStandTo, relied_rows}
 use Rattle.region_rows.proofs.StretchLaws.{relied-below}
 use Rattle.region_writes.specs.declared.runs.Run.{Run}
-use Rattle.region_writes.specs.Runs.{IsRun, IsRelied, AreRuns, AreRowsOf, AreFull, MayBeHidden}
+use Rattle.region_writes.specs.Runs.{IsRun, IsRelied, AreRuns, AreRowsOf, AreFull, StayRebuilt, MayBeHidden}
 use Rattle.region_writes.proofs.Together.{mates-together, together-shape, shown-mate}
 use Rattle.region_writes.proofs.RunLaws.{run-sector, run-region, run-mate, mate-shape}
 
@@ -60,17 +61,18 @@ written-same one one' two two' first from w v x same = elim (cases_lt x first) [
 ]
 
 -- a list by which rows may be written that were read: where the list has sectors, it becomes the same
-pub record IsChosen (newest : Sb) (shape : Shape) (first : ℕ) (from rows buffer : List ℕ) (list' : ℕ → Sector) : Type 0 where
+pub record IsChosen (newest : Sb) (shape : Shape) (first : ℕ) (from rows buffer : List ℕ) (list list' : ℕ → Sector) : Type 0 where
   pub chosen : ℕ → Sector
   pub chosen' : ℕ → Sector
   pub written : IsWritten chosen chosen' first from
   pub read : AreDataFrom 0 shape chosen rows buffer
+  pub first_same : (y : ℕ) → y < list_length newest → chosen y ≡ list y
   pub same : (y : ℕ) → y < list_length newest → chosen' y ≡ list' y
 
 -- it is allowed where that is
-pub chosen-allowed : (m : Members) (values : ℕ → List Sector) (shape : Shape) (first : ℕ) (from rows buffer : List ℕ) (list' : ℕ → Sector) (is : IsChosen m.newest shape first from rows buffer list')
+pub chosen-allowed : (m : Members) (values : ℕ → List Sector) (shape : Shape) (first : ℕ) (from rows buffer : List ℕ) (list list' : ℕ → Sector) (is : IsChosen m.newest shape first from rows buffer list list')
     → AreWritesAllowed m values list' → AreWritesAllowed m values is.chosen'
-chosen-allowed m values shape first from rows buffer list' is allowed y lt = subst (λ (v : Sector). IsIn (values y) v) (sym (is.same y lt)) (allowed y lt)
+chosen-allowed m values shape first from rows buffer list list' is allowed y lt = subst (λ (v : Sector). IsIn (values y) v) (sym (is.same y lt)) (allowed y lt)
 
 -- ---- one run
 
@@ -208,7 +210,7 @@ module _ (given : Given) (old mid new : Members) (one : IsMoved given old mid) (
 
     -- so there is a list by which they may be written
     pub choose : MayBeHidden old.newest hidden → ListStands hidden old before list → AreWhole new ⊎ RowsStandTo hidden relied old before list
-        → (list' : ℕ → Sector) → IsWritten list list' first from → IsChosen old.newest run.shape first from rows buffer list'
+        → (list' : ℕ → Sector) → IsWritten list list' first from → IsChosen old.newest run.shape first from rows buffer list list'
     choose window stands which list' w = of which run.synced refl
       where
         ended : ℕ → Sector
@@ -217,17 +219,18 @@ module _ (given : Given) (old mid new : Members) (one : IsMoved given old mid) (
         lt-is : (a b : ℕ) → a < b → nat_lt a b ≡ true
         lt-is a b lt = grind (arith, nat_tests, lt)
 
-        by-ended : AreDataFrom 0 run.shape (mixed (λ y. nat_lt y (list_length old.newest)) list) rows buffer → IsChosen old.newest run.shape first from rows buffer list'
+        by-ended : AreDataFrom 0 run.shape (mixed (λ y. nat_lt y (list_length old.newest)) list) rows buffer → IsChosen old.newest run.shape first from rows buffer list list'
         by-ended holds = record {
           chosen = mixed (λ y. nat_lt y (list_length old.newest)) list;
           chosen' = list-with (mixed (λ y. nat_lt y (list_length old.newest)) list) first from;
           written = list-with-is (mixed (λ y. nat_lt y (list_length old.newest)) list) first from;
           read = holds;
+          first_same = λ y lt. mixed-is (λ y. nat_lt y (list_length old.newest)) list y (lt-is y (list_length old.newest) lt);
           same = λ y lt. written-same (mixed (λ y. nat_lt y (list_length old.newest)) list) (list-with (mixed (λ y. nat_lt y (list_length old.newest)) list) first from) list list' first from
               (list-with-is (mixed (λ y. nat_lt y (list_length old.newest)) list) first from) w y (mixed-is (λ y. nat_lt y (list_length old.newest)) list y (lt-is y (list_length old.newest) lt));
         }
 
-        of : AreWhole new ⊎ RowsStandTo hidden relied old before list → (b : Bool) → run.synced ≡ b → IsChosen old.newest run.shape first from rows buffer list'
+        of : AreWhole new ⊎ RowsStandTo hidden relied old before list → (b : Bool) → run.synced ≡ b → IsChosen old.newest run.shape first from rows buffer list list'
         of (inl whole) b synced = by-ended (data-held given old mid run.shape is.force one was (two.whole whole) before rows buffer (mixed (λ y. nat_lt y (list_length old.newest)) list)
             (λ row has. subst (λ (n : ℕ). row < n) (sym one.size) (these.below row has)) read.held (behind-end window stands))
         of (inr rows-stand) false unsynced = by-ended (read.listed (mixed (λ y. nat_lt y (list_length old.newest)) list) (behind-end window stands) (λ yes. absurd (let both = sym unsynced ∙ yes in cc)))
@@ -236,6 +239,7 @@ module _ (given : Given) (old mid new : Members) (one : IsMoved given old mid) (
           chosen' = list';
           written = w;
           read = read.listed list (λ r has below. (rows-stood rows-stand synced r has).sectors) (λ yes r has below. rows-stood rows-stand synced r has);
+          first_same = λ y lt. refl;
           same = λ y lt. refl;
         }
 
@@ -386,3 +390,60 @@ module _ (given : Given) (old mid new : Members) (one : IsMoved given old mid) (
               | inr not-high ↦ row-stays list list' w x was-shown.within not-low not-high stood
             ]
           ])
+
+  -- without a reshape, what was rebuilt on a slot stays so
+  module _ (still : is_reshaping old.newest ≡ false) (list list' : ℕ → Sector) (w : IsWritten list list' first from) (rebuilt : StayRebuilt new between after low.shape first from rows buffer)
+      (chosen : IsChosen old.newest low.shape first from rows buffer list list') where
+    low-still : low.shape ≡ shape_of old.newest
+    low-still = of are.low.force
+      where
+        of : IsInForce old.newest low.shape → low.shape ≡ shape_of old.newest
+        of (inl same) = same
+        of (inr same) = same ∙ final-still old.newest still
+
+    valid-still : is_valid_shape (shape_of old.newest) ≡ true
+    valid-still = was.fit.valid.old
+
+    in-list : (row y : ℕ) → row < old.newest.size → (place (shape_of old.newest) y).row ≡ row → y < list_length old.newest
+    in-list row y below at =
+        let near = place-sector_below (shape_of old.newest) valid-still y old.newest.size (fit-multiple old.newest was.fit) (omega (arith, below, at)) in
+        let long = list-still old.newest still in
+        omega (arith, near, long)
+
+    -- no row is touched by the second run
+    none-far : (row : ℕ) → Contains far_rows row → ⊥
+    none-far row has =
+        let touch = high-rows.touched.only row has in
+        let from = touch.1 in
+        let end = touch.2 in
+        let meet = are.meet in
+        let ends = are.ends in
+        let more = (are.apart (omega (arith, from, end, meet, ends))).0 in
+        absurd (let both = sym still ∙ more in cc)
+
+    -- what a slot had of a row before the first was written
+    had-between : (row role slot : ℕ) → holder (role_state (reading_of new) role) ≡ Some slot → between slot (data_offset_of (reading_of new) slot + row) ≡ before slot (data_offset_of (reading_of old) slot + row)
+    had-between row role slot held =
+        ap (λ (n : ℕ). between slot (n + row)) (moved.offsets slot)
+        ∙ others slot (data_offset_of (reading_of old) slot + row) (λ e. absurd (let far = was.behind role slot (moved.held role slot held) in omega (arith, e, far)))
+
+    low-rebuilt : (role slot row : ℕ) → role < low.shape.disks → role_state (reading_of new) role ≡ Recovering slot → row < old.newest.size → Contains rows row
+        → HasFull (reading_of old) before (shape_of old.newest) list row role slot → HasFull (reading_of new) after low.shape chosen.chosen' row role slot
+    low-rebuilt role slot row lt is below has full =
+        rebuilt chosen.chosen chosen.chosen' chosen.written chosen.read row has role slot lt is
+        (had-between row role slot (ap holder is) ∙ full
+        ∙ full-same (shape_of old.newest) list chosen.chosen row valid-still (λ y at. chosen.first_same y (in-list row y below at)) role (subst (λ (s : Shape). role < s.disks) low-still lt)
+        ∙ ap (λ (s : Shape). full_sector s chosen.chosen row role) (sym low-still))
+
+    pub rebuilt-written : (role slot row : ℕ) → role < (shape_of old.newest).disks → role_state (reading_of new) role ≡ Recovering slot → row < old.newest.size
+        → HasFull (reading_of old) before (shape_of old.newest) list row role slot → HasFull (reading_of new) after (shape_of old.newest) list' row role slot
+    rebuilt-written role slot row lt is below full = elim (contains_or_not rows row) [
+      | inl has ↦
+          low-rebuilt role slot row (subst (λ (s : Shape). role < s.disks) (sym low-still) lt) is below has full
+          ∙ ap (λ (s : Shape). full_sector s chosen.chosen' row role) low-still
+          ∙ sym (full-same (shape_of old.newest) list' chosen.chosen' row valid-still (λ y at. chosen.same y (in-list row y below at)) role lt)
+      | inr none ↦
+          row-kept row role slot none (none-far row) (ap holder is) ∙ full
+          ∙ full-same (shape_of old.newest) list list' row valid-still (λ y at. unwritten list list' w y
+            (λ has. none (subst (λ (r : ℕ). Contains rows r) at (subst (λ (s : Shape). Contains rows (place s y).row) (for-still old.newest still y) has))) (none-far (place_by old.newest y).row)) role lt
+    ]

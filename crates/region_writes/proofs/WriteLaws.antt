@@ -9,20 +9,22 @@ use Rattle.bank.specs.Given.{Given}
 use Rattle.bank.specs.Tape.{Contents}
 use Rattle.sb1.specs.declared.sb.Sb.{Sb}
 use Rattle.superblocks.specs.declared.members.Members.{Members}
-use Rattle.superblocks.specs.Reading.{shape_of, list_length, data_offset_of}
+use Rattle.superblocks.specs.Reading.{shape_of, holder, data_offset_of}
 use Rattle.row_io.specs.Rows.{reading_of, held_slot}
 use Rattle.row_io.proofs.Losses.{holder-of}
 use Rattle.list_io.specs.Buffers.{buffered, AreStanding}
 use Rattle.list_io.specs.Full.{full_sector}
+use Rattle.list_io.specs.Writing.{StaysRebuilt}
 use Rattle.views.specs.Placed.{HaveSameReshape}
 use Rattle.views.specs.Moving.{IsMoved}
 use Rattle.views.specs.Lacking.{IsHeldRowKept, AreOtherRowsKept, AreRowsWritten}
 use Rattle.views.proofs.Elements.{contains-at}
 use Rattle.views.proofs.Fit.{list-alike, for-alike, alike-force}
 use Rattle.views.proofs.HeldRows.{held-moved}
+use Rattle.views.proofs.LackingWrites.{recovering-before, full-before}
 use Rattle.region_rows.specs.Stretches.{relied_rows}
 use Rattle.region_writes.specs.declared.runs.Run.{Run}
-use Rattle.region_writes.specs.Runs.{IsRun, IsRelied, AreRuns, AreFull}
+use Rattle.region_writes.specs.Runs.{IsRun, IsRelied, AreRuns, AreFull, StayRebuilt}
 
 pub some-none : {A : Type 0} (o : Option A) → is_some o ≡ true → o ≡ None → ⊥
 some-none None some none = absurd (cc)
@@ -62,6 +64,20 @@ module _ (shape : Shape) (first : ℕ) (from rows : List ℕ) (next : ℕ) (m : 
       kept row has role slot (holder-of (reading_of new) role row slot held)
       ∙ ap (λ (n : ℕ). after slot (n + row)) (moved.offsets slot)
       ∙ full-done list list' w holds row has role slot lt (held-moved moved role row slot held)
+
+  -- what was rebuilt of them stays so
+  pub rebuilt-done : StayRebuilt m before after shape first from rows buffer
+  rebuilt-done list list' w holds row has =
+      let i = has.0 in
+      let at : slice_index rows i ≡ row = get_or_default rows i 0 row has.1 ∙ has.2 in
+      subst (λ (r : ℕ). StaysRebuilt (reading_of m) before after shape list list' r) at (done.rebuilt list list' w holds i (omega arith) (let lt = has.1 in omega (arith, lt, all)))
+
+  pub rebuilt-kept : (given : Given) (new : Members) (later : Contents) → IsMoved given m new → ((row : ℕ) → Contains rows row → IsHeldRowKept (reading_of new) after later row)
+      → StayRebuilt new before later shape first from rows buffer
+  rebuilt-kept given new later moved kept list list' w holds row has role slot lt is full =
+      kept row has role slot (ap holder is)
+      ∙ ap (λ (n : ℕ). after slot (n + row)) (moved.offsets slot)
+      ∙ rebuilt-done list list' w holds row has role slot lt (recovering-before moved role slot is) (full-before moved before shape list row role slot full)
 
 -- ---- runs of superblocks that say the same
 

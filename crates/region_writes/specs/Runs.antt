@@ -12,7 +12,7 @@ use Rattle.superblocks.specs.declared.members.Members.{Members}
 use Rattle.superblocks.specs.Reading.{is_reshaping, list_length, next_window}
 use Rattle.row_io.specs.Rows.{reading_of}
 use Rattle.list_io.specs.Buffers.{AreTouched}
-use Rattle.list_io.specs.Writing.{IsWritten, AreDataFrom, IsFull}
+use Rattle.list_io.specs.Writing.{IsWritten, AreDataFrom, IsFull, StaysRebuilt}
 use Rattle.flat_history.specs.Stands.{shape_for}
 use Rattle.shape_views.specs.Regions.{place_by}
 use Rattle.views.specs.Placed.{IsInForce}
@@ -56,6 +56,11 @@ pub record AreRowsOf (run : Run) (size : ℕ) (rows : List ℕ) : Type 0 where
 abbrev pub AreFull : Members → Contents → Shape → ℕ → List ℕ → List ℕ → List ℕ → Type 0
 AreFull new after shape first from rows buffer = (list list' : ℕ → Sector) → IsWritten list list' first from → AreDataFrom 0 shape list rows buffer
     → (row : ℕ) → Contains rows row → IsFull (reading_of new) after shape list' row
+
+-- What was rebuilt of these rows on a recovering slot stays so, by each list that was read, with the sectors of the write put in.
+abbrev pub StayRebuilt : Members → Contents → Contents → Shape → ℕ → List ℕ → List ℕ → List ℕ → Type 0
+StayRebuilt new before after shape first from rows buffer = (list list' : ℕ → Sector) → IsWritten list list' first from → AreDataFrom 0 shape list rows buffer
+    → (row : ℕ) → Contains rows row → StaysRebuilt (reading_of new) before after shape list list' row
 
 -- one of the sectors from one of the list up to another has its place in the row
 abbrev pub IsListTouched : Sb → ℕ → ℕ → ℕ → Type 0

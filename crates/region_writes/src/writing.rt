@@ -4,10 +4,11 @@ ghost use Rattle.std.specs.Prelude.{◌≡◌, ◌⊎◌, ◌+◌, ◌-◌, ◌*
 ghost use Rattle.bank.specs.Given.{NeverFalls};
 ghost use Rattle.md_base.specs.Sectors.{Sector, IsWhole};
 ghost use Rattle.md_base.specs.declared.places.Span.{Span};
-ghost use Rattle.superblocks.specs.Reading.{is_clean, list_length};
+ghost use Rattle.md_base.specs.declared.status.Role.TheVariants.{Recovering as IsRecovering};
+ghost use Rattle.superblocks.specs.Reading.{is_clean, is_reshaping, shape_of, list_length, role_state};
 ghost use Rattle.row_io.specs.Rows.{reading_of, present, members_without};
 ghost use Rattle.list_io.specs.Buffers.{buffered, AreDistinct, AreStanding};
-ghost use Rattle.list_io.specs.Writing.{IsWritten, AreDataFrom};
+ghost use Rattle.list_io.specs.Writing.{IsWritten, AreDataFrom, HasFull};
 ghost use Rattle.flat_history.specs.World.{World};
 ghost use Rattle.shape_views.specs.Views.{Ledger};
 ghost use Rattle.shape_views.specs.Windows.{IsOfRegion, IsShown, ListStands};
@@ -20,7 +21,7 @@ ghost use Rattle.views.specs.Moving.{Grows, IsMoved};
 ghost use Rattle.views.specs.Lacking.{HaveFailedSince, AreOtherRowsKept, AreBytes, AreRowsRead};
 ghost use Rattle.safe_updates.specs.First.{write_refusal};
 ghost use Rattle.region_rows.specs.Stretches.{RowsStandTo};
-ghost use Rattle.region_writes.specs.Runs.{IsRun, AreRowsOf, AreFull, IsListTouched, MayBeHidden, IsListTorn, IsListUnwritten, AreRunsTorn, AreRunsUnwritten};
+ghost use Rattle.region_writes.specs.Runs.{IsRun, AreRowsOf, AreFull, StayRebuilt, IsListTouched, MayBeHidden, IsListTorn, IsListUnwritten, AreRunsTorn, AreRunsUnwritten};
 
 use bank::Bank;
 use list_io::read_touched;
@@ -198,6 +199,7 @@ fn write_runs<B: Bank>(
     ensures grows { Grows B.tells (B.tape bank.old) (B.tape bank.new) }
     ensures low { result.refusal ≡ None → B.tells → AreFull members.new (present (B.given bank.old) (B.tape bank.new)) low.now.shape first from.now rows.now buffer.old.items }
     ensures high { result.refusal ≡ None → B.tells → AreFull members.new (present (B.given bank.old) (B.tape bank.new)) high.now.shape first from.now far_rows.now far_buffer.old.items }
+    ensures rebuilt { result.refusal ≡ None → B.tells → StayRebuilt members.new (present (B.given bank.old) (B.tape bank.old)) (present (B.given bank.old) (B.tape bank.new)) low.now.shape first from.now rows.now buffer.old.items }
     ensures others { B.tells → AreOtherRowsKept (λ row. Contains rows.now row ⊎ Contains far_rows.now row) (reading_of members.new) (present (B.given bank.old) (B.tape bank.old)) (present (B.given bank.old) (B.tape bank.new)) }
     ensures clean { is_clean members.new.newest ≡ is_clean members.old.newest }
     ensures rise { IsRisen B.tells members.old members.new (B.tape bank.old) (B.tape bank.new) }
@@ -268,6 +270,11 @@ pub fn put_list<B: Bank>(
     ensures good { result.refusal ≡ None → B.tells → (hidden : Option Span) → (list list' : ℕ → Sector) → IsWritten list list' first from.now → AreBytes from.now
         → ((x : ℕ) → first ≤ x → x < first + length from.now / 512 → IsShown hidden members.old.newest x)
         → RowsStandTo hidden relied members.old (present (B.given bank.old) (B.tape bank.old)) list → RowsStandTo hidden relied members.new (present (B.given bank.old) (B.tape bank.new)) list' }
+    ensures rebuilt { result.refusal ≡ None → B.tells → is_reshaping members.old.newest ≡ false → (list list' : ℕ → Sector) → IsWritten list list' first from.now
+        → ListStands None members.old (present (B.given bank.old) (B.tape bank.old)) list → AreWhole members.new ⊎ RowsStandTo None relied members.old (present (B.given bank.old) (B.tape bank.old)) list
+        → (role slot row : ℕ) → role < (shape_of members.old.newest).disks → role_state (reading_of members.new) role ≡ IsRecovering slot → row < members.old.newest.size
+        → HasFull (reading_of members.old) (present (B.given bank.old) (B.tape bank.old)) (shape_of members.old.newest) list row role slot
+        → HasFull (reading_of members.new) (present (B.given bank.old) (B.tape bank.new)) (shape_of members.old.newest) list' row role slot }
     ensures dirty { result.refusal ≡ None → is_clean members.new.newest ≡ false }
     ensures stays { is_clean members.old.newest ≡ false → is_clean members.new.newest ≡ false }
     ensures untouched { result.begun ≡ false → B.tells → AreOthersPresent (present (B.given bank.old) (B.tape bank.old)) (present (B.given bank.old) (B.tape bank.new)) }

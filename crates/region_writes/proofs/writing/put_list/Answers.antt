@@ -18,9 +18,9 @@ use Rattle.views.proofs.SafeStretch.{gone-before, safe-then, allowed-later, regi
 use Rattle.flat_history.specs.Sound.{OpensFit}
 use Rattle.shape_changes.proofs.Risen.{risen-then, room-first, room-then}
 use Rattle.region_rows.proofs.StretchLaws.{list-short, data-few}
-use Rattle.region_writes.specs.Runs.{AreRowsOf, AreFull, IsListTouched}
+use Rattle.region_writes.specs.Runs.{AreRowsOf, AreFull, StayRebuilt, IsListTouched}
 use Rattle.region_writes.proofs.RunLaws.{told-as, runs-apart, runs-torn, runs-unwritten, touched-low, touched-high, run-region}
-use Rattle.region_writes.proofs.RunLists.{others-kept, list-written, rows-written, choose, chosen-allowed}
+use Rattle.region_writes.proofs.RunLists.{others-kept, list-written, rows-written, rebuilt-written, choose, chosen-allowed}
 use Rattle.region_writes.proofs.WriteLaws.{some-none, runs-alike}
 use Rattle.region_writes.proofs.writing.put_list.Goals as goal
 
@@ -92,6 +92,10 @@ returns-then-is_some-clause-good g c =
 
 pub returns-then-is_some-clause-dirty : goal.returns-then-is_some-clause-dirty
 returns-then-is_some-clause-dirty g c =
+    λ none. absurd (some-none c.prepare_runs-begun.result.refusal (sym c.is_some.ensures ∙ c.if-is_some.true) none)
+
+pub returns-then-is_some-clause-rebuilt : goal.returns-then-is_some-clause-rebuilt
+returns-then-is_some-clause-rebuilt g c =
     λ none. absurd (some-none c.prepare_runs-begun.result.refusal (sym c.is_some.ensures ∙ c.if-is_some.true) none)
 
 pub returns-then-is_some-clause-others : goal.returns-then-is_some-clause-others
@@ -396,6 +400,42 @@ returns-clause-put g c =
     list-written given m n p did.moved two c.requires.placed (present given tape0) (present given tape1) (present given tape2) (did.others told) c.args.relied c.args.first c.args.from.now cut.low cut.high are
     rows buffer far_rows far_buffer (did.low_rows none) (did.high_rows none) (did.low none told) (did.high none told) kept low_full high_full hidden list list' w stands
 
+pub returns-clause-rebuilt : goal.returns-clause-rebuilt
+returns-clause-rebuilt g c =
+    let m = c.args.members.now in
+    let n = c.prepare_runs-begun.new.members in
+    let given = g.B.Bank.given c.args.bank.now in
+    let given1 = g.B.Bank.given c.prepare_runs-begun.new.bank in
+    let did = c.prepare_runs-begun.ensures in
+    let tape0 = g.B.Bank.tape c.args.bank.now in
+    let tape1 = g.B.Bank.tape c.prepare_runs-begun.new.bank in
+    let cut = c.runs_of-cut.result in
+    let are = c.runs_of-cut.ensures in
+    let to = c.args.first + length c.args.from.now / 512 in
+    let none = none-of c.prepare_runs-begun.result.refusal (sym c.is_some.ensures ∙ c.if-is_some.false) in
+    let rows = c.prepare_runs-begun.new.rows.items in
+    let far_rows = c.prepare_runs-begun.new.far_rows.items in
+    let buffer = c.prepare_runs-begun.new.buffer.items in
+    let far_buffer = c.prepare_runs-begun.new.far_buffer.items in
+    let p = c.write_runs-done.new.members in
+    let did2 = c.write_runs-done.ensures in
+    let tape2 = g.B.Bank.tape c.write_runs-done.new.bank in
+    let two : IsMoved given n p = moved-from given given1 n n p did.given refl did2.moved in
+    λ ok told still list list' w stands which.
+    let kept : AreOtherRowsKept (λ row. Contains rows row ⊎ Contains far_rows row) (reading_of p) (present given tape1) (present given tape2) =
+    subst (λ (b : Given). AreOtherRowsKept (λ row. Contains rows row ⊎ Contains far_rows row) (reading_of p) (present b tape1) (present b tape2)) did.given
+    (subst (λ (l : List ℕ). AreOtherRowsKept (λ row. Contains rows row ⊎ Contains l row) (reading_of p) (present given1 tape1) (present given1 tape2)) c.as_slice-2.ensures.value
+    (subst (λ (l : List ℕ). AreOtherRowsKept (λ row. Contains l row ⊎ Contains c.as_slice-2.result.now row) (reading_of p) (present given1 tape1) (present given1 tape2)) c.as_slice.ensures.value (did2.others told))) in
+    let rebuilt : StayRebuilt p (present given tape1) (present given tape2) cut.low.shape c.args.first c.args.from.now rows buffer =
+    subst (λ (b : Given). StayRebuilt p (present b tape1) (present b tape2) cut.low.shape c.args.first c.args.from.now rows buffer) did.given
+    (subst (λ (l : List ℕ). StayRebuilt p (present given1 tape1) (present given1 tape2) cut.low.shape c.args.first c.args.from.now l buffer) c.as_slice.ensures.value (did2.rebuilt ok told)) in
+    let low_shown : (x : ℕ) → cut.low.first ≤ x → x < cut.low.end → IsShown None m.newest x =
+    λ x from end. record { within = let within = are.low.within in omega (arith, end, within); outside = refl } in
+    let chosen = choose given m n p did.moved two c.requires.placed cut.low are.low (present given tape0) c.args.first c.args.from.now rows buffer (did.low_rows none) (did.low none told)
+    c.args.relied are.low_relied None list low_shown (λ span is. absurd (cc)) stands which list' w in
+    rebuilt-written given m n p did.moved two c.requires.placed (present given tape0) (present given tape1) (present given tape2) (did.others told) c.args.relied c.args.first c.args.from.now cut.low cut.high are
+    rows buffer far_rows far_buffer (did.low_rows none) (did.high_rows none) (did.low none told) (did.high none told) kept still list list' w rebuilt chosen
+
 pub returns-clause-others : goal.returns-clause-others
 returns-clause-others g c =
     let m = c.args.members.now in
@@ -557,8 +597,8 @@ returns-clause-safe g c =
     (did2.safe told world ledger (room-then tape2 told room did.rise) gone unclean (did.dirty none) low_region high_region near.chosen near.chosen' far.chosen far.chosen' near.written far.written
     (subst (λ (l : List ℕ). AreDataFrom 0 cut.low.shape near.chosen l buffer) (sym c.as_slice.ensures.value) near.read)
     (subst (λ (l : List ℕ). AreDataFrom 0 cut.high.shape far.chosen l far_buffer) (sym c.as_slice-2.ensures.value) far.read)
-    (allowed-later given m n did.moved ledger.values near.chosen' (chosen-allowed m ledger.values cut.low.shape c.args.first c.args.from.now rows buffer list' near may))
-    (allowed-later given m n did.moved ledger.values far.chosen' (chosen-allowed m ledger.values cut.high.shape c.args.first c.args.from.now far_rows far_buffer list' far may))
+    (allowed-later given m n did.moved ledger.values near.chosen' (chosen-allowed m ledger.values cut.low.shape c.args.first c.args.from.now rows buffer list list' near may))
+    (allowed-later given m n did.moved ledger.values far.chosen' (chosen-allowed m ledger.values cut.high.shape c.args.first c.args.from.now far_rows far_buffer list list' far may))
     (over-at world given given1 ledger n tape1 did.given one.next)))
 
 pub returns-clause-counts : goal.returns-clause-counts

@@ -16,7 +16,7 @@ use Rattle.views.proofs.SafeStretch.{gone-before, safe-then, allowed-later, regi
 use Rattle.flat_history.specs.Sound.{OpensFit}
 use Rattle.shape_changes.proofs.Risen.{risen-then, room-first, room-then}
 use Rattle.region_writes.proofs.RunLaws.{told-as}
-use Rattle.region_writes.proofs.WriteLaws.{some-none, row-apart, rows-apart, standing-apart, full-done, full-kept}
+use Rattle.region_writes.proofs.WriteLaws.{some-none, row-apart, rows-apart, standing-apart, full-done, full-kept, rebuilt-kept}
 use Rattle.region_writes.proofs.writing.write_runs.Goals as goal
 
 pub put_rows-near-requires-clause-below : goal.put_rows-near-requires-clause-below
@@ -108,6 +108,10 @@ returns-then-is_some-clause-refused g c =
 
 pub returns-then-is_some-clause-low : goal.returns-then-is_some-clause-low
 returns-then-is_some-clause-low g c =
+    λ none. absurd (some-none c.put_rows-near.result.refusal (sym c.is_some.ensures ∙ c.if-is_some.true) none)
+
+pub returns-then-is_some-clause-rebuilt : goal.returns-then-is_some-clause-rebuilt
+returns-then-is_some-clause-rebuilt g c =
     λ none. absurd (some-none c.put_rows-near.result.refusal (sym c.is_some.ensures ∙ c.if-is_some.true) none)
 
 pub returns-then-is_some-clause-high : goal.returns-then-is_some-clause-high
@@ -203,6 +207,31 @@ returns-clause-low g c =
     let far_done : AreRowsWritten high.shape c.args.first c.args.from.now far_rows 0 c.put_rows-far.result.next p (present given tape1) (present given tape2) c.args.far_buffer.now.items c.put_rows-far.new.far_buffer.items =
     subst (λ (b : Given). AreRowsWritten high.shape c.args.first c.args.from.now far_rows 0 c.put_rows-far.result.next p (present b tape1) (present b tape2) c.args.far_buffer.now.items c.put_rows-far.new.far_buffer.items) did.given (did2.written told) in
     full-kept low.shape c.args.first c.args.from.now rows c.put_rows-near.result.next n (present given tape0) (present given tape1) c.args.buffer.now.items c.put_rows-near.new.buffer.items
+    (did.written told) (did.done (none-of c.put_rows-near.result.refusal (sym c.is_some.ensures ∙ c.if-is_some.false))) given p (present given tape2) two
+    (λ row has. row-apart high.shape c.args.first c.args.from.now far_rows c.put_rows-far.result.next p (present given tape1) (present given tape2) c.args.far_buffer.now.items c.put_rows-far.new.far_buffer.items
+    far_done did2.within row (c.requires.apart row has))
+
+pub returns-clause-rebuilt : goal.returns-clause-rebuilt
+returns-clause-rebuilt g c =
+    let m = c.args.members.now in
+    let n = c.put_rows-near.new.members in
+    let given = g.B.Bank.given c.args.bank.now in
+    let given1 = g.B.Bank.given c.put_rows-near.new.bank in
+    let did = c.put_rows-near.ensures in
+    let tape0 = g.B.Bank.tape c.args.bank.now in
+    let tape1 = g.B.Bank.tape c.put_rows-near.new.bank in
+    let low = c.args.low.now in
+    let high = c.args.high.now in
+    let rows = c.args.rows.now in
+    let far_rows = c.args.far_rows.now in
+    let p = c.put_rows-far.new.members in
+    let did2 = c.put_rows-far.ensures in
+    let tape2 = g.B.Bank.tape c.put_rows-far.new.bank in
+    let two : IsMoved given n p = moved-from given given1 n n p did.given refl did2.moved in
+    λ none told.
+    let far_done : AreRowsWritten high.shape c.args.first c.args.from.now far_rows 0 c.put_rows-far.result.next p (present given tape1) (present given tape2) c.args.far_buffer.now.items c.put_rows-far.new.far_buffer.items =
+    subst (λ (b : Given). AreRowsWritten high.shape c.args.first c.args.from.now far_rows 0 c.put_rows-far.result.next p (present b tape1) (present b tape2) c.args.far_buffer.now.items c.put_rows-far.new.far_buffer.items) did.given (did2.written told) in
+    rebuilt-kept low.shape c.args.first c.args.from.now rows c.put_rows-near.result.next n (present given tape0) (present given tape1) c.args.buffer.now.items c.put_rows-near.new.buffer.items
     (did.written told) (did.done (none-of c.put_rows-near.result.refusal (sym c.is_some.ensures ∙ c.if-is_some.false))) given p (present given tape2) two
     (λ row has. row-apart high.shape c.args.first c.args.from.now far_rows c.put_rows-far.result.next p (present given tape1) (present given tape2) c.args.far_buffer.now.items c.put_rows-far.new.far_buffer.items
     far_done did2.within row (c.requires.apart row has))
