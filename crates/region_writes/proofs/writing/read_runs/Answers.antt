@@ -35,8 +35,8 @@ read_touched-near-requires-clause-short g c =
     run-short c.args.members.now.newest c.requires.placed.fit c.args.low.now c.requires.low
 
 -- the second run is one of the members that are left
-high-run : (m n : Members) (lost : ℕ) → n ≡ members_without lost m → {P : Sb → Type 0} → P m.newest → P n.newest
-high-run m n lost is {P = P} holds = subst (λ (x : Members). P x.newest) (sym is) holds
+high-run : (P : Sb → Type 0) (m n : Members) (lost : ℕ) → n ≡ members_without lost m → P m.newest → P n.newest
+high-run P m n lost is holds = subst (λ (x : Members). P x.newest) (sym is) holds
 
 pub read_touched-far-requires-clause-rows : goal.read_touched-far-requires-clause-rows
 read_touched-far-requires-clause-rows g c =
@@ -51,7 +51,7 @@ read_touched-far-requires-clause-rows g c =
     let lost1 : AreLost given low.shape m n r f0 f1 = lost-of given low.shape m n r f0 f1 c.requires.placed did.lost in
     let one : IsMoved given m n = moved-lost given low.shape m n r f0 f1 c.requires.placed lost1 c.requires.unlost in
     subst (λ (b : Given). HasRows b (reading_of n) c.args.high.now.shape) (sym did.given)
-    (has-rows given n one.placed c.args.high.now.shape (high-run m n r did.lost.members {P = λ sb. IsInForce sb c.args.high.now.shape} c.requires.high.force))
+    (has-rows given n one.placed c.args.high.now.shape (high-run (λ sb. IsInForce sb c.args.high.now.shape) m n r did.lost.members c.requires.high.force))
 
 pub read_touched-far-requires-clause-within : goal.read_touched-far-requires-clause-within
 read_touched-far-requires-clause-within g c =
@@ -65,7 +65,7 @@ read_touched-far-requires-clause-within g c =
     let did = c.read_touched-near.ensures in
     let lost1 : AreLost given low.shape m n r f0 f1 = lost-of given low.shape m n r f0 f1 c.requires.placed did.lost in
     let one : IsMoved given m n = moved-lost given low.shape m n r f0 f1 c.requires.placed lost1 c.requires.unlost in
-    run-within n.newest one.placed.fit c.args.high.now (high-run m n r did.lost.members {P = λ sb. IsRun sb c.args.high.now} c.requires.high)
+    run-within n.newest one.placed.fit c.args.high.now (high-run (λ sb. IsRun sb c.args.high.now) m n r did.lost.members c.requires.high)
 
 pub read_touched-far-requires-clause-short : goal.read_touched-far-requires-clause-short
 read_touched-far-requires-clause-short g c =
@@ -79,7 +79,7 @@ read_touched-far-requires-clause-short g c =
     let did = c.read_touched-near.ensures in
     let lost1 : AreLost given low.shape m n r f0 f1 = lost-of given low.shape m n r f0 f1 c.requires.placed did.lost in
     let one : IsMoved given m n = moved-lost given low.shape m n r f0 f1 c.requires.placed lost1 c.requires.unlost in
-    run-short n.newest one.placed.fit c.args.high.now (high-run m n r did.lost.members {P = λ sb. IsRun sb c.args.high.now} c.requires.high)
+    run-short n.newest one.placed.fit c.args.high.now (high-run (λ sb. IsRun sb c.args.high.now) m n r did.lost.members c.requires.high)
 
 pub returns-then-is_err-clause-moved : goal.returns-then-is_err-clause-moved
 returns-then-is_err-clause-moved g c =
@@ -275,8 +275,8 @@ returns-clause-high g c =
     let c0 = present given (g.B.Bank.tape c.args.bank.now) in
     let c1 = present (g.B.Bank.given c.read_touched-near.new.bank) (g.B.Bank.tape c.read_touched-near.new.bank) in
     let same : c1 ≡ c0 = present_same did.given (did.tape told) in
-    let rows = c.read_touched-far.new.far_rows.items in
-    let buffer = c.read_touched-far.new.far_buffer.items in
+    let rows = c.read_touched-far.new.rows.items in
+    let buffer = c.read_touched-far.new.buffer.items in
     let read : AreRead high.shape high.synced (reading_of n) (reading_of p) c0 rows buffer =
     subst (λ (k : Contents). AreRead high.shape high.synced (reading_of n) (reading_of p) k rows buffer) same
     (not-err c.read_touched-far.result.answer (err-ok c.read_touched-far.result.answer (sym c.is_ok.ensures.value ∙ yes)) did2.read told) in

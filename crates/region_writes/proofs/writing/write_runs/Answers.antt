@@ -204,11 +204,11 @@ returns-clause-low g c =
     let tape2 = g.B.Bank.tape c.put_rows-far.new.bank in
     let two : IsMoved given n p = moved-from given given1 n n p did.given refl did2.moved in
     λ none told.
-    let far_done : AreRowsWritten high.shape c.args.first c.args.from.now far_rows 0 c.put_rows-far.result.next p (present given tape1) (present given tape2) c.args.far_buffer.now.items c.put_rows-far.new.far_buffer.items =
-    subst (λ (b : Given). AreRowsWritten high.shape c.args.first c.args.from.now far_rows 0 c.put_rows-far.result.next p (present b tape1) (present b tape2) c.args.far_buffer.now.items c.put_rows-far.new.far_buffer.items) did.given (did2.written told) in
+    let far_done : AreRowsWritten high.shape c.args.first c.args.from.now far_rows 0 c.put_rows-far.result.next p (present given tape1) (present given tape2) c.args.far_buffer.now.items c.put_rows-far.new.buffer.items =
+    subst (λ (b : Given). AreRowsWritten high.shape c.args.first c.args.from.now far_rows 0 c.put_rows-far.result.next p (present b tape1) (present b tape2) c.args.far_buffer.now.items c.put_rows-far.new.buffer.items) did.given (did2.written told) in
     full-kept low.shape c.args.first c.args.from.now rows c.put_rows-near.result.next n (present given tape0) (present given tape1) c.args.buffer.now.items c.put_rows-near.new.buffer.items
     (did.written told) (did.done (none-of c.put_rows-near.result.refusal (sym c.is_some.ensures ∙ c.if-is_some.false))) given p (present given tape2) two
-    (λ row has. row-apart high.shape c.args.first c.args.from.now far_rows c.put_rows-far.result.next p (present given tape1) (present given tape2) c.args.far_buffer.now.items c.put_rows-far.new.far_buffer.items
+    (λ row has. row-apart high.shape c.args.first c.args.from.now far_rows c.put_rows-far.result.next p (present given tape1) (present given tape2) c.args.far_buffer.now.items c.put_rows-far.new.buffer.items
     far_done did2.within row (c.requires.apart row has))
 
 pub returns-clause-rebuilt : goal.returns-clause-rebuilt
@@ -229,11 +229,11 @@ returns-clause-rebuilt g c =
     let tape2 = g.B.Bank.tape c.put_rows-far.new.bank in
     let two : IsMoved given n p = moved-from given given1 n n p did.given refl did2.moved in
     λ none told.
-    let far_done : AreRowsWritten high.shape c.args.first c.args.from.now far_rows 0 c.put_rows-far.result.next p (present given tape1) (present given tape2) c.args.far_buffer.now.items c.put_rows-far.new.far_buffer.items =
-    subst (λ (b : Given). AreRowsWritten high.shape c.args.first c.args.from.now far_rows 0 c.put_rows-far.result.next p (present b tape1) (present b tape2) c.args.far_buffer.now.items c.put_rows-far.new.far_buffer.items) did.given (did2.written told) in
+    let far_done : AreRowsWritten high.shape c.args.first c.args.from.now far_rows 0 c.put_rows-far.result.next p (present given tape1) (present given tape2) c.args.far_buffer.now.items c.put_rows-far.new.buffer.items =
+    subst (λ (b : Given). AreRowsWritten high.shape c.args.first c.args.from.now far_rows 0 c.put_rows-far.result.next p (present b tape1) (present b tape2) c.args.far_buffer.now.items c.put_rows-far.new.buffer.items) did.given (did2.written told) in
     rebuilt-kept low.shape c.args.first c.args.from.now rows c.put_rows-near.result.next n (present given tape0) (present given tape1) c.args.buffer.now.items c.put_rows-near.new.buffer.items
     (did.written told) (did.done (none-of c.put_rows-near.result.refusal (sym c.is_some.ensures ∙ c.if-is_some.false))) given p (present given tape2) two
-    (λ row has. row-apart high.shape c.args.first c.args.from.now far_rows c.put_rows-far.result.next p (present given tape1) (present given tape2) c.args.far_buffer.now.items c.put_rows-far.new.far_buffer.items
+    (λ row has. row-apart high.shape c.args.first c.args.from.now far_rows c.put_rows-far.result.next p (present given tape1) (present given tape2) c.args.far_buffer.now.items c.put_rows-far.new.buffer.items
     far_done did2.within row (c.requires.apart row has))
 
 pub returns-clause-high : goal.returns-clause-high
@@ -254,9 +254,9 @@ returns-clause-high g c =
     let tape2 = g.B.Bank.tape c.put_rows-far.new.bank in
     let two : IsMoved given n p = moved-from given given1 n n p did.given refl did2.moved in
     λ none told.
-    let far_done : AreRowsWritten high.shape c.args.first c.args.from.now far_rows 0 c.put_rows-far.result.next p (present given tape1) (present given tape2) c.args.far_buffer.now.items c.put_rows-far.new.far_buffer.items =
-    subst (λ (b : Given). AreRowsWritten high.shape c.args.first c.args.from.now far_rows 0 c.put_rows-far.result.next p (present b tape1) (present b tape2) c.args.far_buffer.now.items c.put_rows-far.new.far_buffer.items) did.given (did2.written told) in
-    full-done high.shape c.args.first c.args.from.now far_rows c.put_rows-far.result.next p (present given tape1) (present given tape2) c.args.far_buffer.now.items c.put_rows-far.new.far_buffer.items
+    let far_done : AreRowsWritten high.shape c.args.first c.args.from.now far_rows 0 c.put_rows-far.result.next p (present given tape1) (present given tape2) c.args.far_buffer.now.items c.put_rows-far.new.buffer.items =
+    subst (λ (b : Given). AreRowsWritten high.shape c.args.first c.args.from.now far_rows 0 c.put_rows-far.result.next p (present b tape1) (present b tape2) c.args.far_buffer.now.items c.put_rows-far.new.buffer.items) did.given (did2.written told) in
+    full-done high.shape c.args.first c.args.from.now far_rows c.put_rows-far.result.next p (present given tape1) (present given tape2) c.args.far_buffer.now.items c.put_rows-far.new.buffer.items
     far_done (did2.done none)
 
 pub returns-clause-others : goal.returns-clause-others
@@ -277,12 +277,12 @@ returns-clause-others g c =
     let tape2 = g.B.Bank.tape c.put_rows-far.new.bank in
     let two : IsMoved given n p = moved-from given given1 n n p did.given refl did2.moved in
     λ told.
-    let far_done : AreRowsWritten high.shape c.args.first c.args.from.now far_rows 0 c.put_rows-far.result.next p (present given tape1) (present given tape2) c.args.far_buffer.now.items c.put_rows-far.new.far_buffer.items =
-    subst (λ (b : Given). AreRowsWritten high.shape c.args.first c.args.from.now far_rows 0 c.put_rows-far.result.next p (present b tape1) (present b tape2) c.args.far_buffer.now.items c.put_rows-far.new.far_buffer.items) did.given (did2.written told) in
+    let far_done : AreRowsWritten high.shape c.args.first c.args.from.now far_rows 0 c.put_rows-far.result.next p (present given tape1) (present given tape2) c.args.far_buffer.now.items c.put_rows-far.new.buffer.items =
+    subst (λ (b : Given). AreRowsWritten high.shape c.args.first c.args.from.now far_rows 0 c.put_rows-far.result.next p (present b tape1) (present b tape2) c.args.far_buffer.now.items c.put_rows-far.new.buffer.items) did.given (did2.written told) in
     others-then given (λ row. Contains rows row ⊎ Contains far_rows row) m n p (present given tape0) (present given tape1) (present given tape2) two
     (rows-apart low.shape c.args.first c.args.from.now rows c.put_rows-near.result.next n (present given tape0) (present given tape1) c.args.buffer.now.items c.put_rows-near.new.buffer.items
     (did.written told) did.within (λ row. Contains rows row ⊎ Contains far_rows row) (λ row has. inl has))
-    (rows-apart high.shape c.args.first c.args.from.now far_rows c.put_rows-far.result.next p (present given tape1) (present given tape2) c.args.far_buffer.now.items c.put_rows-far.new.far_buffer.items
+    (rows-apart high.shape c.args.first c.args.from.now far_rows c.put_rows-far.result.next p (present given tape1) (present given tape2) c.args.far_buffer.now.items c.put_rows-far.new.buffer.items
     far_done did2.within (λ row. Contains rows row ⊎ Contains far_rows row) (λ row has. inr has))
 
 pub returns-clause-clean : goal.returns-clause-clean
