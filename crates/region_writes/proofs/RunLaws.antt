@@ -103,7 +103,6 @@ module _ (newest : Sb) (fit : AreShapesFit newest) (relied first to : ℕ) (low 
 
 -- ---- refusals
 
-
 -- a refusal told in other words
 pub told-as : (A : Type 0) (P Q : Refusal → Type 0) (found : Option Refusal) → ((refusal : Refusal) → P refusal → Q refusal) → MatchOption found A P → MatchOption found ⊤ Q
 told-as A P Q None of is = tt
@@ -160,18 +159,18 @@ module _ (m : Members) (relied first to : ℕ) (low high : Run) (are : AreRuns m
   high-sector : (x : ℕ) × (first ≤ x) × (x < to) × (shape_for m.newest x ≡ high.shape)
   high-sector = elim (cases_lt low.end to) [
     | inl more ↦ (
-        low.end,
-        (let begins = are.begins in let some = are.some in omega (arith, begins, some)),
-        more,
-        are.high.one low.end (let meet = are.meet in omega (arith, meet)) (let ends = are.ends in omega (arith, ends, more)),
-      )
+      low.end,
+      (let begins = are.begins in let some = are.some in omega (arith, begins, some)),
+      more,
+      are.high.one low.end (let meet = are.meet in omega (arith, meet)) (let ends = are.ends in omega (arith, ends, more)),
+    )
     | inr last ↦ (
-        first,
-        omega arith,
-        (let begins = are.begins in let some = are.some in let order = are.high.order in let meet = are.meet in let ends = are.ends in omega (arith, begins, some, order, meet, ends)),
-        low-is first (let begins = are.begins in omega (arith, begins)) (let begins = are.begins in let some = are.some in omega (arith, begins, some))
+      first,
+      omega arith,
+      (let begins = are.begins in let some = are.some in let order = are.high.order in let meet = are.meet in let ends = are.ends in omega (arith, begins, some, order, meet, ends)),
+      low-is first (let begins = are.begins in omega (arith, begins)) (let begins = are.begins in let some = are.some in omega (arith, begins, some))
           ∙ sym (are.empty (let order = are.high.order in let meet = are.meet in let ends = are.ends in omega (arith, last, order, meet, ends))),
-      )
+    )
   ]
     where
       low-is : (x : ℕ) → low.first ≤ x → x < low.end → shape_for m.newest x ≡ low.shape

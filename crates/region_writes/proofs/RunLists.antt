@@ -187,10 +187,10 @@ module _ (given : Given) (old mid new : Members) (one : IsMoved given old mid) (
         of false unsynced = (
           mixed (λ y. (place run.shape y).row == row) list,
           read.listed (mixed (λ y. (place run.shape y).row == row) list)
-            (mixed-stands (λ y. (place run.shape y).row == row) list (λ y slot passes has held.
+              (mixed-stands (λ y. (place run.shape y).row == row) list (λ y slot passes has held.
               let at : (place run.shape y).row ≡ row = eqb-true (place run.shape y).row row passes in
               data-at old before list run.shape valid row stands.sectors y at slot held))
-            (λ yes. absurd (let both = sym unsynced ∙ yes in cc)),
+              (λ yes. absurd (let both = sym unsynced ∙ yes in cc)),
           λ y at. mixed-is (λ y. (place run.shape y).row == row) list y (eq-eqb (place run.shape y).row row at),
         )
 
@@ -445,5 +445,5 @@ module _ (given : Given) (old mid new : Members) (one : IsMoved given old mid) (
       | inr none ↦
           row-kept row role slot none (none-far row) (ap holder is) ∙ full
           ∙ full-same (shape_of old.newest) list list' row valid-still (λ y at. unwritten list list' w y
-            (λ has. none (subst (λ (r : ℕ). Contains rows r) at (subst (λ (s : Shape). Contains rows (place s y).row) (for-still old.newest still y) has))) (none-far (place_by old.newest y).row)) role lt
+          (λ has. none (subst (λ (r : ℕ). Contains rows r) at (subst (λ (s : Shape). Contains rows (place s y).row) (for-still old.newest still y) has))) (none-far (place_by old.newest y).row)) role lt
     ]

@@ -23,10 +23,10 @@ ghost use Rattle.safe_updates.specs.First.{write_refusal};
 ghost use Rattle.region_rows.specs.Stretches.{RowsStandTo};
 ghost use Rattle.region_writes.specs.Runs.{IsRun, AreRowsOf, AreFull, StayRebuilt, IsListTouched, MayBeHidden, IsListTorn, IsListUnwritten, AreRunsTorn, AreRunsUnwritten};
 
+use crate::runs::{Run, runs_of, too_many_runs, unwritten_runs};
 use bank::Bank;
 use list_io::read_touched;
 use md_base::Refusal;
-use crate::runs::{Run, runs_of, too_many_runs, unwritten_runs};
 use safe_rows::putting::{Outcome, put_rows};
 use safe_updates::naming::raise;
 use superblocks::Members;
@@ -146,9 +146,7 @@ fn prepare_runs<B: Bank>(
     ensures buffer { length buffer.new.items ≡ length buffer.old.items }
     ensures far_buffer { length far_buffer.new.items ≡ length far_buffer.old.items }
 {
-    let read = read_runs(
-        members, bank, low, high, rows, buffer, far_rows, far_buffer,
-    );
+    let read = read_runs(members, bank, low, high, rows, buffer, far_rows, far_buffer);
     if !read {
         return Part {
             spares: 0,
@@ -223,7 +221,13 @@ fn write_runs<B: Bank>(
         };
     }
     let far = put_rows(
-        members, bank, &high.shape, first, from, far_rows, far_buffer,
+        members,
+        bank,
+        &high.shape,
+        first,
+        from,
+        far_rows,
+        far_buffer,
     );
     Part {
         spares: near.spares | far.spares,

@@ -44,9 +44,9 @@ returns-clause-relied c =
             omega (arith, some),
             omega (arith, some),
             subst (λ (n : ℕ). n ≤ (place shape (end - 1)).row) c.relied_rows-rows.ensures.rows
-              (elim (cases_lt (place shape (end - 1)).row rows) [
-                | inl low ↦ absurd (let near = place-sector_below shape valid (end - 1) rows c.relied_rows-rows.ensures.stripes low in omega (arith, near, long, short, some))
-                | inr high ↦ high
-              ]),
+                (elim (cases_lt (place shape (end - 1)).row rows) [
+                  | inl low ↦ absurd (let near = place-sector_below shape valid (end - 1) rows c.relied_rows-rows.ensures.stripes low in omega (arith, near, long, short, some))
+                  | inr high ↦ high
+                ]),
           );
     }
