@@ -36,12 +36,12 @@ struct Part {
     refusal: Option<Refusal>,
 }
 
-// The same, and the spares that were lost.
+/// The first row that isn't written, the spares that were lost, and why the rows weren't all written.
 #[derive(Clone, Copy)]
-struct Stretch {
-    next: usize,
-    spares: u32,
-    refusal: Option<Refusal>,
+pub struct Stretch {
+    pub next: usize,
+    pub spares: u32,
+    pub refusal: Option<Refusal>,
 }
 
 // The spares that were lost before rows are written, and why none is.
@@ -163,8 +163,10 @@ fn put_stretch<B: Bank>(
     }
 }
 
-// Writes the rows, and names the members that are lost before the next row is written.
-fn put_rows<B: Bank>(
+/// Writes rows that were read, up to 128, each whole from its part of the buffer with the sectors of `from` put in, which stand in the
+/// list from `first` on; and names the members that are lost before the next row is written. It ends where more roles of the shape
+/// are missing than it tolerates.
+pub fn put_rows<B: Bank>(
     members: &mut Members,
     bank: &mut B,
     shape: &Shape,

@@ -1,0 +1,4 @@
+pub mod Together
+pub mod RunLaws
+pub mod RunLists
+pub mod WriteLaws

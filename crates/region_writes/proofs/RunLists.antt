@@ -1,0 +1,449 @@
+-- What the list is behind a write of two runs, and by which list their rows may be written.
+use Rattle.std.proofs.Common.{◌≡◌, ◌⊎◌, inl, inr, ℕ, ◌+◌, ◌-◌, ◌*◌, ◌/◌, ◌<◌, ◌≤◌, ◌==◌, nat_lt, Bool, true, false, if◌then◌else◌, List, [], length, slice_index, Contains, Option, Some, refl, sym, ◌∙◌, ap, subst, arith, eqb-true, eq-eqb}
+use Rattle.std.specs.Option.{option_map_or}
+use Rattle.std.proofs.lemmas.Bool.{cases_lt}
+use Rattle.std.proofs.lemmas.Bool.Decides.{nat_tests}
+use Rattle.std.proofs.lemmas.List.{get_or_default}
+use Rattle.md_base.specs.Sectors.{Sector}
+use Rattle.md_base.specs.Shapes.{is_valid_shape}
+use Rattle.md_base.specs.declared.places.Shape.{Shape}
+use Rattle.md_base.specs.declared.places.Span.{Span}
+use Rattle.md_base.specs.declared.status.Role.TheVariants.{Recovering}
+use Rattle.bank.specs.Given.{Given}
+use Rattle.bank.specs.Tape.{Contents, IsIn}
+use Rattle.sb1.specs.declared.sb.Sb.{Sb}
+use Rattle.layout.specs.Layout.{place}
+use Rattle.layout.proofs.Places.{place-role_below, place-sector_below}
+use Rattle.parity.specs.Rows.{IsSector, sector_of}
+use Rattle.superblocks.specs.declared.members.Members.{Members}
+use Rattle.superblocks.specs.Reading.{is_reshaping, shape_of, list_length, role_state, holder, data_offset_of}
+use Rattle.row_io.specs.Rows.{reading_of, held_slot}
+use Rattle.row_io.proofs.Losses.{holder-of}
+use Rattle.list_io.specs.Full.{full_sector, AreWholeIn, RowStands}
+use Rattle.list_io.specs.Buffers.{buffered}
+use Rattle.list_io.specs.Writing.{IsWritten, AreDataFrom, HasFull}
+use Rattle.list_io.proofs.FullLaws.{full-data, full-same}
+use Rattle.flat_history.specs.Stands.{shape_for}
+use Rattle.shape_views.specs.Regions.{place_by}
+use Rattle.shape_views.specs.Windows.{IsShown, ListStands}
+use Rattle.shape_views.proofs.Alike.{valid-for}
+use Rattle.shape_views.proofs.Stands.{data-at, data-from, for-still, final-still, list-still}
+use Rattle.shape_changes.specs.Marking.{AreOthersPresent}
+use Rattle.shape_changes.specs.Steady.{AreWritesAllowed}
+use Rattle.views.specs.Placed.{AreWhole, IsPlaced, IsInForce}
+use Rattle.views.specs.Moving.{IsMoved}
+use Rattle.views.specs.Lacking.{DataStandsAmong, AreOtherRowsKept, AreRowsRead}
+use Rattle.views.proofs.Elements.{contains_or_not}
+use Rattle.views.proofs.Fit.{fit-multiple, force-valid, list-alike, for-alike}
+use Rattle.views.proofs.HeldRows.{held-moved}
+use Rattle.views.proofs.MovedLaws.{moved-then}
+use Rattle.views.proofs.LackingLists.{data-held}
+use Rattle.views.proofs.LackingWrites.{list-in, list-in-is, list-with, list-with-is}
+use Rattle.region_rows.specs.Stretches.{RowsStandTo, relied_rows}
+use Rattle.region_rows.proofs.StretchLaws.{relied-below}
+use Rattle.region_writes.specs.declared.runs.Run.{Run}
+use Rattle.region_writes.specs.Runs.{IsRun, IsRelied, AreRuns, AreRowsOf, AreFull, StayRebuilt, MayBeHidden}
+use Rattle.region_writes.proofs.Together.{mates-together, together-shape, shown-mate}
+use Rattle.region_writes.proofs.RunLaws.{run-sector, run-region, run-mate, mate-shape}
+
+-- where a row stands among these
+index-of : (rows : List ℕ) (row : ℕ) → Contains rows row → (i : ℕ) × (i < length rows) × (slice_index rows i ≡ row)
+index-of rows row has = (has.0, has.1, get_or_default rows has.0 0 row has.1 ∙ has.2)
+
+-- two lists that are one at a sector are so behind a write
+pub written-same : (one one' two two' : ℕ → Sector) (first : ℕ) (from : List ℕ) → IsWritten one one' first from → IsWritten two two' first from → (x : ℕ) → one x ≡ two x → one' x ≡ two' x
+written-same one one' two two' first from w v x same = elim (cases_lt x first) [
+  | inl low ↦ w.other x (inl low) ∙ same ∙ sym (v.other x (inl low))
+  | inr above ↦ elim (cases_lt x (first + length from / 512)) [
+    | inl inside ↦ w.here x above inside ∙ sym (v.here x above inside)
+    | inr high ↦ w.other x (inr high) ∙ same ∙ sym (v.other x (inr high))
+  ]
+]
+
+-- a list by which rows may be written that were read: where the list has sectors, it becomes the same
+pub record IsChosen (newest : Sb) (shape : Shape) (first : ℕ) (from rows buffer : List ℕ) (list list' : ℕ → Sector) : Type 0 where
+  pub chosen : ℕ → Sector
+  pub chosen' : ℕ → Sector
+  pub written : IsWritten chosen chosen' first from
+  pub read : AreDataFrom 0 shape chosen rows buffer
+  pub first_same : (y : ℕ) → y < list_length newest → chosen y ≡ list y
+  pub same : (y : ℕ) → y < list_length newest → chosen' y ≡ list' y
+
+-- it is allowed where that is
+pub chosen-allowed : (m : Members) (values : ℕ → List Sector) (shape : Shape) (first : ℕ) (from rows buffer : List ℕ) (list list' : ℕ → Sector) (is : IsChosen m.newest shape first from rows buffer list list')
+    → AreWritesAllowed m values list' → AreWritesAllowed m values is.chosen'
+chosen-allowed m values shape first from rows buffer list list' is allowed y lt = subst (λ (v : Sector). IsIn (values y) v) (sym (is.same y lt)) (allowed y lt)
+
+-- ---- one run
+
+module _ (given : Given) (old mid new : Members) (one : IsMoved given old mid) (two : IsMoved given mid new) (was : IsPlaced given old) (run : Run) (is : IsRun old.newest run)
+    (before : Contents) (first : ℕ) (from rows buffer : List ℕ) (these : AreRowsOf run old.newest.size rows) (read : AreRowsRead run.shape run.synced old mid before rows buffer) where
+  valid : is_valid_shape run.shape ≡ true
+  valid = force-valid old.newest was.fit run.shape is.force
+
+  -- what was read of a sector that a slot holds in the end is what stood there
+  read-is : (list : ℕ → Sector) (x slot : ℕ) → Contains rows (place run.shape x).row → held_slot (reading_of new) (place run.shape x).role (place run.shape x).row ≡ Some slot
+      → before slot (data_offset_of (reading_of old) slot + (place run.shape x).row) ≡ list x → list-in run.shape rows buffer x ≡ list x
+  read-is list x slot has held stood =
+      let row = (place run.shape x).row in
+      let role = (place run.shape x).role in
+      let at = index-of rows row has in
+      sym (list-in-is run.shape rows buffer 0 these.touched.once at.0 (omega arith) at.1 x (sym at.2))
+      ∙ read.held at.0 at.1 role slot (place-role_below run.shape valid x) (subst (λ (r : ℕ). held_slot (reading_of mid) role r ≡ Some slot) (sym at.2) (held-moved two role row slot held))
+      ∙ ap (λ (r : ℕ). before slot (data_offset_of (reading_of mid) slot + r)) at.2
+      ∙ ap (λ (n : ℕ). before slot (n + row)) (one.offsets slot)
+      ∙ stood
+
+  module _ (after : Contents) (full : AreFull new after run.shape first from rows buffer) where
+    -- such a sector stands by the list that was written
+    pub sector-written : (list list' : ℕ → Sector) → IsWritten list list' first from → (x slot : ℕ) → Contains rows (place run.shape x).row
+        → held_slot (reading_of new) (place run.shape x).role (place run.shape x).row ≡ Some slot
+        → before slot (data_offset_of (reading_of old) slot + (place run.shape x).row) ≡ list x → after slot (data_offset_of (reading_of new) slot + (place run.shape x).row) ≡ list' x
+    sector-written list list' w x slot has held stood =
+        let list0 = list-in run.shape rows buffer in
+        let list1 = list-with list0 first from in
+        full list0 list1 (list-with-is list0 first from) (list-in-is run.shape rows buffer 0 these.touched.once) (place run.shape x).row has (place run.shape x).role slot (place-role_below run.shape valid x) held
+        ∙ full-data run.shape list1 (place run.shape x).role (place run.shape x).row x valid refl
+        ∙ written-same list0 list1 list list' first from (list-with-is list0 first from) w x (read-is list x slot has held stood)
+
+    -- and a row with its parity, where what was read of it is the list's
+    pub row-written : (list list' list0 : ℕ → Sector) → IsWritten list list' first from → AreDataFrom 0 run.shape list0 rows buffer
+        → ((x : ℕ) → first ≤ x → x < first + length from / 512 → IsSector (sector_of from (x - first)))
+        → (row : ℕ) → Contains rows row → AreWholeIn run.shape list row → ((y : ℕ) → (place run.shape y).row ≡ row → list0 y ≡ list y) → RowStands (reading_of new) after run.shape list' row
+    row-written list list' list0 w holds small row has whole same = record {
+      whole = λ y at. elim (cases_lt y first) [
+        | inl low ↦ subst IsSector (sym (w.other y (inl low))) (whole y at)
+        | inr above ↦ elim (cases_lt y (first + length from / 512)) [
+          | inl inside ↦ subst IsSector (sym (w.here y above inside)) (small y above inside)
+          | inr high ↦ subst IsSector (sym (w.other y (inr high))) (whole y at)
+        ]
+      ];
+      sectors = λ role slot lt here held. there role slot lt held;
+      parity = λ role slot lt here held. there role slot lt held;
+    }
+      where
+        list1 : ℕ → Sector
+        list1 = list-with list0 first from
+
+        both : (y : ℕ) → (place run.shape y).row ≡ row → list' y ≡ list-with list0 first from y
+        both y at = written-same list list' list0 (list-with list0 first from) first from w (list-with-is list0 first from) y (sym (same y at))
+
+        there : (role slot : ℕ) → role < run.shape.disks → held_slot (reading_of new) role row ≡ Some slot → after slot (data_offset_of (reading_of new) slot + row) ≡ full_sector run.shape list' row role
+        there role slot lt held =
+            full list0 (list-with list0 first from) (list-with-is list0 first from) holds row has role slot lt held
+            ∙ full-same run.shape (list-with list0 first from) list' row valid both role lt
+
+  -- ---- a list with what stands at some places
+
+  abbrev there-of : ℕ → Sector
+  there-of y = option_map_or (λ slot. before slot (data_offset_of (reading_of old) slot + (place run.shape y).row)) (held_slot (reading_of old) (place run.shape y).role (place run.shape y).row) []
+
+  -- the list's sectors that pass, and elsewhere what stands there
+  abbrev mixed : (ℕ → Bool) → (ℕ → Sector) → ℕ → Sector
+  mixed test list y = if test y then list y else there-of y
+
+  mixed-is : (test : ℕ → Bool) (list : ℕ → Sector) (y : ℕ) → test y ≡ true → mixed test list y ≡ list y
+  mixed-is test list y passes = ap (λ (b : Bool). if b then list y else there-of y) passes
+
+  -- stands in the rows, where those do
+  mixed-stands : (test : ℕ → Bool) (list : ℕ → Sector)
+      → ((y slot : ℕ) → test y ≡ true → Contains rows (place run.shape y).row → held_slot (reading_of old) (place run.shape y).role (place run.shape y).row ≡ Some slot
+      → before slot (data_offset_of (reading_of old) slot + (place run.shape y).row) ≡ list y) → DataStandsAmong run.shape (Contains rows) old before (mixed test list)
+  mixed-stands test list each row has below =
+      data-from old before (mixed test list) run.shape valid row (λ y at slot held. by y slot (subst (λ (r : ℕ). Contains rows r) (sym at) has) held (test y) refl)
+    where
+      by : (y slot : ℕ) → Contains rows (place run.shape y).row → held_slot (reading_of old) (place run.shape y).role (place run.shape y).row ≡ Some slot → (b : Bool) → test y ≡ b
+          → before slot (data_offset_of (reading_of old) slot + (place run.shape y).row) ≡ (if test y then list y else there-of y)
+      by y slot among held true passes = each y slot passes among held ∙ sym (ap (λ (b : Bool). if b then list y else there-of y) passes)
+      by y slot among held false fails =
+          sym (ap (λ (o : Option ℕ). option_map_or (λ slot. before slot (data_offset_of (reading_of old) slot + (place run.shape y).row)) o []) held)
+          ∙ sym (ap (λ (b : Bool). if b then list y else there-of y) fails)
+
+  -- ---- where the rows stood
+
+  module _ (relied : ℕ) (trusted : IsRelied old.newest relied run) (hidden : Option Span) (list : ℕ → Sector) (shown : (x : ℕ) → run.first ≤ x → x < run.end → IsShown hidden old.newest x) where
+    -- where parity is relied on, each row stands
+    rows-stood : RowsStandTo hidden relied old before list → run.synced ≡ true → (row : ℕ) → Contains rows row → RowStands (reading_of old) before run.shape list row
+    rows-stood stood synced row has =
+        let touch = these.touched.only row has in
+        let x = touch.0 in
+        let low : run.first ≤ x = touch.1 in
+        let high : x < run.end = (let under = touch.2 in let order = is.order in omega (arith, under, order)) in
+        let below : x < relied = relied-below old.newest was.fit run.shape is.force relied x (shown x low high).within (trusted.rows synced x low high) in
+        subst (λ (r : ℕ). RowStands (reading_of old) before run.shape list r) touch.3
+        (subst (λ (s : Shape). RowStands (reading_of old) before s list (place s x).row) (is.one x low high) (stood x below (shown x low high)))
+
+    -- what was read of a row that stood is the list's
+    pub row-read : RowsStandTo hidden relied old before list → (row : ℕ) → RowStands (reading_of old) before run.shape list row
+        → (list0 : ℕ → Sector) × AreDataFrom 0 run.shape list0 rows buffer × ((y : ℕ) → (place run.shape y).row ≡ row → list0 y ≡ list y)
+    row-read stood row stands = of run.synced refl
+      where
+        of : (b : Bool) → run.synced ≡ b → (list0 : ℕ → Sector) × AreDataFrom 0 run.shape list0 rows buffer × ((y : ℕ) → (place run.shape y).row ≡ row → list0 y ≡ list y)
+        of true synced = (
+          list,
+          read.listed list (λ r has below. (rows-stood stood synced r has).sectors) (λ yes r has below. rows-stood stood synced r has),
+          λ y at. refl,
+        )
+        of false unsynced = (
+          mixed (λ y. (place run.shape y).row == row) list,
+          read.listed (mixed (λ y. (place run.shape y).row == row) list)
+              (mixed-stands (λ y. (place run.shape y).row == row) list (λ y slot passes has held.
+              let at : (place run.shape y).row ≡ row = eqb-true (place run.shape y).row row passes in
+              data-at old before list run.shape valid row stands.sectors y at slot held))
+              (λ yes. absurd (let both = sym unsynced ∙ yes in cc)),
+          λ y at. mixed-is (λ y. (place run.shape y).row == row) list y (eq-eqb (place run.shape y).row row at),
+        )
+
+    -- the list has its sectors in the rows
+    behind-end : MayBeHidden old.newest hidden → ListStands hidden old before list → DataStandsAmong run.shape (Contains rows) old before (mixed (λ y. nat_lt y (list_length old.newest)) list)
+    behind-end window stands = mixed-stands (λ y. nat_lt y (list_length old.newest)) list (λ y slot passes has held.
+        let y-in : y < list_length old.newest = lt-of y (list_length old.newest) passes in
+        let touch = these.touched.only (place run.shape y).row has in
+        let t = run-sector old.newest was.fit run is (place run.shape y).row touch in
+        let here : shape_for old.newest y ≡ run.shape = mate-shape old.newest was.fit run is (place run.shape y).row y touch y-in refl in
+        let out = shown-mate old.newest was.fit hidden window t.0 y (shown t.0 t.1 t.2).within (run-mate old.newest was.fit run is (place run.shape y).row y touch y-in refl) (shown t.0 t.1 t.2).outside in
+        subst (λ (s : Shape). held_slot (reading_of old) (place s y).role (place s y).row ≡ Some slot → before slot (data_offset_of (reading_of old) slot + (place s y).row) ≡ list y) here
+        (stands y slot (record { within = y-in; outside = out })) held)
+      where
+        lt-of : (a b : ℕ) → nat_lt a b ≡ true → a < b
+        lt-of a b passes = grind (arith, nat_tests, passes)
+
+    -- so there is a list by which they may be written
+    pub choose : MayBeHidden old.newest hidden → ListStands hidden old before list → AreWhole new ⊎ RowsStandTo hidden relied old before list
+        → (list' : ℕ → Sector) → IsWritten list list' first from → IsChosen old.newest run.shape first from rows buffer list list'
+    choose window stands which list' w = of which run.synced refl
+      where
+        ended : ℕ → Sector
+        ended = mixed (λ y. nat_lt y (list_length old.newest)) list
+
+        lt-is : (a b : ℕ) → a < b → nat_lt a b ≡ true
+        lt-is a b lt = grind (arith, nat_tests, lt)
+
+        by-ended : AreDataFrom 0 run.shape (mixed (λ y. nat_lt y (list_length old.newest)) list) rows buffer → IsChosen old.newest run.shape first from rows buffer list list'
+        by-ended holds = record {
+          chosen = mixed (λ y. nat_lt y (list_length old.newest)) list;
+          chosen' = list-with (mixed (λ y. nat_lt y (list_length old.newest)) list) first from;
+          written = list-with-is (mixed (λ y. nat_lt y (list_length old.newest)) list) first from;
+          read = holds;
+          first_same = λ y lt. mixed-is (λ y. nat_lt y (list_length old.newest)) list y (lt-is y (list_length old.newest) lt);
+          same = λ y lt. written-same (mixed (λ y. nat_lt y (list_length old.newest)) list) (list-with (mixed (λ y. nat_lt y (list_length old.newest)) list) first from) list list' first from
+              (list-with-is (mixed (λ y. nat_lt y (list_length old.newest)) list) first from) w y (mixed-is (λ y. nat_lt y (list_length old.newest)) list y (lt-is y (list_length old.newest) lt));
+        }
+
+        of : AreWhole new ⊎ RowsStandTo hidden relied old before list → (b : Bool) → run.synced ≡ b → IsChosen old.newest run.shape first from rows buffer list list'
+        of (inl whole) b synced = by-ended (data-held given old mid run.shape is.force one was (two.whole whole) before rows buffer (mixed (λ y. nat_lt y (list_length old.newest)) list)
+            (λ row has. subst (λ (n : ℕ). row < n) (sym one.size) (these.below row has)) read.held (behind-end window stands))
+        of (inr rows-stand) false unsynced = by-ended (read.listed (mixed (λ y. nat_lt y (list_length old.newest)) list) (behind-end window stands) (λ yes. absurd (let both = sym unsynced ∙ yes in cc)))
+        of (inr rows-stand) true synced = record {
+          chosen = list;
+          chosen' = list';
+          written = w;
+          read = read.listed list (λ r has below. (rows-stood rows-stand synced r has).sectors) (λ yes r has below. rows-stood rows-stand synced r has);
+          first_same = λ y lt. refl;
+          same = λ y lt. refl;
+        }
+
+-- ---- two runs
+
+module _ (given : Given) (old mid new : Members) (one : IsMoved given old mid) (two : IsMoved given mid new) (was : IsPlaced given old) (before between after : Contents) (others : AreOthersPresent before between)
+    (relied first : ℕ) (from : List ℕ) (low high : Run) (are : AreRuns old.newest relied first (first + length from / 512) low high)
+    (rows buffer far_rows far_buffer : List ℕ) (low-rows : AreRowsOf low old.newest.size rows) (high-rows : AreRowsOf high old.newest.size far_rows)
+    (low-read : AreRowsRead low.shape low.synced old mid before rows buffer) (high-read : AreRowsRead high.shape high.synced old mid before far_rows far_buffer)
+    (kept : AreOtherRowsKept (λ row. Contains rows row ⊎ Contains far_rows row) (reading_of new) between after) where
+  moved : IsMoved given old new
+  moved = moved-then given old mid new one two
+
+  -- each sector of the write stands in one of the rows
+  touches : (y : ℕ) → first ≤ y → y < first + length from / 512 → Contains rows (place_by old.newest y).row ⊎ Contains far_rows (place_by old.newest y).row
+  touches y above under = elim (cases_lt y low.end) [
+    | inl near ↦ (
+        let begin : low.first ≤ y = (let begins = are.begins in omega (arith, begins, above)) in
+        inl (subst (λ (s : Shape). Contains rows (place s y).row) (sym (are.low.one y begin near)) (low-rows.touched.all y begin (let order = are.low.order in omega (arith, near, order)))))
+    | inr past ↦ (
+        let begin : high.first ≤ y = (let meet = are.meet in omega (arith, meet, past)) in
+        let end : y < high.end = (let ends = are.ends in omega (arith, ends, under)) in
+        inr (subst (λ (s : Shape). Contains far_rows (place s y).row) (sym (are.high.one y begin end)) (high-rows.touched.all y begin (let order = are.high.order in omega (arith, end, order)))))
+  ]
+
+  -- a sector that stands in none of them isn't written
+  unwritten : (list list' : ℕ → Sector) → IsWritten list list' first from → (y : ℕ) → (Contains rows (place_by old.newest y).row → ⊥) → (Contains far_rows (place_by old.newest y).row → ⊥) → list' y ≡ list y
+  unwritten list list' w y not-low not-high = elim (cases_lt y first) [
+    | inl below ↦ w.other y (inl below)
+    | inr above ↦ elim (cases_lt y (first + length from / 512)) [
+      | inl inside ↦ elim (touches y above inside) [ inl has ↦ absurd (not-low has) | inr has ↦ absurd (not-high has) ]
+      | inr past ↦ w.other y (inr past)
+    ]
+  ]
+
+  -- what a holder has of another row is as it was
+  row-kept : (row role slot : ℕ) → (Contains rows row → ⊥) → (Contains far_rows row → ⊥) → holder (role_state (reading_of new) role) ≡ Some slot
+      → after slot (data_offset_of (reading_of new) slot + row) ≡ before slot (data_offset_of (reading_of old) slot + row)
+  row-kept row role slot not-low not-high held =
+      kept row (λ which. elim which [ inl has ↦ not-low has | inr has ↦ not-high has ]) role slot held
+      ∙ ap (λ (n : ℕ). between slot (n + row)) (moved.offsets slot)
+      ∙ others slot (data_offset_of (reading_of old) slot + row) (λ e. absurd (let far = was.behind role slot (moved.held role slot held) in omega (arith, e, far)))
+
+  same-shape : (x : ℕ) → shape_for new.newest x ≡ shape_for old.newest x
+  same-shape x = for-alike old.newest new.newest moved.reshape moved.shape moved.size x
+
+  shown-before : (hidden : Option Span) (x : ℕ) → IsShown hidden new.newest x → IsShown hidden old.newest x
+  shown-before hidden x shown = record {
+    within = subst (λ (n : ℕ). x < n) (list-alike old.newest new.newest moved.reshape moved.shape moved.size) shown.within;
+    outside = shown.outside;
+  }
+
+  low-shape : (x : ℕ) → x < list_length old.newest → Contains rows (place_by old.newest x).row → shape_for old.newest x ≡ low.shape
+  low-shape x x-in has = run-region old.newest was.fit low are.low (place_by old.newest x).row x (low-rows.touched.only (place_by old.newest x).row has) x-in refl
+
+  high-shape : (x : ℕ) → x < list_length old.newest → Contains far_rows (place_by old.newest x).row → shape_for old.newest x ≡ high.shape
+  high-shape x x-in has = run-region old.newest was.fit high are.high (place_by old.newest x).row x (high-rows.touched.only (place_by old.newest x).row has) x-in refl
+
+  -- each other row is as it was
+  pub others-kept : (among : ℕ → Type 0) → ((row : ℕ) → Contains rows row → among row) → ((row : ℕ) → Contains far_rows row → among row) → AreOtherRowsKept among (reading_of new) before after
+  others-kept among near far row none role slot held =
+      row-kept row role slot (λ has. none (near row has)) (λ has. none (far row has)) held ∙ ap (λ (n : ℕ). before slot (n + row)) (sym (moved.offsets slot))
+
+  module _ (low-full : AreFull new after low.shape first from rows buffer) (high-full : AreFull new after high.shape first from far_rows far_buffer) where
+    -- a sector of the list stands, by its shape
+    abbrev Stays : (list list' : ℕ → Sector) → ℕ → ℕ → Shape → Type 0
+    Stays list list' x slot s = held_slot (reading_of new) (place s x).role (place s x).row ≡ Some slot
+        → before slot (data_offset_of (reading_of old) slot + (place s x).row) ≡ list x → after slot (data_offset_of (reading_of new) slot + (place s x).row) ≡ list' x
+
+    sector-stays : (list list' : ℕ → Sector) → IsWritten list list' first from → (x slot : ℕ) → x < list_length old.newest → Stays list list' x slot (shape_for old.newest x)
+    sector-stays list list' w x slot x-in = elim (contains_or_not rows (place_by old.newest x).row) [
+      | inl has ↦ subst (λ (s : Shape). Contains rows (place s x).row → Stays list list' x slot s) (sym (low-shape x x-in has))
+          (λ here held stood. sector-written given old mid new one two was low are.low before first from rows buffer low-rows low-read after low-full list list' w x slot here held stood) has
+      | inr not-low ↦ elim (contains_or_not far_rows (place_by old.newest x).row) [
+        | inl has ↦ subst (λ (s : Shape). Contains far_rows (place s x).row → Stays list list' x slot s) (sym (high-shape x x-in has))
+            (λ here held stood. sector-written given old mid new one two was high are.high before first from far_rows far_buffer high-rows high-read after high-full list list' w x slot here held stood) has
+        | inr not-high ↦ (λ held stood.
+            row-kept (place_by old.newest x).row (place_by old.newest x).role slot not-low not-high (holder-of (reading_of new) (place_by old.newest x).role (place_by old.newest x).row slot held)
+            ∙ stood ∙ sym (unwritten list list' w x not-low not-high))
+      ]
+    ]
+
+    -- so the list stands with the write put in
+    pub list-written : (hidden : Option Span) (list list' : ℕ → Sector) → IsWritten list list' first from → ListStands hidden old before list → ListStands hidden new after list'
+    list-written hidden list list' w stands x slot shown held =
+        let was-shown = shown-before hidden x shown in
+        subst (λ (s : Shape). held_slot (reading_of new) (place s x).role (place s x).row ≡ Some slot → after slot (data_offset_of (reading_of new) slot + (place s x).row) ≡ list' x) (sym (same-shape x))
+        (λ held. sector-stays list list' w x slot was-shown.within held
+        (stands x slot was-shown (held-moved moved (place_by old.newest x).role (place_by old.newest x).row slot held))) held
+
+    -- a row that isn't touched stands with its parity
+    row-stays : (list list' : ℕ → Sector) → IsWritten list list' first from → (x : ℕ) → x < list_length old.newest → (Contains rows (place_by old.newest x).row → ⊥) → (Contains far_rows (place_by old.newest x).row → ⊥)
+        → RowStands (reading_of old) before (shape_for old.newest x) list (place_by old.newest x).row → RowStands (reading_of new) after (shape_for old.newest x) list' (place_by old.newest x).row
+    row-stays list list' w x x-in not-low not-high stood = record {
+      whole = λ y at. subst IsSector (sym (same y at)) (stood.whole y at);
+      sectors = λ role slot lt here held. there role slot lt held (stood.sectors role slot lt here (held-moved moved role (place_by old.newest x).row slot held));
+      parity = λ role slot lt here held. there role slot lt held (stood.parity role slot lt here (held-moved moved role (place_by old.newest x).row slot held));
+    }
+      where
+        -- its sectors aren't written
+        same : (y : ℕ) → (place (shape_for old.newest x) y).row ≡ (place_by old.newest x).row → list' y ≡ list y
+        same y at = elim (cases_lt y (first + length from / 512)) [
+          | inr past ↦ w.other y (inr past)
+          | inl under ↦ (
+              let y-in : y < list_length old.newest = (let end = are.ends in let within = are.high.within in omega (arith, under, end, within)) in
+              let here : shape_for old.newest y ≡ shape_for old.newest x = together-shape old.newest x y (mates-together old.newest was.fit x y x-in y-in at) in
+              let row : (place_by old.newest y).row ≡ (place_by old.newest x).row = ap (λ (s : Shape). (place s y).row) here ∙ at in
+              unwritten list list' w y (λ has. not-low (subst (λ (r : ℕ). Contains rows r) row has)) (λ has. not-high (subst (λ (r : ℕ). Contains far_rows r) row has)))
+        ]
+
+        there : (role slot : ℕ) → role < (shape_for old.newest x).disks → held_slot (reading_of new) role (place_by old.newest x).row ≡ Some slot
+            → before slot (data_offset_of (reading_of old) slot + (place_by old.newest x).row) ≡ full_sector (shape_for old.newest x) list (place_by old.newest x).row role
+            → after slot (data_offset_of (reading_of new) slot + (place_by old.newest x).row) ≡ full_sector (shape_for old.newest x) list' (place_by old.newest x).row role
+        there role slot lt held stood =
+            row-kept (place_by old.newest x).row role slot not-low not-high (holder-of (reading_of new) role (place_by old.newest x).row slot held)
+            ∙ stood ∙ full-same (shape_for old.newest x) list list' (place_by old.newest x).row (valid-for old.newest was.fit x) same role lt
+
+    module _ (hidden : Option Span) (list list' : ℕ → Sector) (w : IsWritten list list' first from) (small : (x : ℕ) → first ≤ x → x < first + length from / 512 → IsSector (sector_of from (x - first)))
+        (shown : (x : ℕ) → first ≤ x → x < first + length from / 512 → IsShown hidden old.newest x) (stands : RowsStandTo hidden relied old before list) where
+      low-shown : (x : ℕ) → low.first ≤ x → x < low.end → IsShown hidden old.newest x
+      low-shown x begin end = shown x (let begins = are.begins in omega (arith, begins, begin)) (let order = are.high.order in let meet = are.meet in let ends = are.ends in omega (arith, end, order, meet, ends))
+
+      high-shown : (x : ℕ) → high.first ≤ x → x < high.end → IsShown hidden old.newest x
+      high-shown x begin end = shown x (let begins = are.begins in let some = are.some in let meet = are.meet in omega (arith, begins, some, meet, begin)) (let ends = are.ends in omega (arith, end, ends))
+
+      row-low : (row : ℕ) → Contains rows row → RowStands (reading_of old) before low.shape list row → RowStands (reading_of new) after low.shape list' row
+      row-low row has stood =
+          let found = row-read given old mid new one two was low are.low before first from rows buffer low-rows low-read relied are.low_relied hidden list low-shown stands row stood in
+          row-written given old mid new one two was low are.low before first from rows buffer low-rows low-read after low-full list list' found.0 w found.1 small row has stood.whole found.2
+
+      row-high : (row : ℕ) → Contains far_rows row → RowStands (reading_of old) before high.shape list row → RowStands (reading_of new) after high.shape list' row
+      row-high row has stood =
+          let found = row-read given old mid new one two was high are.high before first from far_rows far_buffer high-rows high-read relied are.high_relied hidden list high-shown stands row stood in
+          row-written given old mid new one two was high are.high before first from far_rows far_buffer high-rows high-read after high-full list list' found.0 w found.1 small row has stood.whole found.2
+
+      -- and so do its rows, with their parity
+      pub rows-written : RowsStandTo hidden relied new after list'
+      rows-written x below is-shown =
+          let was-shown = shown-before hidden x is-shown in
+          let stood = stands x below was-shown in
+          subst (λ (s : Shape). RowStands (reading_of new) after s list' (place s x).row) (sym (same-shape x))
+          (elim (contains_or_not rows (place_by old.newest x).row) [
+            | inl has ↦ subst (λ (s : Shape). Contains rows (place s x).row → RowStands (reading_of old) before s list (place s x).row → RowStands (reading_of new) after s list' (place s x).row)
+                (sym (low-shape x was-shown.within has)) (λ here. row-low (place low.shape x).row here) has stood
+            | inr not-low ↦ elim (contains_or_not far_rows (place_by old.newest x).row) [
+              | inl has ↦ subst (λ (s : Shape). Contains far_rows (place s x).row → RowStands (reading_of old) before s list (place s x).row → RowStands (reading_of new) after s list' (place s x).row)
+                  (sym (high-shape x was-shown.within has)) (λ here. row-high (place high.shape x).row here) has stood
+              | inr not-high ↦ row-stays list list' w x was-shown.within not-low not-high stood
+            ]
+          ])
+
+  -- without a reshape, what was rebuilt on a slot stays so
+  module _ (still : is_reshaping old.newest ≡ false) (list list' : ℕ → Sector) (w : IsWritten list list' first from) (rebuilt : StayRebuilt new between after low.shape first from rows buffer)
+      (chosen : IsChosen old.newest low.shape first from rows buffer list list') where
+    low-still : low.shape ≡ shape_of old.newest
+    low-still = of are.low.force
+      where
+        of : IsInForce old.newest low.shape → low.shape ≡ shape_of old.newest
+        of (inl same) = same
+        of (inr same) = same ∙ final-still old.newest still
+
+    valid-still : is_valid_shape (shape_of old.newest) ≡ true
+    valid-still = was.fit.valid.old
+
+    in-list : (row y : ℕ) → row < old.newest.size → (place (shape_of old.newest) y).row ≡ row → y < list_length old.newest
+    in-list row y below at =
+        let near = place-sector_below (shape_of old.newest) valid-still y old.newest.size (fit-multiple old.newest was.fit) (omega (arith, below, at)) in
+        let long = list-still old.newest still in
+        omega (arith, near, long)
+
+    -- no row is touched by the second run
+    none-far : (row : ℕ) → Contains far_rows row → ⊥
+    none-far row has =
+        let touch = high-rows.touched.only row has in
+        let from = touch.1 in
+        let end = touch.2 in
+        let meet = are.meet in
+        let ends = are.ends in
+        let more = (are.apart (omega (arith, from, end, meet, ends))).0 in
+        absurd (let both = sym still ∙ more in cc)
+
+    -- what a slot had of a row before the first was written
+    had-between : (row role slot : ℕ) → holder (role_state (reading_of new) role) ≡ Some slot → between slot (data_offset_of (reading_of new) slot + row) ≡ before slot (data_offset_of (reading_of old) slot + row)
+    had-between row role slot held =
+        ap (λ (n : ℕ). between slot (n + row)) (moved.offsets slot)
+        ∙ others slot (data_offset_of (reading_of old) slot + row) (λ e. absurd (let far = was.behind role slot (moved.held role slot held) in omega (arith, e, far)))
+
+    low-rebuilt : (role slot row : ℕ) → role < low.shape.disks → role_state (reading_of new) role ≡ Recovering slot → row < old.newest.size → Contains rows row
+        → HasFull (reading_of old) before (shape_of old.newest) list row role slot → HasFull (reading_of new) after low.shape chosen.chosen' row role slot
+    low-rebuilt role slot row lt is below has full =
+        rebuilt chosen.chosen chosen.chosen' chosen.written chosen.read row has role slot lt is
+        (had-between row role slot (ap holder is) ∙ full
+        ∙ full-same (shape_of old.newest) list chosen.chosen row valid-still (λ y at. chosen.first_same y (in-list row y below at)) role (subst (λ (s : Shape). role < s.disks) low-still lt)
+        ∙ ap (λ (s : Shape). full_sector s chosen.chosen row role) (sym low-still))
+
+    pub rebuilt-written : (role slot row : ℕ) → role < (shape_of old.newest).disks → role_state (reading_of new) role ≡ Recovering slot → row < old.newest.size
+        → HasFull (reading_of old) before (shape_of old.newest) list row role slot → HasFull (reading_of new) after (shape_of old.newest) list' row role slot
+    rebuilt-written role slot row lt is below full = elim (contains_or_not rows row) [
+      | inl has ↦
+          low-rebuilt role slot row (subst (λ (s : Shape). role < s.disks) (sym low-still) lt) is below has full
+          ∙ ap (λ (s : Shape). full_sector s chosen.chosen' row role) low-still
+          ∙ sym (full-same (shape_of old.newest) list' chosen.chosen' row valid-still (λ y at. chosen.same y (in-list row y below at)) role lt)
+      | inr none ↦
+          row-kept row role slot none (none-far row) (ap holder is) ∙ full
+          ∙ full-same (shape_of old.newest) list list' row valid-still (λ y at. unwritten list list' w y
+          (λ has. none (subst (λ (r : ℕ). Contains rows r) at (subst (λ (s : Shape). Contains rows (place s y).row) (for-still old.newest still y) has))) (none-far (place_by old.newest y).row)) role lt
+    ]

@@ -1,0 +1,368 @@
+use Rattle.std.proofs.Common.{◌≡◌, ◌≤◌, inl, false, List, length, true, refl, sym, ◌∙◌, ap, subst, arith}
+use Rattle.bank.specs.Given.{Given}
+use Rattle.bank.specs.declared.bank.Operation.{Operation}
+use Rattle.sb1.specs.declared.sb.Sb.{Sb}
+use Rattle.superblocks.specs.declared.members.Members.{Members}
+use Rattle.superblocks.specs.Reading.{is_clean}
+use Rattle.row_io.specs.Rows.{present}
+use Rattle.list_io.specs.Buffers.{buffered}
+use Rattle.views.specs.Placed.{IsPlaced}
+use Rattle.views.specs.Moving.{Grows, IsMoved}
+use Rattle.views.specs.Rebuilding.{AreSparesFree}
+use Rattle.views.proofs.MovedLaws.{moved-then, moved-from, grows-none, grows-then}
+use Rattle.views.proofs.Fit.{alike-force}
+use Rattle.views.proofs.LackingLaws.{since-then, in-second}
+use Rattle.views.proofs.LackingWrites.{standing-later}
+use Rattle.views.proofs.SafeStretch.{safe-then, safe-lost, over-at, keeps-from}
+use Rattle.flat_history.specs.Sound.{OpensFit}
+use Rattle.shape_changes.specs.Marking.{AreOthersPresent}
+use Rattle.shape_changes.proofs.Risen.{risen-then, risen-lost, room-then}
+use Rattle.region_writes.proofs.RunLaws.{told-as, told-never}
+use Rattle.region_writes.proofs.writing.prepare_runs.Goals as goal
+
+-- the reads make no operation
+still-long : (before after : List Operation) → after ≡ before → length before ≤ length after
+still-long before after same = subst (λ (l : List Operation). length before ≤ length l) (sym same) (omega arith)
+
+pub unwritten_runs-requires-clause-low : goal.unwritten_runs-requires-clause-low
+unwritten_runs-requires-clause-low g c =
+    let m = c.args.members.now in
+    let n = c.read_runs-read.new.members in
+    let given = g.B.Bank.given c.args.bank.now in
+    let given1 = g.B.Bank.given c.read_runs-read.new.bank in
+    let did = c.read_runs-read.ensures in
+    let tape0 = g.B.Bank.tape c.args.bank.now in
+    let tape1 = g.B.Bank.tape c.read_runs-read.new.bank in
+    alike-force m.newest n.newest did.moved.reshape did.moved.shape did.moved.size c.args.low.now.shape c.requires.low.force
+
+pub unwritten_runs-requires-clause-high : goal.unwritten_runs-requires-clause-high
+unwritten_runs-requires-clause-high g c =
+    let m = c.args.members.now in
+    let n = c.read_runs-read.new.members in
+    let given = g.B.Bank.given c.args.bank.now in
+    let given1 = g.B.Bank.given c.read_runs-read.new.bank in
+    let did = c.read_runs-read.ensures in
+    let tape0 = g.B.Bank.tape c.args.bank.now in
+    let tape1 = g.B.Bank.tape c.read_runs-read.new.bank in
+    alike-force m.newest n.newest did.moved.reshape did.moved.shape did.moved.size c.args.high.now.shape c.requires.high.force
+
+pub returns-then-not-read-clause-refused : goal.returns-then-not-read-clause-refused
+returns-then-not-read-clause-refused g c =
+    told-as _ _ _ c.unwritten_runs.result (λ refusal is. is) c.unwritten_runs.ensures
+
+pub returns-then-not-read-clause-grows : goal.returns-then-not-read-clause-grows
+returns-then-not-read-clause-grows g c =
+    grows-none c.read_runs-read.ensures.tape
+
+pub returns-then-not-read-clause-low : goal.returns-then-not-read-clause-low
+returns-then-not-read-clause-low g c =
+    let m = c.args.members.now in
+    let n = c.read_runs-read.new.members in
+    let given = g.B.Bank.given c.args.bank.now in
+    let given1 = g.B.Bank.given c.read_runs-read.new.bank in
+    let did = c.read_runs-read.ensures in
+    let tape0 = g.B.Bank.tape c.args.bank.now in
+    let tape1 = g.B.Bank.tape c.read_runs-read.new.bank in
+    λ none. absurd (told-never _ _ c.unwritten_runs.result (did.unread c.if-not-read.true) c.unwritten_runs.ensures none)
+
+pub returns-then-not-read-clause-high : goal.returns-then-not-read-clause-high
+returns-then-not-read-clause-high g c =
+    let m = c.args.members.now in
+    let n = c.read_runs-read.new.members in
+    let given = g.B.Bank.given c.args.bank.now in
+    let given1 = g.B.Bank.given c.read_runs-read.new.bank in
+    let did = c.read_runs-read.ensures in
+    let tape0 = g.B.Bank.tape c.args.bank.now in
+    let tape1 = g.B.Bank.tape c.read_runs-read.new.bank in
+    λ none. absurd (told-never _ _ c.unwritten_runs.result (did.unread c.if-not-read.true) c.unwritten_runs.ensures none)
+
+pub returns-then-not-read-clause-low_rows : goal.returns-then-not-read-clause-low_rows
+returns-then-not-read-clause-low_rows g c =
+    let m = c.args.members.now in
+    let n = c.read_runs-read.new.members in
+    let given = g.B.Bank.given c.args.bank.now in
+    let given1 = g.B.Bank.given c.read_runs-read.new.bank in
+    let did = c.read_runs-read.ensures in
+    let tape0 = g.B.Bank.tape c.args.bank.now in
+    let tape1 = g.B.Bank.tape c.read_runs-read.new.bank in
+    λ none. absurd (told-never _ _ c.unwritten_runs.result (did.unread c.if-not-read.true) c.unwritten_runs.ensures none)
+
+pub returns-then-not-read-clause-high_rows : goal.returns-then-not-read-clause-high_rows
+returns-then-not-read-clause-high_rows g c =
+    let m = c.args.members.now in
+    let n = c.read_runs-read.new.members in
+    let given = g.B.Bank.given c.args.bank.now in
+    let given1 = g.B.Bank.given c.read_runs-read.new.bank in
+    let did = c.read_runs-read.ensures in
+    let tape0 = g.B.Bank.tape c.args.bank.now in
+    let tape1 = g.B.Bank.tape c.read_runs-read.new.bank in
+    λ none. absurd (told-never _ _ c.unwritten_runs.result (did.unread c.if-not-read.true) c.unwritten_runs.ensures none)
+
+pub returns-then-not-read-clause-dirty : goal.returns-then-not-read-clause-dirty
+returns-then-not-read-clause-dirty g c =
+    let m = c.args.members.now in
+    let n = c.read_runs-read.new.members in
+    let given = g.B.Bank.given c.args.bank.now in
+    let given1 = g.B.Bank.given c.read_runs-read.new.bank in
+    let did = c.read_runs-read.ensures in
+    let tape0 = g.B.Bank.tape c.args.bank.now in
+    let tape1 = g.B.Bank.tape c.read_runs-read.new.bank in
+    λ none. absurd (told-never _ _ c.unwritten_runs.result (did.unread c.if-not-read.true) c.unwritten_runs.ensures none)
+
+pub returns-then-not-read-clause-stays : goal.returns-then-not-read-clause-stays
+returns-then-not-read-clause-stays g c =
+    let m = c.args.members.now in
+    let n = c.read_runs-read.new.members in
+    let given = g.B.Bank.given c.args.bank.now in
+    let given1 = g.B.Bank.given c.read_runs-read.new.bank in
+    let did = c.read_runs-read.ensures in
+    let tape0 = g.B.Bank.tape c.args.bank.now in
+    let tape1 = g.B.Bank.tape c.read_runs-read.new.bank in
+    λ dirty. subst (λ (x : Members). is_clean x.newest ≡ false) (sym did.lost.1) dirty
+
+pub returns-then-not-read-clause-others : goal.returns-then-not-read-clause-others
+returns-then-not-read-clause-others g c =
+    let m = c.args.members.now in
+    let n = c.read_runs-read.new.members in
+    let given = g.B.Bank.given c.args.bank.now in
+    let given1 = g.B.Bank.given c.read_runs-read.new.bank in
+    let did = c.read_runs-read.ensures in
+    let tape0 = g.B.Bank.tape c.args.bank.now in
+    let tape1 = g.B.Bank.tape c.read_runs-read.new.bank in
+    λ told. subst (λ (l : List Operation). AreOthersPresent (present given tape0) (present given l)) (sym (did.tape told)) (λ s k other. refl)
+
+pub returns-then-not-read-clause-rise : goal.returns-then-not-read-clause-rise
+returns-then-not-read-clause-rise g c =
+    let m = c.args.members.now in
+    let n = c.read_runs-read.new.members in
+    let given = g.B.Bank.given c.args.bank.now in
+    let given1 = g.B.Bank.given c.read_runs-read.new.bank in
+    let did = c.read_runs-read.ensures in
+    let tape0 = g.B.Bank.tape c.args.bank.now in
+    let tape1 = g.B.Bank.tape c.read_runs-read.new.bank in
+    risen-lost m n did.lost.0 tape0 tape1 did.lost.1 (λ t. still-long tape0 tape1 (did.tape t))
+
+pub returns-then-not-read-clause-safe : goal.returns-then-not-read-clause-safe
+returns-then-not-read-clause-safe g c =
+    let m = c.args.members.now in
+    let n = c.read_runs-read.new.members in
+    let given = g.B.Bank.given c.args.bank.now in
+    let given1 = g.B.Bank.given c.read_runs-read.new.bank in
+    let did = c.read_runs-read.ensures in
+    let tape0 = g.B.Bank.tape c.args.bank.now in
+    let tape1 = g.B.Bank.tape c.read_runs-read.new.bank in
+    λ tell world told room gone unclean now. safe-lost (OpensFit world) world.scope given told m n did.lost.0 tape0 tape1 did.lost.1 (did.tape tell) now
+
+pub raise-spares-requires-clause-placed : goal.raise-spares-requires-clause-placed
+raise-spares-requires-clause-placed g c =
+    let m = c.args.members.now in
+    let n = c.read_runs-read.new.members in
+    let given = g.B.Bank.given c.args.bank.now in
+    let given1 = g.B.Bank.given c.read_runs-read.new.bank in
+    let did = c.read_runs-read.ensures in
+    let tape0 = g.B.Bank.tape c.args.bank.now in
+    let tape1 = g.B.Bank.tape c.read_runs-read.new.bank in
+    subst (λ (b : Given). IsPlaced b n) (sym did.given) did.moved.placed
+
+pub raise-spares-requires-clause-free : goal.raise-spares-requires-clause-free
+raise-spares-requires-clause-free g c =
+    let m = c.args.members.now in
+    let n = c.read_runs-read.new.members in
+    let given = g.B.Bank.given c.args.bank.now in
+    let given1 = g.B.Bank.given c.read_runs-read.new.bank in
+    let did = c.read_runs-read.ensures in
+    let tape0 = g.B.Bank.tape c.args.bank.now in
+    let tape1 = g.B.Bank.tape c.read_runs-read.new.bank in
+    subst (λ (b : Given). AreSparesFree b n) (sym did.given) (did.moved.free c.requires.free)
+
+pub too_many_runs-requires-clause-low : goal.too_many_runs-requires-clause-low
+too_many_runs-requires-clause-low g c =
+    let m = c.args.members.now in
+    let n = c.read_runs-read.new.members in
+    let given = g.B.Bank.given c.args.bank.now in
+    let given1 = g.B.Bank.given c.read_runs-read.new.bank in
+    let did = c.read_runs-read.ensures in
+    let tape0 = g.B.Bank.tape c.args.bank.now in
+    let tape1 = g.B.Bank.tape c.read_runs-read.new.bank in
+    let p = c.raise-spares.new.members in
+    let named = c.raise-spares.ensures in
+    let tape2 = g.B.Bank.tape c.raise-spares.new.bank in
+    let two : IsMoved given n p = moved-from given given1 n n p did.given refl named.moved in
+    let all : IsMoved given m p = moved-then given m n p did.moved two in
+    alike-force m.newest p.newest all.reshape all.shape all.size c.args.low.now.shape c.requires.low.force
+
+pub too_many_runs-requires-clause-high : goal.too_many_runs-requires-clause-high
+too_many_runs-requires-clause-high g c =
+    let m = c.args.members.now in
+    let n = c.read_runs-read.new.members in
+    let given = g.B.Bank.given c.args.bank.now in
+    let given1 = g.B.Bank.given c.read_runs-read.new.bank in
+    let did = c.read_runs-read.ensures in
+    let tape0 = g.B.Bank.tape c.args.bank.now in
+    let tape1 = g.B.Bank.tape c.read_runs-read.new.bank in
+    let p = c.raise-spares.new.members in
+    let named = c.raise-spares.ensures in
+    let tape2 = g.B.Bank.tape c.raise-spares.new.bank in
+    let two : IsMoved given n p = moved-from given given1 n n p did.given refl named.moved in
+    let all : IsMoved given m p = moved-then given m n p did.moved two in
+    alike-force m.newest p.newest all.reshape all.shape all.size c.args.high.now.shape c.requires.high.force
+
+pub returns-clause-moved : goal.returns-clause-moved
+returns-clause-moved g c =
+    let m = c.args.members.now in
+    let n = c.read_runs-read.new.members in
+    let given = g.B.Bank.given c.args.bank.now in
+    let given1 = g.B.Bank.given c.read_runs-read.new.bank in
+    let did = c.read_runs-read.ensures in
+    let tape0 = g.B.Bank.tape c.args.bank.now in
+    let tape1 = g.B.Bank.tape c.read_runs-read.new.bank in
+    let p = c.raise-spares.new.members in
+    let named = c.raise-spares.ensures in
+    let tape2 = g.B.Bank.tape c.raise-spares.new.bank in
+    let two : IsMoved given n p = moved-from given given1 n n p did.given refl named.moved in
+    moved-then given m n p did.moved two
+
+pub returns-clause-failed : goal.returns-clause-failed
+returns-clause-failed g c =
+    let m = c.args.members.now in
+    let n = c.read_runs-read.new.members in
+    let given = g.B.Bank.given c.args.bank.now in
+    let given1 = g.B.Bank.given c.read_runs-read.new.bank in
+    let did = c.read_runs-read.ensures in
+    let tape0 = g.B.Bank.tape c.args.bank.now in
+    let tape1 = g.B.Bank.tape c.read_runs-read.new.bank in
+    let p = c.raise-spares.new.members in
+    let named = c.raise-spares.ensures in
+    let tape2 = g.B.Bank.tape c.raise-spares.new.bank in
+    let two : IsMoved given n p = moved-from given given1 n n p did.given refl named.moved in
+    let f0 = g.B.Bank.faults_of c.args.bank.now in
+    let f1 = g.B.Bank.faults_of c.read_runs-read.new.bank in
+    let f2 = g.B.Bank.faults_of c.raise-spares.new.bank in
+    since-then m n p 0 c.raise-spares.result c.raise-spares.result f0 f1 f2 did.counts named.counts did.failed named.failed (in-second c.raise-spares.result)
+
+pub returns-clause-refused : goal.returns-clause-refused
+returns-clause-refused g c =
+    told-as _ _ _ c.too_many_runs.result (λ refusal many. inl many) c.too_many_runs.ensures
+
+pub returns-clause-grows : goal.returns-clause-grows
+returns-clause-grows g c =
+    let early : Grows g.B.Bank.tells (g.B.Bank.tape c.args.bank.now) (g.B.Bank.tape c.read_runs-read.new.bank) = grows-none c.read_runs-read.ensures.tape in
+    grows-then early c.raise-spares.ensures.grows
+
+pub returns-clause-others : goal.returns-clause-others
+returns-clause-others g c =
+    let m = c.args.members.now in
+    let n = c.read_runs-read.new.members in
+    let given = g.B.Bank.given c.args.bank.now in
+    let given1 = g.B.Bank.given c.read_runs-read.new.bank in
+    let did = c.read_runs-read.ensures in
+    let tape0 = g.B.Bank.tape c.args.bank.now in
+    let tape1 = g.B.Bank.tape c.read_runs-read.new.bank in
+    let p = c.raise-spares.new.members in
+    let named = c.raise-spares.ensures in
+    let tape2 = g.B.Bank.tape c.raise-spares.new.bank in
+    let two : IsMoved given n p = moved-from given given1 n n p did.given refl named.moved in
+    λ told. subst (λ (l : List Operation). AreOthersPresent (present given l) (present given tape2)) (did.tape told)
+    (subst (λ (b : Given). AreOthersPresent (present b tape1) (present b tape2)) did.given (named.others told))
+
+pub returns-clause-low : goal.returns-clause-low
+returns-clause-low g c =
+    let m = c.args.members.now in
+    let n = c.read_runs-read.new.members in
+    let given = g.B.Bank.given c.args.bank.now in
+    let given1 = g.B.Bank.given c.read_runs-read.new.bank in
+    let did = c.read_runs-read.ensures in
+    let tape0 = g.B.Bank.tape c.args.bank.now in
+    let tape1 = g.B.Bank.tape c.read_runs-read.new.bank in
+    let p = c.raise-spares.new.members in
+    let named = c.raise-spares.ensures in
+    let tape2 = g.B.Bank.tape c.raise-spares.new.bank in
+    let two : IsMoved given n p = moved-from given given1 n n p did.given refl named.moved in
+    λ none told.
+    let c0 = present given tape0 in
+    let read = did.low c.if-not-read.false told in
+    record {
+      held = λ i lt. standing-later given n p two did.moved.placed c0 c0 (λ s k other. refl) c.args.low.now.shape _ (buffered c.read_runs-read.new.buffer.items i) (read.held i lt);
+      listed = read.listed;
+    }
+
+pub returns-clause-high : goal.returns-clause-high
+returns-clause-high g c =
+    let m = c.args.members.now in
+    let n = c.read_runs-read.new.members in
+    let given = g.B.Bank.given c.args.bank.now in
+    let given1 = g.B.Bank.given c.read_runs-read.new.bank in
+    let did = c.read_runs-read.ensures in
+    let tape0 = g.B.Bank.tape c.args.bank.now in
+    let tape1 = g.B.Bank.tape c.read_runs-read.new.bank in
+    let p = c.raise-spares.new.members in
+    let named = c.raise-spares.ensures in
+    let tape2 = g.B.Bank.tape c.raise-spares.new.bank in
+    let two : IsMoved given n p = moved-from given given1 n n p did.given refl named.moved in
+    λ none told.
+    let c0 = present given tape0 in
+    let read = did.high c.if-not-read.false told in
+    record {
+      held = λ i lt. standing-later given n p two did.moved.placed c0 c0 (λ s k other. refl) c.args.high.now.shape _ (buffered c.read_runs-read.new.far_buffer.items i) (read.held i lt);
+      listed = read.listed;
+    }
+
+pub returns-clause-low_rows : goal.returns-clause-low_rows
+returns-clause-low_rows g c =
+    let m = c.args.members.now in
+    let n = c.read_runs-read.new.members in
+    let given = g.B.Bank.given c.args.bank.now in
+    let given1 = g.B.Bank.given c.read_runs-read.new.bank in
+    let did = c.read_runs-read.ensures in
+    let tape0 = g.B.Bank.tape c.args.bank.now in
+    let tape1 = g.B.Bank.tape c.read_runs-read.new.bank in
+    λ none. did.low_rows c.if-not-read.false
+
+pub returns-clause-high_rows : goal.returns-clause-high_rows
+returns-clause-high_rows g c =
+    let m = c.args.members.now in
+    let n = c.read_runs-read.new.members in
+    let given = g.B.Bank.given c.args.bank.now in
+    let given1 = g.B.Bank.given c.read_runs-read.new.bank in
+    let did = c.read_runs-read.ensures in
+    let tape0 = g.B.Bank.tape c.args.bank.now in
+    let tape1 = g.B.Bank.tape c.read_runs-read.new.bank in
+    λ none. did.high_rows c.if-not-read.false
+
+pub returns-clause-rise : goal.returns-clause-rise
+returns-clause-rise g c =
+    let m = c.args.members.now in
+    let n = c.read_runs-read.new.members in
+    let given = g.B.Bank.given c.args.bank.now in
+    let given1 = g.B.Bank.given c.read_runs-read.new.bank in
+    let did = c.read_runs-read.ensures in
+    let tape0 = g.B.Bank.tape c.args.bank.now in
+    let tape1 = g.B.Bank.tape c.read_runs-read.new.bank in
+    let p = c.raise-spares.new.members in
+    let named = c.raise-spares.ensures in
+    let tape2 = g.B.Bank.tape c.raise-spares.new.bank in
+    let two : IsMoved given n p = moved-from given given1 n n p did.given refl named.moved in
+    risen-then (risen-lost m n did.lost.0 tape0 tape1 did.lost.1 (λ t. still-long tape0 tape1 (did.tape t))) named.rise
+
+pub returns-clause-safe : goal.returns-clause-safe
+returns-clause-safe g c =
+    let m = c.args.members.now in
+    let n = c.read_runs-read.new.members in
+    let given = g.B.Bank.given c.args.bank.now in
+    let given1 = g.B.Bank.given c.read_runs-read.new.bank in
+    let did = c.read_runs-read.ensures in
+    let tape0 = g.B.Bank.tape c.args.bank.now in
+    let tape1 = g.B.Bank.tape c.read_runs-read.new.bank in
+    let p = c.raise-spares.new.members in
+    let named = c.raise-spares.ensures in
+    let tape2 = g.B.Bank.tape c.raise-spares.new.bank in
+    let two : IsMoved given n p = moved-from given given1 n n p did.given refl named.moved in
+    λ tell world told room gone unclean now.
+    let read = safe-lost (OpensFit world) world.scope given told m n did.lost.0 tape0 tape1 did.lost.1 (did.tape tell) now in
+    safe-then (OpensFit world) world.scope given told n p tape0 tape1 tape2 read
+    (keeps-from world given given1 told p tape1 tape2 did.given
+    (named.safe tell world told (room-then tape2 tell room (risen-lost m n did.lost.0 tape0 tape1 did.lost.1 (λ t. still-long tape0 tape1 (did.tape t)))) gone unclean (over-at world given given1 told n tape1 did.given read.next)))
+
+pub returns-clause-counts : goal.returns-clause-counts
+returns-clause-counts g c =
+    λ s. let one = c.read_runs-read.ensures.counts s in let two = c.raise-spares.ensures.counts s in omega (arith, one, two)

@@ -1,0 +1,5 @@
+//! Writes of the list of an array in a reshape, split by region.
+#![tactic(auto)]
+
+pub mod runs;
+pub mod writing;
