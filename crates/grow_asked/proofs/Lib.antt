@@ -1,0 +1,4 @@
+pub mod FirstLaws
+pub mod FitLaws
+pub mod LeftLaws
+pub mod PlanLaws
