@@ -330,7 +330,7 @@ told a wish k =
     else unwrap_or (refusal_for a wish) Nothing
 
 unwrapped : {A : Type 0} (o : Option A) (x d : A) → o ≡ Some x → unwrap_or o d ≡ x
-unwrapped o x d e = ap (λ (p : Option A). unwrap_or p d) e
+unwrapped {A = A} o x d e = ap (λ (p : Option A). unwrap_or p d) e
 
 same-spares : (a b c d : ℕ) → a ≡ c → b ≡ d → NeedSpares c d ≡ NeedSpares a b
 same-spares a b c d e f = cc

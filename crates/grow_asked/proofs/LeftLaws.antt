@@ -19,18 +19,18 @@ use Rattle.grow_asked.specs.Left.{steps_from, stripes_in, zeroed_by, reshape_lef
 
 -- ---- with a reshape, and without one
 
-active-left : (newest : Sb) (state : WindowState) (zeroed : ℕ) (ahead : List Phase) → is_reshaping newest ≡ true
-    → grow_left newest state zeroed ahead ≡ reshape_left newest state zeroed + phases_steps (final_shape newest) newest.size ahead
-active-left newest state zeroed ahead active =
-    ap (λ (n : ℕ). n + phases_steps (final_shape newest) newest.size ahead) (cond-true (is_reshaping newest) (reshape_left newest state zeroed) 0 active)
+active-left : (newest : Sb) (state : WindowState) (cleared : ℕ) (ahead : List Phase) → is_reshaping newest ≡ true
+    → grow_left newest state cleared ahead ≡ reshape_left newest state cleared + phases_steps (final_shape newest) newest.size ahead
+active-left newest state cleared ahead active =
+    ap (λ (n : ℕ). n + phases_steps (final_shape newest) newest.size ahead) (cond-true (is_reshaping newest) (reshape_left newest state cleared) 0 active)
 
 pub still-final : (newest : Sb) → is_reshaping newest ≡ false → final_shape newest ≡ shape_of newest
 still-final newest still = ap (λ (o : Option Shape). unwrap_or o (shape_of newest)) (cond-false (is_reshaping newest) _ None still)
 
-still-left : (newest : Sb) (state : WindowState) (zeroed : ℕ) (ahead : List Phase) → is_reshaping newest ≡ false
-    → grow_left newest state zeroed ahead ≡ phases_steps (shape_of newest) newest.size ahead
-still-left newest state zeroed ahead still =
-    ap (λ (n : ℕ). n + phases_steps (final_shape newest) newest.size ahead) (cond-false (is_reshaping newest) (reshape_left newest state zeroed) 0 still)
+still-left : (newest : Sb) (state : WindowState) (cleared : ℕ) (ahead : List Phase) → is_reshaping newest ≡ false
+    → grow_left newest state cleared ahead ≡ phases_steps (shape_of newest) newest.size ahead
+still-left newest state cleared ahead still =
+    ap (λ (n : ℕ). n + phases_steps (final_shape newest) newest.size ahead) (cond-false (is_reshaping newest) (reshape_left newest state cleared) 0 still)
     ∙ zero-add (phases_steps (final_shape newest) newest.size ahead)
     ∙ ap (λ (s : Shape). phases_steps s newest.size ahead) (still-final newest still)
 
@@ -44,8 +44,8 @@ same-steps a b c d n m s t p q ac bd nm st pq =
 same-phases : (a b : Shape) (n m : ℕ) (ahead : List Phase) → a ≡ b → n ≡ m → phases_steps a n ahead ≡ phases_steps b m ahead
 same-phases a b n m ahead ab nm = ap (λ (x : Shape). phases_steps x n ahead) ab ∙ ap (λ (x : ℕ). phases_steps b x ahead) nm
 
-some-end : (sum zeroed : ℕ) → zeroed + 1 ≤ sum + zeroed + 1
-some-end sum zeroed = omega arith
+some-end : (sum cleared : ℕ) → cleared + 1 ≤ sum + cleared + 1
+some-end sum cleared = omega arith
 
 some-steps : (newest : Sb) (position : ℕ) → zeroed_by newest + 1 ≤ steps_from newest position
 some-steps newest position = some-end _ (zeroed_by newest)
@@ -65,9 +65,9 @@ behind-steps newest ahead = phases_steps (final_shape newest) newest.size ahead
 
 -- ---- sums
 
-entered : (all behind stripes zeroed most phases : ℕ) → all ≡ 2 + stripes + behind → zeroed ≤ most → most + 1 ≤ behind
-    → (stripes - 0) + 1 + (behind - zeroed) + phases + 1 ≡ all - zeroed + phases
-entered all behind stripes zeroed most phases fall few some = omega (arith, fall, few, some)
+entered : (all behind stripes cleared most phases : ℕ) → all ≡ 2 + stripes + behind → cleared ≤ most → most + 1 ≤ behind
+    → (stripes - 0) + 1 + (behind - cleared) + phases + 1 ≡ all - cleared + phases
+entered all behind stripes cleared most phases fall few some = omega (arith, fall, few, some)
 
 copied-one : (stripes copied behind phases : ℕ) → copied < stripes → (stripes - (copied + 1)) + 1 + behind + phases + 1 ≡ (stripes - copied) + 1 + behind + phases
 copied-one stripes copied behind phases lt = omega (arith, lt)
@@ -78,8 +78,8 @@ recorded stripes behind phases = omega arith
 finished : (rest behind phases : ℕ) → behind + phases + (rest + 1) ≡ rest + 1 + behind + phases
 finished rest behind phases = omega arith
 
-zeroed-one : (all zeroed most phases : ℕ) → zeroed < most → most + 1 ≤ all → all - (zeroed + 1) + phases + 1 ≡ all - zeroed + phases
-zeroed-one all zeroed most phases lt some = omega (arith, lt, some)
+cleared-one : (all cleared most phases : ℕ) → cleared < most → most + 1 ≤ all → all - (cleared + 1) + phases + 1 ≡ all - cleared + phases
+cleared-one all cleared most phases lt some = omega (arith, lt, some)
 
 -- ---- the steps
 
@@ -100,44 +100,44 @@ beginning old new to ahead still begun =
     sums x y s t p q a b c d = omega (arith, a, b, c, d)
 
 pub entering : EnteringTakesOne
-entering newest span zeroed ahead reshape is few =
-    ap (λ (n : ℕ). n + 1) (active-left newest (Entered span 0) zeroed ahead reshape.active)
-    ∙ entered (steps_from newest newest.reshape_position) (steps_from newest (beyond (is_backward newest) span)) (stripes_in newest span) zeroed (zeroed_by newest) (behind-steps newest ahead)
+entering newest span cleared ahead reshape is few =
+    ap (λ (n : ℕ). n + 1) (active-left newest (Entered span 0) cleared ahead reshape.active)
+    ∙ entered (steps_from newest newest.reshape_position) (steps_from newest (beyond (is_backward newest) span)) (stripes_in newest span) cleared (zeroed_by newest) (behind-steps newest ahead)
     (fallen newest (Some span) reshape is) few (some-steps newest (beyond (is_backward newest) span))
-    ∙ sym (active-left newest Closed zeroed ahead reshape.active)
+    ∙ sym (active-left newest Closed cleared ahead reshape.active)
 
 pub copying : CopyingTakesOne
-copying newest span copied zeroed ahead active lt =
-    ap (λ (n : ℕ). n + 1) (active-left newest (Entered span (copied + 1)) zeroed ahead active)
-    ∙ copied-one (stripes_in newest span) copied (steps_from newest (beyond (is_backward newest) span) - zeroed) (behind-steps newest ahead) lt
-    ∙ sym (active-left newest (Entered span copied) zeroed ahead active)
+copying newest span copied cleared ahead active lt =
+    ap (λ (n : ℕ). n + 1) (active-left newest (Entered span (copied + 1)) cleared ahead active)
+    ∙ copied-one (stripes_in newest span) copied (steps_from newest (beyond (is_backward newest) span) - cleared) (behind-steps newest ahead) lt
+    ∙ sym (active-left newest (Entered span copied) cleared ahead active)
 
-past : (old new : Sb) (span : Span) (zeroed : ℕ) (ahead : List Phase) → is_reshaping old ≡ true → IsPast span old new
-    → grow_left new Closed zeroed ahead ≡ (steps_from old (beyond (is_backward old) span) - zeroed) + phases_steps (final_shape old) old.size ahead
-past old new span zeroed ahead active moved =
+past : (old new : Sb) (span : Span) (cleared : ℕ) (ahead : List Phase) → is_reshaping old ≡ true → IsPast span old new
+    → grow_left new Closed cleared ahead ≡ (steps_from old (beyond (is_backward old) span) - cleared) + phases_steps (final_shape old) old.size ahead
+past old new span cleared ahead active moved =
     let steps : steps_from new new.reshape_position ≡ steps_from old (beyond (is_backward old) span) =
         same-steps _ _ _ _ _ _ _ _ _ _ moved.shape moved.final moved.size moved.backward moved.position in
-    active-left new Closed zeroed ahead (moved.active ∙ active)
-    ∙ ap (λ (n : ℕ). (n - zeroed) + phases_steps (final_shape new) new.size ahead) steps
-    ∙ ap (λ (n : ℕ). (steps_from old (beyond (is_backward old) span) - zeroed) + n) (same-phases (final_shape new) (final_shape old) new.size old.size ahead moved.final moved.size)
+    active-left new Closed cleared ahead (moved.active ∙ active)
+    ∙ ap (λ (n : ℕ). (n - cleared) + phases_steps (final_shape new) new.size ahead) steps
+    ∙ ap (λ (n : ℕ). (steps_from old (beyond (is_backward old) span) - cleared) + n) (same-phases (final_shape new) (final_shape old) new.size old.size ahead moved.final moved.size)
 
 pub recording : RecordingTakesOne
-recording old new span zeroed ahead active moved =
-    ap (λ (n : ℕ). n + 1) (past old new span zeroed ahead active moved)
-    ∙ recorded (stripes_in old span) (steps_from old (beyond (is_backward old) span) - zeroed) (behind-steps old ahead)
-    ∙ sym (active-left old (Entered span (stripes_in old span)) zeroed ahead active)
+recording old new span cleared ahead active moved =
+    ap (λ (n : ℕ). n + 1) (past old new span cleared ahead active moved)
+    ∙ recorded (stripes_in old span) (steps_from old (beyond (is_backward old) span) - cleared) (behind-steps old ahead)
+    ∙ sym (active-left old (Entered span (stripes_in old span)) cleared ahead active)
 
 pub finishing : FinishingTakesTheRest
-finishing old new span copied zeroed ahead active moved =
-    ap (λ (n : ℕ). n + ((stripes_in old span - copied) + 1)) (past old new span zeroed ahead active moved)
-    ∙ finished (stripes_in old span - copied) (steps_from old (beyond (is_backward old) span) - zeroed) (behind-steps old ahead)
-    ∙ sym (active-left old (Entered span copied) zeroed ahead active)
+finishing old new span copied cleared ahead active moved =
+    ap (λ (n : ℕ). n + ((stripes_in old span - copied) + 1)) (past old new span cleared ahead active moved)
+    ∙ finished (stripes_in old span - copied) (steps_from old (beyond (is_backward old) span) - cleared) (behind-steps old ahead)
+    ∙ sym (active-left old (Entered span copied) cleared ahead active)
 
 pub zeroing : ZeroingTakesOne
-zeroing newest zeroed ahead active lt =
-    ap (λ (n : ℕ). n + 1) (active-left newest Closed (zeroed + 1) ahead active)
-    ∙ zeroed-one (steps_from newest newest.reshape_position) zeroed (zeroed_by newest) (behind-steps newest ahead) lt (some-steps newest newest.reshape_position)
-    ∙ sym (active-left newest Closed zeroed ahead active)
+zeroing newest cleared ahead active lt =
+    ap (λ (n : ℕ). n + 1) (active-left newest Closed (cleared + 1) ahead active)
+    ∙ cleared-one (steps_from newest newest.reshape_position) cleared (zeroed_by newest) (behind-steps newest ahead) lt (some-steps newest newest.reshape_position)
+    ∙ sym (active-left newest Closed cleared ahead active)
 
 pub ending : EndingTakesOne
 ending old new ahead reshape is ended =

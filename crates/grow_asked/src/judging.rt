@@ -1,6 +1,6 @@
 //! Why an array doesn't grow as it is wished.
 
-ghost use Rattle.std.specs.Prelude.{◌≡◌, ◌≤◌, ◌<◌, ◌^◌, ◌↔◌, None, Some, length, IsTrue};
+ghost use Rattle.std.specs.Prelude.{◌≡◌, ◌≤◌, ◌^◌, ◌↔◌, length, IsTrue};
 ghost use Rattle.std.specs.List.{list_any};
 ghost use Rattle.md_base.specs.declared.answers.Refusal.{Refusal};
 ghost use Rattle.superblocks.specs.Reading.{shape_of, role_count};

@@ -1,15 +1,15 @@
 //! The steps that are left of a reshape and of the phases behind it.
 
-ghost use Rattle.std.specs.Prelude.{◌≡◌, ◌≤◌, ◌^◌, ◌++◌, true, IsTrue};
-ghost use Rattle.std.specs.Option.{option_to_list};
+ghost use Rattle.std.specs.Prelude.{◌≡◌, ◌≤◌, ◌^◌, IsTrue};
 ghost use Rattle.md_base.specs.Shapes.{is_valid_shape};
 ghost use Rattle.geometry.specs.Geometry.{stripes};
-ghost use Rattle.grow_plan.specs.Plans.{AreSound, phases_steps, phase_shape};
-ghost use Rattle.grow_asked.specs.Left.{reshape_left, phases_of, zeroed_by, IsReshapeUnderWay, IsWindowRight};
+ghost use Rattle.grow_plan.specs.Plans.{AreSound, phases_steps};
+ghost use Rattle.superblocks.specs.Reading.{next_window};
+ghost use Rattle.grow_asked.specs.Left.{reshape_left, stripes_in, phases_of, zeroed_by, IsReshapeUnderWay, IsWindowRight};
 
 use crate::shapes::{final_in, is_backward, shape_in};
 use crate::window::{PhasesLeft, WindowState};
-use geometry::{steps_of, stripe_sectors};
+use geometry::{steps_of, stripe_sectors, window};
 use grow_plan::{phase_shape, phase_steps};
 use md_base::{Shape, Span};
 use superblocks::Members;
@@ -24,6 +24,26 @@ fn stripes(shape: &Shape, span: &Span) -> u64
 {
     let stripe = stripe_sectors(shape);
     span.hi.div_ceil(stripe) - span.lo / stripe
+}
+
+/// The next window of the array's reshape; None where none is left.
+pub fn next_window(members: &Members) -> Option<Span>
+    requires { IsReshapeUnderWay members.now.newest }
+    ensures { result ≡ next_window members.now.newest }
+{
+    let newest = &members.newest;
+    let old = shape_in(newest);
+    let new = final_in(newest);
+    window(&old, &new, newest.size, is_backward(newest), newest.reshape_position)
+}
+
+/// The new stripes of that window.
+pub fn stripes_in(members: &Members, span: &Span) -> u64
+    requires reshape { IsReshapeUnderWay members.now.newest }
+    requires next { next_window members.now.newest ≡ Some span.now }
+    ensures { result ≡ stripes_in members.now.newest span.now }
+{
+    stripes(&final_in(&members.newest), span)
 }
 
 /// The steps that the array's reshape has left, of which so many stripes behind the list are zeroed.

@@ -1,6 +1,6 @@
 //! What a wish makes of an array.
 
-ghost use Rattle.std.specs.Prelude.{◌≡◌, ◌∷◌, Some, None, IsTrue};
+ghost use Rattle.std.specs.Prelude.{◌≡◌, ◌∷◌, IsTrue};
 ghost use Rattle.std.specs.Option.{option_to_list};
 ghost use Rattle.md_base.specs.declared.wishes.Phase.{Phase};
 ghost use Rattle.md_base.specs.Shapes.{is_valid_shape};
