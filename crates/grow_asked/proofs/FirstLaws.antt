@@ -1,8 +1,8 @@
 -- The refusal that is found is the first that is true, and the only one.
-use Rattle.std.proofs.Common.{◌≡◌, ℕ, ◌+◌, ◌<◌, ◌≤◌, ◌==◌, Bool, true, false, nat_lt, if◌then◌else◌, length, Option, Some, None, unwrap_or, option_map, is_some, IsTrue, refl, sym, ap, subst, ◌∙◌, inl, inr, arith, lit≤}
-use Rattle.std.specs.Prelude.{MatchOption, ◌↔◌, ⊤, IsSome}
+use Rattle.std.proofs.Common.{◌≡◌, ℕ, ◌+◌, ◌<◌, ◌≤◌, ◌==◌, Bool, true, false, nat_lt, if◌then◌else◌, length, Option, Some, None, unwrap_or, option_map, is_some, refl, sym, ap, subst, ◌∙◌, inl, inr, arith, lit≤}
+use Rattle.std.specs.Prelude.{MatchOption, ◌↔◌, ⊤}
 use Rattle.std.specs.Option.{option_or}
-use Rattle.std.proofs.lemmas.Bool.{cases_lt, cases_Bool}
+use Rattle.std.proofs.lemmas.Bool.{cases_lt}
 use Rattle.std.proofs.lemmas.Bool.Decides.{nat_tests}
 use Rattle.md_base.specs.declared.wishes.Wish.{Wish}
 use Rattle.md_base.specs.declared.answers.ShapeField.{ShapeField}
@@ -12,10 +12,10 @@ use Rattle.md_base.specs.declared.answers.BusyKind.{BusyKind}
 use Rattle.md_base.specs.declared.answers.BusyKind.TheVariants.{Reshape, Resync, Rebuild, Plan}
 use Rattle.superblocks.specs.Reading.{is_reshaping, shape_of}
 use Rattle.row_io.specs.Rows.{reading_of}
-use Rattle.grow_plan.specs.Plans.{is_same, bad_shape, target, plan_refusal}
+use Rattle.grow_plan.specs.Plans.{is_same, bad_shape, target}
 use Rattle.md_base.specs.Shapes.{is_multiple}
 use Rattle.flat_history.specs.Fits.{is_rebuildable}
-use Rattle.grow_asked.specs.Asked.{Asked, lowest_missing, refusal_for, roles_for, window_for, least_for, IsPendingOf, IsUngrowable, busy_order, order, IsFirst, busy_kind, backup_refusal, lacking_refusal, grow_refusal}
+use Rattle.grow_asked.specs.Asked.{Asked, lowest_missing, refusal_for, roles_for, window_for, least_for, IsUngrowable, order, IsFirst, busy_kind, backup_refusal, lacking_refusal, grow_refusal}
 
 clash : (b : Bool) → b ≡ false → b ≡ true → ⊥
 clash b off on = absurd (cc)
@@ -171,17 +171,49 @@ busy-first a wish kind e = of kind (kind-of (is_reshaping a.members.newest) (is_
   where
     of : (kind : BusyKind) → IsFirstKind (is_reshaping a.members.newest) (is_some a.resync) (is_rebuildable (reading_of a.members)) (nat_lt 0 a.phases) kind → IsFirst a wish (Busy kind)
     of Reshape is = first-at a wish (Busy Reshape) (record {
-      reshape = late 0 0 (lit≤ tt); resync = late 1 0 (lit≤ tt); rebuild = late 2 0 (lit≤ tt); plan = late 3 0 (lit≤ tt); whole = late 4 0 (lit≤ tt);
-      planned = early-plan a wish 0 (lit≤ tt); spares = late 8 0 (lit≤ tt); backed = early-backup a wish 0 (lit≤ tt); sized = late 11 0 (lit≤ tt) }) is
+      reshape = late 0 0 (lit≤ tt);
+      resync = late 1 0 (lit≤ tt);
+      rebuild = late 2 0 (lit≤ tt);
+      plan = late 3 0 (lit≤ tt);
+      whole = late 4 0 (lit≤ tt);
+      planned = early-plan a wish 0 (lit≤ tt);
+      spares = late 8 0 (lit≤ tt);
+      backed = early-backup a wish 0 (lit≤ tt);
+      sized = late 11 0 (lit≤ tt);
+    }) is
     of Resync is = first-at a wish (Busy Resync) (record {
-      reshape = λ lt. is.0; resync = late 1 1 (lit≤ tt); rebuild = late 2 1 (lit≤ tt); plan = late 3 1 (lit≤ tt); whole = late 4 1 (lit≤ tt);
-      planned = early-plan a wish 1 (lit≤ tt); spares = late 8 1 (lit≤ tt); backed = early-backup a wish 1 (lit≤ tt); sized = late 11 1 (lit≤ tt) }) is.1
+      reshape = λ lt. is.0;
+      resync = late 1 1 (lit≤ tt);
+      rebuild = late 2 1 (lit≤ tt);
+      plan = late 3 1 (lit≤ tt);
+      whole = late 4 1 (lit≤ tt);
+      planned = early-plan a wish 1 (lit≤ tt);
+      spares = late 8 1 (lit≤ tt);
+      backed = early-backup a wish 1 (lit≤ tt);
+      sized = late 11 1 (lit≤ tt);
+    }) is.1
     of Rebuild is = first-at a wish (Busy Rebuild) (record {
-      reshape = λ lt. is.0; resync = λ lt. is.1; rebuild = late 2 2 (lit≤ tt); plan = late 3 2 (lit≤ tt); whole = late 4 2 (lit≤ tt);
-      planned = early-plan a wish 2 (lit≤ tt); spares = late 8 2 (lit≤ tt); backed = early-backup a wish 2 (lit≤ tt); sized = late 11 2 (lit≤ tt) }) is.2
+      reshape = λ lt. is.0;
+      resync = λ lt. is.1;
+      rebuild = late 2 2 (lit≤ tt);
+      plan = late 3 2 (lit≤ tt);
+      whole = late 4 2 (lit≤ tt);
+      planned = early-plan a wish 2 (lit≤ tt);
+      spares = late 8 2 (lit≤ tt);
+      backed = early-backup a wish 2 (lit≤ tt);
+      sized = late 11 2 (lit≤ tt);
+    }) is.2
     of Plan is = first-at a wish (Busy Plan) (record {
-      reshape = λ lt. is.0; resync = λ lt. is.1; rebuild = λ lt. is.2; plan = late 3 3 (lit≤ tt); whole = late 4 3 (lit≤ tt);
-      planned = early-plan a wish 3 (lit≤ tt); spares = late 8 3 (lit≤ tt); backed = early-backup a wish 3 (lit≤ tt); sized = late 11 3 (lit≤ tt) }) (is-below 0 a.phases is.3)
+      reshape = λ lt. is.0;
+      resync = λ lt. is.1;
+      rebuild = λ lt. is.2;
+      plan = late 3 3 (lit≤ tt);
+      whole = late 4 3 (lit≤ tt);
+      planned = early-plan a wish 3 (lit≤ tt);
+      spares = late 8 3 (lit≤ tt);
+      backed = early-backup a wish 3 (lit≤ tt);
+      sized = late 11 3 (lit≤ tt);
+    }) (is-below 0 a.phases is.3)
 
 -- nothing is pending
 record IsIdle (a : Asked) : Type 0 where
@@ -197,15 +229,27 @@ idle a e =
 
 missing-first : (a : Asked) (wish : Wish) (role : ℕ) → IsIdle a → lowest_missing a.members ≡ Some role → IsFirst a wish (Degraded role)
 missing-first a wish role i e = first-at a wish (Degraded role) (record {
-  reshape = λ lt. i.reshape; resync = λ lt. i.resync; rebuild = λ lt. i.rebuild; plan = λ lt. i.plan; whole = late 4 4 (lit≤ tt);
-  planned = early-plan a wish 4 (lit≤ tt); spares = late 8 4 (lit≤ tt); backed = early-backup a wish 4 (lit≤ tt); sized = late 11 4 (lit≤ tt) }) e
+  reshape = λ lt. i.reshape;
+  resync = λ lt. i.resync;
+  rebuild = λ lt. i.rebuild;
+  plan = λ lt. i.plan;
+  whole = late 4 4 (lit≤ tt);
+  planned = early-plan a wish 4 (lit≤ tt);
+  spares = late 8 4 (lit≤ tt);
+  backed = early-backup a wish 4 (lit≤ tt);
+  sized = late 11 4 (lit≤ tt);
+}) e
 
 plan-first : (a : Asked) (wish : Wish) (r : Refusal) → IsIdle a → lowest_missing a.members ≡ None → refusal_for a wish ≡ Some r → IsFirst a wish r
 plan-first a wish r i w e =
     let kind = is-of-plan a wish r e in
     let place = plan-order r kind in
     first-at a wish r (record {
-      reshape = λ lt. i.reshape; resync = λ lt. i.resync; rebuild = λ lt. i.rebuild; plan = λ lt. i.plan; whole = λ lt. w;
+      reshape = λ lt. i.reshape;
+      resync = λ lt. i.resync;
+      rebuild = λ lt. i.rebuild;
+      plan = λ lt. i.plan;
+      whole = λ lt. w;
       planned = λ s lt f. (let same : s ≡ r = some-same s r (sym f ∙ e) in let at = ap order same in absurd (omega (arith, lt, at)));
       spares = λ lt. absurd (omega (arith, lt, place.1));
       backed = early-backup a wish (order r) (omega (arith, place.1));
@@ -220,16 +264,29 @@ record IsPlannable (a : Asked) (wish : Wish) : Type 0 where
 
 spares-first : (a : Asked) (wish : Wish) → IsPlannable a wish → nat_lt (length a.members.spares) (roles_for a wish) ≡ true → IsFirst a wish (NeedSpares (length a.members.spares) (roles_for a wish))
 spares-first a wish p e = first-at a wish (NeedSpares (length a.members.spares) (roles_for a wish)) (record {
-  reshape = λ lt. p.still.reshape; resync = λ lt. p.still.resync; rebuild = λ lt. p.still.rebuild; plan = λ lt. p.still.plan; whole = λ lt. p.whole;
-  planned = λ r lt f. none-some _ r p.planned f; spares = late 8 8 (lit≤ tt); backed = early-backup a wish 8 (lit≤ tt); sized = late 11 8 (lit≤ tt) })
-  (refl, refl, is-below _ _ e)
+  reshape = λ lt. p.still.reshape;
+  resync = λ lt. p.still.resync;
+  rebuild = λ lt. p.still.rebuild;
+  plan = λ lt. p.still.plan;
+  whole = λ lt. p.whole;
+  planned = λ r lt f. none-some _ r p.planned f;
+  spares = late 8 8 (lit≤ tt);
+  backed = early-backup a wish 8 (lit≤ tt);
+  sized = late 11 8 (lit≤ tt);
+})
+    (refl, refl, is-below _ _ e)
 
 backup-first : (a : Asked) (wish : Wish) (r : Refusal) → IsPlannable a wish → nat_lt (length a.members.spares) (roles_for a wish) ≡ false → backup_refusal a.backup (window_for a wish) ≡ Some r → IsFirst a wish r
 backup-first a wish r p s e =
     let of = of-backup a wish a.backup r refl e in
     first-at a wish r (record {
-      reshape = λ lt. p.still.reshape; resync = λ lt. p.still.resync; rebuild = λ lt. p.still.rebuild; plan = λ lt. p.still.plan; whole = λ lt. p.whole;
-      planned = λ q lt f. none-some _ q p.planned f; spares = λ lt. s;
+      reshape = λ lt. p.still.reshape;
+      resync = λ lt. p.still.resync;
+      rebuild = λ lt. p.still.rebuild;
+      plan = λ lt. p.still.plan;
+      whole = λ lt. p.whole;
+      planned = λ q lt f. none-some _ q p.planned f;
+      spares = λ lt. s;
       backed = λ q lt f. (let same : q ≡ r = some-same q r (sym f ∙ e) in let at = ap order same in absurd (omega (arith, lt, at)));
       sized = λ lt. absurd (omega (arith, lt, of.high));
     }) of.holds
@@ -237,9 +294,17 @@ backup-first a wish r p s e =
 size-first : (a : Asked) (wish : Wish) → IsPlannable a wish → nat_lt (length a.members.spares) (roles_for a wish) ≡ false → backup_refusal a.backup (window_for a wish) ≡ None
     → nat_lt (least_for a wish) a.visible ≡ true → IsFirst a wish (ArraySizeFirst a.visible (least_for a wish))
 size-first a wish p s b e = first-at a wish (ArraySizeFirst a.visible (least_for a wish)) (record {
-  reshape = λ lt. p.still.reshape; resync = λ lt. p.still.resync; rebuild = λ lt. p.still.rebuild; plan = λ lt. p.still.plan; whole = λ lt. p.whole;
-  planned = λ r lt f. none-some _ r p.planned f; spares = λ lt. s; backed = λ r lt f. none-some _ r b f; sized = late 11 11 (lit≤ tt) })
-  (refl, refl, is-below _ _ e)
+  reshape = λ lt. p.still.reshape;
+  resync = λ lt. p.still.resync;
+  rebuild = λ lt. p.still.rebuild;
+  plan = λ lt. p.still.plan;
+  whole = λ lt. p.whole;
+  planned = λ r lt f. none-some _ r p.planned f;
+  spares = λ lt. s;
+  backed = λ r lt f. none-some _ r b f;
+  sized = late 11 11 (lit≤ tt);
+})
+    (refl, refl, is-below _ _ e)
 
 -- at the place 12 nothing is so
 none-at-all : (a : Asked) (wish : Wish) → AreNot a wish 12 → (r : Refusal) → IsUngrowable a wish r → ⊥
@@ -267,8 +332,16 @@ none-at-all a wish n r is =
 none-of-all : (a : Asked) (wish : Wish) → IsPlannable a wish → nat_lt (length a.members.spares) (roles_for a wish) ≡ false → backup_refusal a.backup (window_for a wish) ≡ None
     → nat_lt (least_for a wish) a.visible ≡ false → (r : Refusal) → IsUngrowable a wish r → ⊥
 none-of-all a wish p s b e = none-at-all a wish (record {
-  reshape = λ lt. p.still.reshape; resync = λ lt. p.still.resync; rebuild = λ lt. p.still.rebuild; plan = λ lt. p.still.plan; whole = λ lt. p.whole;
-  planned = λ r lt f. none-some _ r p.planned f; spares = λ lt. s; backed = λ r lt f. none-some _ r b f; sized = λ lt. e })
+  reshape = λ lt. p.still.reshape;
+  resync = λ lt. p.still.resync;
+  rebuild = λ lt. p.still.rebuild;
+  plan = λ lt. p.still.plan;
+  whole = λ lt. p.whole;
+  planned = λ r lt f. none-some _ r p.planned f;
+  spares = λ lt. s;
+  backed = λ r lt f. none-some _ r b f;
+  sized = λ lt. e;
+})
 
 by-size : (a : Asked) (wish : Wish) → IsPlannable a wish → nat_lt (length a.members.spares) (roles_for a wish) ≡ false → backup_refusal a.backup (window_for a wish) ≡ None
     → (t : Bool) → nat_lt (least_for a wish) a.visible ≡ t → Judged a wish (option_or (if t then Some (ArraySizeFirst a.visible (least_for a wish)) else None) None)

@@ -89,7 +89,7 @@ refusals-fit world before end a wish (Busy Reshape) told f =
 refusals-fit world before end a wish (Busy Resync) told f = told.unsynced ∙ f.holds
 refusals-fit world before end a wish (Busy Rebuild) told f =
     where-asked world before end (λ r. IsTrue (is_rebuildable r)) (λ r is asked. same-rebuilds r a.members (told.asked r is asked).roles (told.asked r is asked).spares ∙ f.holds)
-refusals-fit world before end a wish (Busy Plan) told f = subst (λ (n : ℕ). 0 < n) (sym told.phases_are) f.holds
+refusals-fit world before end a wish (Busy Plan) told f = told.phases_are f.holds
 refusals-fit world before end a wish (Degraded role) told f =
     let low = lowest-found (role_count a.members.newest) (is_missing (reading_of a.members)) role f.holds in told.gone role low.0 low.1
 refusals-fit world before end a wish SameShape told f =
@@ -101,22 +101,30 @@ refusals-fit world before end a wish (SizeNotMultiple size chunk) told f =
 refusals-fit world before end a wish (NeedSpares have want) told f =
     where-asked world before end (λ r. (have ≡ length r.spares) × (have < want) × (want ≡ new_roles (shape_of r.newest) wish)) (λ r is asked.
     (f.holds.0 ∙ ap length (sym (told.asked r is asked).spares), f.holds.2, f.holds.1 ∙ ap (λ (s : Shape). new_roles s wish) (sym (told.asked r is asked).array.shape)))
-refusals-fit world before end a wish NeedBackup told f =
-    (no-backup world.scope.backup (slot_length world) a.backup told.backup_is f.holds.0,
-    if-shape world end a.members (λ shape size. 0 < largest_window shape size (phases shape wish)) (λ r is. told.whole r is (whole-before a wish NeedBackup f (lit< tt))) f.holds.1)
+refusals-fit world before end a wish NeedBackup told f = (
+  no-backup world.scope.backup (slot_length world) a.backup told.backup_is f.holds.0,
+  if-shape world end a.members (λ shape size. 0 < largest_window shape size (phases shape wish)) (λ r is. told.whole r is (whole-before a wish NeedBackup f (lit< tt))) f.holds.1,
+)
 refusals-fit world before end a wish (BackupTooSmall have want) told f =
-    let its = its-length world.scope.backup (slot_length world) a.backup have told.backup_is f.holds.0 in
-    (its.0, its.1, f.holds.2,
-    if-shape world end a.members (λ shape size. want ≡ 8 + largest_window shape size (phases shape wish)) (λ r is. told.whole r is (whole-before a wish (BackupTooSmall have want) f (lit< tt))) f.holds.1)
-refusals-fit world before end a wish (ArraySizeFirst visible least) told f =
-    (f.holds.0 ∙ sym told.visible_is, f.holds.2,
-    if-shape world end a.members (λ shape size. least ≡ least_data shape (phases shape wish) * size) (λ r is. told.whole r is (whole-before a wish (ArraySizeFirst visible least) f (lit< tt))) f.holds.1)
+    let its = its-length world.scope.backup (slot_length world) a.backup have told.backup_is f.holds.0 in (
+      its.0,
+      its.1,
+      f.holds.2,
+      if-shape world end a.members (λ shape size. want ≡ 8 + largest_window shape size (phases shape wish)) (λ r is. told.whole r is (whole-before a wish (BackupTooSmall have want) f (lit< tt))) f.holds.1,
+    )
+refusals-fit world before end a wish (ArraySizeFirst visible least) told f = (
+  f.holds.0 ∙ sym told.visible_is,
+  f.holds.2,
+  if-shape world end a.members (λ shape size. least ≡ least_data shape (phases shape wish) * size) (λ r is. told.whole r is (whole-before a wish (ArraySizeFirst visible least) f (lit< tt))) f.holds.1,
+)
 refusals-fit world before end a wish refusal told f = absurd f.holds
 
 pub plans-fit : GrowPlansFit
-plans-fit world before e a wish left told none steps =
-    (refl, if-shape world e.end a.members (λ shape size. (plan_refusal shape size wish ≡ None) × (left ≡ phases_steps shape size (phases shape wish)))
-    (λ r is. told.whole r is whole) (unrefused-plan a wish none, steps))
+plans-fit world before e a wish left told none steps = (
+  refl,
+  if-shape world e.end a.members (λ shape size. (plan_refusal shape size wish ≡ None) × (left ≡ phases_steps shape size (phases shape wish)))
+      (λ r is. told.whole r is whole) (unrefused-plan a wish none, steps),
+)
   where
     nothing : (r : Refusal) → IsUngrowable a wish r → ⊥
     nothing = (none-exactly a wish (grow_refusal a wish) (judged a wish)).0 none

@@ -8,10 +8,43 @@ use Rattle.grow_asked.specs.Left.{grow_left}
 
 abbrev at : ℕ → ℕ → Sb
 at size position = record {
-  magic = 0; major = 1; feature_map = 4; pad0 = 0; set_uuid = []; set_name = []; ctime = 0; level = 5; layout = 2; size = size; chunksize = 8;
-  raid_disks = 5; bitmap_offset = 0; new_level = 5; reshape_position = position; delta_disks = pos 1; new_layout = 2; new_chunk = 8; new_offset = pos 0;
-  data_offset = 16; data_size = 0; super_offset = 8; recovery_offset = 0; dev_number = 0; cnt_corrected_read = 0; device_uuid = []; devflags = 0;
-  bblog_shift = 0; bblog_size = 0; bblog_offset = 0; utime = 0; events = 1; resync_offset = 0; sb_csum = 0; max_dev = 128; pad3 = []; dev_roles = [];
+  magic = 0;
+  major = 1;
+  feature_map = 4;
+  pad0 = 0;
+  set_uuid = [];
+  set_name = [];
+  ctime = 0;
+  level = 5;
+  layout = 2;
+  size = size;
+  chunksize = 8;
+  raid_disks = 5;
+  bitmap_offset = 0;
+  new_level = 5;
+  reshape_position = position;
+  delta_disks = pos 1;
+  new_layout = 2;
+  new_chunk = 8;
+  new_offset = pos 0;
+  data_offset = 16;
+  data_size = 0;
+  super_offset = 8;
+  recovery_offset = 0;
+  dev_number = 0;
+  cnt_corrected_read = 0;
+  device_uuid = [];
+  devflags = 0;
+  bblog_shift = 0;
+  bblog_size = 0;
+  bblog_offset = 0;
+  utime = 0;
+  events = 1;
+  resync_offset = 0;
+  sb_csum = 0;
+  max_dev = 128;
+  pad3 = [];
+  dev_roles = [];
 }
 
 -- of 26 steps: begun, entered, three stripes copied, recorded

@@ -1,5 +1,5 @@
 -- Each step of a plan takes one of those that are left.
-use Rattle.std.proofs.Common.{◌≡◌, ℕ, ◌+◌, ◌-◌, ◌*◌, ◌/◌, ◌^◌, ◌==◌, ◌<◌, ◌≤◌, Bool, true, false, cond, nat_lt, nat_le, min, List, ◌∷◌, Option, Some, None, unwrap_or, refl, sym, ap, subst, ◌∙◌, zero-add, arith}
+use Rattle.std.proofs.Common.{◌≡◌, ℕ, ◌+◌, ◌-◌, ◌*◌, ◌/◌, ◌^◌, ◌==◌, ◌<◌, ◌≤◌, Bool, true, false, cond, nat_lt, nat_le, min, List, ◌∷◌, Option, Some, None, unwrap_or, sym, ap, subst, ◌∙◌, zero-add, arith}
 use Rattle.std.specs.Prelude.{MatchOption}
 use Rattle.std.proofs.lemmas.Bool.{cond-true, cond-false}
 use Rattle.md_base.specs.declared.places.Shape.{Shape}
@@ -8,14 +8,14 @@ use Rattle.md_base.specs.declared.wishes.Phase.{Phase}
 use Rattle.md_base.specs.declared.wishes.Phase.TheVariants.{Reshape, UpTo6, DownTo5}
 use Rattle.md_base.specs.Shapes.{data_disks}
 use Rattle.sb1.specs.declared.sb.Sb.{Sb}
-use Rattle.geometry.specs.Geometry.{list_end, unit, window, window_steps, steps_of, reshape_steps, zeroed_stripes, beyond}
+use Rattle.geometry.specs.Geometry.{list_end, unit, window, window_steps, steps_of, beyond}
 use Rattle.geometry.proofs.GoingOn.{steps_fall}
 use Rattle.geometry.proofs.Valid.{bounded_pair}
 use Rattle.grow_plan.specs.Plans.{phases_steps}
-use Rattle.superblocks.specs.Reading.{is_reshaping, is_backward, shape_of, target_of, final_shape, next_window}
+use Rattle.superblocks.specs.Reading.{is_reshaping, is_backward, shape_of, final_shape, next_window}
 use Rattle.grow_asked.specs.declared.window.WindowState.{WindowState}
 use Rattle.grow_asked.specs.declared.window.WindowState.TheVariants.{Closed, Entered}
-use Rattle.grow_asked.specs.Left.{steps_from, stripes_in, zeroed_by, reshape_left, grow_left, IsReshapeUnderWay, IsPast, IsAtStartOf, HasShape, BeginningTakesOne, EnteringTakesOne, CopyingTakesOne, RecordingTakesOne, FinishingTakesTheRest, ZeroingTakesOne, EndingTakesOne, TakingUpTakesOne, TakingDownTakesOne, BoundariesAreCounted}
+use Rattle.grow_asked.specs.Left.{steps_from, stripes_in, zeroed_by, reshape_left, grow_left, IsReshapeUnderWay, IsPast, BeginningTakesOne, EnteringTakesOne, CopyingTakesOne, RecordingTakesOne, FinishingTakesTheRest, ZeroingTakesOne, EndingTakesOne, TakingUpTakesOne, TakingDownTakesOne, BoundariesAreCounted}
 
 -- ---- with a reshape, and without one
 
@@ -87,9 +87,9 @@ pub beginning : BeginningTakesOne
 beginning old new to ahead still begun =
     let back = nat_lt (data_disks to) (data_disks (shape_of old)) in
     let place : new.reshape_position ≡ cond back (list_end (shape_of old) to old.size) 0 =
-        begun.position ∙ ap (λ (b : Bool). cond b (list_end (shape_of old) to old.size) 0) begun.backward in
+    begun.position ∙ ap (λ (b : Bool). cond b (list_end (shape_of old) to old.size) 0) begun.backward in
     let steps : steps_from new new.reshape_position ≡ steps_of (shape_of old) to old.size back (cond back (list_end (shape_of old) to old.size) 0) =
-        same-steps _ _ _ _ _ _ _ _ _ _ begun.shape begun.final begun.size begun.backward place in
+    same-steps _ _ _ _ _ _ _ _ _ _ begun.shape begun.final begun.size begun.backward place in
     let phases = same-phases (final_shape new) to new.size old.size ahead begun.final begun.size in
     let after = active-left new Closed 0 ahead begun.active in
     let before = still-left old Closed 0 (Reshape to ∷ ahead) still in
@@ -116,7 +116,7 @@ past : (old new : Sb) (span : Span) (cleared : ℕ) (ahead : List Phase) → is_
     → grow_left new Closed cleared ahead ≡ (steps_from old (beyond (is_backward old) span) - cleared) + phases_steps (final_shape old) old.size ahead
 past old new span cleared ahead active moved =
     let steps : steps_from new new.reshape_position ≡ steps_from old (beyond (is_backward old) span) =
-        same-steps _ _ _ _ _ _ _ _ _ _ moved.shape moved.final moved.size moved.backward moved.position in
+    same-steps _ _ _ _ _ _ _ _ _ _ moved.shape moved.final moved.size moved.backward moved.position in
     active-left new Closed cleared ahead (moved.active ∙ active)
     ∙ ap (λ (n : ℕ). (n - cleared) + phases_steps (final_shape new) new.size ahead) steps
     ∙ ap (λ (n : ℕ). (steps_from old (beyond (is_backward old) span) - cleared) + n) (same-phases (final_shape new) (final_shape old) new.size old.size ahead moved.final moved.size)

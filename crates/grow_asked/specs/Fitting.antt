@@ -1,5 +1,5 @@
 -- Why the answer to a request to grow fits it, over a bank that tells its contents.
-use Rattle.std.specs.Prelude.{◌≡◌, ℕ, ◌<◌, true, false, List, Option, Some, None, option_map, is_some, IsTrue}
+use Rattle.std.specs.Prelude.{◌≡◌, ℕ, ◌<◌, true, false, List, Some, None, option_map, is_some, IsTrue}
 use Rattle.md_base.specs.declared.wishes.Wish.{Wish}
 use Rattle.md_base.specs.declared.answers.Refusal.{Refusal}
 use Rattle.sb1.specs.declared.sb.Sb.{Sb}
@@ -39,7 +39,7 @@ pub record IsToldBy (world : World) (before : List Entry) (end : ℕ) (a : Asked
   pub whole : (r : Reading) → reading_at world end ≡ Some r → AreAllWhole a.members → SaysSameShape r.newest a.members.newest
   pub gone : (role : ℕ) → role < role_count a.members.newest → is_missing (reading_of a.members) role ≡ true → IsTrue (is_gone_after world before role)
   pub unsynced : is_unsynced world before ≡ is_some a.resync
-  pub phases_are : phases_left world before ≡ a.phases
+  pub phases_are : 0 < a.phases → 0 < phases_left world before
   pub visible_is : visible_at world before ≡ a.visible
   pub backup_is : a.backup ≡ option_map (slot_length world) world.scope.backup
 

@@ -34,7 +34,13 @@ pub fn next_window(members: &Members) -> Option<Span>
     let newest = &members.newest;
     let old = shape_in(newest);
     let new = final_in(newest);
-    window(&old, &new, newest.size, is_backward(newest), newest.reshape_position)
+    window(
+        &old,
+        &new,
+        newest.size,
+        is_backward(newest),
+        newest.reshape_position,
+    )
 }
 
 /// The new stripes of that window.

@@ -2,7 +2,9 @@
 
 use crate::members::{Made, are_fit, is_under_way, members_of};
 use grow_asked::left::{next_window, stripes_in};
-use grow_asked::{GrowPlan, PhasesLeft, WindowState, judge_grow, plan_of, planned_left, reshape_left};
+use grow_asked::{
+    GrowPlan, PhasesLeft, WindowState, judge_grow, plan_of, planned_left, reshape_left,
+};
 use md_base::{BusyKind, Phase, Refusal, Shape, ShapeField, Wish, WishedLayout};
 use std::process::Abort;
 use std::test::Fail;
@@ -18,7 +20,10 @@ const FIVE: Wished = (None, Some(5), None, None);
 
 const JUDGED: [((Made, State, Wished), Option<Refusal>); 20] = [
     // Four disks to five, with all that it takes; and a row after another without something of it.
-    (((128, 4, None, 0, true), (None, 0, 384, Some(104)), FIVE), None),
+    (
+        ((128, 4, None, 0, true), (None, 0, 384, Some(104)), FIVE),
+        None,
+    ),
     (
         ((128, 4, None, 0, true), (None, 0, 384, Some(103)), FIVE),
         Some(Refusal::BackupTooSmall(103, 104)),
@@ -53,51 +58,95 @@ const JUDGED: [((Made, State, Wished), Option<Refusal>); 20] = [
     ),
     // Wishes that no plan is made of, before what the array lacks.
     (
-        ((128, 4, None, 0, false), (None, 0, 384, None), (None, Some(4), None, None)),
+        (
+            (128, 4, None, 0, false),
+            (None, 0, 384, None),
+            (None, Some(4), None, None),
+        ),
         Some(Refusal::SameShape),
     ),
     (
-        ((128, 4, None, 0, false), (None, 0, 384, None), (Some(4), None, None, None)),
+        (
+            (128, 4, None, 0, false),
+            (None, 0, 384, None),
+            (Some(4), None, None, None),
+        ),
         Some(Refusal::BadShape(ShapeField::Level)),
     ),
     (
-        ((128, 4, None, 0, false), (None, 0, 384, None), (None, Some(99), None, None)),
+        (
+            (128, 4, None, 0, false),
+            (None, 0, 384, None),
+            (None, Some(99), None, None),
+        ),
         Some(Refusal::BadShape(ShapeField::Disks)),
     ),
     (
-        ((40, 4, None, 0, false), (None, 0, 120, None), (None, Some(5), Some(16), None)),
+        (
+            (40, 4, None, 0, false),
+            (None, 0, 120, None),
+            (None, Some(5), Some(16), None),
+        ),
         Some(Refusal::SizeNotMultiple(40, 16)),
     ),
     // Two roles more, with one spare.
     (
-        ((128, 4, None, 0, true), (None, 0, 384, None), (None, Some(6), None, None)),
+        (
+            (128, 4, None, 0, true),
+            (None, 0, 384, None),
+            (None, Some(6), None, None),
+        ),
         Some(Refusal::NeedSpares(1, 2)),
     ),
     // One disk less.
     (
-        ((128, 5, None, 0, false), (None, 0, 512, Some(104)), (None, Some(4), None, None)),
+        (
+            (128, 5, None, 0, false),
+            (None, 0, 512, Some(104)),
+            (None, Some(4), None, None),
+        ),
         Some(Refusal::ArraySizeFirst(512, 384)),
     ),
     (
-        ((128, 5, None, 0, false), (None, 0, 512, Some(103)), (None, Some(4), None, None)),
+        (
+            (128, 5, None, 0, false),
+            (None, 0, 512, Some(103)),
+            (None, Some(4), None, None),
+        ),
         Some(Refusal::BackupTooSmall(103, 104)),
     ),
     (
-        ((128, 5, None, 0, false), (None, 0, 384, Some(104)), (None, Some(4), None, None)),
+        (
+            (128, 5, None, 0, false),
+            (None, 0, 384, Some(104)),
+            (None, Some(4), None, None),
+        ),
         None,
     ),
     // Chunk 8 to 16 in place.
     (
-        ((128, 4, None, 0, false), (None, 0, 384, Some(56)), (None, None, Some(16), None)),
+        (
+            (128, 4, None, 0, false),
+            (None, 0, 384, Some(56)),
+            (None, None, Some(16), None),
+        ),
         None,
     ),
     // Level 5 to 6, as it stands, takes no window and no backup.
     (
-        ((40, 4, None, 0, true), (None, 0, 120, None), (Some(6), Some(5), None, Some(WishedLayout::Preserve))),
+        (
+            (40, 4, None, 0, true),
+            (None, 0, 120, None),
+            (Some(6), Some(5), None, Some(WishedLayout::Preserve)),
+        ),
         None,
     ),
     (
-        ((40, 4, None, 0, false), (None, 0, 120, None), (Some(6), Some(5), None, Some(WishedLayout::Preserve))),
+        (
+            (40, 4, None, 0, false),
+            (None, 0, 120, None),
+            (Some(6), Some(5), None, Some(WishedLayout::Preserve)),
+        ),
         Some(Refusal::NeedSpares(0, 1)),
     ),
 ];

@@ -1,4 +1,4 @@
-use Rattle.std.proofs.Common.{◌≡◌, ◌≤◌, length, List, ap, arith}
+use Rattle.std.proofs.Common.{◌≡◌, List, ap, arith}
 use Rattle.md_base.specs.declared.wishes.Phase.{Phase}
 use Rattle.grow_plan.specs.Plans.{phases, plan_phases, largest_window}
 use Rattle.grow_asked.proofs.PlanLaws.{windows-short, few-roles}
