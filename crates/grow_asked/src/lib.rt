@@ -1,0 +1,15 @@
+//! A request to grow: why it is refused, what its plan is, and the steps that are left of one. No device is touched.
+#![tactic(auto)]
+
+pub mod fit_laws;
+pub mod judging;
+pub mod left;
+pub mod left_laws;
+pub mod planning;
+pub mod shapes;
+pub mod window;
+
+pub use judging::judge_grow;
+pub use left::{planned_left, reshape_left};
+pub use planning::{GrowPlan, plan_of};
+pub use window::{PhasesLeft, WindowState};
