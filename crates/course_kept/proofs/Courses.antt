@@ -46,8 +46,8 @@ use Rattle.window_rows.specs.Copies.{tail_of, IsZeroIn, IsCopied}
 use Rattle.window_steps.proofs.CopyLaws.{open-alike}
 use Rattle.window_steps.proofs.PastLaws.{header-alike, past-placed}
 use Rattle.course_kept.specs.declared.course.Course.{Course}
-use Rattle.course_kept.specs.declared.course.Window.{Window}
-use Rattle.course_kept.specs.declared.course.Window.TheVariants.{Closed, Entered, Unsure}
+use Rattle.grow_asked.specs.declared.window.Window.{Window}
+use Rattle.grow_asked.specs.declared.window.Window.TheVariants.{Closed, Entered, Unsure}
 use Rattle.course_kept.specs.Course.{IsOfStripes, IsZeroedRow, hidden_in, IsStoredAs, StandsInCourse, past_stripe}
 use Rattle.course_kept.specs.Laws.{BeginsStand, EntersStand, CoursesMove, CopiesGoOn, CoursesAreCopied, WindowsAreCopied, RecordsClose, ZeroesGoOn, ZeroesAreAll, StoredMove, OpenHeadersFit, entered, closed, next_stripe}
 use Rattle.course_kept.proofs.Frames.{AreBeside, stands-on, past-alike}

@@ -27,8 +27,8 @@ use Rattle.views.proofs.Fit.{for-alike, list-alike}
 use Rattle.views.proofs.HeldRows.{held-moved}
 use Rattle.window_steps.proofs.CopyLaws.{row-later}
 use Rattle.course_kept.specs.declared.course.Course.{Course}
-use Rattle.course_kept.specs.declared.course.Window.{Window}
-use Rattle.course_kept.specs.declared.course.Window.TheVariants.{Closed, Entered, Unsure}
+use Rattle.grow_asked.specs.declared.window.Window.{Window}
+use Rattle.grow_asked.specs.declared.window.Window.TheVariants.{Closed, Entered, Unsure}
 use Rattle.course_kept.specs.Course.{IsOfStripes, IsCopiedRow, IsZeroedRow, hidden_in, StandsInCourse, past_stripe}
 
 -- ---- what the newest superblock says of rows

@@ -21,8 +21,8 @@ use Rattle.window_rows.specs.Copies.{HasWindow, IsRoomFor}
 use Rattle.window_steps.specs.Recording.{AreHeadersFit}
 use Rattle.window_steps.specs.Zeroing.{IsThrough}
 use Rattle.course_kept.specs.declared.course.Course.{Course}
-use Rattle.course_kept.specs.declared.course.Window.{Window}
-use Rattle.course_kept.specs.declared.course.Window.TheVariants.{Closed, Entered, Unsure}
+use Rattle.grow_asked.specs.declared.window.Window.{Window}
+use Rattle.grow_asked.specs.declared.window.Window.TheVariants.{Closed, Entered, Unsure}
 
 -- ---- the window
 

@@ -4,4 +4,4 @@
 pub mod course;
 pub mod laws;
 
-pub use course::{Course, Window};
+pub use course::Course;

@@ -1,9 +1,9 @@
 -- What is left at the steps of two reshapes, computed: four disks of level 5 to five, chunk 8, over 128 rows and over 40.
-use Rattle.std.proofs.Common.{◌≡◌, ℕ, [], refl}
+use Rattle.std.proofs.Common.{true, ◌≡◌, ℕ, [], refl}
 use Rattle.std.specs.Prelude.{pos}
 use Rattle.md_base.specs.Search.{least_below}
 use Rattle.sb1.specs.declared.sb.Sb.{Sb}
-use Rattle.grow_asked.specs.declared.window.WindowState.TheVariants.{Closed, Entered, Unsure}
+use Rattle.grow_asked.specs.declared.window.Window.TheVariants.{Closed, Entered, Unsure}
 use Rattle.grow_asked.specs.Left.{grow_left}
 
 abbrev at : ℕ → ℕ → Sb
@@ -52,15 +52,15 @@ begun : grow_left (at 128 0) Closed 0 [] ≡ 25
 unfolding least_below
 begun = refl
 
-entered : grow_left (at 128 0) (Entered (record { lo = 0; hi = 96 }) 0) 0 [] ≡ 24
+entered : grow_left (at 128 0) (Entered (record { lo = 0; hi = 96 }) 0 true) 0 [] ≡ 24
 unfolding least_below
 entered = refl
 
-copied : grow_left (at 128 0) (Entered (record { lo = 0; hi = 96 }) 1) 0 [] ≡ 23
+copied : grow_left (at 128 0) (Entered (record { lo = 0; hi = 96 }) 1 true) 0 [] ≡ 23
 unfolding least_below
 copied = refl
 
-all_copied : grow_left (at 128 0) (Entered (record { lo = 0; hi = 96 }) 3) 0 [] ≡ 21
+all_copied : grow_left (at 128 0) (Entered (record { lo = 0; hi = 96 }) 3 true) 0 [] ≡ 21
 unfolding least_below
 all_copied = refl
 
@@ -69,7 +69,7 @@ unfolding least_below
 recorded = refl
 
 -- one more after a write that finished the first window
-entered_again : grow_left (at 128 96) (Entered (record { lo = 96; hi = 192 }) 0) 0 [] ≡ 19
+entered_again : grow_left (at 128 96) (Entered (record { lo = 96; hi = 192 }) 0 true) 0 [] ≡ 19
 unfolding least_below
 entered_again = refl
 
@@ -82,7 +82,7 @@ short_begun : grow_left (at 40 0) Closed 0 [] ≡ 10
 unfolding least_below
 short_begun = refl
 
-short_last : grow_left (at 40 96) (Entered (record { lo = 96; hi = 120 }) 0) 0 [] ≡ 4
+short_last : grow_left (at 40 96) (Entered (record { lo = 96; hi = 120 }) 0 true) 0 [] ≡ 4
 unfolding least_below
 short_last = refl
 

@@ -13,13 +13,13 @@ use Rattle.geometry.proofs.GoingOn.{steps_fall}
 use Rattle.geometry.proofs.Valid.{bounded_pair}
 use Rattle.grow_plan.specs.Plans.{phases_steps}
 use Rattle.superblocks.specs.Reading.{is_reshaping, is_backward, shape_of, final_shape, next_window}
-use Rattle.grow_asked.specs.declared.window.WindowState.{WindowState}
-use Rattle.grow_asked.specs.declared.window.WindowState.TheVariants.{Closed, Entered}
+use Rattle.grow_asked.specs.declared.window.Window.{Window}
+use Rattle.grow_asked.specs.declared.window.Window.TheVariants.{Closed, Entered}
 use Rattle.grow_asked.specs.Left.{steps_from, stripes_in, zeroed_by, reshape_left, grow_left, IsReshapeUnderWay, IsPast, BeginningTakesOne, EnteringTakesOne, CopyingTakesOne, RecordingTakesOne, FinishingTakesTheRest, ZeroingTakesOne, EndingTakesOne, TakingUpTakesOne, TakingDownTakesOne, BoundariesAreCounted}
 
 -- ---- with a reshape, and without one
 
-active-left : (newest : Sb) (state : WindowState) (cleared : ℕ) (ahead : List Phase) → is_reshaping newest ≡ true
+active-left : (newest : Sb) (state : Window) (cleared : ℕ) (ahead : List Phase) → is_reshaping newest ≡ true
     → grow_left newest state cleared ahead ≡ reshape_left newest state cleared + phases_steps (final_shape newest) newest.size ahead
 active-left newest state cleared ahead active =
     ap (λ (n : ℕ). n + phases_steps (final_shape newest) newest.size ahead) (cond-true (is_reshaping newest) (reshape_left newest state cleared) 0 active)
@@ -27,7 +27,7 @@ active-left newest state cleared ahead active =
 pub still-final : (newest : Sb) → is_reshaping newest ≡ false → final_shape newest ≡ shape_of newest
 still-final newest still = ap (λ (o : Option Shape). unwrap_or o (shape_of newest)) (cond-false (is_reshaping newest) _ None still)
 
-still-left : (newest : Sb) (state : WindowState) (cleared : ℕ) (ahead : List Phase) → is_reshaping newest ≡ false
+still-left : (newest : Sb) (state : Window) (cleared : ℕ) (ahead : List Phase) → is_reshaping newest ≡ false
     → grow_left newest state cleared ahead ≡ phases_steps (shape_of newest) newest.size ahead
 still-left newest state cleared ahead still =
     ap (λ (n : ℕ). n + phases_steps (final_shape newest) newest.size ahead) (cond-false (is_reshaping newest) (reshape_left newest state cleared) 0 still)
@@ -100,17 +100,17 @@ beginning old new to ahead still begun =
     sums x y s t p q a b c d = omega (arith, a, b, c, d)
 
 pub entering : EnteringTakesOne
-entering newest span cleared ahead reshape is few =
-    ap (λ (n : ℕ). n + 1) (active-left newest (Entered span 0) cleared ahead reshape.active)
+entering newest span sectioned cleared ahead reshape is few =
+    ap (λ (n : ℕ). n + 1) (active-left newest (Entered span 0 sectioned) cleared ahead reshape.active)
     ∙ entered (steps_from newest newest.reshape_position) (steps_from newest (beyond (is_backward newest) span)) (stripes_in newest span) cleared (zeroed_by newest) (behind-steps newest ahead)
     (fallen newest (Some span) reshape is) few (some-steps newest (beyond (is_backward newest) span))
     ∙ sym (active-left newest Closed cleared ahead reshape.active)
 
 pub copying : CopyingTakesOne
-copying newest span copied cleared ahead active lt =
-    ap (λ (n : ℕ). n + 1) (active-left newest (Entered span (copied + 1)) cleared ahead active)
+copying newest span sectioned copied cleared ahead active lt =
+    ap (λ (n : ℕ). n + 1) (active-left newest (Entered span (copied + 1) sectioned) cleared ahead active)
     ∙ copied-one (stripes_in newest span) copied (steps_from newest (beyond (is_backward newest) span) - cleared) (behind-steps newest ahead) lt
-    ∙ sym (active-left newest (Entered span copied) cleared ahead active)
+    ∙ sym (active-left newest (Entered span copied sectioned) cleared ahead active)
 
 past : (old new : Sb) (span : Span) (cleared : ℕ) (ahead : List Phase) → is_reshaping old ≡ true → IsPast span old new
     → grow_left new Closed cleared ahead ≡ (steps_from old (beyond (is_backward old) span) - cleared) + phases_steps (final_shape old) old.size ahead
@@ -122,16 +122,16 @@ past old new span cleared ahead active moved =
     ∙ ap (λ (n : ℕ). (steps_from old (beyond (is_backward old) span) - cleared) + n) (same-phases (final_shape new) (final_shape old) new.size old.size ahead moved.final moved.size)
 
 pub recording : RecordingTakesOne
-recording old new span cleared ahead active moved =
+recording old new span sectioned cleared ahead active moved =
     ap (λ (n : ℕ). n + 1) (past old new span cleared ahead active moved)
     ∙ recorded (stripes_in old span) (steps_from old (beyond (is_backward old) span) - cleared) (behind-steps old ahead)
-    ∙ sym (active-left old (Entered span (stripes_in old span)) cleared ahead active)
+    ∙ sym (active-left old (Entered span (stripes_in old span) sectioned) cleared ahead active)
 
 pub finishing : FinishingTakesTheRest
-finishing old new span copied cleared ahead active moved =
+finishing old new span sectioned copied cleared ahead active moved =
     ap (λ (n : ℕ). n + ((stripes_in old span - copied) + 1)) (past old new span cleared ahead active moved)
     ∙ finished (stripes_in old span - copied) (steps_from old (beyond (is_backward old) span) - cleared) (behind-steps old ahead)
-    ∙ sym (active-left old (Entered span copied) cleared ahead active)
+    ∙ sym (active-left old (Entered span copied sectioned) cleared ahead active)
 
 pub zeroing : ZeroingTakesOne
 zeroing newest cleared ahead active lt =

@@ -1,5 +1,5 @@
 -- The steps that are left of a reshape under way, and of the phases that haven't begun.
-use Rattle.std.specs.Prelude.{◌≡◌, ℕ, ◌+◌, ◌-◌, ◌/◌, ◌<◌, ◌≤◌, true, false, nat_lt, if◌then◌else◌, List, ◌∷◌, ◌++◌, Some, None, ⊤}
+use Rattle.std.specs.Prelude.{Bool, ◌≡◌, ℕ, ◌+◌, ◌-◌, ◌/◌, ◌<◌, ◌≤◌, true, false, nat_lt, if◌then◌else◌, List, ◌∷◌, ◌++◌, Some, None, ⊤}
 use Rattle.std.specs.Option.{option_to_list}
 use Rattle.md_base.specs.declared.places.Shape.{Shape}
 use Rattle.md_base.specs.declared.places.Span.{Span}
@@ -10,8 +10,8 @@ use Rattle.sb1.specs.declared.sb.Sb.{Sb}
 use Rattle.geometry.specs.Geometry.{AreInForce, list_end, stripes, steps_of, zeroed_stripes, beyond}
 use Rattle.grow_plan.specs.Plans.{phases_steps}
 use Rattle.superblocks.specs.Reading.{is_reshaping, is_backward, shape_of, final_shape, list_length, next_window}
-use Rattle.grow_asked.specs.declared.window.WindowState.{WindowState}
-use Rattle.grow_asked.specs.declared.window.WindowState.TheVariants.{Closed, Entered, Unsure}
+use Rattle.grow_asked.specs.declared.window.Window.{Window}
+use Rattle.grow_asked.specs.declared.window.Window.TheVariants.{Closed, Entered, Unsure}
 use Rattle.grow_asked.specs.declared.window.PhasesLeft.{PhasesLeft}
 
 -- ---- how many
@@ -30,10 +30,10 @@ zeroed_by newest = zeroed_stripes (shape_of newest) (final_shape newest) newest.
 
 -- The steps that a reshape has left, of which so many stripes are zeroed. Of an entered window these are the stripes that aren't copied, and its record; a
 -- window of which nothing is sure isn't entered.
-abbrev pub reshape_left : Sb → WindowState → ℕ → ℕ
+abbrev pub reshape_left : Sb → Window → ℕ → ℕ
 reshape_left newest Closed zeroed = steps_from newest newest.reshape_position - zeroed
 reshape_left newest (Unsure span) zeroed = steps_from newest newest.reshape_position - zeroed
-reshape_left newest (Entered span copied) zeroed =
+reshape_left newest (Entered span copied sectioned) zeroed =
     (stripes_in newest span - copied) + 1 + (steps_from newest (beyond (is_backward newest) span) - zeroed)
 
 -- the phases that haven't begun, in order
@@ -41,7 +41,7 @@ abbrev pub phases_of : PhasesLeft → List Phase
 phases_of ahead = option_to_list ahead.next ++ option_to_list ahead.last
 
 -- the steps that are left of an active reshape, and of the phases behind it
-abbrev pub grow_left : Sb → WindowState → ℕ → List Phase → ℕ
+abbrev pub grow_left : Sb → Window → ℕ → List Phase → ℕ
 grow_left newest window zeroed ahead =
     (if is_reshaping newest then reshape_left newest window zeroed else 0) + phases_steps (final_shape newest) newest.size ahead
 
@@ -54,10 +54,10 @@ pub record IsReshapeUnderWay (newest : Sb) : Type 0 where
   pub within : newest.reshape_position ≤ list_length newest
 
 -- an entered window is the next one, and no more stripes of it are copied than it has
-abbrev pub IsWindowRight : Sb → WindowState → Type 0
+abbrev pub IsWindowRight : Sb → Window → Type 0
 IsWindowRight newest Closed = ⊤
 IsWindowRight newest (Unsure span) = ⊤
-IsWindowRight newest (Entered span copied) = (next_window newest ≡ Some span) × (copied ≤ stripes_in newest span)
+IsWindowRight newest (Entered span copied sectioned) = (next_window newest ≡ Some span) × (copied ≤ stripes_in newest span)
 
 -- the reshape is the same one, behind this window
 pub record IsPast (span : Span) (old new : Sb) : Type 0 where
@@ -90,22 +90,22 @@ BeginningTakesOne = (old new : Sb) (to : Shape) (ahead : List Phase) → is_resh
     → grow_left new Closed 0 ahead + 1 ≡ grow_left old Closed 0 (Reshape to ∷ ahead)
 
 abbrev pub EnteringTakesOne : Type 0
-EnteringTakesOne = (newest : Sb) (span : Span) (zeroed : ℕ) (ahead : List Phase) → IsReshapeUnderWay newest → next_window newest ≡ Some span → zeroed ≤ zeroed_by newest
-    → grow_left newest (Entered span 0) zeroed ahead + 1 ≡ grow_left newest Closed zeroed ahead
+EnteringTakesOne = (newest : Sb) (span : Span) (sectioned : Bool) (zeroed : ℕ) (ahead : List Phase) → IsReshapeUnderWay newest → next_window newest ≡ Some span → zeroed ≤ zeroed_by newest
+    → grow_left newest (Entered span 0 sectioned) zeroed ahead + 1 ≡ grow_left newest Closed zeroed ahead
 
 abbrev pub CopyingTakesOne : Type 0
-CopyingTakesOne = (newest : Sb) (span : Span) (copied zeroed : ℕ) (ahead : List Phase) → is_reshaping newest ≡ true → copied < stripes_in newest span
-    → grow_left newest (Entered span (copied + 1)) zeroed ahead + 1 ≡ grow_left newest (Entered span copied) zeroed ahead
+CopyingTakesOne = (newest : Sb) (span : Span) (sectioned : Bool) (copied zeroed : ℕ) (ahead : List Phase) → is_reshaping newest ≡ true → copied < stripes_in newest span
+    → grow_left newest (Entered span (copied + 1) sectioned) zeroed ahead + 1 ≡ grow_left newest (Entered span copied sectioned) zeroed ahead
 
 -- a window whose stripes are copied is recorded
 abbrev pub RecordingTakesOne : Type 0
-RecordingTakesOne = (old new : Sb) (span : Span) (zeroed : ℕ) (ahead : List Phase) → is_reshaping old ≡ true → IsPast span old new
-    → grow_left new Closed zeroed ahead + 1 ≡ grow_left old (Entered span (stripes_in old span)) zeroed ahead
+RecordingTakesOne = (old new : Sb) (span : Span) (sectioned : Bool) (zeroed : ℕ) (ahead : List Phase) → is_reshaping old ≡ true → IsPast span old new
+    → grow_left new Closed zeroed ahead + 1 ≡ grow_left old (Entered span (stripes_in old span) sectioned) zeroed ahead
 
 -- a window of which so many stripes are copied is finished at once: what it had left is done
 abbrev pub FinishingTakesTheRest : Type 0
-FinishingTakesTheRest = (old new : Sb) (span : Span) (copied zeroed : ℕ) (ahead : List Phase) → is_reshaping old ≡ true → IsPast span old new
-    → grow_left new Closed zeroed ahead + ((stripes_in old span - copied) + 1) ≡ grow_left old (Entered span copied) zeroed ahead
+FinishingTakesTheRest = (old new : Sb) (span : Span) (sectioned : Bool) (copied zeroed : ℕ) (ahead : List Phase) → is_reshaping old ≡ true → IsPast span old new
+    → grow_left new Closed zeroed ahead + ((stripes_in old span - copied) + 1) ≡ grow_left old (Entered span copied sectioned) zeroed ahead
 
 abbrev pub ZeroingTakesOne : Type 0
 ZeroingTakesOne = (newest : Sb) (zeroed : ℕ) (ahead : List Phase) → is_reshaping newest ≡ true → zeroed < zeroed_by newest

@@ -8,7 +8,7 @@ ghost use Rattle.superblocks.specs.Reading.{next_window};
 ghost use Rattle.grow_asked.specs.Left.{reshape_left, stripes_in, phases_of, zeroed_by, IsReshapeUnderWay, IsWindowRight};
 
 use crate::shapes::{final_in, is_backward, shape_in};
-use crate::window::{PhasesLeft, WindowState};
+use crate::window::{PhasesLeft, Window};
 use geometry::{steps_of, stripe_sectors, window};
 use grow_plan::{phase_shape, phase_steps};
 use md_base::{Shape, Span};
@@ -53,7 +53,7 @@ pub fn stripes_in(members: &Members, span: &Span) -> u64
 }
 
 /// The steps that the array's reshape has left, of which so many stripes behind the list are zeroed.
-pub fn reshape_left(members: &Members, window: &WindowState, zeroed: u64) -> u64
+pub fn reshape_left(members: &Members, window: &Window, zeroed: u64) -> u64
     requires reshape { IsReshapeUnderWay members.now.newest }
     requires open { IsWindowRight members.now.newest window.now }
     requires zeroed { zeroed ≤ zeroed_by members.now.newest }
@@ -65,10 +65,14 @@ pub fn reshape_left(members: &Members, window: &WindowState, zeroed: u64) -> u64
     let new = final_in(newest);
     let back = is_backward(newest);
     match window {
-        WindowState::Closed | WindowState::Unsure { span: _ } => {
+        Window::Closed | Window::Unsure { span: _ } => {
             steps_of(&old, &new, newest.size, back, newest.reshape_position) - zeroed
         }
-        WindowState::Entered { span, copied } => {
+        Window::Entered {
+            span,
+            copied,
+            sectioned: _,
+        } => {
             let beyond = if back { span.lo } else { span.hi };
             let behind = steps_of(&old, &new, newest.size, back, beyond) - zeroed;
             stripes(&new, span) - *copied + 1 + behind

@@ -12,4 +12,4 @@ pub mod window;
 pub use judging::judge_grow;
 pub use left::{planned_left, reshape_left};
 pub use planning::{GrowPlan, plan_of};
-pub use window::{PhasesLeft, WindowState};
+pub use window::{PhasesLeft, Window};

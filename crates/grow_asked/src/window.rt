@@ -2,13 +2,20 @@
 
 use md_base::{Phase, Span};
 
-/// The window of a reshape: none is open; or this one, of which so many stripes are copied; or one whose section may or may not
-/// be named in the backup.
+/// The window of a reshape: none is open; or one is entered, so that its sectors are in the buffer, with so many of its stripes
+/// copied, and perhaps with its section stored in the backup; or the backup failed when that was to be named, so that a stop may
+/// leave the section active or not.
 #[derive(Clone, Copy, Debug, PartialEq, Eq)]
-pub enum WindowState {
+pub enum Window {
     Closed,
-    Entered { span: Span, copied: u64 },
-    Unsure { span: Span },
+    Entered {
+        span: Span,
+        copied: u64,
+        sectioned: bool,
+    },
+    Unsure {
+        span: Span,
+    },
 }
 
 /// The phases of a plan that haven't begun.

@@ -3,7 +3,7 @@
 use crate::members::{Made, are_fit, is_under_way, members_of};
 use grow_asked::left::{next_window, stripes_in};
 use grow_asked::{
-    GrowPlan, PhasesLeft, WindowState, judge_grow, plan_of, planned_left, reshape_left,
+    GrowPlan, PhasesLeft, Window, judge_grow, plan_of, planned_left, reshape_left,
 };
 use md_base::{BusyKind, Phase, Refusal, Shape, ShapeField, Wish, WishedLayout};
 use std::process::Abort;
@@ -227,9 +227,13 @@ fn left(rt: &impl Abort, members: &Members, copied: Option<u64>) -> u64 {
     match (next_window(members), copied) {
         (Some(span), Some(copied)) => {
             assert!(rt; copied <= stripes_in(members, &span));
-            reshape_left(members, &WindowState::Entered { span, copied }, 0)
+            reshape_left(members, &Window::Entered {
+                span,
+                copied,
+                sectioned: true,
+            }, 0)
         }
-        _ => reshape_left(members, &WindowState::Closed, 0),
+        _ => reshape_left(members, &Window::Closed, 0),
     }
 }
 

@@ -36,7 +36,7 @@ use Rattle.window_steps.proofs.CopyLaws.{window-alike, critical-alike}
 use Rattle.kept_history.specs.Recorded.{IsCallGoing, entry_of}
 use Rattle.kept_history.specs.Safe.{world_in, IsFilledRight}
 use Rattle.kept_history.specs.Told.{told_now}
-use Rattle.course_kept.specs.declared.course.Window.TheVariants.{Entered, Unsure}
+use Rattle.grow_asked.specs.declared.window.Window.TheVariants.{Entered, Unsure}
 use Rattle.course_kept.specs.Course.{IsCourseOf, IsStored, StandsInCourse}
 use Rattle.course_kept.specs.Laws.{closed, entered, unsure}
 use Rattle.course_kept.proofs.Courses.{enters-stand}

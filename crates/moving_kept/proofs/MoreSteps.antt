@@ -43,7 +43,7 @@ use Rattle.window_steps.proofs.ZeroLaws.{through-moved}
 use Rattle.kept_history.specs.Recorded.{IsCallGoing, entry_of}
 use Rattle.kept_history.specs.Safe.{world_in}
 use Rattle.kept_history.specs.Told.{told_now}
-use Rattle.course_kept.specs.declared.course.Window.TheVariants.{Closed}
+use Rattle.grow_asked.specs.declared.window.Window.TheVariants.{Closed}
 use Rattle.course_kept.specs.Course.{IsCourseOf, IsStored, past_stripe}
 use Rattle.course_kept.specs.Laws.{closed, entered, IsWindowCopied}
 use Rattle.course_kept.proofs.Courses.{zeroes-go-on, stored-moves, windows-copied, records-close}

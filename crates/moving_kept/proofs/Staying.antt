@@ -40,8 +40,8 @@ use Rattle.kept_history.specs.Recorded.{IsCallGoing, entry_of}
 use Rattle.kept_history.specs.Safe.{world_in, IsFilledRight}
 use Rattle.kept_history.specs.Told.{told_now}
 use Rattle.course_kept.specs.declared.course.Course.{Course}
-use Rattle.course_kept.specs.declared.course.Window.{Window}
-use Rattle.course_kept.specs.declared.course.Window.TheVariants.{Closed, Entered, Unsure}
+use Rattle.grow_asked.specs.declared.window.Window.{Window}
+use Rattle.grow_asked.specs.declared.window.Window.TheVariants.{Closed, Entered, Unsure}
 use Rattle.course_kept.specs.Course.{IsWindowOf, IsCourseOf, StandsInCourse}
 use Rattle.course_kept.proofs.Courses.{stored-moves}
 use Rattle.moving_kept.specs.Moving.{AreToldGone, HasListInCourse, IsMoving}

@@ -44,7 +44,7 @@ use Rattle.window_steps.specs.Copying.{AreHeadersKept}
 use Rattle.kept_history.specs.Recorded.{IsCallGoing, entry_of}
 use Rattle.kept_history.specs.Safe.{world_in, IsFilledRight}
 use Rattle.window_steps.proofs.CopyLaws.{window-alike, critical-alike}
-use Rattle.course_kept.specs.declared.course.Window.TheVariants.{Entered}
+use Rattle.grow_asked.specs.declared.window.Window.TheVariants.{Entered}
 use Rattle.course_kept.specs.Course.{IsWindowOf, IsCourseOf, IsStoredAs, IsStored}
 use Rattle.course_kept.specs.Laws.{entered, next_stripe}
 use Rattle.course_kept.proofs.Courses.{copies-go-on, courses-copied, stored-moves}
