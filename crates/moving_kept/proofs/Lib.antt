@@ -1,5 +1,4 @@
 pub mod MembersMove
-pub mod Newest
 pub mod Quiet
 pub mod Refusals
 pub mod Steps

@@ -43,13 +43,13 @@ use Rattle.window_steps.proofs.ZeroLaws.{through-moved}
 use Rattle.kept_history.specs.Recorded.{IsCallGoing, entry_of}
 use Rattle.kept_history.specs.Safe.{world_in}
 use Rattle.kept_history.specs.Told.{told_now}
+use Rattle.kept_history.proofs.Lists.{newest-in}
 use Rattle.grow_asked.specs.declared.window.Window.TheVariants.{Closed}
 use Rattle.course_kept.specs.Course.{IsCourseOf, IsStored, past_stripe}
 use Rattle.course_kept.specs.Laws.{closed, entered, IsWindowCopied}
 use Rattle.course_kept.proofs.Courses.{zeroes-go-on, stored-moves, windows-copied, records-close}
 use Rattle.moving_kept.specs.Moving.{HasListInCourse, IsMoving}
 use Rattle.moving_kept.proofs.MembersMove.{reshaping-moved, reshaping-past}
-use Rattle.moving_kept.proofs.Newest.{newest-now}
 use Rattle.moving_kept.proofs.Quiet.{quiet-moves}
 use Rattle.moving_kept.proofs.Steps.{AreMissingSince, quiet-step, missing-moved, step-is, told-behind, told-step}
 
@@ -135,7 +135,7 @@ recorded-moves tells given tape tape' scope first entries old new carried span s
         → IsCopiedWindow (OpensFit (world_in given tape scope first)) scope told old span l.list (present given tape) (disk given.start tape)
     copied t told more l = record {
       allowed = λ x lt. more.values x (within x lt) (l.list x) (subst (λ (v : Sector). IsIn (values_of (opening_list (world_in given tape scope first)) entries x) v) (sym (l.is x lt))
-          (newest-now (opening_list (world_in given tape scope first)) entries x (within x lt)));
+          (newest-in (opening_list (world_in given tape scope first)) entries x (within x lt)));
       window = done.window;
       stands = done.stands;
       rows_are = λ is enough so. done.rows_are so;
