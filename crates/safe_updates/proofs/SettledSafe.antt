@@ -99,6 +99,8 @@ module _ (sound : Type 0) (scope : Scope) (given : Given) (told : Ledger) (unsyn
       held = subst (λ (n : Members). AreHeldAllowed scope n (λ x. list x ∷ []) (disk given.start tape)) (sym former-is) (holds-alone scope given Here tape list placed-here flushed stands-here);
       sections = subst (λ (n : Members). AreSectionsAllowed scope n (λ x. list x ∷ []) (disk given.start tape)) (sym former-is) stands.sections;
       settled = λ clean does premise. subst (λ (n : Members). IsSettled scope n (λ x. list x ∷ []) (disk given.start tape)) (sym former-is) (settled-here clean does premise);
+      headers = named.steady.right.headers;
+      tails = named.steady.right.tails;
     };
     numbers = named.steady.numbers;
   })
@@ -118,6 +120,8 @@ clean-settled {m = m} told dirty unsynced list clean named = inl (record {
     held = named.steady.right.held;
     sections = named.steady.right.sections;
     settled = named.steady.right.settled;
+    headers = named.steady.right.headers;
+    tails = named.steady.right.tails;
   };
   numbers = named.steady.numbers;
 })

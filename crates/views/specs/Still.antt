@@ -1,5 +1,5 @@
 -- When members are placed, when their rows are settled, and what right views are worth.
-use Rattle.std.specs.Prelude.{◌≡◌, ℕ, ◌<◌, ◌≤◌, false, List, length, None}
+use Rattle.std.specs.Prelude.{◌≡◌, ℕ, ◌<◌, ◌≤◌, List, length, None}
 use Rattle.md_base.specs.Sectors.{Sector}
 use Rattle.bank.specs.declared.bank.Operation.{Operation}
 use Rattle.bank.specs.Given.{Given}
@@ -29,8 +29,8 @@ FlushedIsSettled = (scope : Scope) (given : Given) (members : Members) (tape : L
     → AreHoldersFlushed (reading_of members) given tape → RowsStandUnder scope members (present given tape) (disk given.start tape) list
     → ((x : ℕ) → x < list_length members.newest → IsIn (values x) (list x)) → IsSettled scope members values (disk given.start tape)
 
--- Where each view of what a stop may leave is right, no reshape is told, and the epoch opened fit, each image that assembles is sound.
+-- Where each view of what a stop may leave is right, and the epoch opened fit, each image that assembles is sound, in a reshape too.
 abbrev pub ViewsAreSound : Type 0
 ViewsAreSound = (world : World) (given : Given) (mark : ℕ) (told : Ledger) (d : Disk) → mark ≤ length world.tape
     → ((s k : ℕ) (v : Sector) → IsIn (may_hold world mark s k) v → IsIn (d s k) v)
-    → AreViewsRight (OpensFit world) world.scope given told d → told.reshaping ≡ false → OpensFit world → LeavesSound world mark
+    → AreViewsRight (OpensFit world) world.scope given told d → OpensFit world → LeavesSound world mark

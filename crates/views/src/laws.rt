@@ -12,8 +12,8 @@ pub fn flushed_rows_are_settled()
     ensures { FlushedIsSettled }
 {}
 
-/// Where each view of what a stop may leave is right, no reshape is told, and the epoch opened sound in whole sectors, each image that
-/// assembles is sound: in a clean one no more is missing than is tolerated, and with that filled in the parity of each row fits.
+/// Where each view of what a stop may leave is right, and the epoch opened sound in whole sectors, each image that
+/// assembles is sound, in a reshape too: in a clean one no more is missing than is tolerated, and with that filled in the parity of each row fits.
 pub fn views_are_sound()
     ensures { ViewsAreSound }
 {}
