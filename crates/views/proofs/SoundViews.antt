@@ -1,10 +1,10 @@
 -- Images that are read as right views are sound.
-use Rattle.std.proofs.Common.{◌≡◌, ℕ, ◌≤◌, take, take_all, List, length, ◌++◌, Option, None, sym, subst, arith}
-use Rattle.std.specs.Prelude.{IfSome}
+use Rattle.std.proofs.Common.{◌≡◌, inl, inr, ℕ, ◌≤◌, take, take_all, List, length, ◌++◌, Option, None, sym, subst, arith}
+use Rattle.std.specs.Prelude.{⊤, IfSome}
 use Rattle.md_base.specs.Sectors.{Sector}
 use Rattle.bank.specs.declared.bank.Operation.{Operation}
 use Rattle.bank.specs.Given.{Given}
-use Rattle.bank.specs.Tape.{Contents, IsDrawn, IsIn, disk}
+use Rattle.bank.specs.Tape.{Contents, EachMark, IsDrawn, IsIn, disk}
 use Rattle.superblocks.specs.declared.members.Members.{Members}
 use Rattle.superblocks.specs.Reading.{Scope, Reading, reading}
 use Rattle.flat_history.specs.Growing.{grown}
@@ -15,9 +15,10 @@ use Rattle.flat_history.specs.World.{World, may_hold}
 use Rattle.flat_history.proofs.SoundLaws.{fit-before, leaves-drawn, throughout-grown}
 use Rattle.shape_views.specs.Views.{Disk, Ledger, IsSeenRight}
 use Rattle.shape_views.proofs.SoundViews.{right-views-sound}
-use Rattle.shape_changes.specs.Steady.{IsSafeOver, KeepsSafe}
+use Rattle.shape_changes.specs.Steady.{IsSafeOver}
+use Rattle.shape_changes.specs.Changing.{AreEitherRight}
 use Rattle.shape_changes.proofs.Steady.{safe-is-seen}
-use Rattle.views.specs.Still.{ViewsAreSound}
+use Rattle.views.specs.Still.{ViewsAreSound, CallsLeaveSound, ChangesLeaveSound}
 
 -- ---- an image that is read as a right view
 
@@ -56,16 +57,26 @@ throughout-opening world given told members start first safe opened mark low hig
 
 -- ---- a call
 
-module _ (world : World) (given : Given) (told : Ledger) (members : Members) (ops : List Operation) (start : given.start ≡ world.start) (begun : world.first ≤ length world.tape)
-    (safe : KeepsSafe world given told members world.tape (world.tape ++ ops)) where
-  -- where a call keeps the array safe, each of its marks leaves sound images
+module _ (world : World) (given : Given) (told more : Ledger) (ops : List Operation) (start : given.start ≡ world.start) (begun : world.first ≤ length world.tape)
+    (marks : EachMark ⊤ given.start world.tape (world.tape ++ ops) (AreEitherRight (OpensFit world) world.scope given told more)) where
+  -- where each image at its marks is seen right, by the one ledger or the other, it is sound
   pub leaves-kept : OpensFit (grown world ops) → (mark : ℕ) → length world.tape ≤ mark → mark ≤ length (world.tape ++ ops) → LeavesSound (grown world ops) mark
   leaves-kept opened mark low high = leaves-drawn (grown world ops) mark high (λ c held assembles.
       let drawn : IsDrawn (disk given.start (take mark (world.tape ++ ops))) c =
       subst (λ (at : Contents). IsDrawn (disk at (take mark (world.tape ++ ops))) c) (sym start) held in
-      seen-sound (OpensFit world) (fit-before world ops begun opened) world.scope given told (disk given.start (take mark (world.tape ++ ops))) c drawn
-      (safe.marks.each tt mark low high c (record { eighth = λ s _. drawn s 8; ninth = λ s _. drawn s 9 })) assembles)
+      let fit = fit-before world ops begun opened in
+      elim (marks.each tt mark low high c (record { eighth = λ s _. drawn s 8; ninth = λ s _. drawn s 9 })) [
+        | inl seen ↦ seen-sound (OpensFit world) fit world.scope given told (disk given.start (take mark (world.tape ++ ops))) c drawn seen assembles
+        | inr seen ↦ seen-sound (OpensFit world) fit world.scope given more (disk given.start (take mark (world.tape ++ ops))) c drawn seen assembles
+      ])
 
   -- and so does every mark since the opening
-  pub throughout-kept : (OpensFit world → LeavesSoundThroughout world) → OpensFit (grown world ops) → LeavesSoundThroughout (grown world ops)
-  throughout-kept before opened = throughout-grown world ops (before (fit-before world ops begun opened)) (leaves-kept opened)
+  pub throughout-marked : (OpensFit world → LeavesSoundThroughout world) → OpensFit (grown world ops) → LeavesSoundThroughout (grown world ops)
+  throughout-marked before opened = throughout-grown world ops (before (fit-before world ops begun opened)) (leaves-kept opened)
+
+pub throughout-kept : CallsLeaveSound
+throughout-kept world given told members ops start begun safe =
+    throughout-marked world given told told ops start begun (record { longer = safe.marks.longer; earlier = safe.marks.earlier; each = λ t mark low high c drawn. inl (safe.marks.each t mark low high c drawn) })
+
+pub throughout-changed : ChangesLeaveSound
+throughout-changed world given told more members ops start begun safe = throughout-marked world given told more ops start begun safe.marks
