@@ -83,8 +83,8 @@ module _ (sound : Type 0) (scope : Scope) (given : Given) (told : Ledger) (unsyn
 
   settled-here : is_clean Former.newest ≡ true → DoWithout Former → sound → IsSettled scope Here (λ x. list x ∷ []) (disk given.start tape)
   settled-here clean does premise =
-      flushed-is-settled scope given Here tape (λ x. list x ∷ []) list placed-here flushed
-      (rows (ap (λ (r : Reading). is_clean r.newest) (sym same) ∙ clean) (without-here does) premise) (λ x lt. inl refl)
+      let stand = rows (ap (λ (r : Reading). is_clean r.newest) (sym same) ∙ clean) (without-here does) premise in
+      flushed-is-settled scope given Here tape (λ x. list x ∷ []) list placed-here flushed (record { rows = stand.rows; zeros = stand.zeros }) (λ x lt. inl refl)
 
   pub settled-safe : IsSafeNow sound scope given (settled_ledger unsynced list told) m (disk given.start tape)
   settled-safe = inl (record {
