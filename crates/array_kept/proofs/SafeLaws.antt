@@ -292,7 +292,7 @@ module _ (given : Given) (tape : List Operation) (scope : Scope) (first : ℕ) (
   pub safe-call : IsSafe later given new work' all
   safe-call = record {
     past = calls-owe world entries (entries_of who end (early ++ late)) ops begun.begun begun.ends (made-from (length tape) end who (early ++ late) longer) was.past owed;
-    sound = throughout-kept world given (told_by world work' entries more) new ops refl begun.begun refl stretch was.sound;
+    sound = throughout-kept world given (told_by world work' entries more) new ops refl begun.begun stretch was.sound;
     now = now-last;
     counted = λ live.
         let counted = was.counted (rise.left live) in

@@ -54,7 +54,7 @@ use Rattle.array_kept.proofs.SafeLaws.{safe-last}
 use Rattle.shape_changes.proofs.Since.{since-none}
 use Rattle.views.proofs.SoundViews.{throughout-opening}
 use Rattle.shape_changes.proofs.Steady.{safe-is-seen}
-use Rattle.views.proofs.Still.{count-still, held-placed, backup-still, length-still, open-still, gone-still}
+use Rattle.views.proofs.Still.{count-still, held-placed, backup-still, length-still, open-still, gone-still, tail-still, untailed}
 use Rattle.calls_kept.proofs.AbsentLaws.{AreAbsent, absents-legal, absents-are, absents-length, absents-limit, absents-left, absents-values, absents-now, absents-end, absents-keep, absents-ended, absents-told, absents-missing, absents-spares, absents-rebuilt}
 use Rattle.call_entries.proofs.StepLaws.{used-more}
 use Rattle.views.proofs.Fit.{valid}
@@ -184,6 +184,9 @@ module _ {tells : Type 0} {given : Given} {tape : List Operation} {scope : Scope
         missing = gone-still (ledger_now world work entries) members is.still (λ role lt missing. absents-told (reading_of members) opener (length tape) (shape_of members.newest).disks role lt missing);
         unclean = λ dirty. ap (λ (b : Bool). b || is_unsettled entries) (found-unsynced ∙ ap not dirty);
         reshaping = λ active. absurd (let none : true ≡ false = sym active ∙ is.still in cc);
+        headers = λ active fit. absurd (let none : true ≡ false = sym active ∙ is.still in cc);
+        zeros = λ fit. tail-still members.newest is.still (now list []);
+        tails = λ fit x slot tail. absurd (untailed members.newest is.still x tail);
       })
     where
       two : ArePlaced scope given members
@@ -203,7 +206,7 @@ module _ {tells : Type 0} {given : Given} {tape : List Operation} {scope : Scope
         subst (λ (n : ℕ). IsSafeAt world entries n) (sym at)
         (safe-last world given entries refl is.sizes_are (ends-at opener (length tape) (found_losses (reading_of members)))
         (absents-keep opener (length tape) (found_losses (reading_of members)) (absents-are (reading_of members) (shape_of members.newest).disks)) fills work (found-seen alike));
-    sound = throughout-opening world given (ledger_now world work entries) members refl refl refl (found-safe alike);
+    sound = throughout-opening world given (ledger_now world work entries) members refl refl (found-safe alike);
     now = found-safe alike;
     counted = λ live. let newest = is.newest t in record { found = newest.0; is = newest.1; events = let few = newest.2 in omega (arith, few) };
   }

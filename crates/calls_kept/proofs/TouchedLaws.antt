@@ -15,7 +15,8 @@ use Rattle.list_io.specs.Buffers.{IsTouched}
 use Rattle.list_io.specs.Full.{DataStands, RowStands, AreWholeIn}
 use Rattle.list_io.specs.Writing.{IsWritten, HasFull}
 use Rattle.flat_history.specs.World.{World}
-use Rattle.shape_views.specs.Views.{Ledger}
+use Rattle.flat_history.specs.Sound.{OpensFit}
+use Rattle.shape_views.specs.Views.{Ledger, IsTailZero}
 use Rattle.shape_views.specs.Regions.{DoWithout}
 use Rattle.shape_views.specs.Windows.{IsOfRegion}
 use Rattle.shape_changes.specs.Safety.{HasRoomLeft}
@@ -24,7 +25,7 @@ use Rattle.views.specs.Placed.{AreWhole, IsPlaced}
 use Rattle.views.specs.Moving.{IsMoved}
 use Rattle.views.specs.Lacking.{DoesWithout, ListStands, RowsStand, RowsStandBelow, DataStandsAmong, RowsStandAmong, AreOtherRowsKept, IsOfStripe}
 use Rattle.views.proofs.PutLists.{touched-or-not, stripe-or-not, untouched-same, list-put, row-put, rebuilt-put}
-use Rattle.views.proofs.Still.{region-still}
+use Rattle.views.proofs.Still.{region-still, tail-still}
 
 -- ---- some rows of the list
 
@@ -74,12 +75,12 @@ module _ (given : Given) (old new : Members) (moved : IsMoved given old new) (wa
     pub safe-put : is_reshaping old.newest ≡ false → {begun : Bool}
         → (tells → (world : World) → (told : Ledger) → HasRoomLeft old tape tape' → AreGoneTold told new → told.unclean ≡ true → (list list' : ℕ → Sector) → IsWritten list list' first from
         → DataStandsAmong shape Touched old (present given tape) list → AreSynced list → IsOfRegion old shape Touched → (begun ≡ true → AreWritesAllowed old told.values list')
-        → IsSafeOver world given told old tape → KeepsSafe world given told new tape tape')
+        → (OpensFit world → IsTailZero old.newest list') → IsSafeOver world given told old tape → KeepsSafe world given told new tape tape')
         → tells → (world : World) → (told : Ledger) → HasRoomLeft old tape tape' → AreGoneTold told new → told.unclean ≡ true → (list list' : ℕ → Sector) → IsWritten list list' first from
         → ListStands old (present given tape) list → AreSynced list → (begun ≡ true → AreWritesAllowed old told.values list')
         → IsSafeOver world given told old tape → KeepsSafe world given told new tape tape'
     safe-put still safe t world told room gone unclean list list' written stands rows allowed began =
-        safe t world told room gone unclean list list' written (list-among shape old same (present given tape) list Touched stands) rows (region-in old shape Touched same still) allowed began
+        safe t world told room gone unclean list list' written (list-among shape old same (present given tape) list Touched stands) rows (region-in old shape Touched same still) allowed (λ fit. tail-still old.newest still list') began
 
     module _ (fits : length from / 512 ≤ count) (others : tells → AreOtherRowsKept Touched (reading_of new) (present given tape) (present given tape')) where
       -- the other rows hold what they held
@@ -138,11 +139,11 @@ module _ (given : Given) (old new : Members) (moved : IsMoved given old new) (wa
     -- a mend keeps the array safe, by the whole list
     pub safe-mend : is_reshaping old.newest ≡ false
         → (tells → (world : World) → (told : Ledger) → HasRoomLeft old tape tape' → AreGoneTold told new → told.unclean ≡ true → (list : ℕ → Sector) → DataStandsAmong shape Striped old (present given tape) list
-        → IsOfRegion old shape Striped → AreWritesAllowed old told.values list → IsSafeOver world given told old tape → KeepsSafe world given told new tape tape')
+        → IsOfRegion old shape Striped → AreWritesAllowed old told.values list → (OpensFit world → IsTailZero old.newest list) → IsSafeOver world given told old tape → KeepsSafe world given told new tape tape')
         → tells → (world : World) → (told : Ledger) → HasRoomLeft old tape tape' → AreGoneTold told new → told.unclean ≡ true → (list : ℕ → Sector) → ListStands old (present given tape) list
         → AreWritesAllowed old told.values list → IsSafeOver world given told old tape → KeepsSafe world given told new tape tape'
     safe-mend still safe t world told room gone unclean list stands allowed began =
-        safe t world told room gone unclean list (among-list list stands) (region-in old shape Striped same still) allowed began
+        safe t world told room gone unclean list (among-list list stands) (region-in old shape Striped same still) allowed (λ fit. tail-still old.newest still list) began
 
     -- and makes its rows stand
     pub rows-mended : (tells → (list : ℕ → Sector) → DataStandsAmong shape Striped old (present given tape) list → (row : ℕ) → Striped row → AreWholeIn shape list row → RowStands (reading_of new) (present given tape') shape list row)

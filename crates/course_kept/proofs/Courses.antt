@@ -27,16 +27,15 @@ use Rattle.flat_history.specs.Stands.{covers}
 use Rattle.flat_history.specs.ActiveSection.{section_for}
 use Rattle.region_laws.specs.Regions.{IsDirected}
 use Rattle.shape_views.specs.Regions.{backup_of, open_by, place_by, ArePlaced, AreShapesFit}
-use Rattle.shape_views.specs.Views.{Disk}
-use Rattle.shape_views.specs.Sound.{IsTail}
+use Rattle.shape_views.specs.Views.{Disk, IsTail}
 use Rattle.shape_views.specs.Windows.{IsShown, ListStands, RowsStand, moved_past}
+use Rattle.shape_views.proofs.Headers.{backup-is, names-one, span-same}
+use Rattle.shape_views.proofs.Tails.{no-tail, some-listed, row-within, moved-tails}
 use Rattle.shape_views.proofs.Stands.{moved-stands, moved-rows-stand}
 use Rattle.shape_views.proofs.UnderWay.{row-apart, row-apart-uncritical, under-way, is-reshaping}
 use Rattle.shape_changes.proofs.LessViews.{ends-place}
 use Rattle.shape_ends.proofs.EndLaws.{places-alike-stand, begun-alike}
-use Rattle.shape_ends.proofs.FitLaws.{moved-tails, backup-is, names-one, span-same}
 use Rattle.shape_ends.proofs.GrownLaws.{zero-is-sector}
-use Rattle.shape_ends.proofs.Tails.{no-tail, some-listed, row-within}
 use Rattle.geometry.proofs.Rows.{rows_hold}
 use Rattle.views.specs.Placed.{IsPlaced}
 use Rattle.views.specs.Moving.{IsMoved}

@@ -16,10 +16,9 @@ use Rattle.row_io.proofs.Losses.{holder-of}
 use Rattle.list_io.specs.Full.{RowStands}
 use Rattle.flat_history.specs.Stands.{shape_for}
 use Rattle.shape_views.specs.Regions.{place_by}
-use Rattle.shape_views.specs.Sound.{IsTail}
-use Rattle.shape_views.specs.Windows.{IsShown, ListStands, RowsStand}
+use Rattle.shape_views.specs.Views.{IsTail}
+use Rattle.shape_views.specs.Windows.{IsShown, ListStands, RowsStand, AreTailsStanding}
 use Rattle.shape_views.proofs.Stands.{StandsAt}
-use Rattle.shape_ends.specs.Fits.{AreTailsStanding}
 use Rattle.views.specs.Placed.{HaveSameReshape}
 use Rattle.views.specs.Moving.{IsMoved}
 use Rattle.views.specs.Lacking.{AreOtherRowsKept}

@@ -13,9 +13,8 @@ use Rattle.row_io.specs.Rows.{reading_of}
 use Rattle.list_io.specs.Full.{RowStands}
 use Rattle.shape_views.specs.Regions.{backup_of, open_by}
 use Rattle.shape_views.specs.Views.{Disk}
-use Rattle.shape_views.specs.Windows.{HasNoSection, ListStands, RowsStand}
+use Rattle.shape_views.specs.Windows.{HasNoSection, ListStands, RowsStand, AreTailsStanding}
 use Rattle.shape_views.specs.Backups.{IsOpenUnderAll, IsOpenOrNot}
-use Rattle.shape_ends.specs.Fits.{AreTailsStanding}
 use Rattle.shape_ends.specs.Grown.{IsZeroPast}
 use Rattle.window_rows.specs.Copies.{HasWindow, IsRoomFor}
 use Rattle.window_steps.specs.Recording.{AreHeadersFit}

@@ -34,9 +34,8 @@ use Rattle.list_io.specs.Full.{RowStands}
 use Rattle.flat_history.specs.Stands.{has_room, shape_for}
 use Rattle.region_laws.specs.Regions.{IsDirected}
 use Rattle.shape_views.specs.Regions.{AreShapesFit, ArePlaced, DoWithout}
-use Rattle.shape_views.specs.Views.{Disk, Ledger}
-use Rattle.shape_views.specs.Sound.{IsTail}
-use Rattle.shape_views.specs.Windows.{IsFlushedRight, ListStands, RowsStand}
+use Rattle.shape_views.specs.Views.{Disk, Ledger, IsTail}
+use Rattle.shape_views.specs.Windows.{IsFlushedRight, ListStands, RowsStand, AreTailsStanding}
 use Rattle.shape_views.specs.Windows.{AreHoldersFlushed as AreAllFlushed}
 use Rattle.shape_views.proofs.Stands.{for-still, list-still}
 use Rattle.shape_views.proofs.UnderWay.{under-way}
@@ -50,7 +49,6 @@ use Rattle.shape_changes.proofs.LessViews.{ends-place}
 use Rattle.shape_changes.proofs.PlannedRoles.{planned-held}
 use Rattle.shape_changes.proofs.Without.{any-holds, any-held}
 use Rattle.shape_ends.specs.Ends.{AreRolesKept, ArePlacesAlike, IsEnded}
-use Rattle.shape_ends.specs.Fits.{AreTailsStanding}
 use Rattle.shape_ends.specs.Grown.{IsPastRow}
 use Rattle.shape_ends.specs.Plans.{HasNoneRecovering}
 use Rattle.shape_ends.proofs.EndLaws.{same-placed, places-alike-stand, still-plain}
@@ -65,6 +63,7 @@ use Rattle.views.specs.Rebuilding.{IsFree, AreSparesFree}
 use Rattle.views.proofs.Fit.{list-alike, count-alike}
 use Rattle.views.proofs.HeldRows.{held-moved, without-before}
 use Rattle.views.proofs.LackingLists.{row-moved}
+use Rattle.views.proofs.Still.{tail-still, untailed}
 use Rattle.safe_updates.proofs.Under.{shown-moved, shown-rows-moved}
 use Rattle.reshape_ends.specs.Finished.{AreLostInEnd, IsFinishable, IsZeroBehind}
 use Rattle.reshape_ends.proofs.Made.{IsRoomy, HasNoRole, IsMade, planned-spare}
@@ -261,6 +260,7 @@ module _ (given : Given) (old m : Members) (moved : IsMoved given old m) (active
         -- a sector of the tail is one of the members before
         tail-before : (x : ℕ) → IsTail m.newest x → IsTail old.newest x
         tail-before x tail = record {
+          active = sym moved.reshape.reshaping ∙ tail.active;
           forth = sym moved.reshape.backward ∙ tail.forth;
           through = sym moved.reshape.position ∙ tail.through ∙ long-same;
           past = (let le = tail.past in let long = long-same in omega (arith, le, long));
@@ -309,6 +309,9 @@ module _ (given : Given) (old m : Members) (moved : IsMoved given old m) (active
         missing = gone;
         unclean = λ dirty. unclean (sym clean-then ∙ dirty);
         reshaping = λ on. absurd (let still = plan-ended.still in let clash = sym still ∙ on in cc);
+        headers = λ on premise. absurd (let still = plan-ended.still in let clash = sym still ∙ on in cc);
+        zeros = λ premise. tail-still (planned_view m (ending m) m.lost).newest plan-ended.still list;
+        tails = λ premise x slot tail. absurd (untailed (planned_view m (ending m) m.lost).newest plan-ended.still x tail);
       }
 
 -- ---- what was lost

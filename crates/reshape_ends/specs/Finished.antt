@@ -13,9 +13,8 @@ use Rattle.row_io.specs.Rows.{reading_of}
 use Rattle.list_io.specs.Full.{RowStands}
 use Rattle.shape_views.specs.Regions.{DoWithout}
 use Rattle.shape_views.specs.Views.{Ledger}
-use Rattle.shape_views.specs.Windows.{ListStands, RowsStand}
+use Rattle.shape_views.specs.Windows.{ListStands, RowsStand, AreTailsStanding}
 use Rattle.shape_changes.specs.Changing.{IsChanged}
-use Rattle.shape_ends.specs.Fits.{AreTailsStanding}
 use Rattle.shape_ends.specs.Grown.{IsZeroPast, IsPastRow}
 use Rattle.reshape_updates.specs.Ending.{ending}
 use Rattle.views.specs.Moving.{IsMoved}

@@ -131,7 +131,7 @@ pub fn end_update<B: Bank>(members: &mut Members, bank: &mut B) -> Lostness
         → (is_backward members.old.newest ≡ true → DoWithout (planned_view members.old (ending members.old) members.old.lost) → DoWithout members.old)
         → IsToldWith told more (planned_view members.old (ending members.old) members.old.lost)
         → (is_backward members.old.newest ≡ true)
-        ⊎ IsGrown (OpensFit world) world.scope told more members.old (planned_view members.old (ending members.old) members.old.lost) (disk (B.given bank.old).start (B.tape bank.old))
+        ⊎ IsGrown more members.old (planned_view members.old (ending members.old) members.old.lost) (disk (B.given bank.old).start (B.tape bank.old))
         → AreGoneTold told members.old → AreGoneTold more members.new → ((number : ℕ) → told.carried number ≡ true → more.carried number ≡ true)
         → IsSafeOver world (B.given bank.old) told members.old (B.tape bank.old)
         → IsSafeChange (OpensFit world) world.scope (B.given bank.old) told more members.new (B.tape bank.old) (B.tape bank.new) }

@@ -39,7 +39,7 @@ use Rattle.shape_changes.specs.Kinds.{IsTaking}
 use Rattle.shape_changes.specs.Giving.{IsPlacedLess, IsReceiver, GivingStaysSafe}
 use Rattle.shape_changes.specs.Marking.{giving}
 use Rattle.shape_views.proofs.Alike.{shape-alike, final-alike, length-alike, window-alike, placing-alike}
-use Rattle.shape_changes.proofs.LessViews.{more-pass}
+use Rattle.shape_changes.proofs.LessViews.{more-pass, header-alike, tail-alike}
 use Rattle.shape_changes.proofs.PlannedRoles.{says-shared, count-planned, planned-holds}
 use Rattle.shape_changes.proofs.ChangeViews.{plan-told}
 use Rattle.shape_changes.proofs.ChangeSafe.{safe-change, one-stretch}
@@ -230,6 +230,8 @@ module _ (scope : Scope) (given : Given) (old : Members) (role slot : ℕ) (to :
             old = tolerated (shape_of old.newest) (shape_of Plan.newest) (shape-alike old.newest Plan.newest says) few.old;
             final = tolerated (final_shape old.newest) (final_shape Plan.newest) (final-alike old.newest Plan.newest says) few.final;
           };
+          headers = λ active fits backup header here may. header-alike scope old.newest Plan.newest says header (fits (says.reshaping ∙ active) backup header here may);
+          tails = λ x tail. (tail-alike old.newest Plan.newest says x tail, sym (final-alike old.newest Plan.newest says));
         }
 
     pub given-placed : (scope.backup ≡ Some slot → ⊥) → ArePlaced scope given old → ArePlaced scope given (planned_view old (giving old slot role (Some 0)) lost)

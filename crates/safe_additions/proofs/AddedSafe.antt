@@ -221,6 +221,8 @@ module _ (sound : Type 0) (scope : Scope) (given : Given) (told : Ledger) (forme
     held = right-first.held;
     sections = right-first.sections;
     settled = right-first.settled;
+    headers = right-first.headers;
+    tails = right-first.tails;
   }
 
   right-more : IsViewRight sound scope given More m Start
@@ -233,6 +235,8 @@ module _ (sound : Type 0) (scope : Scope) (given : Given) (told : Ledger) (forme
     held = right.held;
     sections = right.sections;
     settled = right.settled;
+    headers = right.headers;
+    tails = right.tails;
   }
 
   -- the new spare has no part in it

@@ -19,7 +19,8 @@ ghost use Rattle.shape_views.specs.Windows.{IsOfRegion};
 ghost use Rattle.views.specs.Lacking.{HaveFailedSince, DoesWithout, IsUnwritten, DataStandsAmong, AreOtherRowsKept, IsOfStripe, mended_rows};
 ghost use Rattle.safe_updates.specs.First.{write_refusal};
 ghost use Rattle.flat_history.specs.World.{World};
-ghost use Rattle.shape_views.specs.Views.{Ledger};
+ghost use Rattle.flat_history.specs.Sound.{OpensFit};
+ghost use Rattle.shape_views.specs.Views.{Ledger, IsTailZero};
 
 use crate::putting::put;
 use bank::Bank;
@@ -101,7 +102,8 @@ pub fn mend<B: Bank>(
     ensures rise { IsRisen B.tells members.old members.new (B.tape bank.old) (B.tape bank.new) }
     ensures safe { B.tells → (world : World) → (told : Ledger) → HasRoomLeft members.old (B.tape bank.old) (B.tape bank.new)
         → AreGoneTold told members.new → told.unclean ≡ true → (list : ℕ → Sector) → DataStandsAmong shape.now (IsOfStripe shape.now stripe) members.old (present (B.given bank.old) (B.tape bank.old)) list
-        → IsOfRegion members.old shape.now (IsOfStripe shape.now stripe) → AreWritesAllowed members.old told.values list → IsSafeOver world (B.given bank.old) told members.old (B.tape bank.old)
+        → IsOfRegion members.old shape.now (IsOfStripe shape.now stripe) → AreWritesAllowed members.old told.values list
+        → (OpensFit world → IsTailZero members.old.newest list) → IsSafeOver world (B.given bank.old) told members.old (B.tape bank.old)
         → KeepsSafe world (B.given bank.old) told members.new (B.tape bank.old) (B.tape bank.new) }
     ensures given { B.given bank.new ≡ B.given bank.old }
     ensures counts { NeverFalls (B.faults_of bank.old) (B.faults_of bank.new) }

@@ -20,7 +20,8 @@ ghost use Rattle.shape_views.specs.Windows.{IsOfRegion};
 ghost use Rattle.views.specs.Lacking.{HaveFailedSince, LacksTooMany, IsUnwritten, DataStandsAmong, RowsStandAmong, AreOtherRowsKept, AreBytes, AreRowsRead, AreRowsWritten};
 ghost use Rattle.safe_updates.specs.First.{write_refusal};
 ghost use Rattle.flat_history.specs.World.{World};
-ghost use Rattle.shape_views.specs.Views.{Ledger};
+ghost use Rattle.flat_history.specs.Sound.{OpensFit};
+ghost use Rattle.shape_views.specs.Views.{Ledger, IsTailZero};
 
 use bank::Bank;
 use list_io::{read_touched, write_touched};
@@ -88,7 +89,8 @@ fn write_stretch<B: Bank>(
     ensures kept { AreWhole members.new → members.new ≡ members.old }
     ensures rise { IsRisen B.tells members.old members.new (B.tape bank.old) (B.tape bank.new) }
     ensures safe { B.tells → (world : World) → (told : Ledger) → is_clean members.old.newest ≡ false → IsOfRegion members.old shape.now (Contains rows.now) → (list list' : ℕ → Sector) → IsWritten list list' first from.now
-        → (B.tells → AreDataFrom start shape.now list rows.now buffer.old.items) → AreWritesAllowed members.old told.values list' → IsSafeOver world (B.given bank.old) told members.old (B.tape bank.old)
+        → (B.tells → AreDataFrom start shape.now list rows.now buffer.old.items) → AreWritesAllowed members.old told.values list'
+        → (OpensFit world → IsTailZero members.old.newest list') → IsSafeOver world (B.given bank.old) told members.old (B.tape bank.old)
         → KeepsSafe world (B.given bank.old) told members.new (B.tape bank.old) (B.tape bank.new) }
     ensures given { B.given bank.new ≡ B.given bank.old }
     ensures counts { NeverFalls (B.faults_of bank.old) (B.faults_of bank.new) }
@@ -139,7 +141,8 @@ fn put_stretch<B: Bank>(
     ensures rise { IsRisen B.tells members.old members.new (B.tape bank.old) (B.tape bank.new) }
     ensures safe { B.tells → (world : World) → (told : Ledger) → HasRoomLeft members.old (B.tape bank.old) (B.tape bank.new)
         → AreGoneTold told members.new → told.unclean ≡ true → is_clean members.old.newest ≡ false → IsOfRegion members.old shape.now (Contains rows.now) → (list list' : ℕ → Sector) → IsWritten list list' first from.now
-        → (B.tells → AreDataFrom start shape.now list rows.now buffer.old.items) → AreWritesAllowed members.old told.values list' → IsSafeOver world (B.given bank.old) told members.old (B.tape bank.old)
+        → (B.tells → AreDataFrom start shape.now list rows.now buffer.old.items) → AreWritesAllowed members.old told.values list'
+        → (OpensFit world → IsTailZero members.old.newest list') → IsSafeOver world (B.given bank.old) told members.old (B.tape bank.old)
         → KeepsSafe world (B.given bank.old) told members.new (B.tape bank.old) (B.tape bank.new) }
     ensures given { B.given bank.new ≡ B.given bank.old }
     ensures counts { NeverFalls (B.faults_of bank.old) (B.faults_of bank.new) }
@@ -201,7 +204,8 @@ pub fn put_rows<B: Bank>(
     ensures rise { IsRisen B.tells members.old members.new (B.tape bank.old) (B.tape bank.new) }
     ensures safe { B.tells → (world : World) → (told : Ledger) → HasRoomLeft members.old (B.tape bank.old) (B.tape bank.new)
         → AreGoneTold told members.new → told.unclean ≡ true → is_clean members.old.newest ≡ false → IsOfRegion members.old shape.now (Contains rows.now) → (list list' : ℕ → Sector) → IsWritten list list' first from.now
-        → (B.tells → AreDataFrom 0 shape.now list rows.now buffer.old.items) → AreWritesAllowed members.old told.values list' → IsSafeOver world (B.given bank.old) told members.old (B.tape bank.old)
+        → (B.tells → AreDataFrom 0 shape.now list rows.now buffer.old.items) → AreWritesAllowed members.old told.values list'
+        → (OpensFit world → IsTailZero members.old.newest list') → IsSafeOver world (B.given bank.old) told members.old (B.tape bank.old)
         → KeepsSafe world (B.given bank.old) told members.new (B.tape bank.old) (B.tape bank.new) }
     ensures given { B.given bank.new ≡ B.given bank.old }
     ensures counts { NeverFalls (B.faults_of bank.old) (B.faults_of bank.new) }
@@ -347,7 +351,8 @@ pub fn put<B: Bank>(
     ensures safe { B.tells → (world : World) → (told : Ledger) → HasRoomLeft members.old (B.tape bank.old) (B.tape bank.new)
         → AreGoneTold told members.new → told.unclean ≡ true → (list list' : ℕ → Sector) → IsWritten list list' first from.now
         → DataStandsAmong shape.now (IsTouched shape.now first count) members.old (present (B.given bank.old) (B.tape bank.old)) list → (synced ≡ true → AreWhole members.new ⊎ RowsStandAmong shape.now (IsTouched shape.now first count) members.old (present (B.given bank.old) (B.tape bank.old)) list)
-        → IsOfRegion members.old shape.now (IsTouched shape.now first count) → (result.begun ≡ true → AreWritesAllowed members.old told.values list') → IsSafeOver world (B.given bank.old) told members.old (B.tape bank.old)
+        → IsOfRegion members.old shape.now (IsTouched shape.now first count) → (result.begun ≡ true → AreWritesAllowed members.old told.values list')
+        → (OpensFit world → IsTailZero members.old.newest list') → IsSafeOver world (B.given bank.old) told members.old (B.tape bank.old)
         → KeepsSafe world (B.given bank.old) told members.new (B.tape bank.old) (B.tape bank.new) }
     ensures given { B.given bank.new ≡ B.given bank.old }
     ensures counts { NeverFalls (B.faults_of bank.old) (B.faults_of bank.new) }

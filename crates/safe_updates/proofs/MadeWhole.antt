@@ -35,7 +35,7 @@ use Rattle.shape_changes.specs.Marking.{giving}
 use Rattle.views.specs.Rebuilding.{IsFlushedFull}
 use Rattle.shape_views.specs.Regions.{ArePlaced, DoWithout}
 use Rattle.shape_views.specs.Views.{Ledger, IsSettled, IsViewRight}
-use Rattle.views.proofs.Still.{length-still, settled-still, still-settled}
+use Rattle.views.proofs.Still.{untailed, length-still, settled-still, still-settled}
 use Rattle.views.specs.Flushing.{AreHolders}
 use Rattle.views.proofs.Fit.{valid, disks-within}
 use Rattle.views.proofs.MarkLaws.{roles-kept, role_from-found, held-holder, holder-held}
@@ -206,6 +206,8 @@ module _ (given : Given) (m : Members) (placed : IsPlaced given m) (still : is_r
           (rows-allowed (still-held scope m told.values (disk given.start tape) still header may right.held)) header may;
       sections = right.sections;
       settled = λ clean few sure. made-settled (right.settled clean does sure);
+      headers = λ active sure. absurd (let clash = sym still ∙ active in cc);
+      tails = λ sure x s tail. absurd (untailed m.newest still x tail);
     }
 
 -- ---- the change
@@ -266,6 +268,8 @@ back-given sound scope given told role slot new gone whole = record {
     held = right.held;
     sections = right.sections;
     settled = right.settled;
+    headers = right.headers;
+    tails = right.tails;
   };
   gone = back-told told role slot new gone whole;
   carried = λ number is. is;

@@ -83,8 +83,8 @@ module _ (sound : Type 0) (scope : Scope) (given : Given) (told : Ledger) (unsyn
 
   settled-here : is_clean Former.newest ≡ true → DoWithout Former → sound → IsSettled scope Here (λ x. list x ∷ []) (disk given.start tape)
   settled-here clean does premise =
-      flushed-is-settled scope given Here tape (λ x. list x ∷ []) list placed-here flushed
-      (rows (ap (λ (r : Reading). is_clean r.newest) (sym same) ∙ clean) (without-here does) premise) (λ x lt. inl refl)
+      let stand = rows (ap (λ (r : Reading). is_clean r.newest) (sym same) ∙ clean) (without-here does) premise in
+      flushed-is-settled scope given Here tape (λ x. list x ∷ []) list placed-here flushed (record { rows = stand.rows; zeros = stand.zeros }) (λ x lt. inl refl)
 
   pub settled-safe : IsSafeNow sound scope given (settled_ledger unsynced list told) m (disk given.start tape)
   settled-safe = inl (record {
@@ -99,6 +99,8 @@ module _ (sound : Type 0) (scope : Scope) (given : Given) (told : Ledger) (unsyn
       held = subst (λ (n : Members). AreHeldAllowed scope n (λ x. list x ∷ []) (disk given.start tape)) (sym former-is) (holds-alone scope given Here tape list placed-here flushed stands-here);
       sections = subst (λ (n : Members). AreSectionsAllowed scope n (λ x. list x ∷ []) (disk given.start tape)) (sym former-is) stands.sections;
       settled = λ clean does premise. subst (λ (n : Members). IsSettled scope n (λ x. list x ∷ []) (disk given.start tape)) (sym former-is) (settled-here clean does premise);
+      headers = named.steady.right.headers;
+      tails = named.steady.right.tails;
     };
     numbers = named.steady.numbers;
   })
@@ -118,6 +120,8 @@ clean-settled {m = m} told dirty unsynced list clean named = inl (record {
     held = named.steady.right.held;
     sections = named.steady.right.sections;
     settled = named.steady.right.settled;
+    headers = named.steady.right.headers;
+    tails = named.steady.right.tails;
   };
   numbers = named.steady.numbers;
 })

@@ -45,7 +45,8 @@ use Rattle.views.specs.Under.{StandsUnder, RowsStandUnder, IsIdle, IsRestKept}
 use Rattle.views.proofs.Fit.{valid, for-alike, list-alike}
 use Rattle.views.proofs.HeldRows.{held-moved}
 use Rattle.views.proofs.LackingLists.{row-moved}
-use Rattle.views.proofs.Still.{open-still}
+use Rattle.views.proofs.SafeStretch.{zeros-later}
+use Rattle.views.proofs.Still.{open-still, tail-still}
 
 -- ---- the section is the same
 
@@ -124,8 +125,11 @@ module _ (scope : Scope) (given : Given) (old new : Members) (before after : Con
   }
 
   pub rows-under-moved : RowsStandUnder scope old before d list → RowsStandUnder scope new after e list
-  rows-under-moved stands header may = subst (λ (o : Option Span). AreRowsShown o new after list) (sym (section-alike header))
-      (shown-rows-moved given old new before after list moved was others (open_by scope old.newest header) (stands header (header-before header may)))
+  rows-under-moved stands = record {
+    rows = λ header may. subst (λ (o : Option Span). AreRowsShown o new after list) (sym (section-alike header))
+        (shown-rows-moved given old new before after list moved was others (open_by scope old.newest header) (stands.rows header (header-before header may)));
+    zeros = zeros-later given old new moved list stands.zeros;
+  }
 
 -- ---- an array of one shape
 
@@ -142,9 +146,11 @@ module _ (scope : Scope) (given : Given) (m : Members) (c : Contents) (d : Disk)
   }
 
   pub still-rows-under : RowsStand m c list → RowsStandUnder scope m c d list
-  still-rows-under stands header may x shown =
-      subst (λ (s : Shape). RowStands (reading_of m) c s list (place s x).row) (sym (for-still m.newest still x))
-      (stands (place (shape_of m.newest) x).row (row-inside (open_by scope m.newest header) x shown))
+  still-rows-under stands = record {
+    rows = λ header may x shown. subst (λ (s : Shape). RowStands (reading_of m) c s list (place s x).row) (sym (for-still m.newest still x))
+        (stands (place (shape_of m.newest) x).row (row-inside (open_by scope m.newest header) x shown));
+    zeros = tail-still m.newest still list;
+  }
 
 -- ---- what is left as it was
 

@@ -8,7 +8,8 @@ use Rattle.md_base.specs.declared.status.Role.TheVariants.{Whole, Recovering, Mi
 use Rattle.bank.specs.Given.{Given}
 use Rattle.bank.specs.Tape.{IsIn, disk}
 use Rattle.superblocks.specs.declared.members.Members.{Members}
-use Rattle.superblocks.specs.Reading.{Scope, role_state, rows_held, holder, data_offset_of}
+use Rattle.layout.specs.Layout.{place}
+use Rattle.superblocks.specs.Reading.{Scope, final_shape, role_state, rows_held, holder, data_offset_of}
 use Rattle.row_io.specs.Rows.{reading_of, held_slot, role_without, members_without}
 use Rattle.row_io.proofs.Losses.{holder-of, state_after}
 use Rattle.shape_views.specs.Regions.{backup_of, place_by, ArePlaced}
@@ -82,6 +83,7 @@ module _ (scope : Scope) (given : Given) (former : Members) (gone role slot : �
     section = λ header may span active k there.
         placed.members_own role (backup_of scope) (ap holder recovered ∙ ap (λ (n : ℕ). Some n) (sym there.here)) (open-some scope former header span active);
     rows = λ header may x other s outside held there. apart other (place_by former.newest x).row s held there;
+    tails = λ x s tail held there. apart (place (final_shape former.newest) x).role (place (final_shape former.newest) x).row s held there;
   }
 
   module _ (d e : Disk) (filling : IsFilled (members_without gone former) role slot d e) where

@@ -23,7 +23,7 @@ use Rattle.superblocks.specs.Updating.{planned_newest}
 use Rattle.row_io.specs.Rows.{reading_of, is_missing, members_without}
 use Rattle.flat_history.specs.Stands.{backup_absent}
 use Rattle.shape_views.specs.Regions.{AreShapesFit, ArePlaced}
-use Rattle.shape_views.specs.Views.{Disk, Ledger, IsViewRight}
+use Rattle.shape_views.specs.Views.{Disk, Ledger, IsTail, IsViewRight}
 use Rattle.shape_views.specs.Windows.{moved_past}
 use Rattle.shape_changes.specs.Updates.{planned_view, IsLessView}
 use Rattle.shape_changes.specs.Safety.{HasLiveSlot, HasRoomLeft}
@@ -159,6 +159,9 @@ clean-is false = refl
 
 module _ (sound : Type 0) (scope : Scope) (given : Given) (told : Ledger) (clean : Bool) (old new : Members) (d : Disk) (markable : IsMarkable sound scope clean told old new d)
     (right : IsViewRight sound scope given told old d) where
+  tail-old : (x : ℕ) → IsTail (marking old clean).shared x → IsTail old.newest x
+  tail-old x tail = record { active = tail.active; forth = tail.forth; through = tail.through; past = tail.past; stripe = tail.stripe }
+
   -- the view with the mark is right
   pub marked-right : IsViewRight sound scope given told (record old { newest = (marking old clean).shared }) d
   marked-right = record {
@@ -192,7 +195,10 @@ module _ (sound : Type 0) (scope : Scope) (given : Given) (told : Ledger) (clean
           list = s.list;
           allowed = s.allowed;
           rows = λ c drawn x outside. (let r = s.rows c drawn x (record { within = outside.within; outside = outside.outside }) in record { whole = r.whole; sectors = r.sectors; parity = r.parity });
+          zeros = λ x tail. s.zeros x (tail-old x tail);
         });
+    headers = right.headers;
+    tails = λ premise x slot tail. right.tails premise x slot (tail-old x tail);
   }
 
 module _ (sound : Type 0) (scope : Scope) (given : Given) (told : Ledger) (clean : Bool) (old new : Members) (before after : List Operation)

@@ -1,5 +1,5 @@
 -- Views that lose roles, and updates of which an image reads as before or as planned.
-use Rattle.std.proofs.Common.{◌≡◌, inl, inr, ℕ, zero, suc, ◌+◌, ◌<◌, ◌≤◌, nat_lt, nat_le, Bool, true, false, cond, List, Option, Some, None, refl, sym, ◌∙◌, ap, ap₂, subst, arith}
+use Rattle.std.proofs.Common.{◌≡◌, inl, inr, ℕ, zero, suc, ◌+◌, ◌-◌, ◌<◌, ◌≤◌, nat_lt, nat_le, Bool, true, false, cond, List, Option, Some, None, refl, sym, ◌∙◌, ap, ap₂, subst, arith}
 use Rattle.std.proofs.lemmas.Bool.Decides.{nat_tests}
 use Rattle.md_base.specs.declared.places.Shape.{Shape}
 use Rattle.md_base.specs.declared.places.Span.{Span}
@@ -8,17 +8,19 @@ use Rattle.md_base.specs.declared.status.Role.{Role}
 use Rattle.md_base.specs.Search.{count_below}
 use Rattle.md_base.specs.Sectors.{Sector}
 use Rattle.bank.specs.Tape.{Contents, IsIn}
-use Rattle.layout.specs.Layout.{place}
+use Rattle.layout.specs.Layout.{place, stripe_of}
 use Rattle.geometry.specs.Geometry.{side}
+use Rattle.sb1.specs.declared.sb.Sb.{Sb}
 use Rattle.superblocks.specs.declared.members.Members.{Members}
 use Rattle.superblocks.specs.Reading.{Scope, is_clean, is_backward, shape_of, final_shape, list_length, role_state, rows_held, holder, data_offset_of}
+use Rattle.superblocks.specs.Reads.{SaysSame}
 use Rattle.row_io.specs.Rows.{reading_of, is_missing, held_slot, IsTolerated}
 use Rattle.row_io.proofs.Losses.{holder-of}
 use Rattle.list_io.specs.Full.{RowStands}
 use Rattle.flat_history.specs.ActiveSection.{section_for}
 use Rattle.flat_history.specs.Stands.{shape_for, covers}
 use Rattle.shape_views.specs.Regions.{header_in, open_by, place_by, DoWithout}
-use Rattle.shape_views.specs.Views.{Disk, IsOutside, IsSettled}
+use Rattle.shape_views.specs.Views.{Disk, IsHeaderFit, IsTail, IsOutside, IsSettled}
 use Rattle.shape_changes.specs.Updates.{IsLessView, LessStaysRight, UpdatesAreSeenRight, AlikeStands, EndsPlaceAll}
 use Rattle.shape_views.proofs.Alike.{shape-alike, final-alike, length-alike, window-alike, placing-alike}
 use Rattle.shape_views.proofs.UnderWay.{shape-on}
@@ -37,6 +39,25 @@ more-pass (suc n) f g implied = of (f n) (g n) refl refl (more-pass n f g implie
     of true false one two r = absurd (let both = sym (implied n one) ∙ two in cc)
     of false true one two r = omega (arith, r)
     of false false one two r = omega (arith, r)
+
+-- a header fits as before, and the tail is the same
+pub header-alike : (scope : Scope) (a b : Sb) → SaysSame a b → (header : Sector) → IsHeaderFit scope a header → IsHeaderFit scope b header
+header-alike scope a b says header fit span named = elim (fit span named) [
+  | inl next ↦ inl (sym (window-alike a b says) ∙ next)
+  | inr new ↦ inr (λ x low high. (λ i. side (sym says.backward i) (sym says.reshape_position i) x) ∙ new x low high)
+]
+
+pub tail-alike : (a b : Sb) → SaysSame a b → (x : ℕ) → IsTail b x → IsTail a x
+tail-alike a b says x tail =
+    let final : final_shape b ≡ final_shape a = sym (final-alike a b says) in
+    let long : list_length b ≡ list_length a = sym (length-alike a b says) in
+    record {
+      active = says.reshaping ∙ tail.active;
+      forth = says.backward ∙ tail.forth;
+      through = says.reshape_position ∙ tail.through ∙ long;
+      past = (let p = tail.past in omega (arith, p, long));
+      stripe = ap (λ (s : Shape). stripe_of s x) (sym final) ∙ tail.stripe ∙ (λ i. stripe_of (final i) (long i - 1));
+    }
 
 module _ (m view : Members) (less : IsLessView m view) where
   fewer-missing : (shape shape' : Shape) → shape ≡ shape' → IsTolerated (reading_of view) shape' → IsTolerated (reading_of m) shape
@@ -86,6 +107,9 @@ module _ (m view : Members) (less : IsLessView m view) where
     parity = λ role slot lt part held. ap (λ (n : ℕ). c slot (n + row)) (offset-same role row slot held) ∙ stands.parity role slot lt part (held-same role row slot held);
   }
 
+  pub final-same : final_shape view.newest ≡ final_shape m.newest
+  final-same = sym (final-alike m.newest view.newest less.array)
+
   -- what is settled stays so, by the same list
   unfoldable pub less-settled : (scope : Scope) (values : ℕ → List Sector) (d : Disk) → IsSettled scope m values d → IsSettled scope view values d
   less-settled scope values d s = record {
@@ -93,6 +117,7 @@ module _ (m view : Members) (less : IsLessView m view) where
     allowed = λ x lt. s.allowed x (let same = length-same in omega (arith, lt, same));
     rows = λ c drawn x outside. subst (λ (s' : Shape). RowStands (reading_of view) c s' s.list (place s' x).row) (sym (shape-same x))
         (row-less c (shape_for m.newest x) s.list (place_by m.newest x).row (s.rows c drawn x (outside-same scope (header_in scope c) x outside)));
+    zeros = λ x tail. s.zeros x (tail-alike m.newest view.newest less.array x tail);
   }
 
   pub less-clean : is_clean view.newest ≡ true → is_clean m.newest ≡ true
@@ -113,6 +138,15 @@ less-right sound scope given told m view d less placed gone right = record {
       (subst (λ (n : ℕ). IsIn (d slot n) v) (ap₂ (λ (a b : ℕ). a + b) (offset-same m view less (place_by view.newest x).role (place_by view.newest x).row slot holds) row-same) is));
   sections = λ header may span active. right.sections header may span (sym (open-same m view less scope header) ∙ active);
   settled = λ clean few premise. less-settled m view less scope told.values d (right.settled (less-clean m view less clean) (does-without m view less few) premise);
+  headers = λ active premise backup header here may. header-alike scope m.newest view.newest less.array header (right.headers (less.array.reshaping ∙ active) premise backup header here may);
+  tails = λ premise x slot tail holds v is. (
+      let final = final-same m view less in
+      let was : held_slot (reading_of m) (place (final_shape m.newest) x).role (place (final_shape m.newest) x).row ≡ Some slot =
+      subst (λ (s : Shape). held_slot (reading_of m) (place s x).role (place s x).row ≡ Some slot) final
+      (held-same m view less (place (final_shape view.newest) x).role (place (final_shape view.newest) x).row slot holds) in
+      right.tails premise x slot (tail-alike m.newest view.newest less.array x tail) was v
+      (subst (λ (k : ℕ). IsIn (d slot k) v)
+      (ap₂ (λ (a b : ℕ). a + b) (offset-same m view less (place (final_shape view.newest) x).role (place (final_shape view.newest) x).row slot holds) (ap (λ (s : Shape). (place s x).row) final)) is));
 }
 
 -- ---- an update

@@ -5,8 +5,9 @@ use Rattle.md_base.specs.declared.places.Span.{Span}
 use Rattle.md_base.specs.Sectors.{Sector}
 use Rattle.bank.specs.Tape.{Contents, IsIn}
 use Rattle.layout.specs.Layout.{place}
+use Rattle.layout.proofs.Places.{place-role_below}
 use Rattle.superblocks.specs.declared.members.Members.{Members}
-use Rattle.superblocks.specs.Reading.{Scope, list_length}
+use Rattle.superblocks.specs.Reading.{Scope, final_shape, list_length}
 use Rattle.row_io.specs.Rows.{reading_of, held_slot}
 use Rattle.list_io.specs.Full.{RowStands}
 use Rattle.flat_history.specs.Stands.{shape_for, covers}
@@ -14,6 +15,7 @@ use Rattle.shape_views.specs.Regions.{backup_of, header_in, place_by}
 use Rattle.shape_views.specs.Views.{Disk, IsOutside}
 use Rattle.shape_changes.specs.Giving.{IsPlacedLess, PlacedLessIsRight}
 use Rattle.shape_views.proofs.Alike.{role-in-shape}
+use Rattle.shape_views.proofs.Tails.{first, listed, new-there}
 
 module _ (scope : Scope) (m view : Members) (d : Disk) (less : IsPlacedLess scope m view d) where
   outside-less : (header : Sector) → IsIn (d (backup_of scope) 0) header → (x : ℕ) → IsOutside scope view header x → IsOutside scope m header x
@@ -54,5 +56,18 @@ placed-less-right sound scope given told more m view d less placed gone tells ri
         rows = λ c drawn x outside. row-less scope m view d less c s.list x (place_by view.newest x).row outside.within
             (subst (λ (t : Shape). RowStands (reading_of m) c t s.list (place t x).row) (sym (less.shapes x outside.within))
             (s.rows c drawn x (outside-less scope m view d less (header_in scope c) (drawn (backup_of scope) 0) x outside)));
+        zeros = λ x tail. s.zeros x (less.tails x tail).0;
       });
+  headers = λ active premise. less.headers active (λ on. right.headers on premise);
+  tails = λ premise x slot tail holds v is. (
+      let was = less.tails x tail in
+      let inside = listed view.newest placed.fit x tail in
+      let role : (place (final_shape view.newest) x).role < (shape_for view.newest (first view.newest placed.fit x tail)).disks =
+      subst (λ (s : Shape). (place (final_shape view.newest) x).role < s.disks) (sym (new-there view.newest placed.fit x tail)) (place-role_below (final_shape view.newest) placed.fit.valid.final x) in
+      right.tails premise x slot was.0
+      (subst (λ (s : Shape). held_slot (reading_of m) (place s x).role (place s x).row ≡ Some slot) was.1
+      (less.held (first view.newest placed.fit x tail) (place (final_shape view.newest) x).role (place (final_shape view.newest) x).row slot inside role holds)) v
+      (subst (λ (n : ℕ). IsIn (d slot n) v)
+      (ap₂ (λ (a b : ℕ). a + b) (less.offsets (first view.newest placed.fit x tail) (place (final_shape view.newest) x).role (place (final_shape view.newest) x).row slot inside role holds)
+      (ap (λ (s : Shape). (place s x).row) was.1)) is));
 }

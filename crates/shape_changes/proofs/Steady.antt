@@ -56,6 +56,7 @@ module _ (sound : Type 0) (given : Given) (told more : Ledger) (is : IsMoreTold 
     list = settled.list;
     allowed = λ x lt. is.values x (omega (arith, lt, sized)) (settled.list x) (settled.allowed x lt);
     rows = settled.rows;
+    zeros = settled.zeros;
   }
 
   view-told : (scope : Scope) (m : Members) (d : Disk) → IsViewRight sound scope given told m d → IsViewRight sound scope given more m d
@@ -74,6 +75,8 @@ module _ (sound : Type 0) (given : Given) (told more : Ledger) (is : IsMoreTold 
         let sized = right.sized in
         is.values x (omega (arith, high, inside, sized)) v (right.sections header may span active x low high v there);
     settled = λ clean few premise. settled-told scope m d right.sized (right.settled clean few premise);
+    headers = right.headers;
+    tails = right.tails;
   }
 
   pub views-told : (scope : Scope) (d : Disk) → AreViewsRight sound scope given told d → AreViewsRight sound scope given more d

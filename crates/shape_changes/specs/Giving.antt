@@ -7,12 +7,12 @@ use Rattle.bank.specs.declared.bank.Operation.{Operation}
 use Rattle.bank.specs.Given.{Given}
 use Rattle.bank.specs.Tape.{IsIn, disk}
 use Rattle.superblocks.specs.declared.members.Members.{Members}
-use Rattle.superblocks.specs.Reading.{Scope, is_clean, is_reshaping, list_length, role_count, holder, data_offset_of}
+use Rattle.superblocks.specs.Reading.{Scope, is_clean, is_reshaping, final_shape, list_length, role_count, holder, data_offset_of}
 use Rattle.superblocks.specs.Reads.{has_spare}
 use Rattle.row_io.specs.Rows.{reading_of, held_slot, IsHolder}
 use Rattle.flat_history.specs.Stands.{shape_for}
 use Rattle.shape_views.specs.Regions.{backup_of, open_by, ArePlaced, DoWithout}
-use Rattle.shape_views.specs.Views.{Disk, Ledger, IsViewRight}
+use Rattle.shape_views.specs.Views.{Disk, Ledger, AreHeadersFit, IsTail, IsViewRight}
 use Rattle.shape_changes.specs.Marking.{giving}
 use Rattle.shape_changes.specs.Safety.{HasRoomLeft}
 use Rattle.shape_changes.specs.Steady.{IsSafeNow, IsSafeStretch, AreGoneTold}
@@ -21,7 +21,7 @@ use Rattle.shape_changes.specs.Changing.{IsChanged}
 -- ---- a view that places the list where another does
 
 -- Each sector of its list is placed by the same shape, and of the roles of that shape it has no more rows; the same section is open by each header that a
--- stop leaves. Other roles it may have, and a longer list the other one.
+-- stop leaves, and in a reshape each header fits as before, and the tail is the same. Other roles it may have, and a longer list the other one.
 pub record IsPlacedLess (scope : Scope) (m view : Members) (d : Disk) : Type 0 where
   pub within : list_length view.newest ≤ list_length m.newest
   pub shapes : (x : ℕ) → x < list_length view.newest → shape_for view.newest x ≡ shape_for m.newest x
@@ -31,6 +31,8 @@ pub record IsPlacedLess (scope : Scope) (m view : Members) (d : Disk) : Type 0 w
   pub opened : (header : Sector) → IsIn (d (backup_of scope) 0) header → open_by scope view.newest header ≡ open_by scope m.newest header
   pub clean : is_clean view.newest ≡ is_clean m.newest
   pub does : DoWithout view → DoWithout m
+  pub headers : is_reshaping view.newest ≡ true → (is_reshaping m.newest ≡ true → AreHeadersFit scope m d) → AreHeadersFit scope view d
+  pub tails : (x : ℕ) → IsTail view.newest x → IsTail m.newest x × (final_shape view.newest ≡ final_shape m.newest)
 
 -- The one ledger tells each value of the other, below the length of the view's list and in a section that is open, a write that may be unsettled, and
 -- the view's reshape.

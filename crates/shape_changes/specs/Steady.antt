@@ -14,7 +14,7 @@ use Rattle.list_io.specs.Writing.{IsPutting, AreSuperblocksKept}
 use Rattle.flat_history.specs.World.{World}
 use Rattle.flat_history.specs.Sound.{OpensFit}
 use Rattle.shape_views.specs.Regions.{IsReadOf}
-use Rattle.shape_views.specs.Views.{Disk, Ledger, IsViewRight, IsSeenRight}
+use Rattle.shape_views.specs.Views.{Disk, Ledger, IsTailZero, IsViewRight, IsSeenRight}
 use Rattle.shape_views.specs.Windows.{IsOfRegion}
 use Rattle.shape_changes.specs.Carried.{AreCarried}
 use Rattle.shape_changes.specs.Held.{IsHeldBy}
@@ -105,10 +105,11 @@ AreUnlost members = (role slot : ℕ) → holder (role_state (reading_of members
 abbrev pub AreWritesAllowed : Members → (ℕ → List Sector) → (ℕ → Sector) → Type 0
 AreWritesAllowed members values list = (x : ℕ) → x < list_length members.newest → IsIn (values x) (list x)
 
--- Rows of one region that are written in a dirty array keep it safe, whichever slots are lost meanwhile.
+-- Rows of one region that are written in a dirty array, by a list that is zero in the tail, keep it safe, whichever slots are lost meanwhile.
 abbrev pub WritesStaySafe : (sound : Type 0) → Type 0
 WritesStaySafe sound = (scope : Scope) (given : Given) (told : Ledger) (members : Members) (shape : Shape) (list : ℕ → Sector) (rows : List ℕ) (lost : ℕ) (d e : Disk)
     → AreHolders given members → is_clean members.newest ≡ false → AreUnlost members → IsOfRegion members shape (Contains rows) → AreWritesAllowed members told.values list
+    → (sound → IsTailZero members.newest list)
     → IsPutting (reading_of members) shape list (Contains rows) d e → AreSuperblocksKept d e
     → IsSafeNow sound scope given told members d → IsSafeNow sound scope given told (members_without lost members) e
 

@@ -34,13 +34,16 @@ use Rattle.row_io.specs.Rows.{reading_of, is_missing, held_slot, IsTolerated}
 use Rattle.row_io.proofs.Losses.{holder-of}
 use Rattle.flat_history.specs.ActiveSection.{section_for}
 use Rattle.flat_history.specs.Stands.{shape_at, shape_for}
+use Rattle.shape_views.specs.Regions.{AreShapesFit}
 use Rattle.shape_views.specs.Views.{Disk, Ledger}
-use Rattle.shape_views.specs.Windows.{HasNoSection, IsFlushedRight}
+use Rattle.shape_views.specs.Windows.{IsFlushedRight}
 use Rattle.shape_changes.specs.Updates.{planned_view}
 use Rattle.shape_changes.specs.Steady.{AreGoneTold, IsSteady}
 use Rattle.shape_changes.specs.Changing.{IsChanged, IsFitUpdate, IsPlannedSafe}
 use Rattle.shape_changes.specs.Giving.{IsPlacedLess}
+use Rattle.shape_ends.specs.Ends.{IsCleared}
 use Rattle.shape_ends.specs.Flushed.{IsBeginning, BeginStaysSafe, FlushedChangeStaysSafe}
+use Rattle.shape_ends.proofs.EndLaws.{cleared-plain, starts-untailed}
 use Rattle.shape_views.proofs.Alike.{shape-alike, length-alike, placing-alike}
 use Rattle.shape_changes.proofs.LessViews.{ends-place}
 use Rattle.shape_changes.proofs.PlansLose.{found-passes, same-role}
@@ -197,18 +200,21 @@ module _ (scope : Scope) (old : Members) (change : Change) (lost : ℕ) (begins 
       min-same : (n : ℕ) → min n n ≡ n
       min-same n = grind (arith, nat_tests)
 
-  pub begun-less : (d : Disk) → HasNoSection scope (planned_view old change lost) d → IsPlacedLess scope old (planned_view old change lost) d
-  begun-less d plain = record {
+  pub begun-less : (d : Disk) → AreShapesFit (planned_view old change lost).newest → IsCleared scope d → IsPlacedLess scope old (planned_view old change lost) d
+  begun-less d fit cleared = record {
     within = shorter;
     shapes = shapes-same;
     held = λ x r row t lt below is. held-plan r row t (under x r lt below) is;
     offsets = λ x r row t lt below is. offset-plan t (small r t (holder-of (reading_of Plan) r row t is));
-    opened = λ header may. plain header may ∙ sym (ap (λ (w : Option Span). section_for scope (λ s k. header) scope.backup w) no-window ∙ no-section header);
+    opened = λ header may. (cleared-plain scope Plan d cleared).0 header may ∙ sym (ap (λ (w : Option Span). section_for scope (λ s k. header) scope.backup w) no-window ∙ no-section header);
     clean = sym (ap (λ (n : ℕ). is_clean (record old.newest { resync_offset = n })) (sym begins.clean));
     does = λ few. record {
       old = tolerated few.old;
       final = subst (IsTolerated (reading_of old)) (sym one-shape) (tolerated few.old);
     };
+    headers = λ active fits. (cleared-plain scope Plan d cleared).1;
+    tails = λ x tail. absurd (starts-untailed Plan.newest fit
+        (sym says.reshape_position ∙ begins.start ∙ (λ i. cond (says.backward i) (length-alike change.shared Plan.newest says i) 0)) x tail);
   }
     where
       under : (x r : ℕ) → x < list_length Plan.newest → r < (shape_for Plan.newest x).disks → r < disks
@@ -238,14 +244,14 @@ module _ (scope : Scope) (old : Members) (change : Change) (lost : ℕ) (begins 
 -- ---- it keeps the array safe
 
 pub begin-safe : (sound : Type 0) → BeginStaysSafe sound
-begin-safe sound scope given told more change old new before after m begins room placed plain tells gone-old gone carried now =
+begin-safe sound scope given told more change old new before after m begins room placed cleared tells gone-old gone carried now =
     safe-change sound scope given told more change old new before after m begins.taking.none (taking-live old change begins.taking) room (λ steady. (
     let fit = taking-is-fit scope steady.former old change (disk given.start before) steady.since begins.taking in
     let old-right = steady-right sound scope given told old (disk given.start before) steady gone-old in
     let told-end = told-plan more given change old new before after m gone in
     record {
       fit = fit;
-      right = placed-less-right sound scope given told more old (planned_view old change old.lost) (disk given.start before) (begun-less scope old change old.lost begins (disk given.start before) plain) placed
+      right = placed-less-right sound scope given told more old (planned_view old change old.lost) (disk given.start before) (begun-less scope old change old.lost begins (disk given.start before) placed.fit cleared) placed
           (plan-told scope given old change placed fit.one_holder more old.lost new.lost (λ s is. is) m.stay told-end) tells old-right;
       gone = told-end;
       carried = carried;

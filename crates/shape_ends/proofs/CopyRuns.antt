@@ -1,4 +1,4 @@
--- A window is copied, flushed and recorded: what is right and fits goes on so.
+-- A window is copied, flushed and recorded: what is right goes on so.
 use Rattle.std.proofs.Common.{◌≡◌, ◌⊎◌, inl, inr, ℕ, ◌-◌, ◌<◌, ◌≤◌, ◌&&◌, nat_lt, nat_le, Bool, true, false, cond, Option, Some, None, refl, sym, ◌∙◌, ap, subst, arith}
 use Rattle.std.proofs.lemmas.Bool.{and_parts}
 use Rattle.std.proofs.lemmas.Bool.Decides.{nat_tests}
@@ -17,17 +17,18 @@ use Rattle.superblocks.specs.Reading.{Scope, is_reshaping, is_backward, shape_of
 use Rattle.backup.specs.Section.{is_header_of, names_span, has_section}
 use Rattle.flat_history.specs.ActiveSection.{section_for}
 use Rattle.shape_views.specs.Regions.{backup_of, open_by}
-use Rattle.shape_views.specs.Views.{Disk, Ledger}
+use Rattle.shape_views.specs.Views.{Disk, Ledger, IsHeaderFit, IsSeenRight}
 use Rattle.shape_views.specs.Windows.{moved_past, HasNoSection, IsFlushedRight}
 use Rattle.shape_ends.specs.Runs.{IsWindowStanding}
-use Rattle.shape_ends.specs.Fits.{IsHeaderFit, IsTailZero, IsSeenFit}
-use Rattle.shape_ends.specs.Copies.{FitHeadersArePlain, IsCopyRun, IsRightAndFit, CopiesStayFit, CopiesAreSeenFit, MovedIsRightAndFit, UpdatedIsRightAndFit}
+use Rattle.shape_ends.specs.Copies.{FitHeadersArePlain, IsCopyRun, IsRightAndFit, CopiesStayFit, CopiesAreSeenRight, MovedIsRightAndFit, UpdatedIsRightAndFit}
 use Rattle.shape_views.proofs.UnderWay.{is-reshaping, window-is, under-way}
-use Rattle.shape_views.proofs.WindowLaws.{fewer-right, copying-right, updating-right}
+use Rattle.shape_views.proofs.WindowLaws.{at-rows, fewer-right, copying-right, updating-right}
 use Rattle.shape_views.proofs.Stands.{span-order, moved-stands, moved-rows-stand, moved-placed, flushed-right}
 use Rattle.shape_ends.proofs.PastWindows.{begins-apart}
-use Rattle.shape_ends.proofs.FitLaws.{backup-is, names-parts, fewer-fit, copying-fit, updating-fit, flushed-fit, moved-tails, updates-fit}
-use Rattle.shape_ends.proofs.FitLaws as fits
+use Rattle.shape_views.proofs.Headers.{backup-is, names-parts}
+use Rattle.shape_views.proofs.Headers as fits
+use Rattle.shape_views.proofs.Tails.{moved-tails}
+use Rattle.shape_changes.proofs.LessViews.{updates-seen}
 
 -- ---- sides behind a window
 
@@ -108,16 +109,23 @@ fit-headers-plain scope given m span header placed next fit = (of scope.backup (
 
 module _ (sound : Type 0) (scope : Scope) (given : Given) (told : Ledger) (m : Members) (span : Span) (start copied flushed : Disk)
     (run : IsCopyRun scope m span start copied flushed) (first : IsRightAndFit sound scope given told m start) where
+  -- the copies write no header
+  unwritten : (backup : ℕ) (header : Sector) → IsIn (copied backup 0) header → IsIn (start backup 0) header
+  unwritten backup header may = elim (run.copying backup 0) [
+    | inl less ↦ less header may
+    | inr there ↦ absurd (at-rows scope given m first.right.placed there.role backup there.row 0 there.held there.place refl)
+  ]
+
   at-copied : IsRightAndFit sound scope given told m copied
   at-copied = record {
     right = copying-right sound scope given told m span start copied run.some.0 run.able run.copying first.right;
-    fit = copying-fit sound scope given told m span start copied run.some.0 first.right.placed run.able run.copying first.fit;
+    headers = λ backup header here may. first.headers backup header here (unwritten backup header may);
   }
 
   pub at-flushed : IsRightAndFit sound scope given told m flushed
   at-flushed = record {
     right = fewer-right sound scope given told m copied flushed run.flushed_is at-copied.right;
-    fit = fewer-fit sound scope told m copied flushed run.flushed_is at-copied.fit;
+    headers = λ backup header here may. at-copied.headers backup header here (run.flushed_is backup 0 header may);
   }
 
   pub copies : IsRightAndFit sound scope given told m copied × IsRightAndFit sound scope given told m flushed
@@ -127,7 +135,7 @@ module _ (sound : Type 0) (scope : Scope) (given : Given) (told : Ledger) (m : M
   behind : (backup : ℕ) (header : Sector) → scope.backup ≡ Some backup → IsIn (flushed backup 0) header
       → (open_by scope (moved_past span m).newest header ≡ None) × IsHeaderFit scope (moved_past span m).newest header
   behind backup header here may = fit-headers-plain scope given m span header first.right.placed run.able.next
-      (λ other named. at-flushed.fit.headers backup header other here may named)
+      (λ other named. at-flushed.headers backup header here may other named)
 
   plain-behind : HasNoSection scope (moved_past span m) flushed
   plain-behind header may = of scope.backup refl
@@ -136,7 +144,7 @@ module _ (sound : Type 0) (scope : Scope) (given : Given) (told : Ledger) (m : M
       of (Some b) is = (behind b header is (subst (λ (s : ℕ). IsIn (flushed s 0) header) (backup-is scope b is) may)).0
       of None is = ap (λ (backup : Option ℕ). section_for scope (λ s k. header) backup (next_window (moved_past span m).newest)) is
 
-  module _ (c : Contents) (list : ℕ → Sector) (stands : IsWindowStanding sound told m span c list flushed) (zeros : IsTailZero (moved_past span m).newest list) where
+  module _ (c : Contents) (list : ℕ → Sector) (stands : IsWindowStanding sound told m span c list flushed) where
     moved : IsFlushedRight sound scope given told (moved_past span m) c list flushed
     moved = record {
       placed = moved-placed scope given m span first.right.placed run.able.next;
@@ -149,38 +157,42 @@ module _ (sound : Type 0) (scope : Scope) (given : Given) (told : Ledger) (m : M
       missing = first.right.gone;
       unclean = first.right.unclean;
       reshaping = first.right.reshaping;
+      headers = λ active premise backup header here may. (behind backup header here may).1;
+      zeros = stands.zeros;
+      tails = λ premise. moved-tails scope given m span c list first.right.placed run.able.next stands.window;
     }
 
     moved-both : IsRightAndFit sound scope given told (moved_past span m) flushed
     moved-both = record {
       right = flushed-right sound scope given told (moved_past span m) c list flushed moved;
-      fit = flushed-fit sound scope given told (moved_past span m) c list flushed (record {
-        right = moved;
-        headers = λ backup header here may. (behind backup header here may).1;
-        zeros = zeros;
-        tail = moved-tails scope given m span c list first.right.placed run.able.next stands.window;
-      });
+      headers = λ backup header here may. (behind backup header here may).1;
     }
 
 pub copies-fit : (sound : Type 0) → CopiesStayFit sound
 copies-fit sound scope given told m span start copied flushed run first = copies sound scope given told m span start copied flushed run first
 
 pub moved-fits-too : (sound : Type 0) → MovedIsRightAndFit sound
-moved-fits-too sound scope given told m span start copied flushed c list run first stands zeros =
-    (moved-both sound scope given told m span start copied flushed run first c list stands zeros, plain-behind sound scope given told m span start copied flushed run first)
+moved-fits-too sound scope given told m span start copied flushed c list run first stands =
+    (moved-both sound scope given told m span start copied flushed run first c list stands, plain-behind sound scope given told m span start copied flushed run first)
 
 pub updated-fits-too : (sound : Type 0) → UpdatedIsRightAndFit sound
 updated-fits-too sound scope given told m d e some updating (both, plain) = (
-  record { right = updating-right sound scope given told m d e some updating both.right; fit = updating-fit sound scope given told m d e some both.right.placed updating both.fit },
-  λ header may. plain header (elim (updating (backup_of scope) 0) [ inl less ↦ less header may | inr (eighth, other) ↦ absurd (omega (arith, eighth)) ]),
+  record {
+    right = updating-right sound scope given told m d e some updating both.right;
+    headers = λ backup header here may. both.headers backup header here (unwritten backup header may);
+  },
+  λ header may. plain header (unwritten (backup_of scope) header may),
 )
-
-pub copies-seen : (sound : Type 0) → CopiesAreSeenFit sound
-copies-seen sound scope given told m span start copied flushed c list last image run first stands zeros updating reads =
-    let then = at-flushed sound scope given told m span start copied flushed run first in
-    let moved = moved-both sound scope given told m span start copied flushed run first c list stands zeros in
-    either (updates-fit sound scope given told told m (moved_past span m) flushed last image run.some.1 updating then.right moved.right (λ active. then.fit) (λ active. moved.fit) reads)
   where
-    either : IsSeenFit sound scope given told last image ⊎ IsSeenFit sound scope given told last image → IsSeenFit sound scope given told last image
+    unwritten : (slot : ℕ) (header : Sector) → IsIn (e slot 0) header → IsIn (d slot 0) header
+    unwritten slot header may = elim (updating slot 0) [ inl less ↦ less header may | inr (eighth, other) ↦ absurd (omega (arith, eighth)) ]
+
+pub copies-seen : (sound : Type 0) → CopiesAreSeenRight sound
+copies-seen sound scope given told m span start copied flushed c list last image run first stands updating reads =
+    let then = at-flushed sound scope given told m span start copied flushed run first in
+    let moved = moved-both sound scope given told m span start copied flushed run first c list stands in
+    either (updates-seen sound scope given told told m (moved_past span m) flushed last image run.some.1 updating then.right moved.right reads)
+  where
+    either : IsSeenRight sound scope given told last image ⊎ IsSeenRight sound scope given told last image → IsSeenRight sound scope given told last image
     either (inl seen) = seen
     either (inr seen) = seen

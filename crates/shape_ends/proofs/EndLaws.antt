@@ -13,6 +13,7 @@ use Rattle.bank.specs.Given.{Given}
 use Rattle.bank.specs.Tape.{Contents, IsIn}
 use Rattle.layout.specs.Layout.{row_roles}
 use Rattle.geometry.specs.Geometry.{window}
+use Rattle.sb1.specs.declared.sb.Sb.{Sb}
 use Rattle.superblocks.specs.declared.members.Members.{Members}
 use Rattle.superblocks.specs.Reading.{Scope, is_clean, is_reshaping, is_backward, shape_of, final_shape, list_length, next_window, data_offset_of}
 use Rattle.row_io.specs.Rows.{reading_of, is_missing, held_slot, IsTolerated}
@@ -22,16 +23,15 @@ use Rattle.backup.specs.Section.{is_header_of, names_span, has_section}
 use Rattle.flat_history.specs.ActiveSection.{section_for}
 use Rattle.flat_history.specs.Flat.{resized}
 use Rattle.flat_history.specs.Stands.{shape_for, covers}
-use Rattle.shape_views.specs.Regions.{backup_of, header_in, place_by, ArePlaced, DoWithout}
-use Rattle.shape_views.specs.Views.{Disk, IsOutside, IsViewRight}
+use Rattle.shape_views.specs.Regions.{backup_of, header_in, place_by, AreShapesFit, ArePlaced, DoWithout}
+use Rattle.shape_views.specs.Views.{Disk, IsTail, IsOutside}
 use Rattle.shape_views.specs.Windows.{HasNoSection, ListStands}
-use Rattle.shape_views.specs.Sound.{IsTail}
-use Rattle.shape_ends.specs.Ends.{IsPlacedAs, IsKeptSlot, AreRolesKept, ArePlacesAlike, PlacesAlikeStand, ResizedTells, AlikePlansAreRight, ClearedIsPlain, BegunIsPlacedAlike, BeginsAreRight, BeginsAreSeenFit}
+use Rattle.shape_changes.specs.Updates.{IsAtStart}
+use Rattle.shape_ends.specs.Ends.{IsPlacedAs, IsKeptSlot, AreRolesKept, ArePlacesAlike, PlacesAlikeStand, ResizedTells, AlikePlansAreRight, ClearedIsPlain, BegunIsPlacedAlike, BeginsAreRight, BeginsAreSeenRight}
 use Rattle.shape_views.proofs.Alike.{role-in-shape}
 use Rattle.shape_views.proofs.Stands.{for-still, final-still, list-still}
-use Rattle.shape_changes.proofs.LessViews.{ends-place}
-use Rattle.shape_ends.proofs.Tails.{some-listed}
-use Rattle.shape_ends.proofs.FitLaws.{updates-fit}
+use Rattle.shape_changes.proofs.LessViews.{ends-place, updates-seen}
+use Rattle.shape_views.proofs.Tails.{some-listed}
 
 -- ---- a row that is placed alike
 
@@ -130,7 +130,10 @@ alike-plans sound scope given before after m plan d has right = record {
     allowed = λ x lt. told x (s.list x) lt (s.allowed x (below x lt));
     rows = λ c drawn x outside. row-stands scope given m plan has.placed has.alike c s.list x outside.within
         (s.rows c drawn x (outside-none scope m d has.former (header_in scope c) (drawn (backup_of scope) 0) x (below x outside.within)));
+    zeros = λ x tail. absurd (has.tails x tail);
   };
+  headers = λ active premise. has.headers active;
+  tails = λ premise x slot tail. absurd (has.tails x tail);
 }
   where
     below : (x : ℕ) → x < list_length plan.newest → x < list_length m.newest
@@ -207,15 +210,26 @@ begun-alike m plan begun = record {
         (λ i. min (data_disks (begun.shape i)) (data_disks (final_shape plan.newest)) * begun.size i) in
         omega (arith, whole, le, long)
 
+-- at its first position it has no tail
+pub starts-untailed : (newest : Sb) → AreShapesFit newest → IsAtStart newest → (x : ℕ) → IsTail newest x → ⊥
+starts-untailed newest fit starts x tail =
+    let some = some-listed newest fit in
+    let through = tail.through in
+    let start : newest.reshape_position ≡ 0 = starts ∙ ap (λ (b : Bool). cond b (list_length newest) 0) tail.forth in
+    absurd (omega (arith, some, through, start))
+
 pub begins : (sound : Type 0) → BeginsAreRight sound
-begins sound scope given before after m plan d begun placed told cleared right = (
-  view,
-  record {
-    headers = λ backup header span here may. (cleared-plain scope plan d cleared).1 backup header here may span;
-    held = λ x slot tail. absurd (no-tail-here x tail);
-    settled = λ clean few premise. record { settled = view.settled clean few premise; zeros = λ x tail. absurd (no-tail-here x tail) };
-  },
-)
+begins sound scope given before after m plan d begun placed told cleared right = alike-plans sound scope given before after m plan d (record {
+  alike = begun-alike m plan begun;
+  placed = placed;
+  told = told;
+  clean = begun.clean;
+  former = still-plain scope m d begun.still;
+  plain = (cleared-plain scope plan d cleared).0;
+  without = without;
+  headers = λ active. (cleared-plain scope plan d cleared).1;
+  tails = λ x tail. starts-untailed plan.newest placed.fit begun.start x tail;
+}) right
   where
     -- the old shape stands, and its roles are missed as before
     without : DoWithout plan → DoWithout m
@@ -227,25 +241,6 @@ begins sound scope given before after m plan d begun placed told cleared right =
             let le = fewer-pass (shape_of m.newest).disks (is_missing (reading_of m)) (is_missing (reading_of plan)) begun.missing in
             omega (arith, few', le)
 
-    view : IsViewRight sound scope given after plan d
-    view = alike-plans sound scope given before after m plan d (record {
-      alike = begun-alike m plan begun;
-      placed = placed;
-      told = told;
-      clean = begun.clean;
-      former = still-plain scope m d begun.still;
-      plain = (cleared-plain scope plan d cleared).0;
-      without = without;
-    }) right
-
-    no-tail-here : (x : ℕ) → IsTail plan.newest x → ⊥
-    no-tail-here x tail =
-        let some = some-listed plan.newest placed.fit in
-        let through = tail.through in
-        let start : plan.newest.reshape_position ≡ 0 = begun.start ∙ ap (λ (b : Bool). cond b (list_length plan.newest) 0) tail.forth in
-        absurd (omega (arith, some, through, start))
-
-pub begins-seen : (sound : Type 0) → BeginsAreSeenFit sound
+pub begins-seen : (sound : Type 0) → BeginsAreSeenRight sound
 begins-seen sound scope given before after m plan d e c begun placed told cleared some updating right reads =
-    let planned = begins sound scope given before after m plan d begun placed told cleared right in
-    updates-fit sound scope given before after m plan d e c some updating right planned.0 (λ active. absurd (let still = begun.still in cc)) (λ active. planned.1) reads
+    updates-seen sound scope given before after m plan d e c some updating right (begins sound scope given before after m plan d begun placed told cleared right) reads

@@ -28,17 +28,15 @@ use Rattle.list_io.proofs.FullLaws.{full-same, places-are-full}
 use Rattle.flat_history.specs.ActiveSection.{section_for}
 use Rattle.flat_history.specs.Stands.{shape_for}
 use Rattle.shape_views.specs.Regions.{backup_of, header_in, place_by, ArePlaced, DoWithout}
-use Rattle.shape_views.specs.Views.{Disk, Ledger, IsViewRight}
+use Rattle.shape_views.specs.Views.{Disk, Ledger, IsTail, IsViewRight}
 use Rattle.shape_views.specs.Windows.{HasNoSection}
 use Rattle.shape_changes.specs.Updates.{IsAtEnd}
-use Rattle.shape_views.specs.Sound.{IsTail}
-use Rattle.shape_ends.specs.Ends.{IsKeptSlot, AreRolesKept, ArePlacesAlike, IsToldWith, IsEnded, IsGrown, EndsAreRight, EndsAreSeenFit}
+use Rattle.shape_ends.specs.Ends.{IsKeptSlot, AreRolesKept, ArePlacesAlike, IsToldWith, IsEnded, IsGrown, EndsAreRight, EndsAreSeenRight}
 use Rattle.shape_views.proofs.Alike.{role-in-shape}
 use Rattle.shape_views.proofs.Stands.{for-still, list-still}
-use Rattle.shape_changes.proofs.LessViews.{ends-place}
+use Rattle.shape_changes.proofs.LessViews.{ends-place, updates-seen}
 use Rattle.shape_views.proofs.UnderWay.{under-way}
-use Rattle.shape_ends.proofs.Tails.{some-listed, first, listed, same-row}
-use Rattle.shape_ends.proofs.FitLaws.{updates-fit}
+use Rattle.shape_views.proofs.Tails.{some-listed, first, listed, same-row}
 use Rattle.shape_ends.proofs.EndLaws.{row-alike, same-placed, outside-none, clean-too, alike-plans, still-plain}
 
 -- ---- the end has no window left
@@ -165,10 +163,12 @@ module _ (scope : Scope) (given : Given) (before after : Ledger) (m plan : Membe
       former = end-plain scope m d ended.active ended.last;
       plain = still-plain scope plan d ended.still;
       without = ended.without;
+      headers = λ active. absurd (let still = ended.still in cc);
+      tails = λ x tail. absurd (let still = ended.still in let active = tail.active in cc);
     }) right
 
     -- a longer one
-    module _ (grown : IsGrown sound scope before after m plan d) where
+    module _ (grown : IsGrown after m plan d) where
       valid : IsTrue (is_valid_shape (final_shape m.newest))
       valid = right.placed.fit.valid.final
 
@@ -179,7 +179,7 @@ module _ (scope : Scope) (given : Given) (before after : Ledger) (m plan : Membe
       through = ended.last ∙ ap (λ (b : Bool). cond b 0 (list_length m.newest)) grown.forth
 
       tail-of : (x : ℕ) → list_length m.newest ≤ x → stripe_of (final_shape m.newest) x ≡ stripe_of (final_shape m.newest) (list_length m.newest - 1) → IsTail m.newest x
-      tail-of x past stripe = record { forth = grown.forth; through = through; past = past; stripe = stripe }
+      tail-of x past stripe = record { active = ended.active; forth = grown.forth; through = through; past = past; stripe = stripe }
 
       value : (x : ℕ) (v : Sector) → x < list_length plan.newest → (x < list_length m.newest → IsIn (before.values x) v) → (list_length m.newest ≤ x → v ≡ zero_sector) → IsIn (after.values x) v
       value x v lt was zero_is = elim (cases_lt x (list_length m.newest)) [
@@ -208,39 +208,39 @@ module _ (scope : Scope) (given : Given) (before after : Ledger) (m plan : Membe
 
       module _ (clean : is_clean m.newest ≡ true) (few : DoWithout m) (premise : sound) (c : Contents) (drawn : IsDrawn d c) where
         -- the row of a listed sector
-        listed-row : (x : ℕ) → x < list_length m.newest → RowStands (reading_of m) c (final_shape m.newest) (longer ((grown.fit.settled clean few premise).settled.list)) (place (final_shape m.newest) x).row
+        listed-row : (x : ℕ) → x < list_length m.newest → RowStands (reading_of m) c (final_shape m.newest) (longer ((right.settled clean few premise).list)) (place (final_shape m.newest) x).row
         listed-row x below =
-            let s = grown.fit.settled clean few premise in
-            row-list m c (final_shape m.newest) s.settled.list (longer s.settled.list) (place (final_shape m.newest) x).row valid
+            let s = right.settled clean few premise in
+            row-list m c (final_shape m.newest) s.list (longer s.list) (place (final_shape m.newest) x).row valid
             (λ y at. elim (cases_lt y (list_length m.newest)) [
-              | inl inside ↦ longer-below s.settled.list y inside
+              | inl inside ↦ longer-below s.list y inside
               | inr past ↦ (
                   let same = one-stripe (final_shape m.newest) valid y x at in
                   let last = between (final_shape m.newest) valid (list_length m.newest) some x y below past (sym same) in
-                  longer-past s.settled.list y past ∙ sym (s.zeros y (tail-of y past last)))
+                  longer-past s.list y past ∙ sym (s.zeros y (tail-of y past last)))
             ])
-            (subst (λ (f : Shape). RowStands (reading_of m) c f s.settled.list (place f x).row) (before-is x below)
-            (s.settled.rows c drawn x (outside-none scope m d (end-plain scope m d ended.active ended.last) (header_in scope c) (header-of c drawn) x below)))
+            (subst (λ (f : Shape). RowStands (reading_of m) c f s.list (place f x).row) (before-is x below)
+            (s.rows c drawn x (outside-none scope m d (end-plain scope m d ended.active ended.last) (header_in scope c) (header-of c drawn) x below)))
 
         -- a row past those of the list
-        past-row : (row : ℕ) → (rows (final_shape m.newest) 0 (list_length m.newest)).hi ≤ row → RowStands (reading_of m) c (final_shape m.newest) (longer ((grown.fit.settled clean few premise).settled.list)) row
+        past-row : (row : ℕ) → (rows (final_shape m.newest) 0 (list_length m.newest)).hi ≤ row → RowStands (reading_of m) c (final_shape m.newest) (longer ((right.settled clean few premise).list)) row
         past-row row past =
-            let s = grown.fit.settled clean few premise in
-            row-list m c (final_shape m.newest) (λ x. zero_sector) (longer s.settled.list) row valid
-            (λ y at. longer-past s.settled.list y (past-apart (final_shape m.newest) valid (list_length m.newest) some row y past at))
+            let s = right.settled clean few premise in
+            row-list m c (final_shape m.newest) (λ x. zero_sector) (longer s.list) row valid
+            (λ y at. longer-past s.list y (past-apart (final_shape m.newest) valid (list_length m.newest) some row y past at))
             (record {
               whole = λ y at. zero-is-sector;
               sectors = λ role slot lt part held. grown.zeroed role row slot lt past held (c slot (data_offset_of (reading_of m) slot + row)) (drawn slot (data_offset_of (reading_of m) slot + row));
               parity = λ role slot lt part held. grown.zeroed role row slot lt past held (c slot (data_offset_of (reading_of m) slot + row)) (drawn slot (data_offset_of (reading_of m) slot + row));
             })
 
-        each-row : (x : ℕ) → RowStands (reading_of m) c (final_shape m.newest) (longer ((grown.fit.settled clean few premise).settled.list)) (place (final_shape m.newest) x).row
+        each-row : (x : ℕ) → RowStands (reading_of m) c (final_shape m.newest) (longer ((right.settled clean few premise).list)) (place (final_shape m.newest) x).row
         each-row x = elim (cases_lt x (list_length m.newest)) [
           | inl below ↦ listed-row x below
           | inr past ↦ elim (past-or-tail (final_shape m.newest) valid (list_length m.newest) some x past) [
             | inl last ↦ (
                 let tail = tail-of x past last in
-                subst (RowStands (reading_of m) c (final_shape m.newest) (longer ((grown.fit.settled clean few premise).settled.list))) (same-row m.newest right.placed.fit x tail)
+                subst (RowStands (reading_of m) c (final_shape m.newest) (longer ((right.settled clean few premise).list))) (same-row m.newest right.placed.fit x tail)
                 (listed-row (first m.newest right.placed.fit x tail) (listed m.newest right.placed.fit x tail)))
             | inr far ↦ past-row (place (final_shape m.newest) x).row far
           ]
@@ -273,7 +273,7 @@ module _ (scope : Scope) (given : Given) (before after : Ledger) (m plan : Membe
 
           zero-is : list_length m.newest ≤ x → v ≡ zero_sector
           zero-is past = elim (past-or-tail (final_shape m.newest) valid (list_length m.newest) some x past) [
-            | inl last ↦ grown.fit.held x slot (tail-of x past last) held-final v here
+            | inl last ↦ grown.tails x slot (tail-of x past last) held-final v here
             | inr far ↦ grown.zeroed (place (final_shape m.newest) x).role (place (final_shape m.newest) x).row slot
                 (place-role_below (final_shape m.newest) valid x) far held-final v here
                 ∙ places-are-full (final_shape m.newest) (λ x. zero_sector) x valid
@@ -291,23 +291,25 @@ module _ (scope : Scope) (given : Given) (before after : Ledger) (m plan : Membe
         settled = λ clean few premise. (
             let clean' = clean-too m plan ended.clean ∙ clean in
             let few' = ended.without few in
-            let s = grown.fit.settled clean' few' premise in
+            let s = right.settled clean' few' premise in
             record {
-              list = longer s.settled.list;
-              allowed = λ x lt. value x (longer s.settled.list x) lt
-                  (λ below. subst (IsIn (before.values x)) (sym (longer-below s.settled.list x below)) (s.settled.allowed x below))
-                  (longer-past s.settled.list x);
-              rows = λ c drawn x outside. subst (λ (f : Shape). RowStands (reading_of plan) c f (longer s.settled.list) (place f x).row) (sym (after-is x))
-                  (row-alike m plan c (final_shape m.newest) (final_shape m.newest) (longer s.settled.list) (place (final_shape m.newest) x).row
+              list = longer s.list;
+              allowed = λ x lt. value x (longer s.list x) lt
+                  (λ below. subst (IsIn (before.values x)) (sym (longer-below s.list x below)) (s.allowed x below))
+                  (longer-past s.list x);
+              rows = λ c drawn x outside. subst (λ (f : Shape). RowStands (reading_of plan) c f (longer s.list) (place f x).row) (sym (after-is x))
+                  (row-alike m plan c (final_shape m.newest) (final_shape m.newest) (longer s.list) (place (final_shape m.newest) x).row
                   (same-placed (final_shape m.newest) (final_shape m.newest) refl) ended.kept (each-row clean' few' premise c drawn x));
+              zeros = λ x tail. absurd (let still = ended.still in let active = tail.active in cc);
             });
+        headers = λ active premise. absurd (let still = ended.still in cc);
+        tails = λ premise x slot tail. absurd (let still = ended.still in let active = tail.active in cc);
       }
 
 pub ends : (sound : Type 0) → EndsAreRight sound
 ends sound scope given before after m plan d ended placed told (inl back) right = short-right scope given before after m plan d ended placed told sound right back
 ends sound scope given before after m plan d ended placed told (inr grown) right = grown-right scope given before after m plan d ended placed told sound right grown
 
-pub ends-seen : (sound : Type 0) → EndsAreSeenFit sound
-ends-seen sound scope given before after m plan d e c ended placed told way some updating right fit reads =
-    updates-fit sound scope given before after m plan d e c some updating right (ends sound scope given before after m plan d ended placed told way right)
-    (λ active. fit) (λ active. absurd (let still = ended.still in cc)) reads
+pub ends-seen : (sound : Type 0) → EndsAreSeenRight sound
+ends-seen sound scope given before after m plan d e c ended placed told way some updating right reads =
+    updates-seen sound scope given before after m plan d e c some updating right (ends sound scope given before after m plan d ended placed told way right) reads

@@ -19,15 +19,14 @@ use Rattle.flat_history.specs.declared.events.Entry.{Entry}
 use Rattle.flat_history.specs.Flat.{values_of, values_after, length_of, length_after, first_values}
 use Rattle.flat_history.specs.Stands.{shape_for}
 use Rattle.shape_views.specs.Regions.{place_by, ArePlaced}
-use Rattle.shape_views.specs.Windows.{ListStands, RowsStand}
-use Rattle.shape_views.specs.Sound.{IsTail}
-use Rattle.shape_ends.specs.Fits.{AreTailsStanding}
+use Rattle.shape_views.specs.Views.{IsTail}
+use Rattle.shape_views.specs.Windows.{ListStands, RowsStand, AreTailsStanding}
 use Rattle.shape_ends.specs.Ends.{IsKeptSlot, IsEnded}
 use Rattle.shape_ends.specs.Grown.{IsZeroPast, IsPastRow, GrownStands, GrownDoesWithout, LeaveList, ResizedIsTold}
 use Rattle.shape_views.proofs.Alike.{role-in-shape}
 use Rattle.shape_views.proofs.Stands.{for-still, data-at}
 use Rattle.shape_changes.proofs.LessViews.{ends-place}
-use Rattle.shape_ends.proofs.Tails.{some-listed, first, listed, same-row}
+use Rattle.shape_views.proofs.Tails.{some-listed, first, listed, same-row}
 use Rattle.shape_ends.proofs.EndLaws.{row-alike, same-placed, fewer-pass, resized-tells}
 use Rattle.shape_ends.proofs.GrownLaws.{row-list, past-or-tail, past-apart}
 
@@ -40,7 +39,7 @@ module _ (scope : Scope) (given : Given) (m plan : Members) (c : Contents) (list
   before-is x lt = (ends-place m.newest x ended.active lt).1 ended.last
 
   tail-of : (x : ℕ) → list_length m.newest ≤ x → stripe_of (final_shape m.newest) x ≡ stripe_of (final_shape m.newest) (list_length m.newest - 1) → IsTail m.newest x
-  tail-of x past stripe = record { forth = forth; through = ended.last ∙ ap (λ (b : Bool). if b then 0 else list_length m.newest) forth; past = past; stripe = stripe }
+  tail-of x past stripe = record { active = ended.active; forth = forth; through = ended.last ∙ ap (λ (b : Bool). if b then 0 else list_length m.newest) forth; past = past; stripe = stripe }
 
   some : 0 < list_length m.newest
   some = some-listed m.newest former.fit

@@ -1,15 +1,13 @@
 pub mod Begin
 pub mod CopyRuns
 pub mod EndLaws
-pub mod FitLaws
 pub mod GrownLaws
 pub mod GrownStanding
+pub mod LeftSound
 pub mod LessPlaced
 pub mod PastWindows
 pub mod PlanPlaced
 pub mod PlanRoles
-pub mod RunFits
 pub mod RunLaws
-pub mod Tails
 pub mod TakenShapes
 pub mod Takeovers

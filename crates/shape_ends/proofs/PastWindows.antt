@@ -23,6 +23,7 @@ use Rattle.shape_views.specs.Windows.{moved_past}
 use Rattle.shape_changes.specs.Updates.{PastWindowsArePlain, IsAtEnd, IsPastPlace, ZeroingStaysRight}
 use Rattle.shape_changes.proofs.LessViews.{ends-place}
 use Rattle.shape_views.proofs.UnderWay.{is-reshaping, window-is, under-way}
+use Rattle.shape_views.proofs.Tails.{row-within}
 use Rattle.shape_views.proofs.WindowLaws.{IsUnread, unread-right, at-rows, open-some}
 
 -- the next window begins elsewhere
@@ -75,6 +76,11 @@ zeroing-unread scope given m d placed active last = record {
       let at = there.place in
       let far = there.past in
       absurd (omega (arith, row, below, at, far)));
+  tails = λ x slot tail held there. (
+      let within = row-within m.newest placed.fit x tail in
+      let far = there.past in
+      let at = there.place in
+      absurd (omega (arith, within, far, at)));
 }
 
 pub zeroing-right : (sound : Type 0) → ZeroingStaysRight sound

@@ -7,10 +7,12 @@ use Rattle.bank.specs.Tape.{Contents, IsIn}
 use Rattle.superblocks.specs.declared.members.Members.{Members}
 use Rattle.superblocks.specs.Reading.{Scope}
 use Rattle.shape_views.specs.Regions.{backup_of, open_by}
-use Rattle.shape_views.specs.Views.{Disk, Ledger, IsViewRight, IsSeenRight}
+use Rattle.shape_views.specs.Views.{Disk, Ledger, IsHeaderFit, IsViewRight, IsSeenRight}
 use Rattle.shape_views.specs.Windows.{IsCopyable, moved_past, IsFlushedRight}
 use Rattle.shape_ends.specs.Runs.{IsWindowRun, IsWindowStanding, IsRightThroughout, WindowsStayRight, RecordsAreSeenRight}
 use Rattle.shape_views.proofs.WindowLaws.{at-rows, fewer-right, storing-right, naming-right, copying-right}
+use Rattle.shape_views.proofs.Headers.{backup-is, next-headers}
+use Rattle.shape_views.proofs.Tails.{moved-tails}
 use Rattle.shape_views.proofs.Stands.{moved-stands, moved-rows-stand, moved-placed, flushed-right}
 use Rattle.shape_changes.proofs.LessViews.{updates-seen}
 use Rattle.shape_ends.proofs.PastWindows.{past-windows-plain}
@@ -38,7 +40,7 @@ module _ (sound : Type 0) (scope : Scope) (given : Given) (told : Ledger) (m : M
       (λ other active x low high v is. (
       let same : other ≡ span = some-only other span (sym active ∙ run.active) in
       run.section x (subst (λ (s : Span). s.lo ≤ x) same low) (subst (λ (s : Span). x < s.hi) same high) v (subst (λ (s : Span). IsIn (kept (backup_of scope) (8 + (x - s.lo))) v) same is)))
-      run.naming two
+      (λ active premise. (next-headers scope given m span header right.placed run.next run.names).0) run.naming two
     where
       some-only : (a b : Span) → ◌≡◌ {A = Option Span} (Some a) (Some b) → a ≡ b
       some-only a b e = cc
@@ -76,6 +78,11 @@ module _ (sound : Type 0) (scope : Scope) (given : Given) (told : Ledger) (m : M
       missing = right.gone;
       unclean = right.unclean;
       reshaping = right.reshaping;
+      headers = λ active premise backup v here may. subst (IsHeaderFit scope (moved_past span m).newest)
+          (sym (header-flushed v (subst (λ (s : ℕ). IsIn (flushed s 0) v) (sym (backup-is scope backup here)) may)))
+          (next-headers scope given m span header right.placed run.next run.names).1;
+      zeros = stands.zeros;
+      tails = λ premise. moved-tails scope given m span c list right.placed run.next stands.window;
     }
 
     pub moved-right : IsViewRight sound scope given told (moved_past span m) flushed

@@ -12,10 +12,10 @@ use Rattle.row_io.specs.Rows.{reading_of, is_missing, IsTolerated}
 use Rattle.flat_history.specs.Stands.{shape_for}
 use Rattle.shape_views.specs.Regions.{DoWithout}
 use Rattle.shape_ends.specs.Ends.{IsPlacedAs, AreRolesKept}
-use Rattle.shape_ends.specs.Takeovers.{IsTakenUp, IsTakenDown, TakeoversPlaceAlike, TakeoversAreRight, TakeoversAreSeenFit}
+use Rattle.shape_ends.specs.Takeovers.{IsTakenUp, IsTakenDown, TakeoversPlaceAlike, TakeoversAreRight, TakeoversAreSeenRight}
 use Rattle.shape_views.proofs.Stands.{for-still, final-still, list-still}
 use Rattle.shape_ends.proofs.EndLaws.{alike-plans, still-plain, fewer-pass}
-use Rattle.shape_ends.proofs.FitLaws.{updates-fit}
+use Rattle.shape_changes.proofs.LessViews.{updates-seen}
 use Rattle.shape_ends.proofs.TakenShapes.{taken-alike, taken-over}
 
 -- one role more is missing at most
@@ -101,6 +101,8 @@ takeovers sound scope given before after m plan d way placed told right = alike-
   former = still-plain scope m d (still way);
   plain = still-plain scope plan d (still-too way);
   without = without way;
+  headers = λ active. absurd (no plan.newest active (still-too way));
+  tails = λ x tail. absurd (no plan.newest tail.active (still-too way));
 }) right
   where
     clean : IsTakenUp m plan ⊎ IsTakenDown m plan → plan.newest.resync_offset ≡ m.newest.resync_offset
@@ -119,18 +121,9 @@ takeovers sound scope given before after m plan d way placed told right = alike-
     without (inl up) = without-up m plan up
     without (inr down) = without-down m plan down
 
-pub takeovers-seen : (sound : Type 0) → TakeoversAreSeenFit sound
-takeovers-seen sound scope given before after m plan d e c way placed told some updating right reads =
-    updates-fit sound scope given before after m plan d e c some updating right (takeovers sound scope given before after m plan d way placed told right)
-    (λ active. absurd (no m.newest active (still way))) (λ active. absurd (no plan.newest active (still-too way))) reads
-  where
     no : (newest : Sb) → is_reshaping newest ≡ true → is_reshaping newest ≡ false → ⊥
     no newest active none = absurd (cc)
 
-    still : IsTakenUp m plan ⊎ IsTakenDown m plan → is_reshaping m.newest ≡ false
-    still (inl up) = up.still
-    still (inr down) = down.still
-
-    still-too : IsTakenUp m plan ⊎ IsTakenDown m plan → is_reshaping plan.newest ≡ false
-    still-too (inl up) = up.still_too
-    still-too (inr down) = down.still_too
+pub takeovers-seen : (sound : Type 0) → TakeoversAreSeenRight sound
+takeovers-seen sound scope given before after m plan d e c way placed told some updating right reads =
+    updates-seen sound scope given before after m plan d e c some updating right (takeovers sound scope given before after m plan d way placed told right) reads

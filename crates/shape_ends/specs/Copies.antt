@@ -7,12 +7,10 @@ use Rattle.bank.specs.Tape.{Contents}
 use Rattle.superblocks.specs.declared.members.Members.{Members}
 use Rattle.superblocks.specs.Reading.{Scope, next_window}
 use Rattle.shape_views.specs.Regions.{open_by, ArePlaced}
-use Rattle.shape_views.specs.Views.{Disk, Ledger, IsViewRight}
+use Rattle.shape_views.specs.Views.{Disk, Ledger, IsHeaderFit, AreHeadersFit, IsViewRight, IsSeenRight}
 use Rattle.shape_views.specs.Windows.{IsSomewhere, AreFewer, HasNoSection, IsCopyable, IsCopying, IsUpdating, moved_past}
 use Rattle.shape_changes.specs.Updates.{IsReadInUpdate}
-use Rattle.shape_views.specs.Sound.{IsViewFit}
 use Rattle.shape_ends.specs.Runs.{IsWindowStanding}
-use Rattle.shape_ends.specs.Fits.{IsHeaderFit, IsTailZero, IsSeenFit}
 
 -- Behind a window no header that fitted before it has an active section, whichever window it names; and it fits there.
 abbrev pub FitHeadersArePlain : Type 0
@@ -25,25 +23,25 @@ pub record IsCopyRun (scope : Scope) (m : Members) (span : Span) (start copied f
   pub flushed_is : AreFewer copied flushed
   pub some : IsSomewhere start × IsSomewhere flushed
 
--- a view is right, and fits
+-- a view is right, and its headers fit, whether the opening was sound or not
 pub record IsRightAndFit (sound : Type 0) (scope : Scope) (given : Given) (told : Ledger) (m : Members) (d : Disk) : Type 0 where
   pub right : IsViewRight sound scope given told m d
-  pub fit : IsViewFit sound scope told m d
+  pub headers : AreHeadersFit scope m d
 
 abbrev pub CopiesStayFit : (sound : Type 0) → Type 0
 CopiesStayFit sound = (scope : Scope) (given : Given) (told : Ledger) (m : Members) (span : Span) (start copied flushed : Disk) → IsCopyRun scope m span start copied flushed
     → IsRightAndFit sound scope given told m start → IsRightAndFit sound scope given told m copied × IsRightAndFit sound scope given told m flushed
 
--- Each image in the update that records the window is seen right and fits.
-abbrev pub CopiesAreSeenFit : (sound : Type 0) → Type 0
-CopiesAreSeenFit sound = (scope : Scope) (given : Given) (told : Ledger) (m : Members) (span : Span) (start copied flushed : Disk) (c : Contents) (list : ℕ → Sector) (last : Disk) (image : Contents)
-    → IsCopyRun scope m span start copied flushed → IsRightAndFit sound scope given told m start → IsWindowStanding sound told m span c list flushed → IsTailZero (moved_past span m).newest list
-    → IsUpdating scope flushed last → IsReadInUpdate scope given told told m (moved_past span m) image → IsSeenFit sound scope given told last image
+-- Each image in the update that records the window is seen right.
+abbrev pub CopiesAreSeenRight : (sound : Type 0) → Type 0
+CopiesAreSeenRight sound = (scope : Scope) (given : Given) (told : Ledger) (m : Members) (span : Span) (start copied flushed : Disk) (c : Contents) (list : ℕ → Sector) (last : Disk) (image : Contents)
+    → IsCopyRun scope m span start copied flushed → IsRightAndFit sound scope given told m start → IsWindowStanding sound told m span c list flushed
+    → IsUpdating scope flushed last → IsReadInUpdate scope given told told m (moved_past span m) image → IsSeenRight sound scope given told last image
 
 -- The members with the position behind the window are right then, and fit, and no section is active: they are where the next window begins.
 abbrev pub MovedIsRightAndFit : (sound : Type 0) → Type 0
 MovedIsRightAndFit sound = (scope : Scope) (given : Given) (told : Ledger) (m : Members) (span : Span) (start copied flushed : Disk) (c : Contents) (list : ℕ → Sector)
-    → IsCopyRun scope m span start copied flushed → IsRightAndFit sound scope given told m start → IsWindowStanding sound told m span c list flushed → IsTailZero (moved_past span m).newest list
+    → IsCopyRun scope m span start copied flushed → IsRightAndFit sound scope given told m start → IsWindowStanding sound told m span c list flushed
     → IsRightAndFit sound scope given told (moved_past span m) flushed × HasNoSection scope (moved_past span m) flushed
 
 -- An update leaves that so.

@@ -16,12 +16,10 @@ use Rattle.flat_history.specs.declared.events.Event.TheVariants.{Resized}
 use Rattle.flat_history.specs.Flat.{values_after}
 use Rattle.flat_history.specs.Stands.{shape_for}
 use Rattle.shape_views.specs.Regions.{ArePlaced, DoWithout}
-use Rattle.shape_views.specs.Views.{Disk, Ledger, IsViewRight}
+use Rattle.shape_views.specs.Views.{Disk, Ledger, AreHeadersFit, IsTail, AreTailsZero, IsViewRight, IsSeenRight}
 use Rattle.shape_views.specs.Windows.{IsSomewhere, HasNoSection, IsUpdating, ListStands, RowsStand}
 use Rattle.shape_changes.specs.Updates.{IsReadInUpdate, IsAtStart, IsAtEnd}
 use Rattle.shape_changes.specs.Steady.{AreGoneTold}
-use Rattle.shape_views.specs.Sound.{IsViewFit}
-use Rattle.shape_ends.specs.Fits.{IsHeaderFit, IsSeenFit}
 
 -- ---- places that are alike
 
@@ -67,7 +65,7 @@ abbrev pub ResizedTells : Type 0
 ResizedTells = (n x : ℕ) (values : List Sector) → x < n
     → ((v : Sector) → IsIn values v → IsIn (values_after x values (Resized n)) v) × (values ≡ [] → values_after x values (Resized n) ≡ zero_sector ∷ [])
 
--- A plan that places all alike, where no section is active before it or in it.
+-- A plan that places all alike, where no section is active before it or in it; a reshape that it begins has fitting headers, and no tail yet.
 pub record IsAlikePlan (scope : Scope) (given : Given) (before after : Ledger) (m plan : Members) (d : Disk) : Type 0 where
   pub alike : ArePlacesAlike m plan
   pub placed : ArePlaced scope given plan
@@ -76,6 +74,8 @@ pub record IsAlikePlan (scope : Scope) (given : Given) (before after : Ledger) (
   pub former : HasNoSection scope m d
   pub plain : HasNoSection scope plan d
   pub without : DoWithout plan → DoWithout m
+  pub headers : is_reshaping plan.newest ≡ true → AreHeadersFit scope plan d
+  pub tails : (x : ℕ) → IsTail plan.newest x → ⊥
 
 abbrev pub AlikePlansAreRight : (sound : Type 0) → Type 0
 AlikePlansAreRight sound = (scope : Scope) (given : Given) (before after : Ledger) (m plan : Members) (d : Disk) → IsAlikePlan scope given before after m plan d
@@ -90,7 +90,7 @@ IsCleared scope d = (backup : ℕ) (header : Sector) → scope.backup ≡ Some b
 -- Such a header has no section that is active, and fits.
 abbrev pub ClearedIsPlain : Type 0
 ClearedIsPlain = (scope : Scope) (m : Members) (d : Disk) → IsCleared scope d
-    → HasNoSection scope m d × ((backup : ℕ) (header : Sector) → scope.backup ≡ Some backup → IsIn (d backup 0) header → IsHeaderFit scope m.newest header)
+    → HasNoSection scope m d × AreHeadersFit scope m d
 
 -- The plan has the shape in force as its old one, stands at its first position, and has of the old shape's roles what there was.
 pub record IsBegun (m plan : Members) : Type 0 where
@@ -106,16 +106,16 @@ pub record IsBegun (m plan : Members) : Type 0 where
 abbrev pub BegunIsPlacedAlike : Type 0
 BegunIsPlacedAlike = (m plan : Members) → IsBegun m plan → ArePlacesAlike m plan
 
--- Behind a cleared header the planned view is right, and fits.
+-- Behind a cleared header the planned view is right.
 abbrev pub BeginsAreRight : (sound : Type 0) → Type 0
 BeginsAreRight sound = (scope : Scope) (given : Given) (before after : Ledger) (m plan : Members) (d : Disk) → IsBegun m plan → ArePlaced scope given plan → IsToldWith before after plan
-    → IsCleared scope d → IsViewRight sound scope given before m d → IsViewRight sound scope given after plan d × IsViewFit sound scope after plan d
+    → IsCleared scope d → IsViewRight sound scope given before m d → IsViewRight sound scope given after plan d
 
--- And each image in the update is seen right and fits.
-abbrev pub BeginsAreSeenFit : (sound : Type 0) → Type 0
-BeginsAreSeenFit sound = (scope : Scope) (given : Given) (before after : Ledger) (m plan : Members) (d e : Disk) (c : Contents) → IsBegun m plan → ArePlaced scope given plan → IsToldWith before after plan
+-- And each image in the update is seen right.
+abbrev pub BeginsAreSeenRight : (sound : Type 0) → Type 0
+BeginsAreSeenRight sound = (scope : Scope) (given : Given) (before after : Ledger) (m plan : Members) (d e : Disk) (c : Contents) → IsBegun m plan → ArePlaced scope given plan → IsToldWith before after plan
     → IsCleared scope d → IsSomewhere d → IsUpdating scope d e → IsViewRight sound scope given before m d → IsReadInUpdate scope given before after m plan c
-    → IsSeenFit sound scope given before e c ⊎ IsSeenFit sound scope given after e c
+    → IsSeenRight sound scope given before e c ⊎ IsSeenRight sound scope given after e c
 
 -- ---- a reshape ends
 
@@ -137,19 +137,19 @@ AreZeroed m d = (role row slot : ℕ) → role < (final_shape m.newest).disks �
     → (v : Sector) → IsIn (d slot (data_offset_of (reading_of m) slot + row)) v → v ≡ full_sector (final_shape m.newest) (λ x. zero_sector) row role
 
 -- A forward reshape may have made the list longer: what it gets is zero, in the tail and in the rows past it.
-pub record IsGrown (sound : Type 0) (scope : Scope) (before after : Ledger) (m plan : Members) (d : Disk) : Type 0 where
+pub record IsGrown (after : Ledger) (m plan : Members) (d : Disk) : Type 0 where
   pub forth : is_backward m.newest ≡ false
-  pub fit : IsViewFit sound scope before m d
+  pub tails : AreTailsZero m d
   pub zeroed : AreZeroed m d
   pub zeros : (x : ℕ) → list_length m.newest ≤ x → x < list_length plan.newest → IsIn (after.values x) zero_sector
 
 -- So the planned view is right.
 abbrev pub EndsAreRight : (sound : Type 0) → Type 0
 EndsAreRight sound = (scope : Scope) (given : Given) (before after : Ledger) (m plan : Members) (d : Disk) → IsEnded m plan → ArePlaced scope given plan → IsToldWith before after plan
-    → (is_backward m.newest ≡ true) ⊎ IsGrown sound scope before after m plan d → IsViewRight sound scope given before m d → IsViewRight sound scope given after plan d
+    → (is_backward m.newest ≡ true) ⊎ IsGrown after m plan d → IsViewRight sound scope given before m d → IsViewRight sound scope given after plan d
 
-abbrev pub EndsAreSeenFit : (sound : Type 0) → Type 0
-EndsAreSeenFit sound = (scope : Scope) (given : Given) (before after : Ledger) (m plan : Members) (d e : Disk) (c : Contents) → IsEnded m plan → ArePlaced scope given plan → IsToldWith before after plan
-    → (is_backward m.newest ≡ true) ⊎ IsGrown sound scope before after m plan d → IsSomewhere d → IsUpdating scope d e
-    → IsViewRight sound scope given before m d → IsViewFit sound scope before m d → IsReadInUpdate scope given before after m plan c
-    → IsSeenFit sound scope given before e c ⊎ IsSeenFit sound scope given after e c
+abbrev pub EndsAreSeenRight : (sound : Type 0) → Type 0
+EndsAreSeenRight sound = (scope : Scope) (given : Given) (before after : Ledger) (m plan : Members) (d e : Disk) (c : Contents) → IsEnded m plan → ArePlaced scope given plan → IsToldWith before after plan
+    → (is_backward m.newest ≡ true) ⊎ IsGrown after m plan d → IsSomewhere d → IsUpdating scope d e
+    → IsViewRight sound scope given before m d → IsReadInUpdate scope given before after m plan c
+    → IsSeenRight sound scope given before e c ⊎ IsSeenRight sound scope given after e c

@@ -11,13 +11,14 @@ use Rattle.superblocks.specs.Reading.{Scope, is_reshaping, shape_of}
 use Rattle.superblocks.specs.Update.{give_of}
 use Rattle.shape_views.specs.Regions.{ArePlaced}
 use Rattle.shape_views.specs.Views.{Ledger}
-use Rattle.shape_views.specs.Windows.{HasNoSection, IsFlushedRight}
+use Rattle.shape_views.specs.Windows.{IsFlushedRight}
 use Rattle.shape_changes.specs.Safety.{HasRoomLeft}
 use Rattle.shape_changes.specs.Steady.{IsSteady, IsSafeNow, AreGoneTold}
 use Rattle.shape_changes.specs.Updates.{planned_view, IsAtStart}
 use Rattle.shape_changes.specs.Changing.{IsChanged, IsSafeChange}
 use Rattle.shape_changes.specs.Kinds.{IsTaking, IsDropping}
 use Rattle.shape_changes.specs.Giving.{IsToldOf}
+use Rattle.shape_ends.specs.Ends.{IsCleared}
 
 -- A reshape begins at its first position, with the same old shape and clean mark, and gives roles alone that are new.
 pub record IsBeginning (old : Members) (change : Change) : Type 0 where
@@ -34,7 +35,7 @@ pub record IsBeginning (old : Members) (change : Change) : Type 0 where
 abbrev pub BeginStaysSafe : (sound : Type 0) → Type 0
 BeginStaysSafe sound = (scope : Scope) (given : Given) (told more : Ledger) (change : Change) (old new : Members) (before after : List Operation)
     → IsChanged ⊤ given change old new before after → IsBeginning old change → HasRoomLeft old before after
-    → ArePlaced scope given (planned_view old change old.lost) → HasNoSection scope (planned_view old change old.lost) (disk given.start before)
+    → ArePlaced scope given (planned_view old change old.lost) → IsCleared scope (disk given.start before)
     → IsToldOf scope (planned_view old change old.lost) (disk given.start before) told more → AreGoneTold told old → AreGoneTold more new
     → ((number : ℕ) → told.carried number ≡ true → more.carried number ≡ true)
     → IsSafeNow sound scope given told old (disk given.start before) → IsSafeChange sound scope given told more new before after

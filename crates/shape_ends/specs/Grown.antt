@@ -12,8 +12,7 @@ use Rattle.flat_history.specs.declared.events.Event.TheVariants.{Resized}
 use Rattle.flat_history.specs.declared.events.Entry.{Entry}
 use Rattle.flat_history.specs.Flat.{values_of, values_after, length_of, length_after}
 use Rattle.shape_views.specs.Regions.{ArePlaced, DoWithout}
-use Rattle.shape_views.specs.Windows.{ListStands, RowsStand}
-use Rattle.shape_ends.specs.Fits.{AreTailsStanding}
+use Rattle.shape_views.specs.Windows.{ListStands, RowsStand, AreTailsStanding}
 use Rattle.shape_ends.specs.Ends.{AreMissingKept, IsEnded}
 
 -- behind the list's end there are zeros

@@ -1,6 +1,6 @@
 pub mod Copies
 pub mod Ends
-pub mod Fits
+pub mod LeftSound
 pub mod Flushed
 pub mod Grown
 pub mod Plans

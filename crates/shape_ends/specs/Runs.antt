@@ -12,7 +12,7 @@ use Rattle.row_io.specs.Rows.{reading_of}
 use Rattle.list_io.specs.Full.{DataStands, RowStands}
 use Rattle.backup.specs.Section.{names_span}
 use Rattle.shape_views.specs.Regions.{backup_of, open_by, DoWithout}
-use Rattle.shape_views.specs.Views.{Disk, Ledger, IsViewRight, IsSeenRight}
+use Rattle.shape_views.specs.Views.{Disk, Ledger, IsTailZero, IsViewRight, IsSeenRight}
 use Rattle.shape_views.specs.Windows.{IsSomewhere, AreFewer, HasNoSection, IsStoring, IsNaming, IsCopying, IsUpdating, ListStands, RowsStand, AreHoldersFlushed, moved_past}
 use Rattle.shape_changes.specs.Updates.{IsReadInUpdate}
 
@@ -33,12 +33,14 @@ pub record IsWindowRun (scope : Scope) (told : Ledger) (m : Members) (span : Spa
   pub flushed_is : AreFewer copied flushed
   pub some : IsSomewhere start × IsSomewhere kept × IsSomewhere alone × IsSomewhere flushed
 
--- What stands in the end: the list outside the window, and the window's rows by the new shape; where the array is clean also their parity.
+-- What stands in the end: the list outside the window, and the window's rows by the new shape; where the array is clean also their parity. Behind the last window
+-- the list is zero in the tail.
 pub record IsWindowStanding (sound : Type 0) (told : Ledger) (m : Members) (span : Span) (c : Contents) (list : ℕ → Sector) (d : Disk) : Type 0 where
   pub flushed : AreHoldersFlushed m c d
   pub allowed : (x : ℕ) → x < list_length m.newest → IsIn (told.values x) (list x)
   pub list_is : ListStands (Some span) m c list
   pub window : (row : ℕ) → geometry.IsIn row (rows (final_shape m.newest) span.lo span.hi) → DataStands (reading_of m) c (final_shape m.newest) list row
+  pub zeros : sound → IsTailZero (moved_past span m).newest list
   pub rows_are : is_clean m.newest ≡ true → DoWithout m → sound → RowsStand (Some span) m c list
   pub parity : is_clean m.newest ≡ true → DoWithout m → sound → (row : ℕ) → geometry.IsIn row (rows (final_shape m.newest) span.lo span.hi) → RowStands (reading_of m) c (final_shape m.newest) list row
 

@@ -9,10 +9,9 @@ use Rattle.superblocks.specs.declared.members.Members.{Members}
 use Rattle.superblocks.specs.Reading.{Scope, is_reshaping, shape_of}
 use Rattle.row_io.specs.Rows.{reading_of, is_missing}
 use Rattle.shape_views.specs.Regions.{ArePlaced}
-use Rattle.shape_views.specs.Views.{Disk, Ledger, IsViewRight}
+use Rattle.shape_views.specs.Views.{Disk, Ledger, IsViewRight, IsSeenRight}
 use Rattle.shape_views.specs.Windows.{IsSomewhere, IsUpdating}
 use Rattle.shape_changes.specs.Updates.{IsReadInUpdate}
-use Rattle.shape_ends.specs.Fits.{IsSeenFit}
 use Rattle.shape_ends.specs.Ends.{IsPlacedAs, AreRolesKept, AreMissingKept, ArePlacesAlike, IsToldWith}
 
 -- The two shapes place each sector alike, and their data and P are full alike.
@@ -50,8 +49,8 @@ abbrev pub TakeoversAreRight : (sound : Type 0) → Type 0
 TakeoversAreRight sound = (scope : Scope) (given : Given) (before after : Ledger) (m plan : Members) (d : Disk) → IsTakenUp m plan ⊎ IsTakenDown m plan → ArePlaced scope given plan
     → IsToldWith before after plan → IsViewRight sound scope given before m d → IsViewRight sound scope given after plan d
 
--- And each image in the update is seen right; nothing else is asked of it to be sound, since no reshape is active.
-abbrev pub TakeoversAreSeenFit : (sound : Type 0) → Type 0
-TakeoversAreSeenFit sound = (scope : Scope) (given : Given) (before after : Ledger) (m plan : Members) (d e : Disk) (c : Contents) → IsTakenUp m plan ⊎ IsTakenDown m plan → ArePlaced scope given plan
+-- And each image in the update is seen right.
+abbrev pub TakeoversAreSeenRight : (sound : Type 0) → Type 0
+TakeoversAreSeenRight sound = (scope : Scope) (given : Given) (before after : Ledger) (m plan : Members) (d e : Disk) (c : Contents) → IsTakenUp m plan ⊎ IsTakenDown m plan → ArePlaced scope given plan
     → IsToldWith before after plan → IsSomewhere d → IsUpdating scope d e → IsViewRight sound scope given before m d → IsReadInUpdate scope given before after m plan c
-    → IsSeenFit sound scope given before e c ⊎ IsSeenFit sound scope given after e c
+    → IsSeenRight sound scope given before e c ⊎ IsSeenRight sound scope given after e c

@@ -6,11 +6,11 @@ ghost use Rattle.std.specs.Prelude.{⊤};
 ghost use Rattle.shape_changes.specs.Updates.{PastWindowsArePlain, ZeroingStaysRight};
 ghost use Rattle.shape_ends.specs.Flushed.{BeginStaysSafe, FlushedChangeStaysSafe};
 ghost use Rattle.shape_ends.specs.Runs.{WindowsStayRight, RecordsAreSeenRight};
-ghost use Rattle.shape_ends.specs.Fits.{NextHeadersFit, FewerStayFit, StoringStaysFit, NamingStaysFit, CopyingStaysFit, UpdatingStaysFit, PuttingStaysFit, ZeroingStaysFit, LessStaysFit, FlushedIsFit, MovedTailsStand, ViewsLeaveSound, UpdatesAreSeenFit, WindowsStayFit, RecordsAreSeenFit};
-ghost use Rattle.shape_ends.specs.Copies.{FitHeadersArePlain, CopiesStayFit, MovedIsRightAndFit, CopiesAreSeenFit, UpdatedIsRightAndFit};
-ghost use Rattle.shape_ends.specs.Ends.{PlacesAlikeStand, ResizedTells, AlikePlansAreRight, ClearedIsPlain, BegunIsPlacedAlike, BeginsAreRight, BeginsAreSeenFit, EndsAreRight, EndsAreSeenFit};
+ghost use Rattle.shape_ends.specs.LeftSound.{ViewsLeaveSound};
+ghost use Rattle.shape_ends.specs.Copies.{FitHeadersArePlain, CopiesStayFit, MovedIsRightAndFit, CopiesAreSeenRight, UpdatedIsRightAndFit};
+ghost use Rattle.shape_ends.specs.Ends.{PlacesAlikeStand, ResizedTells, AlikePlansAreRight, ClearedIsPlain, BegunIsPlacedAlike, BeginsAreRight, BeginsAreSeenRight, EndsAreRight, EndsAreSeenRight};
 ghost use Rattle.shape_ends.specs.Grown.{GrownStands, GrownDoesWithout, ResizedIsTold};
-ghost use Rattle.shape_ends.specs.Takeovers.{TakenUpIsPlacedAlike, TakeoversPlaceAlike, TakeoversAreRight, TakeoversAreSeenFit};
+ghost use Rattle.shape_ends.specs.Takeovers.{TakenUpIsPlacedAlike, TakeoversPlaceAlike, TakeoversAreRight, TakeoversAreSeenRight};
 ghost use Rattle.shape_ends.specs.Plans.{PlansKeepRoles, PlannedIsBegun, PlannedIsEnded, PlannedIsTakenUp, PlannedIsTakenDown, LessIsPlaced, PlannedIsSeen, FlushedIsZeroed, PlannedIsPlaced};
 
 /// A view stays right through each stretch of a critical window.
@@ -23,79 +23,9 @@ pub fn records_are_seen_right()
     ensures { RecordsAreSeenRight ⊤ }
 {}
 
-/// A header that names a window fits before it and behind it.
-pub fn next_headers_fit()
-    ensures { NextHeadersFit }
-{}
-
-/// A flush leaves a view that fits.
-pub fn fewer_values_stay_fit()
-    ensures { FewerStayFit ⊤ }
-{}
-
-/// So does a section that is stored.
-pub fn a_stored_section_stays_fit()
-    ensures { StoringStaysFit ⊤ }
-{}
-
-/// And one that is named by a header that fits.
-pub fn a_named_section_stays_fit()
-    ensures { NamingStaysFit ⊤ }
-{}
-
-/// And a window that is copied.
-pub fn a_copied_window_stays_fit()
-    ensures { CopyingStaysFit ⊤ }
-{}
-
-/// And superblocks that are written.
-pub fn written_superblocks_stay_fit()
-    ensures { UpdatingStaysFit ⊤ }
-{}
-
-/// And rows of one region that are written in a dirty array, by a list that is zero in the tail.
-pub fn written_rows_stay_fit()
-    ensures { PuttingStaysFit ⊤ }
-{}
-
-/// And rows past the end of the list.
-pub fn written_rows_past_the_end_stay_fit()
-    ensures { ZeroingStaysFit ⊤ }
-{}
-
-/// A view that loses roles fits as before.
-pub fn less_stays_fit()
-    ensures { LessStaysFit ⊤ }
-{}
-
-/// Flushed members fit where their headers do, and their tail stands, of zeros.
-pub fn flushed_members_fit()
-    ensures { FlushedIsFit ⊤ }
-{}
-
-/// Where the rows of the last window stand, the tail behind it does.
-pub fn moved_tails_stand()
-    ensures { MovedTailsStand }
-{}
-
-/// Where each image is read as a view that is right and fits, the mark leaves only sound ones.
+/// Where each image is read as a view that is right, the mark leaves only sound ones.
 pub fn views_leave_sound()
     ensures { ViewsLeaveSound }
-{}
-
-/// Each image in an update is seen right and fits.
-pub fn updates_are_seen_fit()
-    ensures { UpdatesAreSeenFit ⊤ }
-{}
-
-/// A view fits through each stretch of a critical window.
-pub fn windows_stay_fit()
-    ensures { WindowsStayFit ⊤ }
-{}
-
-/// Each image in the update that records the window is seen right and fits.
-pub fn records_are_seen_fit()
-    ensures { RecordsAreSeenFit ⊤ }
 {}
 
 /// A list stands on where each sector has its place as before, whatever the shape that gives it.
@@ -123,14 +53,14 @@ pub fn a_begun_reshape_places_alike()
     ensures { BegunIsPlacedAlike }
 {}
 
-/// The planned view of a reshape that begins is right, and fits.
+/// The planned view of a reshape that begins is right.
 pub fn begins_are_right()
     ensures { BeginsAreRight ⊤ }
 {}
 
-/// Each image in the update that begins a reshape is seen right and fits.
-pub fn begins_are_seen_fit()
-    ensures { BeginsAreSeenFit ⊤ }
+/// Each image in the update that begins a reshape is seen right.
+pub fn begins_are_seen_right()
+    ensures { BeginsAreSeenRight ⊤ }
 {}
 
 /// The planned view of a reshape that ends is right, with zeros behind the former end.
@@ -138,9 +68,9 @@ pub fn ends_are_right()
     ensures { EndsAreRight ⊤ }
 {}
 
-/// Each image in the update that ends a reshape is seen right and fits.
-pub fn ends_are_seen_fit()
-    ensures { EndsAreSeenFit ⊤ }
+/// Each image in the update that ends a reshape is seen right.
+pub fn ends_are_seen_right()
+    ensures { EndsAreSeenRight ⊤ }
 {}
 
 /// Level 6 over level 5 places each sector alike, and has the same P.
@@ -158,9 +88,9 @@ pub fn takeovers_are_right()
     ensures { TakeoversAreRight ⊤ }
 {}
 
-/// Each image in the update of a takeover is seen right and fits.
-pub fn takeovers_are_seen_fit()
-    ensures { TakeoversAreSeenFit ⊤ }
+/// Each image in the update of a takeover is seen right.
+pub fn takeovers_are_seen_right()
+    ensures { TakeoversAreSeenRight ⊤ }
 {}
 
 /// Behind a window no header that fitted has an active section.
@@ -168,7 +98,7 @@ pub fn fit_headers_are_plain_behind()
     ensures { FitHeadersArePlain }
 {}
 
-/// A view stays right and fit while a window is copied and flushed, critical or not.
+/// A view stays right, and its headers fit, while a window is copied and flushed, critical or not.
 pub fn copies_stay_fit()
     ensures { CopiesStayFit ⊤ }
 {}
@@ -178,9 +108,9 @@ pub fn moved_members_are_right_and_fit()
     ensures { MovedIsRightAndFit ⊤ }
 {}
 
-/// Each image in the update that records such a window is seen right and fits.
-pub fn copies_are_seen_fit()
-    ensures { CopiesAreSeenFit ⊤ }
+/// Each image in the update that records such a window is seen right.
+pub fn copies_are_seen_right()
+    ensures { CopiesAreSeenRight ⊤ }
 {}
 
 /// The roles that a plan doesn't give are what they were.
@@ -243,7 +173,7 @@ pub fn planned_members_are_placed()
     ensures { PlannedIsPlaced }
 {}
 
-/// An update leaves a view right and fit, and no section active.
+/// An update leaves a view right, with headers that fit, and no section active.
 pub fn updated_members_are_right_and_fit()
     ensures { UpdatedIsRightAndFit ⊤ }
 {}

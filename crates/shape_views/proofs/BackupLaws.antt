@@ -1,7 +1,6 @@
 -- A view through the calls on the backup.
 use Rattle.std.proofs.Common.{◌≡◌, ◌≢◌, ◌⊎◌, inl, inr, ℕ, ◌+◌, ◌-◌, ◌/◌, ◌<◌, ◌≤◌, ◌&&◌, nat_le, Bool, true, false, cond, List, [], ◌∷◌, length, take, Option, Some, None, refl, sym, ◌∙◌, ap, subst, arith}
-use Rattle.std.specs.Prelude.{unwrap_or}
-use Rattle.std.proofs.lemmas.Bool.{cases_eq, cases_lt}
+use Rattle.std.proofs.lemmas.Bool.{and_parts, cases_eq, cases_lt}
 use Rattle.std.proofs.lemmas.Bool.Decides.{nat_tests}
 use Rattle.md_base.specs.declared.places.Span.{Span}
 use Rattle.md_base.specs.Sectors.{Sector}
@@ -19,9 +18,10 @@ use Rattle.backup.specs.Storing.{nth_sector, IsSectionAlone}
 use Rattle.backup.proofs.StoringLaws.{wrote-beside, wrote-here}
 use Rattle.backup.proofs.WrittenLaws.{headers-named, cleared-none}
 use Rattle.shape_views.specs.Regions.{backup_of, open_by}
-use Rattle.shape_views.specs.Views.{Disk, IsViewRight}
+use Rattle.shape_views.specs.Views.{Disk, IsHeaderFit, IsViewRight}
 use Rattle.shape_views.specs.Windows.{IsSomewhere, IsStoring}
 use Rattle.shape_views.specs.Backups.{SectionsStayRight, ClearingStaysRight, NamedSectionsAreOpen, ClearedHeadersAreShut, StoredIsClosed, NamingIsUnsure, NamedIsOpen, ClearedIsClosed, FoundIsOpen}
+use Rattle.shape_views.proofs.Headers.{backup-is, own-header}
 use Rattle.shape_views.proofs.WindowLaws.{fewer-right, storing-right, naming-right}
 
 -- ---- which section is open
@@ -80,9 +80,6 @@ some-kept old now some (inr one) = of old some one
     of (x ∷ l) held is = (x, subst (λ (m : List Sector). IsIn m x) (sym is) (inl refl))
 
 module _ (scope : Scope) (slot : ℕ) (there : scope.backup ≡ Some slot) where
-  backup-is : backup_of scope ≡ slot
-  backup-is = ap (λ (b : Option ℕ). unwrap_or b 0) there
-
   module _ (bytes : List ℕ) (d e : Disk) (storing : backup.IsStoring slot bytes d e) where
     -- it is a section's sectors being stored
     stored-is : IsStoring scope d e
@@ -117,9 +114,9 @@ module _ (scope : Scope) (slot : ℕ) (there : scope.backup ≡ Some slot) where
         ]
 
 pub sections-right : (sound : Type 0) → SectionsStayRight sound
-sections-right sound scope given told m slot span bytes d e there some none section (inl storing) right =
+sections-right sound scope given told m slot span bytes d e there sixteen some none section (inl storing) right =
     storing-right sound scope given told m d e some none (stored-is scope slot there bytes d e storing) right
-sections-right sound scope given told m slot span bytes d e there some none section (inr naming) right =
+sections-right sound scope given told m slot span bytes d e there sixteen some none section (inr naming) right =
     let b = backup-is scope slot there in
     let somewhere : IsSomewhere naming.mid = some-stored scope slot there bytes d naming.mid naming.stored naming.section some in
     let stored : IsViewRight sound scope given told m naming.mid = storing-right sound scope given told m d naming.mid some none (stored-is scope slot there bytes d naming.mid naming.stored) right in
@@ -128,6 +125,7 @@ sections-right sound scope given told m slot span bytes d e there some none sect
     (kept_in (d slot 0) (naming.mid slot 0) plain.0 naming.stored.header_is (subst (λ (a : ℕ). IsIn (naming.mid a 0) plain.0) b plain.1)) in
     naming-right sound scope given told m (header_of scope.uuid span) plain.0 naming.mid e somewhere plain.1 (none plain.0 before)
     (λ other opened x low high v held. allowed b other (open-next scope m.newest (header_of scope.uuid span) span other section.next opened) x low high v held)
+    (λ active premise. own-header scope m.newest right.placed.fit span section.next sixteen)
     (record {
       header_is = λ v held. subst (λ (a : ℕ). IsIn (naming.mid a 0) v ⊎ (v ≡ header_of scope.uuid span)) (sym b) (naming.header_is v (subst (λ (a : ℕ). IsIn (e a 0) v) b held));
       others = λ s k apart. naming.beside s k (subst (λ (a : ℕ). (s ≢ a) ⊎ (k ≢ 0)) b apart);
@@ -154,6 +152,10 @@ sections-right sound scope given told m slot span bytes d e there some none sect
 
 -- ---- a header is written
 
+-- a cleared one fits: it names no section
+cleared-fit : (scope : Scope) (newest : Sb) → length scope.uuid ≡ 16 → IsHeaderFit scope newest (cleared_header scope.uuid)
+cleared-fit scope newest sixteen span is = absurd (let named = (and_parts (is_header_of scope.uuid (cleared_header scope.uuid)) (names_span (cleared_header scope.uuid) span) is).1 in let none = cleared-none scope.uuid span sixteen in let clash = sym none ∙ named in cc)
+
 pub clearing-right : (sound : Type 0) → ClearingStaysRight sound
 clearing-right sound scope given told m slot plain d e there sixteen some held shut heading right =
     let b = backup-is scope slot there in
@@ -162,6 +164,7 @@ clearing-right sound scope given told m slot plain d e there sixteen some held s
     let written : IsViewRight sound scope given told m wrote =
     naming-right sound scope given told m header plain d wrote some (subst (λ (a : ℕ). IsIn (d a 0) plain) (sym b) held) shut
     (λ span opened. absurd (let no = cleared-shut scope m.newest sixteen in cc))
+    (λ active premise. cleared-fit scope m.newest sixteen)
     (record {
       header_is = λ v now. subst (λ (a : ℕ). IsIn (d a 0) v ⊎ (v ≡ header)) (sym b)
           (new-or v (subst (λ (l : List Sector). IsIn l v) (wrote-here slot header d) (subst (λ (a : ℕ). IsIn (wrote a 0) v) b now)));

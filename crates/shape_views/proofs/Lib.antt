@@ -1,8 +1,10 @@
 pub mod Alike
 pub mod BackupLaws
+pub mod Headers
 pub mod Judged
 pub mod SoundViews
 pub mod Standing
 pub mod Stands
+pub mod Tails
 pub mod UnderWay
 pub mod WindowLaws

@@ -1,24 +1,18 @@
--- Images that are read as views that are right, and fit, are sound.
-use Rattle.std.proofs.Common.{◌≡◌, ◌⊎◌, inl, inr, ℕ, ◌+◌, ◌-◌, ◌*◌, ◌/◌, ◌%◌, ◌<◌, ◌≤◌, ◌==◌, ◌&&◌, nat_le, nat_lt, Bool, true, false, not, cond, min, List, length, Option, Some, None, option_map, unwrap_or, refl, sym, ◌∙◌, ap, ap₂, subst, arith}
+-- Images that are read as views that are right are sound.
+use Rattle.std.proofs.Common.{◌≡◌, ◌⊎◌, inl, inr, ℕ, ◌+◌, ◌-◌, ◌<◌, ◌≤◌, ◌==◌, ◌&&◌, nat_le, Bool, true, false, not, cond, min, List, length, Option, Some, None, option_map, unwrap_or, refl, sym, ◌∙◌, ap, ap₂, subst, arith}
 use Rattle.std.specs.Prelude.{IsTrue, find}
 use Rattle.std.specs.Option.{option_or, option_map_or}
-use Rattle.std.proofs.lemmas.Bool.{and_parts, eqb-true, leb-true, cases_lt}
 use Rattle.std.proofs.lemmas.Bool.Decides.{nat_tests}
-use Rattle.std.proofs.lemmas.Nat.{mod_below, mul-le}
-use Rattle.std.proofs.Math.Nat.{div-add-mod', mul-le-mul_right, mul_assoc}
-use Rattle.geometry.proofs.Divisions.{next_multiple}
 use Rattle.md_base.specs.declared.answers.Refusal.TheVariants.{MembersMissing, DirtyDegraded}
 use Rattle.md_base.specs.declared.places.Shape.{Shape}
-use Rattle.md_base.specs.declared.places.Place.{Place}
 use Rattle.md_base.specs.declared.places.Span.{Span}
-use Rattle.md_base.specs.declared.places.Side.TheVariants.{Old, New}
 use Rattle.md_base.specs.Sectors.{Sector, zero_sector}
 use Rattle.md_base.specs.Search.{least_below}
-use Rattle.md_base.specs.Shapes.{data_disks, is_valid_shape, tolerance}
+use Rattle.md_base.specs.Shapes.{is_valid_shape, tolerance}
 use Rattle.bank.specs.Given.{Given}
 use Rattle.bank.specs.Tape.{Contents, IsDrawn}
 use Rattle.layout.specs.Layout.{place, stripe_of, row_roles, is_parity_only}
-use Rattle.layout.proofs.Places.{place-sector, place-role_below, chunk_some, data_some, sector_at}
+use Rattle.layout.proofs.Places.{place-role_below}
 use Rattle.layout.proofs.OnlyParity.{parity_only-all}
 use Rattle.parity.specs.Fills.{IsGoodBut}
 use Rattle.parity.specs.Parity.{Row, lacking_in, AreEquationsMet, fill}
@@ -26,7 +20,7 @@ use Rattle.parity.specs.Rows.{parity_count, row_without}
 use Rattle.parity.proofs.Columns.{tabulate-same}
 use Rattle.parity.proofs.OwnFills.{good-rows-stay-good}
 use Rattle.superblocks.specs.declared.members.Members.{Members}
-use Rattle.superblocks.specs.Reading.{Scope, Reading, reading, is_clean, is_reshaping, is_backward, shape_of, target_of, final_shape, shapes_in_force, role_count, list_length, next_window, data_offset_of}
+use Rattle.superblocks.specs.Reading.{Scope, Reading, reading, is_clean, is_backward, shape_of, target_of, final_shape, shapes_in_force, role_count, list_length, next_window, data_offset_of}
 use Rattle.superblocks.specs.Verdict.{missing_count, too_many, holds_data}
 use Rattle.superblocks.specs.Verdict as verdicts
 use Rattle.superblocks.proofs.ReadAlike.{none_below}
@@ -42,12 +36,12 @@ use Rattle.flat_history.specs.Stands.{verdict, shape_for, covers, held_sector, h
 use Rattle.flat_history.specs.ActiveSection.{section_for}
 use Rattle.geometry.specs.Geometry.{window, side, unit, list_end}
 use Rattle.shape_views.specs.Regions.{header_in, open_by, place_by, ArePlaced, DoWithout, IsReadOf, refusal_for}
-use Rattle.shape_views.specs.Views.{Disk, Ledger, IsOutside, IsSettled, IsViewRight}
-use Rattle.shape_views.specs.Sound.{IsTail, IsViewFit, FitViewsAreSound}
+use Rattle.shape_views.specs.Views.{Disk, Ledger, IsTail, IsOutside, IsSettled, IsViewRight}
+use Rattle.shape_views.specs.Sound.{RightViewsAreSound}
 use Rattle.shape_views.proofs.Alike.{for-both, found-none, any-both, valid-for, row-below, final-alike, window-alike}
 use Rattle.shape_views.proofs.Standing.{length-is, shape-is, section-here, held-same, read-refused}
 use Rattle.shape_views.proofs.Judged.{no-rows, slot-of, sector-held, within-few}
-use Rattle.shape_views.proofs.UnderWay.{shape-on}
+use Rattle.shape_views.proofs.Tails as edge
 
 -- ---- a row that stands as a list is good
 
@@ -118,36 +112,7 @@ module _ (scope : Scope) (given : Given) (m : Members) (placed : ArePlaced scope
       (good-row (reading_of m) c (shape_for m.newest x) settled.list (place_by m.newest x).row (valid-for m.newest placed.fit x) (row-below m.newest placed.fit x below)
       (for-both (λ s. IsTolerated (reading_of m) s) m.newest few.old few.final x) (settled.rows c drawn x out) r (held-row-same (shape_for m.newest x) (place_by m.newest x).row))
 
--- ---- the tail
-
--- a listed sector in the row of one of the tail
-module _ (shape : Shape) (valid : IsTrue (is_valid_shape shape)) (L x n : ℕ) (some : 0 < L) (whole : L ≡ n * shape.chunk) (same : stripe_of shape x ≡ stripe_of shape (L - 1)) where
-  pub row-of-first : (place shape (sector_at shape (stripe_of shape x) 0 (x % shape.chunk))).row ≡ (place shape x).row
-  row-of-first = ap (λ (p : Place). p.row) (place-sector shape (stripe_of shape x) 0 (x % shape.chunk) (data_some shape valid) (mod_below x shape.chunk (chunk_some shape valid)))
-
-  pub first-listed : sector_at shape (stripe_of shape x) 0 (x % shape.chunk) < L
-  first-listed =
-      let c = shape.chunk in
-      let d = data_disks shape in
-      let q = (L - 1) / shape.chunk in
-      let inner : q / d * d ≤ q = (let e = div-add-mod' q d in omega (arith, e)) in
-      let outer : q * c ≤ L - 1 = (let e = div-add-mod' (L - 1) c in omega (arith, e)) in
-      let stripe : stripe_of shape x * d ≡ q / d * d = ap (λ (s : ℕ). s * d) same in
-      let few : stripe_of shape x * d ≤ q = omega (arith, stripe, inner) in
-      let chunks : stripe_of shape x * d * c ≤ q * c = mul-le-mul_right c few in
-      let lt : stripe_of shape x * d * c < n * c = omega (arith, chunks, outer, whole, some) in
-      let rest : x % shape.chunk < c = mod_below x shape.chunk (chunk_some shape valid) in
-      let room = below-multiple (stripe_of shape x * d) n c lt in
-      let zero_in : (stripe_of shape x * d + 0) * c ≡ stripe_of shape x * d * c = omega arith in
-      omega (arith, room, rest, whole, zero_in)
-    where
-      below-multiple : (a b c : ℕ) → a * c < b * c → a * c + c ≤ b * c
-      below-multiple a b c lt = elim (cases_lt a b) [
-        | inl less ↦ next_multiple a b c less
-        | inr more ↦ absurd (let le : b * c ≤ a * c = mul-le-mul_right c more in omega (arith, le, lt))
-      ]
-
--- ---- an image that is read as a view that is right and fits
+-- ---- an image that is read as a view that is right
 
 module _ (sound : Type 0) (scope : Scope) (given : Given) (told : Ledger) (m : Members) (d : Disk) (c : Contents) (r : Reading) (premise : sound) (drawn : IsDrawn d c) (is : reading scope c ≡ Some r) (read : IsReadOf scope m r)
     (right : IsViewRight sound scope given told m d) (assembles : verdict scope c ≡ None) where
@@ -157,124 +122,96 @@ module _ (sound : Type 0) (scope : Scope) (given : Given) (told : Ledger) (m : M
   clean-same : is_clean m.newest ≡ is_clean r.newest
   clean-same = ap (λ (n : ℕ). is_clean (record m.newest { resync_offset = n })) read.array.resync_offset
 
-  module _ (fit : IsViewFit sound scope told m d) (active : is_reshaping m.newest ≡ true) where
-    abbrev shape : Shape
-    shape = final_shape m.newest
+  module _ (x : ℕ) (tail : IsTail m.newest x) where
+    abbrev first : ℕ
+    first = edge.first m.newest right.placed.fit x tail
 
-    abbrev L : ℕ
-    L = list_length m.newest
+    listed : first < list_length m.newest
+    listed = edge.listed m.newest right.placed.fit x tail
 
-    some-listed : 0 < list_length m.newest
-    some-listed =
-        let one = data_some (shape_of m.newest) right.placed.fit.valid.old in
-        let two = data_some (final_shape m.newest) right.placed.fit.valid.final in
-        let size : 1 ≤ m.newest.size = leb-true 1 m.newest.size (and_parts _ _ (and_parts _ _ right.placed.fit.size).0).0 in
-        let le = mul-le 1 1 (min (data_disks (shape_of m.newest)) (data_disks (final_shape m.newest))) m.newest.size (omega (arith, one, two)) size in
-        omega (arith, le)
+    same-row : (place (final_shape m.newest) first).row ≡ (place (final_shape m.newest) x).row
+    same-row = edge.same-row m.newest right.placed.fit x tail
 
-    whole-listed : list_length m.newest ≡ min (data_disks (shape_of m.newest)) (data_disks (final_shape m.newest)) * (m.newest.size / (final_shape m.newest).chunk) * (final_shape m.newest).chunk
-    whole-listed =
-        let few : ℕ = min (data_disks (shape_of m.newest)) (data_disks (final_shape m.newest)) in
-        let size : m.newest.size / (final_shape m.newest).chunk * (final_shape m.newest).chunk ≡ m.newest.size = eqb-true (m.newest.size / (final_shape m.newest).chunk * (final_shape m.newest).chunk) m.newest.size (and_parts _ _ right.placed.fit.final_size).1 in
-        ap (λ (n : ℕ). few * n) (sym size) ∙ sym (mul_assoc few (m.newest.size / (final_shape m.newest).chunk) (final_shape m.newest).chunk)
+    new-there : shape_for m.newest first ≡ final_shape m.newest
+    new-there = edge.new-there m.newest right.placed.fit x tail
 
-    module _ (x : ℕ) (tail : IsTail m.newest x) where
-      abbrev first : ℕ
-      first = sector_at (final_shape m.newest) (stripe_of (final_shape m.newest) x) 0 (x % (final_shape m.newest).chunk)
+    row-in : (place (final_shape m.newest) x).row < m.newest.size
+    row-in = (let below = subst (λ (s : Shape). (place s first).row < m.newest.size) new-there (row-below m.newest right.placed.fit first listed) in let same = same-row in omega (arith, below, same))
 
-      listed : first < list_length m.newest
-      listed = first-listed (final_shape m.newest) right.placed.fit.valid.final (list_length m.newest) x
-          (min (data_disks (shape_of m.newest)) (data_disks (final_shape m.newest)) * (m.newest.size / (final_shape m.newest).chunk)) some-listed whole-listed tail.stripe
+    no-window : next_window m.newest ≡ None
+    no-window =
+        ap (λ (b : Bool). cond b (window (shape_of m.newest) (final_shape m.newest) m.newest.size (is_backward m.newest) m.newest.reshape_position) None) tail.active
+        ∙ ap (λ (b : Bool). window (shape_of m.newest) (final_shape m.newest) m.newest.size b m.newest.reshape_position) tail.forth
+        ∙ ap (λ (b : Bool). cond b None (Some (record { lo = m.newest.reshape_position; hi = min (m.newest.reshape_position + unit (shape_of m.newest) (final_shape m.newest)) (list_end (shape_of m.newest) (final_shape m.newest) m.newest.size) })))
+        (le-true (list_length m.newest) m.newest.reshape_position (let t = tail.through in omega (arith, t)))
+      where
+        le-true : (a b : ℕ) → a ≤ b → nat_le a b ≡ true
+        le-true a b le = grind (arith, nat_tests, le)
 
-      same-row : (place (final_shape m.newest) first).row ≡ (place (final_shape m.newest) x).row
-      same-row = row-of-first (final_shape m.newest) right.placed.fit.valid.final (list_length m.newest) x
-          (min (data_disks (shape_of m.newest)) (data_disks (final_shape m.newest)) * (m.newest.size / (final_shape m.newest).chunk)) some-listed whole-listed tail.stripe
+    none-open : (header : Sector) → open_by scope m.newest header ≡ None
+    none-open header = ap (section_for scope (λ s k. header) scope.backup) no-window ∙ of scope.backup
+      where
+        of : (backup : Option ℕ) → section_for scope (λ s k. header) backup None ≡ None
+        of (Some b) = refl
+        of None = refl
 
-      new-there : shape_for m.newest first ≡ final_shape m.newest
-      new-there = shape-on m.newest active first New (ap (λ (b : Bool). side b m.newest.reshape_position first) tail.forth ∙ ap (λ (b : Bool). cond b New Old) (lt-true first m.newest.reshape_position (let l = listed in let t = tail.through in omega (arith, l, t))))
-        where
-          lt-true : (a b : ℕ) → a < b → nat_lt a b ≡ true
-          lt-true a b lt = grind (arith, nat_tests, lt)
+    role-in : (place (final_shape m.newest) x).role < (final_shape m.newest).disks
+    role-in = place-role_below (final_shape m.newest) right.placed.fit.valid.final x
 
-      row-in : (place (final_shape m.newest) x).row < m.newest.size
-      row-in = (let below = subst (λ (s : Shape). (place s first).row < m.newest.size) new-there (row-below m.newest right.placed.fit first listed) in let same = same-row in omega (arith, below, same))
+    clean-here : is_missing (reading_of m) (place (final_shape m.newest) x).role ≡ true → is_clean m.newest ≡ true
+    clean-here gone = of clear.state
+      where
+        second : (a b : Bool) → a ≡ true → (a && b) ≡ false → b ≡ false
+        second true b e f = f
+        second false b e f = absurd (cc)
 
-      no-window : next_window m.newest ≡ None
-      no-window =
-          ap (λ (b : Bool). cond b (window (shape_of m.newest) (final_shape m.newest) m.newest.size (is_backward m.newest) m.newest.reshape_position) None) active
-          ∙ ap (λ (b : Bool). window (shape_of m.newest) (final_shape m.newest) m.newest.size b m.newest.reshape_position) tail.forth
-          ∙ ap (λ (b : Bool). cond b None (Some (record { lo = m.newest.reshape_position; hi = min (m.newest.reshape_position + unit (shape_of m.newest) (final_shape m.newest)) (list_end (shape_of m.newest) (final_shape m.newest) m.newest.size) })))
-          (le-true (list_length m.newest) m.newest.reshape_position (let t = tail.through in omega (arith, t)))
-        where
-          le-true : (a b : ℕ) → a ≤ b → nat_le a b ≡ true
-          le-true a b le = grind (arith, nat_tests, le)
+        back : (b : Bool) → not b ≡ false → b ≡ true
+        back true e = refl
+        back false e = absurd (cc)
 
-      none-open : (header : Sector) → open_by scope m.newest header ≡ None
-      none-open header = ap (section_for scope (λ s k. header) scope.backup) no-window ∙ of scope.backup
-        where
-          of : (backup : Option ℕ) → section_for scope (λ s k. header) backup None ≡ None
-          of (Some b) = refl
-          of None = refl
-
-      role-in : (place (final_shape m.newest) x).role < (final_shape m.newest).disks
-      role-in = place-role_below (final_shape m.newest) right.placed.fit.valid.final x
-
-      clean-here : is_missing (reading_of m) (place (final_shape m.newest) x).role ≡ true → is_clean m.newest ≡ true
-      clean-here gone = of clear.state
-        where
-          second : (a b : Bool) → a ≡ true → (a && b) ≡ false → b ≡ false
-          second true b e f = f
-          second false b e f = absurd (cc)
-
-          back : (b : Bool) → not b ≡ false → b ≡ true
-          back true e = refl
-          back false e = absurd (cc)
-
-          of : (is_clean m.newest ≡ true) ⊎ (least_below (role_count m.newest) (λ role. verdicts.is_missing m.roles role && holds_data m.newest role) ≡ None) → is_clean m.newest ≡ true
-          of (inl clean) = clean
-          of (inr none) =
-              let role : ℕ = (place (final_shape m.newest) x).role in
-              let lt = role-in in
-              let nothing = none_below (role_count m.newest) (λ role. verdicts.is_missing m.roles role && holds_data m.newest role) role (omega (arith, lt)) none in
-              let both = any-both (λ shape. not (is_parity_only shape role)) (shape_of m.newest) (target_of m.newest) (second (is_missing (reading_of m) role) (holds_data m.newest role) gone nothing) in
-              absurd ((parity_only-all (final_shape m.newest) right.placed.fit.valid.final role role-in).0 (back (is_parity_only (final_shape m.newest) role) both.1) x refl)
-
-      -- what stands there is zero
-      pub zero-there : rows.standing_sector c (reading_of m) (final_shape m.newest) (place (final_shape m.newest) x).row (place (final_shape m.newest) x).role ≡ zero_sector
-      zero-there = elim (slot-of (held_slot (reading_of m) (place (final_shape m.newest) x).role (place (final_shape m.newest) x).row)) [
-        | inl holds ↦ (
+        of : (is_clean m.newest ≡ true) ⊎ (least_below (role_count m.newest) (λ role. verdicts.is_missing m.roles role && holds_data m.newest role) ≡ None) → is_clean m.newest ≡ true
+        of (inl clean) = clean
+        of (inr none) =
             let role : ℕ = (place (final_shape m.newest) x).role in
-            let row : ℕ = (place (final_shape m.newest) x).row in
-            ap (λ (o : Option Sector). unwrap_or o (fill (row_roles (final_shape m.newest) row) (rows.held_row c (reading_of m) (final_shape m.newest) row) role)) (sector-held c m role row holds.0 holds.1)
-            ∙ fit.held x holds.0 tail holds.1 (c holds.0 (data_offset_of (reading_of m) holds.0 + row)) (drawn holds.0 (data_offset_of (reading_of m) holds.0 + row)))
-        | inr none ↦ (
-            let role : ℕ = (place (final_shape m.newest) x).role in
-            let row : ℕ = (place (final_shape m.newest) x).row in
-            let gone = no-rows m role row none row-in in
-            let s = fit.settled (clean-here gone) clear.few premise in
-            let out : IsOutside scope m (header_in scope c) first = record { within = listed; outside = ap (λ (o : Option Span). covers o first) (none-open (header_in scope c)) } in
-            let stands : RowStands (reading_of m) c (final_shape m.newest) s.settled.list (place (final_shape m.newest) x).row =
-            subst (RowStands (reading_of m) c (final_shape m.newest) s.settled.list) same-row
-            (subst (λ (s' : Shape). RowStands (reading_of m) c s' s.settled.list (place s' first).row) new-there (s.settled.rows c drawn first out)) in
-            standing-is-full (reading_of m) c (final_shape m.newest) s.settled.list row right.placed.fit.valid.final row-in clear.few.final stands role role-in
-            ∙ places-are-full (final_shape m.newest) s.settled.list x right.placed.fit.valid.final
-            ∙ s.zeros x tail)
-      ]
+            let lt = role-in in
+            let nothing = none_below (role_count m.newest) (λ role. verdicts.is_missing m.roles role && holds_data m.newest role) role (omega (arith, lt)) none in
+            let both = any-both (λ shape. not (is_parity_only shape role)) (shape_of m.newest) (target_of m.newest) (second (is_missing (reading_of m) role) (holds_data m.newest role) gone nothing) in
+            absurd ((parity_only-all (final_shape m.newest) right.placed.fit.valid.final role role-in).0 (back (is_parity_only (final_shape m.newest) role) both.1) x refl)
 
-  pub sound-here : (is_reshaping m.newest ≡ true → IsViewFit sound scope told m d) → IsSound scope c r
-  sound-here fits = record {
+    -- what stands there is zero
+    pub zero-there : rows.standing_sector c (reading_of m) (final_shape m.newest) (place (final_shape m.newest) x).row (place (final_shape m.newest) x).role ≡ zero_sector
+    zero-there = elim (slot-of (held_slot (reading_of m) (place (final_shape m.newest) x).role (place (final_shape m.newest) x).row)) [
+      | inl holds ↦ (
+          let role : ℕ = (place (final_shape m.newest) x).role in
+          let row : ℕ = (place (final_shape m.newest) x).row in
+          ap (λ (o : Option Sector). unwrap_or o (fill (row_roles (final_shape m.newest) row) (rows.held_row c (reading_of m) (final_shape m.newest) row) role)) (sector-held c m role row holds.0 holds.1)
+          ∙ right.tails premise x holds.0 tail holds.1 (c holds.0 (data_offset_of (reading_of m) holds.0 + row)) (drawn holds.0 (data_offset_of (reading_of m) holds.0 + row)))
+      | inr none ↦ (
+          let role : ℕ = (place (final_shape m.newest) x).role in
+          let row : ℕ = (place (final_shape m.newest) x).row in
+          let gone = no-rows m role row none row-in in
+          let s = right.settled (clean-here gone) clear.few premise in
+          let out : IsOutside scope m (header_in scope c) first = record { within = listed; outside = ap (λ (o : Option Span). covers o first) (none-open (header_in scope c)) } in
+          let stands : RowStands (reading_of m) c (final_shape m.newest) s.list (place (final_shape m.newest) x).row =
+          subst (RowStands (reading_of m) c (final_shape m.newest) s.list) same-row
+          (subst (λ (s' : Shape). RowStands (reading_of m) c s' s.list (place s' first).row) new-there (s.rows c drawn first out)) in
+          standing-is-full (reading_of m) c (final_shape m.newest) s.list row right.placed.fit.valid.final row-in clear.few.final stands role role-in
+          ∙ places-are-full (final_shape m.newest) s.list x right.placed.fit.valid.final
+          ∙ s.zeros x tail)
+    ]
+
+  pub sound-here : IsSound scope c r
+  sound-here = record {
     rows = λ clean. rows-good scope given m right.placed c r read told.values d drawn clear.few (right.settled (clean-same ∙ clean) clear.few premise);
-    sections = λ active backup span here named. (
-        let fit = fits (read.array.reshaping ∙ active) in
-        elim (fit.headers backup (c backup 0) span here (drawn backup 0) named) [
-          | inl next ↦ inl (sym (window-alike m.newest r.newest read.array) ∙ next)
-          | inr new ↦ inr (λ x low high. (λ i. side (sym read.array.backward i) (sym read.array.reshape_position i) x) ∙ new x low high)
-        ]);
+    sections = λ active backup span here named. elim (right.headers (read.array.reshaping ∙ active) premise backup (c backup 0) here (drawn backup 0) span named) [
+      | inl next ↦ inl (sym (window-alike m.newest r.newest read.array) ∙ next)
+      | inr new ↦ inr (λ x low high. (λ i. side (sym read.array.backward i) (sym read.array.reshape_position i) x) ∙ new x low high)
+    ];
     tail = λ active forth through x past stripe. (
-        let on : is_reshaping m.newest ≡ true = read.array.reshaping ∙ active in
         let long = length-is scope given m right.placed c r read in
         let final = final-alike m.newest r.newest read.array in
         let tail : IsTail m.newest x = record {
+          active = read.array.reshaping ∙ active;
           forth = read.array.backward ∙ forth;
           through = read.array.reshape_position ∙ through ∙ long;
           past = omega (arith, past, long);
@@ -284,8 +221,8 @@ module _ (sound : Type 0) (scope : Scope) (given : Given) (told : Ledger) (m : M
         ∙ ap₂ (λ (own : Option Sector) (held : Row). unwrap_or own (fill (row_roles (final_shape m.newest) (place (final_shape m.newest) x).row) held (place (final_shape m.newest) x).role))
         (held-same scope given m right.placed c r read (place (final_shape m.newest) x).role (place (final_shape m.newest) x).row)
         (held-row-same scope given m right.placed c r read (final_shape m.newest) (place (final_shape m.newest) x).row)
-        ∙ zero-there (fits on) on x tail);
+        ∙ zero-there x tail);
   }
 
-pub fit-views-sound : (sound : Type 0) → FitViewsAreSound sound
-fit-views-sound sound scope given told m d c r premise drawn is read right fits assembles = sound-here sound scope given told m d c r premise drawn is read right assembles fits
+pub right-views-sound : (sound : Type 0) → RightViewsAreSound sound
+right-views-sound sound scope given told m d c r premise drawn is read right assembles = sound-here sound scope given told m d c r premise drawn is read right assembles

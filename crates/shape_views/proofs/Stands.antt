@@ -34,7 +34,7 @@ use Rattle.list_io.specs.Full.{DataStands, RowStands}
 use Rattle.list_io.proofs.FullLaws.{data_here, full-data, sector_there}
 use Rattle.flat_history.specs.Stands.{shape_at, shape_for, covers}
 use Rattle.shape_views.specs.Regions.{place_by, AreShapesFit, ArePlaced}
-use Rattle.shape_views.specs.Views.{Disk, IsSettled}
+use Rattle.shape_views.specs.Views.{Disk, IsTailZero, IsSettled}
 use Rattle.shape_views.specs.Windows.{ListStands, RowsStand, StillStands, moved_past, MovedStands, MovedRowsStand, MovedIsPlaced, AreHoldersFlushed, FlushedIsRight}
 use Rattle.shape_views.proofs.Alike.{row-below, whole-chunks}
 use Rattle.shape_views.proofs.UnderWay.{is-reshaping, window-is, under-way, shape-on, side-or}
@@ -312,11 +312,12 @@ module _ (scope : Scope) (given : Given) (m : Members) (c : Contents) (d : Disk)
       (flushed role slot (data_offset_of (reading_of m) slot + row) own (λ e. absurd (let far = placed.behind role slot own in omega (arith, e, far)))) is
 
   -- where the list's rows stand, of allowed values, they are settled
-  unfoldable pub flushed-settled : (values : ℕ → List Sector) (list : ℕ → Sector) → ((x : ℕ) → x < list_length m.newest → IsIn (values x) (list x)) → RowsStand None m c list
+  unfoldable pub flushed-settled : (values : ℕ → List Sector) (list : ℕ → Sector) → ((x : ℕ) → x < list_length m.newest → IsIn (values x) (list x)) → IsTailZero m.newest list → RowsStand None m c list
       → IsSettled scope m values d
-  flushed-settled values list allowed rows = record {
+  flushed-settled values list allowed zeros rows = record {
     list = list;
     allowed = allowed;
+    zeros = zeros;
     rows = λ c' drawn x outside. (
         let stands = rows x (record { within = outside.within; outside = refl }) in
         let row = (place_by m.newest x).row in
@@ -342,5 +343,8 @@ flushed-right sound scope given told m c list d has = record {
       ∙ has.stands x slot (record { within = outside.within; outside = refl }) holds))
       (has.allowed x outside.within);
   sections = λ header may span active x low high v is. absurd (let none = has.plain header may in cc);
-  settled = λ clean few premise. flushed-settled scope given m c d has.placed has.flushed told.values list has.allowed (has.rows clean few premise);
+  settled = λ clean few premise. flushed-settled scope given m c d has.placed has.flushed told.values list has.allowed (has.zeros premise) (has.rows clean few premise);
+  headers = has.headers;
+  tails = λ premise x slot tail holds v is.
+      flushed-there scope given m c d has.placed has.flushed slot (place (final_shape m.newest) x).role (place (final_shape m.newest) x).row holds v is ∙ has.tails premise x slot tail holds ∙ has.zeros premise x tail;
 }

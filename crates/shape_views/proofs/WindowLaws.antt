@@ -18,7 +18,7 @@ use Rattle.backup.specs.Section.{has_section}
 use Rattle.flat_history.specs.ActiveSection.{section_for}
 use Rattle.flat_history.specs.Stands.{shape_for, covers}
 use Rattle.shape_views.specs.Regions.{backup_of, header_in, open_by, place_by, ArePlaced}
-use Rattle.shape_views.specs.Views.{Disk, Ledger, IsOutside, IsSettled, IsViewRight}
+use Rattle.shape_views.specs.Views.{Disk, Ledger, IsHeaderFit, IsTail, IsOutside, IsSettled, IsViewRight}
 use Rattle.shape_views.specs.Windows.{IsSomewhere, IsLess, IsWrittenAt, FewerStayRight, HasNoSection, StoringStaysRight, IsNaming, NamingStaysRight, IsCopyable, IsWindowPlace, CopyingStaysRight, UpdatingStaysRight, PuttingStaysRight, RegionRowsAreOne}
 use Rattle.list_io.specs.Full.{full_sector}
 use Rattle.list_io.proofs.FullLaws.{places-are-full}
@@ -27,6 +27,8 @@ use Rattle.md_base.specs.declared.places.Side.TheVariants.{Old, New}
 use Rattle.layout.specs.Layout.{place}
 use Rattle.superblocks.specs.Reading.{is_backward, shape_of}
 use Rattle.shape_views.proofs.Alike.{valid-for}
+use Rattle.shape_views.proofs.Headers.{backup-is}
+use Rattle.shape_views.proofs.Tails.{no-tail, first, listed, same-row, new-there}
 use Rattle.shape_views.proofs.UnderWay.{row-apart, row-apart-uncritical, under-way, shape-on, side-or}
 
 -- ---- fewer values
@@ -44,7 +46,10 @@ fewer-right sound scope given told m d e fewer right = record {
     list = s.list;
     allowed = s.allowed;
     rows = λ c drawn x outside. s.rows c (λ s k. fewer s k (c s k) (drawn s k)) x outside;
+    zeros = s.zeros;
   };
+  headers = λ active premise backup header here may. right.headers active premise backup header here (fewer backup 0 header may);
+  tails = λ premise x slot tail holds v is. right.tails premise x slot tail holds v (fewer slot _ v is);
 }
 
 -- ---- a row that stands in contents that have the same there
@@ -112,12 +117,14 @@ module _ (d e : Disk) (some : IsSomewhere d) (P : ℕ → ℕ → Type 0) (writt
 pub kept-at : (d e : Disk) (P : ℕ → ℕ → Type 0) → IsWrittenAt P d e → (s k : ℕ) → (P s k → ⊥) → IsLess (d s k) (e s k)
 kept-at d e P written s k none v may = elim (written s k) [ inl less ↦ less v may | inr there ↦ absurd (none there) ]
 
--- Nothing is written that a view reads: not the header, not a section, no row of a sector outside one.
+-- Nothing is written that a view reads: not the header, not a section, no row of a sector outside one, and nothing in the tail.
 pub record IsUnread (scope : Scope) (m : Members) (d : Disk) (P : ℕ → ℕ → Type 0) : Type 0 where
   pub header : P (backup_of scope) 0 → ⊥
   pub section : (header : Sector) → IsIn (d (backup_of scope) 0) header → (span : Span) → open_by scope m.newest header ≡ Some span → (k : ℕ) → P (backup_of scope) (8 + k) → ⊥
   pub rows : (header : Sector) → IsIn (d (backup_of scope) 0) header → (x role slot : ℕ) → IsOutside scope m header x → held_slot (reading_of m) role (place_by m.newest x).row ≡ Some slot
       → P slot (data_offset_of (reading_of m) slot + (place_by m.newest x).row) → ⊥
+  pub tails : (x slot : ℕ) → IsTail m.newest x → held_slot (reading_of m) (place (final_shape m.newest) x).role (place (final_shape m.newest) x).row ≡ Some slot
+      → P slot (data_offset_of (reading_of m) slot + (place (final_shape m.newest) x).row) → ⊥
 
 -- what isn't such a place has fewer values, so that the header is one of before
 pub unread-header : (scope : Scope) (m : Members) (d e : Disk) (P : ℕ → ℕ → Type 0) → IsWrittenAt P d e → IsUnread scope m d P → (header : Sector) → IsIn (e (backup_of scope) 0) header → IsIn (d (backup_of scope) 0) header
@@ -136,6 +143,7 @@ unread-settled scope m values d e P some written unread s = record {
       (λ role slot held. back-same d e some P written c slot (data_offset_of (reading_of m) slot + (place_by m.newest x).row)
       (unread.rows (header_in scope (back d e some P written c)) (back-drawn d e some P written c drawn (backup_of scope) 0) x role slot was held))
       (s.rows (back d e some P written c) (back-drawn d e some P written c drawn) x was));
+  zeros = s.zeros;
 }
 
 pub unread-right : (sound : Type 0) (scope : Scope) (given : Given) (told : Ledger) (m : Members) (d e : Disk) (P : ℕ → ℕ → Type 0) → IsSomewhere d → IsWrittenAt P d e
@@ -156,6 +164,10 @@ unread-right sound scope given told m d e P some written unread right = record {
       right.sections header here span active x low high v
       (kept-at d e P written (backup_of scope) (8 + (x - span.lo)) (unread.section header here span active (x - span.lo)) v is));
   settled = λ clean few premise. unread-settled scope m told.values d e P some written unread (right.settled clean few premise);
+  headers = λ active premise backup header here may. right.headers active premise backup header here
+      (kept-at d e P written backup 0 (λ p. unread.header (subst (λ (s : ℕ). P s 0) (sym (backup-is scope backup here)) p)) header may);
+  tails = λ premise x slot tail holds v is. right.tails premise x slot tail holds v
+      (kept-at d e P written slot (data_offset_of (reading_of m) slot + (place (final_shape m.newest) x).row) (unread.tails x slot tail holds) v is);
 }
 
 -- ---- the section is stored
@@ -165,6 +177,7 @@ storing-unread scope given m d placed none = record {
   header = λ (same, other). other refl;
   section = λ header may span active k (same, other). absurd (let plain = none header may in cc);
   rows = λ header may x role slot outside held (is, other). placed.members_own role slot (holder-of (reading_of m) role (place_by m.newest x).row slot held) is;
+  tails = λ x slot tail held (is, other). placed.members_own (place (final_shape m.newest) x).role slot (holder-of (reading_of m) (place (final_shape m.newest) x).role (place (final_shape m.newest) x).row slot held) is;
 }
 
 pub storing-right : (sound : Type 0) → StoringStaysRight sound
@@ -184,6 +197,7 @@ copying-unread scope given m span d placed able = record {
             (sym (ap (λ (o : Option Span). covers o x) (active header may)) ∙ outside.outside) same
         | inr plain ↦ row-apart-uncritical m.newest placed.fit span able.next there.row there.written plain x outside.within same
       ]);
+  tails = λ x slot tail held there. no-tail m.newest span x able.next tail;
 }
 
 pub copying-right : (sound : Type 0) → CopyingStaysRight sound
@@ -246,10 +260,11 @@ naming-settled scope given m values header plain d e placed there none naming s 
   list = s.list;
   allowed = s.allowed;
   rows = λ c drawn x outside. naming-rows scope given m values header plain d e placed there none naming s c drawn x outside;
+  zeros = s.zeros;
 }
 
 pub naming-right : (sound : Type 0) → NamingStaysRight sound
-naming-right sound scope given told m header plain d e some there none allowed naming right = record {
+naming-right sound scope given told m header plain d e some there none allowed fits naming right = record {
   placed = right.placed;
   sized = right.sized;
   gone = right.gone;
@@ -265,6 +280,14 @@ naming-right sound scope given told m header plain d e some there none allowed n
         | inr new ↦ allowed span (sym (ap (open_by scope m.newest) new) ∙ active) x low high v is'
       ]);
   settled = λ clean few premise. naming-settled scope given m told.values header plain d e right.placed there none naming (right.settled clean few premise);
+  headers = λ active premise backup named here may. elim (naming.header_is named (subst (λ (s : ℕ). IsIn (e s 0) named) (sym (backup-is scope backup here)) may)) [
+    | inl before ↦ right.headers active premise backup named here (subst (λ (s : ℕ). IsIn (d s 0) named) (backup-is scope backup here) before)
+    | inr new ↦ subst (IsHeaderFit scope m.newest) (sym new) (fits active premise)
+  ];
+  tails = λ premise x slot tail holds v is. right.tails premise x slot tail holds v
+      (subst (λ (l : List Sector). IsIn l v) (naming.others slot (data_offset_of (reading_of m) slot + (place (final_shape m.newest) x).row)
+      (inr (at-rows scope given m right.placed (place (final_shape m.newest) x).role slot (place (final_shape m.newest) x).row (data_offset_of (reading_of m) slot + (place (final_shape m.newest) x).row)
+      (holder-of (reading_of m) (place (final_shape m.newest) x).role (place (final_shape m.newest) x).row slot holds) refl))) is);
 }
 
 -- ---- superblocks are written
@@ -274,6 +297,9 @@ updating-unread scope given m d placed = record {
   header = λ (eighth, other). absurd (omega (arith, eighth));
   section = λ header may span active k (eighth, other). other (open-some scope m header span active);
   rows = λ header may x role slot outside held (eighth, other). (let far = placed.behind role slot (holder-of (reading_of m) role (place_by m.newest x).row slot held) in absurd (omega (arith, far, eighth)));
+  tails = λ x slot tail held (eighth, other). (
+      let far = placed.behind (place (final_shape m.newest) x).role slot (holder-of (reading_of m) (place (final_shape m.newest) x).role (place (final_shape m.newest) x).row slot held) in
+      absurd (omega (arith, far, eighth)));
 }
 
 pub updating-right : (sound : Type 0) → UpdatingStaysRight sound
@@ -300,7 +326,7 @@ region-rows scope given m x y placed active x-in y-in same =
     ]
 
 pub putting-right : (sound : Type 0) → PuttingStaysRight sound
-putting-right sound scope given told m shape list written d e dirty region allowed putting right = record {
+putting-right sound scope given told m shape list written d e dirty region allowed zeros putting right = record {
   placed = right.placed;
   sized = right.sized;
   gone = right.gone;
@@ -321,6 +347,24 @@ putting-right sound scope given told m shape list written d e dirty region allow
   ];
   sections = λ header may span active x low high v is. right.sections header (before header may) span active x low high v (subst (λ (l : List Sector). IsIn l v) (unwritten header span active (8 + (x - span.lo))) is);
   settled = λ clean few premise. absurd (cc);
+  headers = λ active premise backup header here may. right.headers active premise backup header here
+      (subst (λ (s : ℕ). IsIn (d s 0) header) (backup-is scope backup here) (before header (subst (λ (s : ℕ). IsIn (e s 0) header) (sym (backup-is scope backup here)) may)));
+  tails = λ premise x slot tail holds v is. elim (putting slot (data_offset_of (reading_of m) slot + (place (final_shape m.newest) x).row)) [
+    | inl same ↦ right.tails premise x slot tail holds v (subst (λ (l : List Sector). IsIn l v) same is)
+    | inr put ↦ elim (put.values v is) [
+      | inl was ↦ right.tails premise x slot tail holds v was
+      | inr new ↦ (
+          let row-is : put.row ≡ (place (final_shape m.newest) x).row = (let e = put.place in omega (arith, e)) in
+          let role-is : put.role ≡ (place (final_shape m.newest) x).role = right.placed.apart put.role (place (final_shape m.newest) x).role slot put.held
+          (holder-of (reading_of m) (place (final_shape m.newest) x).role (place (final_shape m.newest) x).row slot holds) in
+          let there = new-there m.newest right.placed.fit x tail in
+          let first-row : (place_by m.newest (first m.newest right.placed.fit x tail)).row ≡ (place (final_shape m.newest) x).row =
+          ap (λ (s : Shape). (place s (first m.newest right.placed.fit x tail)).row) there ∙ same-row m.newest right.placed.fit x tail in
+          let shape-is : final_shape m.newest ≡ shape =
+          sym there ∙ region (first m.newest right.placed.fit x tail) (listed m.newest right.placed.fit x tail) (subst (Contains written) (row-is ∙ sym first-row) put.among) in
+          new ∙ (λ i. full_sector (sym shape-is i) list (row-is i) (role-is i)) ∙ places-are-full (final_shape m.newest) list x right.placed.fit.valid.final ∙ zeros premise x tail)
+    ]
+  ];
 }
   where
     unwritten : (header : Sector) (span : Span) → open_by scope m.newest header ≡ Some span → (k : ℕ) → e (backup_of scope) k ≡ d (backup_of scope) k

@@ -23,7 +23,7 @@ pub record IsSectionOf (m : Members) (values : ℕ → List Sector) (span : Span
 
 -- While no section is active, such a section may be stored and named: at each mark of the call a view stays right.
 abbrev pub SectionsStayRight : (sound : Type 0) → Type 0
-SectionsStayRight sound = (scope : Scope) (given : Given) (told : Ledger) (m : Members) (slot : ℕ) (span : Span) (bytes : List ℕ) (d e : Disk) → scope.backup ≡ Some slot
+SectionsStayRight sound = (scope : Scope) (given : Given) (told : Ledger) (m : Members) (slot : ℕ) (span : Span) (bytes : List ℕ) (d e : Disk) → scope.backup ≡ Some slot → length scope.uuid ≡ 16
     → IsSomewhere d → HasNoSection scope m d → IsSectionOf m told.values span bytes → IsStoringOrNaming slot (header_of scope.uuid span) bytes d e
     → IsViewRight sound scope given told m d → IsViewRight sound scope given told m e
 

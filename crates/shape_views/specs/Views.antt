@@ -1,18 +1,22 @@
 -- What a stop may leave of an array of one shape or two: each image is read as some view of it, and each view is right.
-use Rattle.std.specs.Prelude.{◌≡◌, ◌⊎◌, ℕ, ◌+◌, ◌-◌, ◌<◌, ◌≤◌, Bool, true, false, List, length, Some}
+use Rattle.std.specs.Prelude.{◌≡◌, ◌⊎◌, ℕ, ◌+◌, ◌-◌, ◌<◌, ◌≤◌, ◌&&◌, Bool, true, false, List, length, Some, IsTrue}
 use Rattle.md_base.specs.declared.places.Span.{Span}
-use Rattle.md_base.specs.Sectors.{Sector}
+use Rattle.md_base.specs.Sectors.{Sector, zero_sector}
 use Rattle.bank.specs.Given.{Given, sizes}
 use Rattle.bank.specs.Tape.{Contents, IsDrawn, IsIn}
+use Rattle.sb1.specs.declared.sb.Sb.{Sb}
+use Rattle.layout.specs.Layout.{place, stripe_of}
 use Rattle.superblocks.specs.declared.members.Members.{Members}
-use Rattle.superblocks.specs.Reading.{Scope, Reading, reading, is_clean, is_reshaping, role_count, list_length, data_offset_of}
+use Rattle.superblocks.specs.Reading.{Scope, Reading, reading, is_clean, is_reshaping, is_backward, final_shape, role_count, list_length, next_window, data_offset_of}
 use Rattle.row_io.specs.Rows.{reading_of, is_missing, held_slot}
 use Rattle.list_io.specs.Full.{RowStands}
+use Rattle.backup.specs.Section.{is_header_of, names_span}
 use Rattle.flat_history.specs.declared.events.Entry.{Entry}
 use Rattle.flat_history.specs.World.{World, opening_list, may_hold}
 use Rattle.flat_history.specs.Flat.{values_of, length_of}
 use Rattle.flat_history.specs.Losses.{is_gone, is_unclean}
 use Rattle.flat_history.specs.CrashSafe.{made_by, may_be_made, MayBeJudgedBy, IsSafeAt}
+use Rattle.flat_history.specs.Opened.{IsAllNew}
 use Rattle.flat_history.specs.Sound.{OpensFit}
 use Rattle.flat_history.specs.Stands.{shape_for, covers}
 use Rattle.shape_views.specs.Regions.{backup_of, header_in, open_by, place_by, ArePlaced, DoWithout, IsReadOf}
@@ -46,16 +50,46 @@ abbrev pub AreSectionsAllowed : Scope → Members → (ℕ → List Sector) → 
 AreSectionsAllowed scope m values d = (header : Sector) → IsIn (d (backup_of scope) 0) header → (span : Span) → open_by scope m.newest header ≡ Some span
     → (x : ℕ) → span.lo ≤ x → x < span.hi → (v : Sector) → IsIn (d (backup_of scope) (8 + (x - span.lo))) v → IsIn (values x) v
 
--- Whatever is drawn, the row of each sector that no active section covers stands as a list of allowed values.
+-- ---- in a reshape
+
+-- each section that the header names is that of the next window, or lies in the new region
+abbrev pub IsHeaderFit : Scope → Sb → Sector → Type 0
+IsHeaderFit scope newest header = (span : Span) → IsTrue (is_header_of scope.uuid header && names_span header span) → (next_window newest ≡ Some span) ⊎ IsAllNew newest span
+
+-- so it is of each header that a stop leaves in the backup
+abbrev pub AreHeadersFit : Scope → Members → Disk → Type 0
+AreHeadersFit scope m d = (backup : ℕ) (header : Sector) → scope.backup ≡ Some backup → IsIn (d backup 0) header → IsHeaderFit scope m.newest header
+
+-- a sector behind the end of the list, in the stripe of the new shape that holds its last sector, once a forward reshape has gone through
+pub record IsTail (newest : Sb) (x : ℕ) : Type 0 where
+  pub active : is_reshaping newest ≡ true
+  pub forth : is_backward newest ≡ false
+  pub through : newest.reshape_position ≡ list_length newest
+  pub past : list_length newest ≤ x
+  pub stripe : stripe_of (final_shape newest) x ≡ stripe_of (final_shape newest) (list_length newest - 1)
+
+-- the list is zero in the tail
+abbrev pub IsTailZero : Sb → (ℕ → Sector) → Type 0
+IsTailZero newest list = (x : ℕ) → IsTail newest x → list x ≡ zero_sector
+
+-- and so is what slots hold of it
+abbrev pub AreTailsZero : Members → Disk → Type 0
+AreTailsZero m d = (x slot : ℕ) → IsTail m.newest x → held_slot (reading_of m) (place (final_shape m.newest) x).role (place (final_shape m.newest) x).row ≡ Some slot
+    → (v : Sector) → IsIn (d slot (data_offset_of (reading_of m) slot + (place (final_shape m.newest) x).row)) v → v ≡ zero_sector
+
+-- ---- views
+
+-- Whatever is drawn, the row of each sector that no active section covers stands as a list of allowed values, which is zero in the tail.
 pub record IsSettled (scope : Scope) (m : Members) (values : ℕ → List Sector) (d : Disk) : Type 0 where
   pub list : ℕ → Sector
   pub allowed : (x : ℕ) → x < list_length m.newest → IsIn (values x) (list x)
   pub rows : (c : Contents) → IsDrawn d c → (x : ℕ) → IsOutside scope m (header_in scope c) x
       → RowStands (reading_of m) c (shape_for m.newest x) list (place_by m.newest x).row
+  pub zeros : IsTailZero m.newest list
 
 -- A view is right: each role that it misses is told gone; it is dirty only where a write may be unsettled, and has a reshape only where one may be
 -- active; what slots hold is allowed, and what an active section has; and where it is clean, and can do without what it misses, the rows are settled,
--- so that this can be filled in.
+-- so that this can be filled in. While a reshape is active its headers fit and its tail is zero. So each image that assembles is sound, if the opening was.
 pub record IsViewRight (sound : Type 0) (scope : Scope) (given : Given) (told : Ledger) (m : Members) (d : Disk) : Type 0 where
   pub placed : ArePlaced scope given m
   pub sized : list_length m.newest ≡ told.size
@@ -65,6 +99,8 @@ pub record IsViewRight (sound : Type 0) (scope : Scope) (given : Given) (told : 
   pub held : AreHeldAllowed scope m told.values d
   pub sections : AreSectionsAllowed scope m told.values d
   pub settled : is_clean m.newest ≡ true → DoWithout m → sound → IsSettled scope m told.values d
+  pub headers : is_reshaping m.newest ≡ true → sound → AreHeadersFit scope m d
+  pub tails : sound → AreTailsZero m d
 
 -- an image is read as a view that is right
 pub record IsSeenRight (sound : Type 0) (scope : Scope) (given : Given) (told : Ledger) (d : Disk) (c : Contents) : Type 0 where

@@ -5,6 +5,7 @@ use Rattle.md_base.specs.Sectors.{Sector}
 use Rattle.bank.specs.Given.{Given}
 use Rattle.bank.specs.Tape.{Contents, IsIn}
 use Rattle.sb1.specs.declared.sb.Sb.{Sb}
+use Rattle.layout.specs.Layout.{place}
 use Rattle.geometry.specs.Geometry.{rows, beyond, is_critical}
 use Rattle.geometry.specs.Geometry as geometry
 use Rattle.superblocks.specs.declared.members.Members.{Members}
@@ -13,9 +14,10 @@ use Rattle.row_io.specs.Rows.{reading_of, is_missing, held_slot}
 use Rattle.list_io.specs.Full.{DataStands, RowStands}
 use Rattle.list_io.specs.Writing.{IsPutting}
 use Rattle.md_base.specs.declared.places.Shape.{Shape}
+use Rattle.backup.specs.Section.{names_span}
 use Rattle.flat_history.specs.Stands.{shape_for, covers}
 use Rattle.shape_views.specs.Regions.{backup_of, open_by, place_by, DoWithout, ArePlaced}
-use Rattle.shape_views.specs.Views.{Disk, Ledger, IsViewRight}
+use Rattle.shape_views.specs.Views.{Disk, Ledger, IsHeaderFit, AreHeadersFit, IsTail, IsTailZero, IsViewRight}
 
 -- a stop leaves something in each sector
 abbrev pub IsSomewhere : Disk → Type 0
@@ -63,10 +65,11 @@ abbrev pub IsSectionAllowed : Scope → Members → (ℕ → List Sector) → Di
 IsSectionAllowed scope m values d header = (span : Span) → open_by scope m.newest header ≡ Some span
     → (x : ℕ) → span.lo ≤ x → x < span.hi → (v : Sector) → IsIn (d (backup_of scope) (8 + (x - span.lo))) v → IsIn (values x) v
 
--- Where some header of before has no active section, and the section of the new one is allowed, that may be written.
+-- Where some header of before has no active section, and the section of the new one is allowed, that may be written, if it fits.
 abbrev pub NamingStaysRight : (sound : Type 0) → Type 0
 NamingStaysRight sound = (scope : Scope) (given : Given) (told : Ledger) (m : Members) (header plain : Sector) (d e : Disk) → IsSomewhere d
-    → IsIn (d (backup_of scope) 0) plain → open_by scope m.newest plain ≡ None → IsSectionAllowed scope m told.values d header → IsNaming scope header d e
+    → IsIn (d (backup_of scope) 0) plain → open_by scope m.newest plain ≡ None → IsSectionAllowed scope m told.values d header
+    → (is_reshaping m.newest ≡ true → sound → IsHeaderFit scope m.newest header) → IsNaming scope header d e
     → IsViewRight sound scope given told m d → IsViewRight sound scope given told m e
 
 -- ---- the copy
@@ -114,10 +117,11 @@ abbrev pub RegionRowsAreOne : Type 0
 RegionRowsAreOne = (scope : Scope) (given : Given) (m : Members) (x y : ℕ) → ArePlaced scope given m → is_reshaping m.newest ≡ true → x < list_length m.newest → y < list_length m.newest
     → (place_by m.newest x).row ≡ (place_by m.newest y).row → shape_for m.newest x ≡ shape_for m.newest y
 
--- Rows of one region are written in a dirty array, by a list of allowed values: a view stays right, also where a window is open.
+-- Rows of one region are written in a dirty array, by a list of allowed values that is zero in the tail: a view stays right, also where a window is open.
 abbrev pub PuttingStaysRight : (sound : Type 0) → Type 0
 PuttingStaysRight sound = (scope : Scope) (given : Given) (told : Ledger) (m : Members) (shape : Shape) (list : ℕ → Sector) (written : List ℕ) (d e : Disk) → is_clean m.newest ≡ false
-    → IsOfRegion m shape (Contains written) → ((x : ℕ) → x < list_length m.newest → IsIn (told.values x) (list x)) → IsPutting (reading_of m) shape list (Contains written) d e
+    → IsOfRegion m shape (Contains written) → ((x : ℕ) → x < list_length m.newest → IsIn (told.values x) (list x)) → (sound → IsTailZero m.newest list)
+    → IsPutting (reading_of m) shape list (Contains written) d e
     → IsViewRight sound scope given told m d → IsViewRight sound scope given told m e
 
 -- ---- the list on the members
@@ -148,6 +152,11 @@ StillStands = (scope : Scope) (given : Given) (m : Members) (c : Contents) (list
 abbrev pub moved_past : Span → Members → Members
 moved_past span m = record m { newest = record m.newest { reshape_position = beyond (is_backward m.newest) span } }
 
+-- A header that names a window fits before it and behind it.
+abbrev pub NextHeadersFit : Type 0
+NextHeadersFit = (scope : Scope) (given : Given) (m : Members) (span : Span) (header : Sector) → ArePlaced scope given m → next_window m.newest ≡ Some span → names_span header span ≡ true
+    → IsHeaderFit scope m.newest header × IsHeaderFit scope (moved_past span m).newest header
+
 -- Where the window's rows stand by the new shape, as the list, and the window was hidden, the list stands once the position has moved.
 abbrev pub MovedStands : Type 0
 MovedStands = (scope : Scope) (given : Given) (m : Members) (span : Span) (c : Contents) (list : ℕ → Sector) → ArePlaced scope given m → next_window m.newest ≡ Some span
@@ -163,12 +172,22 @@ MovedRowsStand = (scope : Scope) (given : Given) (m : Members) (span : Span) (c 
 abbrev pub MovedIsPlaced : Type 0
 MovedIsPlaced = (scope : Scope) (given : Given) (m : Members) (span : Span) → ArePlaced scope given m → next_window m.newest ≡ Some span → ArePlaced scope given (moved_past span m)
 
+-- each role that a slot holds in the tail has the list's sector there
+abbrev pub AreTailsStanding : Members → Contents → (ℕ → Sector) → Type 0
+AreTailsStanding m c list = (x slot : ℕ) → IsTail m.newest x → held_slot (reading_of m) (place (final_shape m.newest) x).role (place (final_shape m.newest) x).row ≡ Some slot
+    → c slot (data_offset_of (reading_of m) slot + (place (final_shape m.newest) x).row) ≡ list x
+
+-- Where the rows of the last window stand, the tail behind it does.
+abbrev pub MovedTailsStand : Type 0
+MovedTailsStand = (scope : Scope) (given : Given) (m : Members) (span : Span) (c : Contents) (list : ℕ → Sector) → ArePlaced scope given m → next_window m.newest ≡ Some span
+    → ((row : ℕ) → geometry.IsIn row (rows (final_shape m.newest) span.lo span.hi) → DataStands (reading_of m) c (final_shape m.newest) list row) → AreTailsStanding (moved_past span m) c list
+
 -- a stop leaves what the holders of roles have as it is, but for their superblocks
 abbrev pub AreHoldersFlushed : Members → Contents → Disk → Type 0
 AreHoldersFlushed m c d = (role slot k : ℕ) → holder (role_state (reading_of m) role) ≡ Some slot → k ≢ 8 → d slot k ≡ c slot k ∷ []
 
 -- What is needed of members of which the holders are flushed: their roles are told, and a dirty mark; the list stands there, of allowed values, and
--- where they are clean its rows; no section is active, and a reshape only where that is told.
+-- where they are clean its rows; no section is active, and a reshape only where that is told; in one the headers fit, and the tail stands, of zeros.
 pub record IsFlushedRight (sound : Type 0) (scope : Scope) (given : Given) (told : Ledger) (m : Members) (c : Contents) (list : ℕ → Sector) (d : Disk) : Type 0 where
   pub placed : ArePlaced scope given m
   pub sized : list_length m.newest ≡ told.size
@@ -180,6 +199,9 @@ pub record IsFlushedRight (sound : Type 0) (scope : Scope) (given : Given) (told
   pub missing : (role : ℕ) → role < role_count m.newest → is_missing (reading_of m) role ≡ true → told.gone role ≡ true
   pub unclean : is_clean m.newest ≡ false → told.unclean ≡ true
   pub reshaping : is_reshaping m.newest ≡ true → told.reshaping ≡ true
+  pub headers : is_reshaping m.newest ≡ true → sound → AreHeadersFit scope m d
+  pub zeros : sound → IsTailZero m.newest list
+  pub tails : sound → AreTailsStanding m c list
 
 -- Such members are a view that is right.
 abbrev pub FlushedIsRight : (sound : Type 0) → Type 0

@@ -5,8 +5,8 @@
 ghost use Rattle.std.specs.Prelude.{⊤};
 ghost use Rattle.shape_views.specs.Regions.{RefusedForMissing};
 ghost use Rattle.shape_views.specs.Views.{ViewsAreSafe};
-ghost use Rattle.shape_views.specs.Sound.{FitViewsAreSound};
-ghost use Rattle.shape_views.specs.Windows.{FewerStayRight, StoringStaysRight, NamingStaysRight, CopyingStaysRight, UpdatingStaysRight, PuttingStaysRight, RegionRowsAreOne, StillStands, MovedStands, MovedRowsStand, MovedIsPlaced, FlushedIsRight};
+ghost use Rattle.shape_views.specs.Sound.{RightViewsAreSound};
+ghost use Rattle.shape_views.specs.Windows.{FewerStayRight, StoringStaysRight, NamingStaysRight, CopyingStaysRight, UpdatingStaysRight, PuttingStaysRight, RegionRowsAreOne, StillStands, MovedStands, MovedRowsStand, MovedIsPlaced, MovedTailsStand, NextHeadersFit, FlushedIsRight};
 ghost use Rattle.shape_views.specs.Backups.{SectionsStayRight, ClearingStaysRight, NamedSectionsAreOpen, ClearedHeadersAreShut, StoredIsClosed, NamingIsUnsure, NamedIsOpen, ClearedIsClosed, FoundIsOpen};
 
 /// An image that is read as members say is refused where a shape in force misses more roles than are tolerated, or where a missing role holds
@@ -20,9 +20,9 @@ pub fn views_are_safe()
     ensures { ViewsAreSafe }
 {}
 
-/// Where the view fits besides, the image is sound.
-pub fn fit_views_are_sound()
-    ensures { FitViewsAreSound ⊤ }
+/// And an image that assembles is sound.
+pub fn right_views_are_sound()
+    ensures { RightViewsAreSound ⊤ }
 {}
 
 /// A flush leaves a view right.
@@ -73,6 +73,16 @@ pub fn a_moved_list_stands()
 /// And its rows.
 pub fn moved_rows_stand()
     ensures { MovedRowsStand }
+{}
+
+/// And its tail.
+pub fn moved_tails_stand()
+    ensures { MovedTailsStand }
+{}
+
+/// A header that names the next window fits before it and behind it.
+pub fn next_headers_fit()
+    ensures { NextHeadersFit }
 {}
 
 /// The members are placed there.

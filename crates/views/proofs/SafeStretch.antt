@@ -1,5 +1,5 @@
 -- Stretches of calls that keep an array safe: one after another, with nothing done, and with rows written.
-use Rattle.std.proofs.Common.{◌≡◌, ℕ, ◌<◌, ◌≤◌, false, Contains, ◌∙◌, List, length, take, take_all, le_refl, length-append, arith, sym, subst}
+use Rattle.std.proofs.Common.{◌≡◌, ℕ, ◌-◌, ◌<◌, ◌≤◌, false, Contains, ◌∙◌, List, length, take, take_all, le_refl, length-append, arith, sym, ap, subst}
 use Rattle.std.specs.Prelude.{⊤}
 use Rattle.md_base.specs.Sectors.{Sector}
 use Rattle.md_base.specs.declared.places.Shape.{Shape}
@@ -7,20 +7,21 @@ use Rattle.bank.specs.declared.bank.Operation.{Operation}
 use Rattle.bank.specs.Given.{Given}
 use Rattle.bank.specs.Tape.{EachMark, disk}
 use Rattle.bank.proofs.Marks.{each_mark-then}
+use Rattle.sb1.specs.declared.sb.Sb.{Sb}
 use Rattle.superblocks.specs.declared.members.Members.{Members}
-use Rattle.superblocks.specs.Reading.{Scope, is_clean}
+use Rattle.superblocks.specs.Reading.{Scope, is_clean, shape_of, list_length}
 use Rattle.row_io.specs.Rows.{members_without}
 use Rattle.flat_history.specs.World.{World}
-use Rattle.views.specs.Placed.{IsPlaced}
+use Rattle.views.specs.Placed.{IsPlaced, HaveSameReshape}
 use Rattle.shape_changes.specs.Steady.{AreUnlost, IsSafeNow, IsSafeStretch, IsSafeOver, KeepsSafe, AreGoneTold, AreWritesAllowed}
 use Rattle.views.proofs.HeldRows.{missing-moved}
 use Rattle.views.specs.Moving.{Grows, IsMoved}
 use Rattle.views.specs.Lacking.{IsListPut}
-use Rattle.shape_views.specs.Views.{Ledger}
+use Rattle.shape_views.specs.Views.{Ledger, IsTailZero}
 use Rattle.shape_changes.proofs.Steady.{safe-is-seen, losing-stays-safe}
 use Rattle.shape_changes.proofs.WriteSafe.{writes-stay-safe}
 use Rattle.views.proofs.LackingWrites.{marks-here}
-use Rattle.layout.specs.Layout.{place}
+use Rattle.layout.specs.Layout.{place, stripe_of}
 use Rattle.shape_views.specs.Windows.{IsOfRegion}
 use Rattle.views.proofs.Fit.{count-alike, list-alike, for-alike}
 use Rattle.views.proofs.Still.{told-same}
@@ -56,9 +57,9 @@ module _ (sound : Type 0) (scope : Scope) (given : Given) (told : Ledger) where
   -- rows were written
   pub safe-put : {tells : Type 0} (old new : Members) (lost : ℕ) (shape : Shape) (list : ℕ → Sector) (rows : List ℕ) (before after : List Operation) → tells → new ≡ members_without lost old
       → IsPlaced given old → is_clean old.newest ≡ false → AreUnlost old → IsOfRegion old shape (Contains rows) → AreWritesAllowed old told.values list
-      → EachMark tells given.start before after (IsListPut shape old list rows (disk given.start before)) → IsSafeNow sound scope given told old (disk given.start before)
+      → (sound → IsTailZero old.newest list) → EachMark tells given.start before after (IsListPut shape old list rows (disk given.start before)) → IsSafeNow sound scope given told old (disk given.start before)
       → IsSafeStretch sound scope given told new before after
-  safe-put old new lost shape list rows before after tell is placed dirty unlost region allowed marks safe = record {
+  safe-put old new lost shape list rows before after tell is placed dirty unlost region allowed zeros marks safe = record {
     marks = record {
       longer = λ one. marks.longer tell;
       earlier = λ one. marks.earlier tell;
@@ -73,12 +74,28 @@ module _ (sound : Type 0) (scope : Scope) (given : Given) (told : Ledger) where
           let put = marks.each tell n low high in
           subst (λ (m : Members). IsSafeNow sound scope given told m (disk given.start (take n after))) (sym is)
           (writes-stay-safe sound scope given told old shape list rows lost (disk given.start before) (disk given.start (take n after)) placed.holders dirty unlost
-          region allowed put.0 put.1 safe)
+          region allowed zeros put.0 put.1 safe)
 
 -- a list whose sectors are allowed
 pub allowed-later : (given : Given) (old new : Members) → IsMoved given old new → (values : ℕ → List Sector) (list : ℕ → Sector) → AreWritesAllowed old values list → AreWritesAllowed new values list
 allowed-later given old new moved values list allowed x lt =
     allowed x (subst (λ (n : ℕ). x < n) (list-alike old.newest new.newest moved.reshape moved.shape moved.size) lt)
+
+-- which is zero in the tail
+pub zeros-alike : (old new : Sb) → HaveSameReshape old new → shape_of new ≡ shape_of old → new.size ≡ old.size → (list : ℕ → Sector) → IsTailZero old list → IsTailZero new list
+zeros-alike old new reshape shape size list zeros x tail = zeros x (record {
+  active = sym reshape.reshaping ∙ tail.active;
+  forth = sym reshape.backward ∙ tail.forth;
+  through = sym reshape.position ∙ tail.through ∙ long;
+  past = (let p = tail.past in omega (arith, p, long));
+  stripe = ap (λ (s : Shape). stripe_of s x) (sym reshape.final) ∙ tail.stripe ∙ (λ i. stripe_of (reshape.final i) (long i - 1));
+})
+  where
+    long : list_length new ≡ list_length old
+    long = list-alike old new reshape shape size
+
+pub zeros-later : (given : Given) (old new : Members) → IsMoved given old new → (list : ℕ → Sector) → IsTailZero old.newest list → IsTailZero new.newest list
+zeros-later given old new moved list zeros = zeros-alike old.newest new.newest moved.reshape moved.shape moved.size list zeros
 
 -- and rows of one region
 pub region-later : (given : Given) (old new : Members) (shape : Shape) (among : ℕ → Type 0) → IsMoved given old new → IsOfRegion old shape among → IsOfRegion new shape among

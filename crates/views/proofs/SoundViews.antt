@@ -1,12 +1,12 @@
--- Images that are read as right views without a reshape are sound.
-use Rattle.std.proofs.Common.{◌≡◌, ℕ, ◌≤◌, Bool, true, false, take, take_all, List, length, ◌++◌, Option, Some, None, refl, sym, ◌∙◌, subst, arith}
-use Rattle.std.specs.Prelude.{IfSome}
+-- Images that are read as right views are sound.
+use Rattle.std.proofs.Common.{◌≡◌, inl, inr, ℕ, ◌≤◌, take, take_all, List, length, ◌++◌, Option, None, sym, subst, arith}
+use Rattle.std.specs.Prelude.{⊤, IfSome}
 use Rattle.md_base.specs.Sectors.{Sector}
 use Rattle.bank.specs.declared.bank.Operation.{Operation}
 use Rattle.bank.specs.Given.{Given}
-use Rattle.bank.specs.Tape.{Contents, IsDrawn, IsIn, disk}
+use Rattle.bank.specs.Tape.{Contents, EachMark, IsDrawn, IsIn, disk}
 use Rattle.superblocks.specs.declared.members.Members.{Members}
-use Rattle.superblocks.specs.Reading.{Scope, Reading, reading, is_reshaping}
+use Rattle.superblocks.specs.Reading.{Scope, Reading, reading}
 use Rattle.flat_history.specs.Growing.{grown}
 use Rattle.flat_history.specs.Opened.{IsSound}
 use Rattle.flat_history.specs.Sound.{OpensFit, LeavesSound, LeavesSoundThroughout}
@@ -14,33 +14,34 @@ use Rattle.flat_history.specs.Stands.{verdict}
 use Rattle.flat_history.specs.World.{World, may_hold}
 use Rattle.flat_history.proofs.SoundLaws.{fit-before, leaves-drawn, throughout-grown}
 use Rattle.shape_views.specs.Views.{Disk, Ledger, IsSeenRight}
-use Rattle.shape_views.proofs.SoundViews.{fit-views-sound}
-use Rattle.shape_changes.specs.Steady.{IsSafeOver, KeepsSafe}
+use Rattle.shape_views.proofs.SoundViews.{right-views-sound}
+use Rattle.shape_changes.specs.Steady.{IsSafeOver}
+use Rattle.shape_changes.specs.Changing.{AreEitherRight}
 use Rattle.shape_changes.proofs.Steady.{safe-is-seen}
-use Rattle.views.specs.Still.{ViewsAreSound}
+use Rattle.views.specs.Still.{ViewsAreSound, CallsLeaveSound, ChangesLeaveSound}
 
 -- ---- an image that is read as a right view
 
-seen-sound : (sound : Type 0) → sound → (scope : Scope) (given : Given) (told : Ledger) (d : Disk) (c : Contents) → told.reshaping ≡ false → IsDrawn d c
+seen-sound : (sound : Type 0) → sound → (scope : Scope) (given : Given) (told : Ledger) (d : Disk) (c : Contents) → IsDrawn d c
     → IsSeenRight sound scope given told d c → verdict scope c ≡ None → IfSome (reading scope c) (IsSound scope c)
-seen-sound sound opened scope given told d c still drawn seen assembles =
+seen-sound sound opened scope given told d c drawn seen assembles =
     subst (λ (o : Option Reading). IfSome o (IsSound scope c)) (sym seen.is)
-    (fit-views-sound sound scope given told seen.view d c seen.found opened drawn seen.is seen.same seen.right (λ active. absurd (let on = seen.right.reshaping active in let both = sym on ∙ still in cc)) assembles)
+    (right-views-sound sound scope given told seen.view d c seen.found opened drawn seen.is seen.same seen.right assembles)
 
 pub views-are-sound : ViewsAreSound
-views-are-sound world given mark told d in_time within views still opened =
+views-are-sound world given mark told d in_time within views opened =
     leaves-drawn world mark in_time (λ c held assembles.
     let drawn : IsDrawn d c = λ s k. within s k (c s k) (held s k) in
-    seen-sound (OpensFit world) opened world.scope given told d c still drawn (views c (record { eighth = λ s _. drawn s 8; ninth = λ s _. drawn s 9 })) assembles)
+    seen-sound (OpensFit world) opened world.scope given told d c drawn (views c (record { eighth = λ s _. drawn s 8; ninth = λ s _. drawn s 9 })) assembles)
 
 -- ---- where an array is safe
 
 -- what a stop may leave now is sound
-pub leaves-now : (world : World) (given : Given) (told : Ledger) (members : Members) → given.start ≡ world.start → told.reshaping ≡ false → IsSafeOver world given told members world.tape → OpensFit world
+pub leaves-now : (world : World) (given : Given) (told : Ledger) (members : Members) → given.start ≡ world.start → IsSafeOver world given told members world.tape → OpensFit world
     → LeavesSound world (length world.tape)
-leaves-now world given told members start still safe opened =
+leaves-now world given told members start safe opened =
     views-are-sound world given (length world.tape) told (disk given.start world.tape) (omega arith) same
-    (safe-is-seen (OpensFit world) world.scope given told members world.tape safe) still opened
+    (safe-is-seen (OpensFit world) world.scope given told members world.tape safe) opened
   where
     same : (s k : ℕ) (v : Sector) → IsIn (may_hold world (length world.tape) s k) v → IsIn (disk given.start world.tape s k) v
     same s k v held =
@@ -48,24 +49,34 @@ leaves-now world given told members start still safe opened =
         (subst (λ (at : Contents). IsIn (disk at (take (length world.tape) world.tape) s k) v) (sym start) held)
 
 -- at the opening that is the only mark
-pub throughout-opening : (world : World) (given : Given) (told : Ledger) (members : Members) → given.start ≡ world.start → world.first ≡ length world.tape → told.reshaping ≡ false
+pub throughout-opening : (world : World) (given : Given) (told : Ledger) (members : Members) → given.start ≡ world.start → world.first ≡ length world.tape
     → IsSafeOver world given told members world.tape → OpensFit world → LeavesSoundThroughout world
-throughout-opening world given told members start first still safe opened mark low high =
+throughout-opening world given told members start first safe opened mark low high =
     let here : length world.tape ≡ mark = omega (arith, first, low, high) in
-    subst (λ (n : ℕ). LeavesSound world n) here (leaves-now world given told members start still safe opened)
+    subst (λ (n : ℕ). LeavesSound world n) here (leaves-now world given told members start safe opened)
 
 -- ---- a call
 
-module _ (world : World) (given : Given) (told : Ledger) (members : Members) (ops : List Operation) (start : given.start ≡ world.start) (begun : world.first ≤ length world.tape)
-    (still : told.reshaping ≡ false) (safe : KeepsSafe world given told members world.tape (world.tape ++ ops)) where
-  -- where a call keeps the array safe, each of its marks leaves sound images
+module _ (world : World) (given : Given) (told more : Ledger) (ops : List Operation) (start : given.start ≡ world.start) (begun : world.first ≤ length world.tape)
+    (marks : EachMark ⊤ given.start world.tape (world.tape ++ ops) (AreEitherRight (OpensFit world) world.scope given told more)) where
+  -- where each image at its marks is seen right, by the one ledger or the other, it is sound
   pub leaves-kept : OpensFit (grown world ops) → (mark : ℕ) → length world.tape ≤ mark → mark ≤ length (world.tape ++ ops) → LeavesSound (grown world ops) mark
   leaves-kept opened mark low high = leaves-drawn (grown world ops) mark high (λ c held assembles.
       let drawn : IsDrawn (disk given.start (take mark (world.tape ++ ops))) c =
       subst (λ (at : Contents). IsDrawn (disk at (take mark (world.tape ++ ops))) c) (sym start) held in
-      seen-sound (OpensFit world) (fit-before world ops begun opened) world.scope given told (disk given.start (take mark (world.tape ++ ops))) c still drawn
-      (safe.marks.each tt mark low high c (record { eighth = λ s _. drawn s 8; ninth = λ s _. drawn s 9 })) assembles)
+      let fit = fit-before world ops begun opened in
+      elim (marks.each tt mark low high c (record { eighth = λ s _. drawn s 8; ninth = λ s _. drawn s 9 })) [
+        | inl seen ↦ seen-sound (OpensFit world) fit world.scope given told (disk given.start (take mark (world.tape ++ ops))) c drawn seen assembles
+        | inr seen ↦ seen-sound (OpensFit world) fit world.scope given more (disk given.start (take mark (world.tape ++ ops))) c drawn seen assembles
+      ])
 
   -- and so does every mark since the opening
-  pub throughout-kept : (OpensFit world → LeavesSoundThroughout world) → OpensFit (grown world ops) → LeavesSoundThroughout (grown world ops)
-  throughout-kept before opened = throughout-grown world ops (before (fit-before world ops begun opened)) (leaves-kept opened)
+  pub throughout-marked : (OpensFit world → LeavesSoundThroughout world) → OpensFit (grown world ops) → LeavesSoundThroughout (grown world ops)
+  throughout-marked before opened = throughout-grown world ops (before (fit-before world ops begun opened)) (leaves-kept opened)
+
+pub throughout-kept : CallsLeaveSound
+throughout-kept world given told members ops start begun safe =
+    throughout-marked world given told told ops start begun (record { longer = safe.marks.longer; earlier = safe.marks.earlier; each = λ t mark low high c drawn. inl (safe.marks.each t mark low high c drawn) })
+
+pub throughout-changed : ChangesLeaveSound
+throughout-changed world given told more members ops start begun safe = throughout-marked world given told more ops start begun safe.marks

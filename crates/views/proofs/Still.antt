@@ -23,7 +23,7 @@ use Rattle.list_io.specs.Full.{RowStands}
 use Rattle.flat_history.specs.Stands.{has_room, backup_absent, covers, reach_of}
 use Rattle.flat_history.specs.ActiveSection.{section_for}
 use Rattle.shape_views.specs.Regions.{backup_of, header_in, open_by, place_by, ArePlaced, DoWithout}
-use Rattle.shape_views.specs.Views.{Disk, Ledger, IsOutside, IsSettled}
+use Rattle.shape_views.specs.Views.{Disk, Ledger, IsTail, IsTailZero, IsOutside, IsSettled}
 use Rattle.shape_views.specs.Windows.{IsOfRegion}
 use Rattle.shape_views.proofs.Stands.{for-still, final-still, list-still}
 use Rattle.shape_changes.specs.Held.{IsHeldBy}
@@ -47,6 +47,13 @@ module _ (newest : Sb) (still : is_reshaping newest ≡ false) where
     where
       same : (n : ℕ) → max n n ≡ n
       same n = grind (arith, nat_tests)
+
+  -- there is no tail
+  pub untailed : (x : ℕ) → IsTail newest x → ⊥
+  untailed x tail = absurd (let active = tail.active in let clash = sym still ∙ active in cc)
+
+  pub tail-still : (list : ℕ → Sector) → IsTailZero newest list
+  tail-still list x tail = absurd (untailed x tail)
 
   pub open-still : (scope : Scope) (header : Sector) → open_by scope newest header ≡ None
   open-still scope header = ap (λ (w : Option Span). section_for scope (λ s k. header) scope.backup w) none ∙ nothing scope.backup
@@ -129,6 +136,7 @@ settled-still scope given m values d list placed still allowed rows = record {
       let short : x < list_size (places_of m) = subst (λ (n : ℕ). x < n) (length-still m still) out.within in
       subst (λ (s : Shape). RowStands (reading_of m) c s list (place s x).row) (sym (for-still m.newest still x))
       (rows c drawn (place (shape_of m.newest) x).row (place-row_below (shape_of m.newest) (valid given m placed) x m.newest.size (multiple given m placed) short));
+  zeros = tail-still m.newest still list;
 }
 
 -- and the other way
@@ -151,12 +159,13 @@ flushed-is-settled scope given members tape values list placed flushed stand all
   allowed = allowed;
   rows = λ c drawn x out.
       let row = (place_by members.newest x).row in
-      let stands = stand (header_in scope c) (drawn (backup_of scope) 0) x (record { within = out.within; outside = out.outside }) in
+      let stands = stand.rows (header_in scope c) (drawn (backup_of scope) 0) x (record { within = out.within; outside = out.outside }) in
       record {
         whole = stands.whole;
         sectors = λ role slot below sound held. here c drawn row role slot held ∙ stands.sectors role slot below sound held;
         parity = λ role slot below parity held. here c drawn row role slot held ∙ stands.parity role slot below parity held;
       };
+  zeros = stand.zeros;
 }
   where
     alone : (v w : Sector) (values : List Sector) → values ≡ w ∷ [] → IsIn values v → v ≡ w

@@ -1,5 +1,5 @@
 -- When members are placed, when their rows are settled, and what right views are worth.
-use Rattle.std.specs.Prelude.{◌≡◌, ℕ, ◌<◌, ◌≤◌, false, List, length, None}
+use Rattle.std.specs.Prelude.{◌≡◌, ℕ, ◌<◌, ◌≤◌, ◌++◌, List, length, None}
 use Rattle.md_base.specs.Sectors.{Sector}
 use Rattle.bank.specs.declared.bank.Operation.{Operation}
 use Rattle.bank.specs.Given.{Given}
@@ -9,11 +9,13 @@ use Rattle.superblocks.specs.Reading.{Scope, list_length}
 use Rattle.flat_history.specs.Stands.{backup_absent}
 use Rattle.row_io.specs.Rows.{reading_of, present}
 use Rattle.flat_history.specs.World.{World, may_hold}
-use Rattle.flat_history.specs.Sound.{OpensFit, LeavesSound}
+use Rattle.flat_history.specs.Growing.{grown}
+use Rattle.flat_history.specs.Sound.{OpensFit, LeavesSound, LeavesSoundThroughout}
 use Rattle.shape_views.specs.Regions.{ArePlaced}
 use Rattle.shape_views.specs.Views.{Disk, Ledger, IsSettled}
 use Rattle.shape_changes.specs.Held.{IsHeldBy}
-use Rattle.shape_changes.specs.Steady.{AreViewsRight}
+use Rattle.shape_changes.specs.Steady.{AreViewsRight, KeepsSafe}
+use Rattle.shape_changes.specs.Changing.{IsSafeChange}
 use Rattle.views.specs.Placed.{IsPlaced}
 use Rattle.views.specs.Lacking.{AreHoldersFlushed}
 use Rattle.views.specs.Under.{RowsStandUnder}
@@ -29,8 +31,21 @@ FlushedIsSettled = (scope : Scope) (given : Given) (members : Members) (tape : L
     → AreHoldersFlushed (reading_of members) given tape → RowsStandUnder scope members (present given tape) (disk given.start tape) list
     → ((x : ℕ) → x < list_length members.newest → IsIn (values x) (list x)) → IsSettled scope members values (disk given.start tape)
 
--- Where each view of what a stop may leave is right, no reshape is told, and the epoch opened fit, each image that assembles is sound.
+-- Where each view of what a stop may leave is right, and the epoch opened fit, each image that assembles is sound, in a reshape too.
 abbrev pub ViewsAreSound : Type 0
 ViewsAreSound = (world : World) (given : Given) (mark : ℕ) (told : Ledger) (d : Disk) → mark ≤ length world.tape
     → ((s k : ℕ) (v : Sector) → IsIn (may_hold world mark s k) v → IsIn (d s k) v)
-    → AreViewsRight (OpensFit world) world.scope given told d → told.reshaping ≡ false → OpensFit world → LeavesSound world mark
+    → AreViewsRight (OpensFit world) world.scope given told d → OpensFit world → LeavesSound world mark
+
+-- A call on an array that opened fit leaves sound images at each of its marks, if each mark before it did: where it keeps the array safe, and where it changes
+-- what is told, as one that begins or ends a reshape.
+abbrev pub LeavesSoundStill : World → List Operation → Type 0
+LeavesSoundStill world ops = (OpensFit world → LeavesSoundThroughout world) → OpensFit (grown world ops) → LeavesSoundThroughout (grown world ops)
+
+abbrev pub CallsLeaveSound : Type 0
+CallsLeaveSound = (world : World) (given : Given) (told : Ledger) (members : Members) (ops : List Operation) → given.start ≡ world.start → world.first ≤ length world.tape
+    → KeepsSafe world given told members world.tape (world.tape ++ ops) → LeavesSoundStill world ops
+
+abbrev pub ChangesLeaveSound : Type 0
+ChangesLeaveSound = (world : World) (given : Given) (told more : Ledger) (members : Members) (ops : List Operation) → given.start ≡ world.start → world.first ≤ length world.tape
+    → IsSafeChange (OpensFit world) world.scope given told more members world.tape (world.tape ++ ops) → LeavesSoundStill world ops

@@ -7,7 +7,7 @@ use Rattle.superblocks.specs.declared.members.Members.{Members}
 use Rattle.superblocks.specs.Reading.{Scope}
 use Rattle.superblocks.specs.Outcome.{live_set}
 use Rattle.shape_views.specs.Regions.{backup_of, open_by}
-use Rattle.shape_views.specs.Views.{Disk, AreSectionsAllowed}
+use Rattle.shape_views.specs.Views.{Disk, IsTailZero, AreSectionsAllowed}
 use Rattle.shape_views.specs.Windows.{ListStands, RowsStand}
 use Rattle.shape_changes.specs.Marking.{marking}
 
@@ -16,9 +16,10 @@ pub record StandsUnder (scope : Scope) (members : Members) (c : Contents) (d : D
   pub outside : (header : Sector) → IsIn (d (backup_of scope) 0) header → ListStands (open_by scope members.newest header) members c list
   pub sections : AreSectionsAllowed scope members (λ x. list x ∷ []) d
 
--- and the row of each sector that none covers stands so
-abbrev pub RowsStandUnder : Scope → Members → Contents → Disk → (ℕ → Sector) → Type 0
-RowsStandUnder scope members c d list = (header : Sector) → IsIn (d (backup_of scope) 0) header → RowsStand (open_by scope members.newest header) members c list
+-- The row of each sector that none covers stands so, and the list is zero in the tail.
+pub record RowsStandUnder (scope : Scope) (members : Members) (c : Contents) (d : Disk) (list : ℕ → Sector) : Type 0 where
+  pub rows : (header : Sector) → IsIn (d (backup_of scope) 0) header → RowsStand (open_by scope members.newest header) members c list
+  pub zeros : IsTailZero members.newest list
 
 -- the slot has no part in the array, or is lost
 abbrev pub IsIdle : Members → ℕ → Type 0

@@ -1,25 +1,19 @@
 -- What entering a window leaves: its sectors, its section, and an array that is safe.
-use Rattle.std.proofs.Common.{◌≡◌, inl, inr, ℕ, ◌+◌, ◌-◌, ◌*◌, ◌<◌, ◌≤◌, ◌⊎◌, min, Bool, true, false, List, [], length, take, drop, Some, Result, Ok, Err, OnOk, refl, sym, ◌∙◌, ap, subst, arith, append-nil}
+use Rattle.std.proofs.Common.{◌≡◌, inl, inr, ℕ, ◌+◌, ◌-◌, ◌*◌, ◌<◌, ◌≤◌, ◌⊎◌, Bool, true, false, List, [], length, take, drop, Some, Result, Ok, Err, OnOk, refl, sym, ◌∙◌, ap, subst, arith, append-nil}
 use Rattle.std.specs.Prelude.{◌^◌, ⊤}
-use Rattle.std.proofs.Math.Nat.{mul-le-mul_right}
 use Rattle.std.proofs.lemmas.List.{take_all}
 use Rattle.md_base.specs.declared.places.Shape.{Shape}
 use Rattle.md_base.specs.declared.places.Span.{Span}
 use Rattle.md_base.specs.Sectors.{Sector}
-use Rattle.md_base.specs.Shapes.{is_valid_shape, data_disks}
-use Rattle.layout.proofs.Limits.{limited}
+use Rattle.md_base.specs.Shapes.{is_valid_shape}
 use Rattle.bank.specs.declared.bank.Operation.{Operation}
 use Rattle.bank.specs.Given.{Given, NeverFalls}
 use Rattle.bank.specs.Tape.{Contents, IsIn, EachMark, disk}
 use Rattle.bank.proofs.Causes.{faulted_longer}
 use Rattle.bank.proofs.Marks.{each_mark-along}
 use Rattle.geometry.specs.Geometry.{window, is_critical}
-use Rattle.geometry.proofs.Divisions.{quotient}
-use Rattle.geometry.proofs.Valid.{the_unit}
 use Rattle.geometry.specs.Geometry as geometry
 use Rattle.parity.specs.Rows.{sector_of}
-use Rattle.region_laws.specs.Regions.{IsUnderWay}
-use Rattle.region_laws.proofs.RegionLaws.{forward-is, backward-is}
 use Rattle.sb1.specs.declared.sb.Sb.{Sb}
 use Rattle.superblocks.specs.declared.members.Members.{Members}
 use Rattle.superblocks.specs.Reading.{Scope, Reading, is_backward, shape_of, final_shape, list_length, next_window}
@@ -37,7 +31,6 @@ use Rattle.shape_views.specs.Windows.{HasNoSection, IsCopyable}
 use Rattle.shape_views.specs.Backups.{IsSectionOf, IsOpenUnderAll, IsOpenOrNot, HasSectors}
 use Rattle.shape_views.proofs.BackupLaws.{naming-unsure, named-is-open}
 use Rattle.shape_views.proofs.Stands.{window-inside}
-use Rattle.shape_views.proofs.UnderWay.{is-reshaping, window-is, under-way}
 use Rattle.shape_changes.specs.Safety.{HasLiveSlot}
 use Rattle.shape_changes.specs.Steady.{IsSteady, IsSafeNow, IsSafeStretch, AreHolders, AreUnlost}
 use Rattle.shape_changes.proofs.Drawn.{disk-somewhere}
@@ -46,41 +39,12 @@ use Rattle.shape_changes.proofs.Steady.{steady-seen, safe-is-seen, losing-stays-
 use Rattle.views.proofs.LiveLeft.{some-held}
 use Rattle.views.proofs.MemberLaws.{unlost-without}
 use Rattle.window_rows.specs.Copies.{HasWindow, IsRoomFor}
-use Rattle.window_rows.proofs.ReadLaws.{the-window}
 use Rattle.window_steps.specs.declared.entering.NotEntered.{NotEntered}
 use Rattle.window_steps.specs.declared.entering.NotEntered.TheVariants.{Unread, Unsaved}
 use Rattle.window_steps.specs.Entering.{IsPassedOn, IsRead, IsEntered, IsBackupFor}
 use Rattle.window_steps.proofs.SteadyLaws.{sections-steady, told-alike}
 
 -- ---- the window
-
-ahead-filled : (old new : Shape) (size position : ℕ) (span : Span) → IsUnderWay old new size false position → window old new size false position ≡ Some span → span.lo < span.hi
-ahead-filled old new size position span way is =
-    let at = forward-is old new size position span is in
-    let below = at.0 in
-    let lo = at.1 in
-    let hi = at.2 in
-    let some = (the_unit old new way.force.old_valid way.force.new_valid).positive in
-    omega (arith, lo, hi, below, some)
-
-behind-filled : (old new : Shape) (size position : ℕ) (span : Span) → IsUnderWay old new size true position → window old new size true position ≡ Some span → span.lo < span.hi
-behind-filled old new size position span way is =
-    let at = backward-is old new size position span is in
-    let some_left = at.0 in
-    let lo = at.1 in
-    let hi = at.2 in
-    let some = (the_unit old new way.force.old_valid way.force.new_valid).positive in
-    let below = (quotient (position - 1) (geometry.unit old new) some).0 in
-    omega (arith, some_left, lo, hi, below)
-
--- the next window isn't empty
-pub window-filled : (newest : Sb) → AreShapesFit newest → (span : Span) → next_window newest ≡ Some span → span.lo < span.hi
-window-filled newest fit span next = of (is_backward newest) (under-way newest fit (is-reshaping newest span next)) (window-is newest span next)
-  where
-    of : (back : Bool) → IsUnderWay (shape_of newest) (final_shape newest) newest.size back newest.reshape_position → window (shape_of newest) (final_shape newest) newest.size back newest.reshape_position ≡ Some span
-        → span.lo < span.hi
-    of false way is = ahead-filled (shape_of newest) (final_shape newest) newest.size newest.reshape_position span way is
-    of true way is = behind-filled (shape_of newest) (final_shape newest) newest.size newest.reshape_position span way is
 
 nth-is : (bytes : List ℕ) (i : ℕ) → nth_sector bytes i ≡ sector_of bytes i
 nth-is bytes i = let size : 512 * i + 512 - 512 * i ≡ 512 = omega arith in ap (λ (n : ℕ). take n (drop (512 * i) bytes)) (sym size)
@@ -95,14 +59,6 @@ read-section newest m same fit span bytes list values next room has allowed = re
       let inside = window-inside newest fit span next in
       subst (λ (v : Sector). IsIn (values x) v) (sym (nth-is bytes (x - span.lo) ∙ has x (low, high))) (allowed x (omega (arith, high, inside)));
 }
-
--- it ends below the greatest number of 64 bits
-pub window-short : (m : Members) → AreShapesFit m.newest → (span : Span) → next_window m.newest ≡ Some span → m.newest.size ≤ 2 ^ 48 → span.hi < 2 ^ 64
-window-short m fit span next short =
-    let inside = (the-window m m fit span next).inside in
-    let most = (limited (shape_of m.newest) fit.valid.old).most in
-    let few : min (data_disks (shape_of m.newest)) (data_disks (final_shape m.newest)) * m.newest.size ≤ 16 * m.newest.size = mul-le-mul_right m.newest.size (omega (arith, most)) in
-    omega (arith, inside, few, short)
 
 -- ---- the section
 
@@ -206,11 +162,11 @@ module _ (sound : Type 0) (scope : Scope) (given : Given) (told : Ledger) (old n
   })
 
   -- where a section was stored
-  module _ (slot : ℕ) (span : Span) (bytes : List ℕ) (there : scope.backup ≡ Some slot) (none : HasNoSection scope new (disk given.start before)) (section : IsSectionOf new told.values span bytes)
+  module _ (slot : ℕ) (span : Span) (bytes : List ℕ) (there : scope.backup ≡ Some slot) (sixteen : length scope.uuid ≡ 16) (none : HasNoSection scope new (disk given.start before)) (section : IsSectionOf new told.values span bytes)
       (marks : EachMark ⊤ given.start before after (IsStoringOrNaming slot (header_of scope.uuid span) bytes (disk given.start before))) where
     steady-at : IsSteady sound scope given told new (disk given.start before) → (m : ℕ) → length before ≤ m → m ≤ length after → IsSteady sound scope given told new (disk given.start (take m after))
     steady-at steady m low high =
-        sections-steady sound scope given told new slot span bytes (disk given.start before) (disk given.start (take m after)) there (disk-somewhere given before) none section
+        sections-steady sound scope given told new slot span bytes (disk given.start before) (disk given.start (take m after)) there sixteen (disk-somewhere given before) none section
         (marks.each tt m low high) steady
 
     pub saved-safe : HasLiveSlot new → IsSafeNow sound scope given told old (disk given.start before) → IsSafeStretch sound scope given told new before after

@@ -27,18 +27,18 @@ use Rattle.list_io.specs.Full.{RowStands}
 use Rattle.flat_history.specs.ActiveSection.{section_for}
 use Rattle.flat_history.specs.Stands.{reach_of}
 use Rattle.shape_views.specs.Regions.{backup_of, open_by, ArePlaced}
-use Rattle.shape_views.specs.Views.{Disk, Ledger, IsViewRight}
+use Rattle.shape_views.specs.Views.{Disk, Ledger, IsHeaderFit, AreHeadersFit, IsViewRight}
 use Rattle.shape_views.specs.Windows.{HasNoSection, moved_past}
 use Rattle.shape_views.proofs.Alike.{shape-alike, final-alike}
+use Rattle.shape_views.proofs.Headers.{backup-is}
+use Rattle.shape_views.proofs.Tails.{moved-tails}
 use Rattle.shape_views.proofs.Stands.{moved-is-placed, moved-stands, moved-rows-stand, flushed-right}
 use Rattle.shape_changes.specs.Kinds.{recording}
 use Rattle.shape_changes.specs.Marking.{AreOthersPresent}
 use Rattle.shape_changes.specs.Steady.{IsSteady, AreGoneTold}
 use Rattle.shape_changes.proofs.Kept.{give_of-same}
 use Rattle.shape_changes.proofs.KeptSafe.{steady-right}
-use Rattle.shape_ends.specs.Fits.{IsHeaderFit}
 use Rattle.shape_ends.proofs.CopyRuns.{fit-headers-plain}
-use Rattle.shape_ends.proofs.FitLaws.{backup-is}
 use Rattle.views.specs.Placed.{IsPlaced, HaveSameReshape, AreLess}
 use Rattle.views.specs.Moving.{IsMoved}
 use Rattle.views.specs.Rebuilding.{AreSparesFree}
@@ -46,10 +46,10 @@ use Rattle.views.specs.Lacking.{HaveFailedSince, AreHoldersFlushed}
 use Rattle.views.proofs.HeldRows.{rows-same, without-before}
 use Rattle.views.proofs.LackingLists.{row-moved}
 use Rattle.views.proofs.MarkLaws.{roles-kept}
-use Rattle.views.proofs.SafeStretch.{gone-before, allowed-later}
+use Rattle.views.proofs.SafeStretch.{gone-before, allowed-later, zeros-alike}
 use Rattle.safe_updates.proofs.Under.{shown-moved, shown-rows-moved}
 use Rattle.window_steps.proofs.CopyLaws.{window-alike, open-alike}
-use Rattle.window_steps.specs.Recording.{AreOthersFewer, AreHeadersFit, IsCopiedWindow}
+use Rattle.window_steps.specs.Recording.{AreOthersFewer, IsCopiedWindow}
 
 -- ---- where they are placed
 
@@ -241,4 +241,7 @@ module _ (sound : Type 0) (scope : Scope) (given : Given) (told : Ledger) (m new
         missing = right.gone;
         unclean = right.unclean;
         reshaping = right.reshaping;
+        headers = λ active premise. past-headers scope given new span right.placed ahead (disk given.start after) headers;
+        zeros = λ premise. zeros-alike (moved_past span m).newest (moved_past span new).newest (past-moved given m new span moved next).reshape moved.shape moved.size list (copied.zeros premise);
+        tails = λ premise. moved-tails scope given new span now list right.placed ahead (λ row at. (window-now row at).sectors);
       })

@@ -90,11 +90,11 @@ record IsToStore (scope : Scope) (told : Ledger) (span : Span) (bytes : List ℕ
   section : IsSectionOf members told.values span bytes
 
 pub sections-steady : (sound : Type 0) → SectionsStaySteady sound
-sections-steady sound scope given told members slot span bytes d e there some none section storing steady =
+sections-steady sound scope given told members slot span bytes d e there sixteen some none section storing steady =
     steady-kept sound scope given told d e some (IsToStore scope told span bytes d)
     (λ former gone to right. (
       beside-no-newer scope slot there d e (stored-beside scope slot there d e (header_of scope.uuid span) bytes storing),
-      sections-right sound scope given told former slot span bytes d e there some (λ header may. to.none header may)
+      sections-right sound scope given told former slot span bytes d e there sixteen some (λ header may. to.none header may)
           (record { next = to.section.next; size = to.section.size; allowed = to.section.allowed }) storing right,
     )) members (record { none = none; section = section }) steady
 

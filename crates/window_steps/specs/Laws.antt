@@ -26,7 +26,7 @@ use Rattle.window_rows.specs.Copies.{IsStripeOf, IsPastStripe}
 
 -- While no section is active, the next window's may be stored and named: at each mark of the call the array is as steady as before.
 abbrev pub SectionsStaySteady : (sound : Type 0) → Type 0
-SectionsStaySteady sound = (scope : Scope) (given : Given) (told : Ledger) (members : Members) (slot : ℕ) (span : Span) (bytes : List ℕ) (d e : Disk) → scope.backup ≡ Some slot
+SectionsStaySteady sound = (scope : Scope) (given : Given) (told : Ledger) (members : Members) (slot : ℕ) (span : Span) (bytes : List ℕ) (d e : Disk) → scope.backup ≡ Some slot → length scope.uuid ≡ 16
     → IsSomewhere d → HasNoSection scope members d → IsSectionOf members told.values span bytes → IsStoringOrNaming slot (header_of scope.uuid span) bytes d e
     → IsSteady sound scope given told members d → IsSteady sound scope given told members e
 

@@ -12,11 +12,10 @@ use Rattle.superblocks.specs.Reading.{Scope, is_clean, final_shape}
 use Rattle.row_io.specs.Rows.{reading_of}
 use Rattle.list_io.specs.Full.{RowStands}
 use Rattle.shape_views.specs.Regions.{DoWithout}
-use Rattle.shape_views.specs.Views.{Disk, Ledger}
+use Rattle.shape_views.specs.Views.{Disk, Ledger, AreHeadersFit, IsTailZero}
 use Rattle.shape_views.specs.Windows.{ListStands, RowsStand, moved_past}
 use Rattle.shape_changes.specs.Safety.{HasLiveSlot}
 use Rattle.shape_changes.specs.Steady.{AreWritesAllowed}
-use Rattle.shape_ends.specs.Fits.{IsHeaderFit}
 use Rattle.views.specs.Lacking.{AreHoldersFlushed}
 use Rattle.views.specs.Moving.{Grows, IsMoved}
 use Rattle.safe_updates.specs.Named.{AreNamedMissing}
@@ -25,18 +24,15 @@ use Rattle.safe_updates.specs.Named.{AreNamedMissing}
 abbrev pub AreOthersFewer : Disk → Disk → Type 0
 AreOthersFewer d e = (s k : ℕ) (v : Sector) → k ≢ 8 → IsIn (e s k) v → IsIn (d s k) v
 
--- each section that a header names, of those that a stop leaves in the backup, is that of the next window, or lies in the new region
-abbrev pub AreHeadersFit : Scope → Members → Disk → Type 0
-AreHeadersFit scope m d = (backup : ℕ) (header : Sector) → scope.backup ≡ Some backup → IsIn (d backup 0) header → IsHeaderFit scope m.newest header
-
 -- The window is copied: its rows stand by the new shape, with their parity, and the list outside it, of allowed values; where the array is clean the
--- rows of these sectors stand too. And the headers fit.
+-- rows of these sectors stand too. And the headers fit, and behind the last window the list is zero in the tail.
 pub record IsCopiedWindow (sound : Type 0) (scope : Scope) (told : Ledger) (m : Members) (span : Span) (list : ℕ → Sector) (c : Contents) (d : Disk) : Type 0 where
   pub allowed : AreWritesAllowed m told.values list
   pub window : (row : ℕ) → geometry.IsIn row (rows (final_shape m.newest) span.lo span.hi) → RowStands (reading_of m) c (final_shape m.newest) list row
   pub stands : ListStands (Some span) m c list
   pub rows_are : is_clean m.newest ≡ true → DoWithout m → sound → RowsStand (Some span) m c list
   pub headers : AreHeadersFit scope m d
+  pub zeros : sound → IsTailZero (moved_past span m).newest list
 
 -- The slots that hold roles were flushed, and what was lost by then was named, while the superblocks said the former position. The array did without
 -- that, and then the position behind the window was recorded.

@@ -9,7 +9,7 @@ ghost use Rattle.row_io.specs.Rows.{present, reading_of};
 ghost use Rattle.flat_history.specs.World.{World};
 ghost use Rattle.flat_history.specs.Sound.{OpensFit};
 ghost use Rattle.shape_views.specs.Regions.{ArePlaced};
-ghost use Rattle.shape_views.specs.Views.{Ledger, IsViewRight};
+ghost use Rattle.shape_views.specs.Views.{Ledger, AreHeadersFit, IsViewRight};
 ghost use Rattle.shape_views.specs.Windows.{HasNoSection, moved_past};
 ghost use Rattle.shape_changes.specs.Marking.{AreOthersPresent};
 ghost use Rattle.shape_changes.specs.Safety.{HasLiveSlot, HasRoomLeft, IsRisen};
@@ -19,7 +19,7 @@ ghost use Rattle.views.specs.Placed.{IsPlaced};
 ghost use Rattle.views.specs.Moving.{Grows, IsMoved};
 ghost use Rattle.views.specs.Rebuilding.{AreSparesFree};
 ghost use Rattle.views.specs.Lacking.{HaveFailedSince, AreHoldersFlushed, AreTooMany};
-ghost use Rattle.window_steps.specs.Recording.{AreOthersFewer, AreHeadersFit, IsCopiedWindow, IsRecorded};
+ghost use Rattle.window_steps.specs.Recording.{AreOthersFewer, IsCopiedWindow, IsRecorded};
 
 use crate::copying::Stepped;
 use bank::Bank;

@@ -4,7 +4,6 @@ use Rattle.md_base.specs.Shapes.{has_slot}
 use Rattle.md_base.specs.declared.status.Role.{Role}
 use Rattle.md_base.specs.declared.status.Role.TheVariants.{Missing}
 use Rattle.bank.specs.Given.{Given}
-use Rattle.bank.specs.Tape.{disk}
 use Rattle.superblocks.specs.declared.change.Change.{Change}
 use Rattle.superblocks.specs.declared.members.Members.{Members}
 use Rattle.superblocks.specs.Reading.{role_count, shape_of}
@@ -26,7 +25,6 @@ use Rattle.shape_changes.proofs.ChangeViews.{new-less, later-says, later-fits}
 use Rattle.shape_changes.proofs.FitKinds.{taking-live}
 use Rattle.shape_changes.proofs.PlannedRoles.{count-planned}
 use Rattle.shape_changes.proofs.PlansLose.{plans-lose}
-use Rattle.shape_ends.proofs.EndLaws.{cleared-plain}
 use Rattle.shape_ends.proofs.LessPlaced.{less-placed}
 use Rattle.shape_ends.proofs.PlanPlaced.{planned-placed}
 use Rattle.reshape_updates.specs.Beginning.{beginning}
@@ -151,5 +149,4 @@ pub returns-clause-safe : goal.returns-clause-safe
 returns-clause-safe g c = λ tell world told more room placed cleared tells gone gone' carried safe.
     begin-safe (OpensFit world) world.scope (g.B.Bank.given c.args.bank.now) told more (ch g c) c.args.members.now c.update.new.members (g.B.Bank.tape c.args.bank.now) (g.B.Bank.tape c.update.new.bank)
     (told-changed tell (done g c)) (is-beginning c.args.members.now c.args.to.now c.requires.still c.requires.roles c.requires.in_force c.requires.level) room placed
-    (cleared-plain world.scope (planned_view c.args.members.now (ch g c) c.args.members.now.lost) (disk (g.B.Bank.given c.args.bank.now).start (g.B.Bank.tape c.args.bank.now)) cleared).0
-    tells gone gone' carried safe
+    cleared tells gone gone' carried safe

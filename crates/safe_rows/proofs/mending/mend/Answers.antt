@@ -12,7 +12,7 @@ use Rattle.views.proofs.MovedLaws.{moved-then, moved-same, grows-none, grows-the
 use Rattle.views.proofs.LackingLaws.{since-same, since-then, in-either}
 use Rattle.views.proofs.LackingLists.{none-of}
 use Rattle.shape_changes.proofs.Risen.{risen-none, risen-then}
-use Rattle.views.proofs.SafeStretch.{safe-none, allowed-later, region-later}
+use Rattle.views.proofs.SafeStretch.{safe-none, allowed-later, zeros-later, region-later}
 use Rattle.views.proofs.Fit.{alike-force}
 use Rattle.views.proofs.PutLists.{touched-or-not}
 use Rattle.views.proofs.LackingWrites.{others-then}
@@ -39,7 +39,7 @@ loop-done-init g c =
       within = omega arith;
       put = λ told. put-none given c.args.shape.now _ _ m tape0 (λ row at. absurd (let low = at.0 in let high = at.1 in omega (arith, low, high)));
       rise = risen-none m tape0 tape0 (λ told. omega arith);
-      safe = λ told world ledger room gone unclean list stands region allowed safe. safe-none (OpensFit world) world.scope given ledger m tape0 safe;
+      safe = λ told world ledger room gone unclean list stands region allowed zeros safe. safe-none (OpensFit world) world.scope given ledger m tape0 safe;
       given = refl;
       counts = λ s. omega arith;
       rows = omega arith;
@@ -158,7 +158,7 @@ pub returns-then-is_some-clause-rise : goal.returns-then-is_some-clause-rise
 returns-then-is_some-clause-rise g c = risen-then c.loop-done.invariant.rise c.put-part.ensures.rise
 
 pub returns-then-is_some-clause-safe : goal.returns-then-is_some-clause-safe
-returns-then-is_some-clause-safe g c = λ told world ledger room gone unclean list stands region allowed safe.
+returns-then-is_some-clause-safe g c = λ told world ledger room gone unclean list stands region allowed zeros safe.
     let was = c.loop-done.invariant in
     let did = c.put-part.ensures in
     let m = c.args.members.now in
@@ -176,11 +176,11 @@ returns-then-is_some-clause-safe g c = λ told world ledger room gone unclean li
     let inside : (row : ℕ) → touched row → stripe row = λ row at. parts-of_stripe c.args.shape.now c.args.stripe (c.loop-done.done + c.min-count.result) row part
     (touched-in_parts c.args.shape.now valid c.args.stripe c.list_length.result c.list_length.ensures c.loop-done.done c.min-count.result part row at) in
     safe-part world given given1 ledger m n new tape0 tape1 tape2 told was.given was.moved.placed (moved-from given given1 n n new was.given refl did.moved) did.grows was.rise room gone
-    (λ first gone1. was.safe told world ledger first gone1 unclean list stands region allowed safe)
+    (λ first gone1. was.safe told world ledger first gone1 unclean list stands region allowed zeros safe)
     (λ then now. did.safe told world ledger then gone unclean list list (nothing-written list _)
     (subst (λ (b : Given). DataStandsAmong c.args.shape.now touched n (present b tape1) list) (sym was.given) (λ row at. (was.put told).stands list stands row (inside row at))) (λ is. absurd (cc))
     (region-later given m n c.args.shape.now touched was.moved (λ x lt at. region x lt (inside (place_by m.newest x).row at)))
-    (λ begun. allowed-later given m n was.moved ledger.values list allowed) now)
+    (λ begun. allowed-later given m n was.moved ledger.values list allowed) (λ fit. zeros-later given m n was.moved list (zeros fit)) now)
 
 pub loop-done-preserved : goal.loop-done-preserved
 loop-done-preserved g c =
@@ -222,13 +222,13 @@ loop-done-preserved g c =
             others = did.others told;
           })));
       rise = risen-then was.rise did.rise;
-      safe = λ told world ledger room gone unclean list stands region allowed safe.
+      safe = λ told world ledger room gone unclean list stands region allowed zeros safe.
           safe-part world given given1 ledger m n new tape0 tape1 tape2 told was.given was.moved.placed moved did.grows was.rise room gone
-          (λ first gone1. was.safe told world ledger first gone1 unclean list stands region allowed safe)
+          (λ first gone1. was.safe told world ledger first gone1 unclean list stands region allowed zeros safe)
           (λ then now. did.safe told world ledger then gone unclean list list (nothing-written list _)
           (subst (λ (b : Given). DataStandsAmong c.args.shape.now touched n (present b tape1) list) (sym was.given) (λ row at. (was.put told).stands list stands row (inside row at))) (λ is. absurd (cc))
           (region-later given m n c.args.shape.now touched was.moved (λ x lt at. region x lt (inside (place_by m.newest x).row at)))
-          (λ begun. allowed-later given m n was.moved ledger.values list allowed) now);
+          (λ begun. allowed-later given m n was.moved ledger.values list allowed) (λ fit. zeros-later given m n was.moved list (zeros fit)) now);
       given = did.given ∙ was.given;
       counts = λ s. let one = was.counts s in let two = did.counts s in omega (arith, one, two);
       rows = let one = was.rows in let two = did.rows in omega (arith, one, two);

@@ -7,7 +7,8 @@ use Rattle.views.specs.Moving.{Grows, IsMoved}
 use Rattle.shape_changes.specs.Safety.{HasRoomLeft, IsRisen}
 use Rattle.views.specs.Lacking.{HaveFailedSince, DataStandsAmong, IsOfStripe}
 use Rattle.flat_history.specs.World.{World}
-use Rattle.shape_views.specs.Views.{Ledger}
+use Rattle.flat_history.specs.Sound.{OpensFit}
+use Rattle.shape_views.specs.Views.{Ledger, IsTailZero}
 use Rattle.shape_views.specs.Windows.{IsOfRegion}
 use Rattle.shape_changes.specs.Steady.{IsSafeOver, KeepsSafe, AreGoneTold, AreWritesAllowed}
 use Rattle.views.proofs.MendedParts.{IsInParts, ArePut}
@@ -28,7 +29,8 @@ invariant-loop-done g l = record {
   rise : IsRisen g.B.Bank.tells l.fn.members l.members (g.B.Bank.tape l.fn.bank) (g.B.Bank.tape l.bank);
   safe : g.B.Bank.tells → (world : World) → (told : Ledger) → HasRoomLeft l.fn.members (g.B.Bank.tape l.fn.bank) (g.B.Bank.tape l.bank)
       → AreGoneTold told l.members → told.unclean ≡ true → (list : ℕ → Sector) → DataStandsAmong l.shape (IsOfStripe l.shape l.stripe) l.fn.members (present (g.B.Bank.given l.fn.bank) (g.B.Bank.tape l.fn.bank)) list
-      → IsOfRegion l.fn.members l.shape (IsOfStripe l.shape l.stripe) → AreWritesAllowed l.fn.members told.values list → IsSafeOver world (g.B.Bank.given l.fn.bank) told l.fn.members (g.B.Bank.tape l.fn.bank)
+      → IsOfRegion l.fn.members l.shape (IsOfStripe l.shape l.stripe) → AreWritesAllowed l.fn.members told.values list → (OpensFit world → IsTailZero l.fn.members.newest list)
+      → IsSafeOver world (g.B.Bank.given l.fn.bank) told l.fn.members (g.B.Bank.tape l.fn.bank)
       → KeepsSafe world (g.B.Bank.given l.fn.bank) told l.members (g.B.Bank.tape l.fn.bank) (g.B.Bank.tape l.bank);
   given : g.B.Bank.given l.bank ≡ g.B.Bank.given l.fn.bank;
   counts : NeverFalls (g.B.Bank.faults_of l.fn.bank) (g.B.Bank.faults_of l.bank);

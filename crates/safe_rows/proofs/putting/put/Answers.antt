@@ -16,7 +16,7 @@ use Rattle.views.proofs.Elements.{contains-at}
 use Rattle.views.proofs.LackingLists.{data-touched, row-written, rebuilt-written, data-read, sectors-whole, none-of}
 use Rattle.flat_history.specs.Sound.{OpensFit}
 use Rattle.shape_changes.proofs.Risen.{risen-then, room-first, room-then}
-use Rattle.views.proofs.SafeStretch.{gone-before, safe-then, allowed-later, region-later, grows-longer, over-at, keeps-from}
+use Rattle.views.proofs.SafeStretch.{gone-before, safe-then, allowed-later, zeros-later, region-later, grows-longer, over-at, keeps-from}
 use Rattle.safe_updates.proofs.RefusingLaws.{many-told}
 use Rattle.safe_rows.proofs.putting.put.Goals as goal
 
@@ -170,13 +170,13 @@ returns-clause-others g c = λ told.
     (subst (λ (r : ℕ). Contains rows r) e (contains-at rows i (omega (arith, lt, within))))))))
 
 pub returns-then-is_some-clause-safe : goal.returns-then-is_some-clause-safe
-returns-then-is_some-clause-safe g c = λ told world ledger room gone unclean list list' w stands full region allowed safe. c.prepare-begun.ensures.safe told world ledger room gone unclean safe
+returns-then-is_some-clause-safe g c = λ told world ledger room gone unclean list list' w stands full region allowed zeros safe. c.prepare-begun.ensures.safe told world ledger room gone unclean safe
 
 pub returns-clause-rise : goal.returns-clause-rise
 returns-clause-rise g c = risen-then c.prepare-begun.ensures.rise c.put_rows-done.ensures.rise
 
 pub returns-clause-safe : goal.returns-clause-safe
-returns-clause-safe g c = λ told world ledger room gone unclean list list' w stands full region allowed safe.
+returns-clause-safe g c = λ told world ledger room gone unclean list list' w stands full region allowed zeros safe.
     let given = g.B.Bank.given c.args.bank.now in
     let given2 = g.B.Bank.given c.prepare-begun.new.bank in
     let m = c.args.members.now in
@@ -203,7 +203,7 @@ returns-clause-safe g c = λ told world ledger room gone unclean list list' w st
     safe-then (OpensFit world) world.scope given ledger m2 m3 tape0 tape2 tape3 one
     (keeps-from world given given2 ledger m3 tape2 tape3 did1.given
     (did2.safe told world ledger (room-then tape3 told room did1.rise) gone unclean (did1.dirty none) here list list' w (λ t. has)
-    (allowed-later given m m2 did1.moved ledger.values list' (allowed refl)) (over-at world given given2 ledger m2 tape2 did1.given one.next)))
+    (allowed-later given m m2 did1.moved ledger.values list' (allowed refl)) (λ fit. zeros-later given m m2 did1.moved list' (zeros fit)) (over-at world given given2 ledger m2 tape2 did1.given one.next)))
 
 pub returns-clause-first : goal.returns-clause-first
 returns-clause-first g c = many-told _ c.args.shape.now c.args.synced c.put_rows-done.new.members c.put_rows-done.result.refusal c.put_rows-done.ensures.refused

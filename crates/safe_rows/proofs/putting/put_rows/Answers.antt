@@ -12,7 +12,7 @@ use Rattle.views.proofs.Fit.{force-valid, alike-force}
 use Rattle.flat_history.specs.Sound.{OpensFit}
 use Rattle.views.proofs.LackingWrites.{data-later}
 use Rattle.shape_changes.proofs.Risen.{risen-none, risen-then, room-first, room-then}
-use Rattle.views.proofs.SafeStretch.{gone-before, safe-none, safe-then, allowed-later, region-later, grows-longer, over-at, keeps-from}
+use Rattle.views.proofs.SafeStretch.{gone-before, safe-none, safe-then, allowed-later, zeros-later, region-later, grows-longer, over-at, keeps-from}
 use Rattle.safe_rows.proofs.putting.put_rows.Goals as goal
 
 pub loop-next-init : goal.loop-next-init
@@ -35,7 +35,7 @@ loop-next-init g c =
       clean = refl;
       kept = λ whole. refl;
       rise = risen-none m tape0 tape0 (λ told. omega arith);
-      safe = λ told world ledger room gone unclean dirty region list list' w has allowed safe. safe-none (OpensFit world) world.scope given ledger m tape0 safe;
+      safe = λ told world ledger room gone unclean dirty region list list' w has allowed zeros safe. safe-none (OpensFit world) world.scope given ledger m tape0 safe;
       given = refl;
       counts = λ s. omega arith;
       size = refl;
@@ -105,7 +105,7 @@ loop-next-preserved g c =
       clean = did.clean ∙ was.clean;
       kept = λ whole. did.kept whole ∙ was.kept (moved.whole whole);
       rise = risen-then was.rise did.rise;
-      safe = λ told world ledger room gone unclean dirty region list list' w has allowed safe.
+      safe = λ told world ledger room gone unclean dirty region list list' w has allowed zeros safe.
           let was = c.loop-next.invariant in
           let did = c.put_stretch-one.ensures in
           let m = c.args.members.now in
@@ -117,13 +117,13 @@ loop-next-preserved g c =
           let tape2 = g.B.Bank.tape c.put_stretch-one.new.bank in
           let new = c.put_stretch-one.new.members in
           let moved : IsMoved given n new = moved-from given given1 n n new was.given refl did.moved in
-          let one = was.safe told world ledger (room-first m tape0 tape1 tape2 room (grows-longer did.grows told)) (gone-before given n new was.moved.placed moved ledger gone) unclean dirty region list list' w has allowed safe in
+          let one = was.safe told world ledger (room-first m tape0 tape1 tape2 room (grows-longer did.grows told)) (gone-before given n new was.moved.placed moved ledger gone) unclean dirty region list list' w has allowed zeros safe in
           safe-then (OpensFit world) world.scope given ledger n new tape0 tape1 tape2 one
           (keeps-from world given given1 ledger new tape1 tape2 was.given
           (did.safe told world ledger (room-then tape2 told room was.rise) gone unclean (was.clean ∙ dirty) (region-later given m n c.args.shape.now (Contains c.args.rows.now) was.moved region) list list' w
           (λ told. data-later c.args.shape.now (force-valid m.newest c.requires.placed.fit c.args.shape.now c.requires.shape) c.args.first c.args.from.now c.args.rows.now 0 c.loop-next.next (omega arith)
           n (present given tape0) (present given tape1) c.args.buffer.now.items c.loop-next.buffer.items list (was.written told) (has told))
-          (allowed-later given m n was.moved ledger.values list' allowed) (over-at world given given1 ledger n tape1 was.given one.next)));
+          (allowed-later given m n was.moved ledger.values list' allowed) (λ fit. zeros-later given m n was.moved list' (zeros fit)) (over-at world given given1 ledger n tape1 was.given one.next)));
       given = did.given ∙ was.given;
       counts = λ s. let one = was.counts s in let two = did.counts s in omega (arith, one, two);
       size = did.size ∙ was.size;
@@ -133,7 +133,7 @@ pub returns-then-is_some-clause-rise : goal.returns-then-is_some-clause-rise
 returns-then-is_some-clause-rise g c = risen-then c.loop-next.invariant.rise c.put_stretch-one.ensures.rise
 
 pub returns-then-is_some-clause-safe : goal.returns-then-is_some-clause-safe
-returns-then-is_some-clause-safe g c = λ told world ledger room gone unclean dirty region list list' w has allowed safe.
+returns-then-is_some-clause-safe g c = λ told world ledger room gone unclean dirty region list list' w has allowed zeros safe.
     let was = c.loop-next.invariant in
     let did = c.put_stretch-one.ensures in
     let m = c.args.members.now in
@@ -145,10 +145,10 @@ returns-then-is_some-clause-safe g c = λ told world ledger room gone unclean di
     let tape2 = g.B.Bank.tape c.put_stretch-one.new.bank in
     let new = c.put_stretch-one.new.members in
     let moved : IsMoved given n new = moved-from given given1 n n new was.given refl did.moved in
-    let one = was.safe told world ledger (room-first m tape0 tape1 tape2 room (grows-longer did.grows told)) (gone-before given n new was.moved.placed moved ledger gone) unclean dirty region list list' w has allowed safe in
+    let one = was.safe told world ledger (room-first m tape0 tape1 tape2 room (grows-longer did.grows told)) (gone-before given n new was.moved.placed moved ledger gone) unclean dirty region list list' w has allowed zeros safe in
     safe-then (OpensFit world) world.scope given ledger n new tape0 tape1 tape2 one
     (keeps-from world given given1 ledger new tape1 tape2 was.given
     (did.safe told world ledger (room-then tape2 told room was.rise) gone unclean (was.clean ∙ dirty) (region-later given m n c.args.shape.now (Contains c.args.rows.now) was.moved region) list list' w
     (λ told. data-later c.args.shape.now (force-valid m.newest c.requires.placed.fit c.args.shape.now c.requires.shape) c.args.first c.args.from.now c.args.rows.now 0 c.loop-next.next (omega arith)
     n (present given tape0) (present given tape1) c.args.buffer.now.items c.loop-next.buffer.items list (was.written told) (has told))
-    (allowed-later given m n was.moved ledger.values list' allowed) (over-at world given given1 ledger n tape1 was.given one.next)))
+    (allowed-later given m n was.moved ledger.values list' allowed) (λ fit. zeros-later given m n was.moved list' (zeros fit)) (over-at world given given1 ledger n tape1 was.given one.next)))

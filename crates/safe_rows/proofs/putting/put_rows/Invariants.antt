@@ -8,8 +8,9 @@ use Rattle.views.specs.Placed.{AreWhole}
 use Rattle.views.specs.Moving.{Grows, IsMoved}
 use Rattle.views.specs.Lacking.{HaveFailedSince, AreRowsWritten}
 use Rattle.flat_history.specs.World.{World}
+use Rattle.flat_history.specs.Sound.{OpensFit}
 use Rattle.shape_changes.specs.Safety.{HasRoomLeft, IsRisen}
-use Rattle.shape_views.specs.Views.{Ledger}
+use Rattle.shape_views.specs.Views.{Ledger, IsTailZero}
 use Rattle.shape_views.specs.Windows.{IsOfRegion}
 use Rattle.shape_changes.specs.Steady.{IsSafeOver, KeepsSafe, AreGoneTold, AreWritesAllowed}
 use Rattle.safe_rows.proofs.putting.put_rows.Given as goal
@@ -31,7 +32,7 @@ invariant-loop-next g l = record {
   safe : g.B.Bank.tells → (world : World) → (told : Ledger) → HasRoomLeft l.fn.members (g.B.Bank.tape l.fn.bank) (g.B.Bank.tape l.bank)
       → AreGoneTold told l.members → told.unclean ≡ true → is_clean l.fn.members.newest ≡ false → IsOfRegion l.fn.members l.shape (Contains l.rows) → (list list' : ℕ → Sector) → IsWritten list list' l.first l.from
       → (g.B.Bank.tells → AreDataFrom 0 l.shape list l.rows l.fn.buffer.items) → AreWritesAllowed l.fn.members told.values list'
-      → IsSafeOver world (g.B.Bank.given l.fn.bank) told l.fn.members (g.B.Bank.tape l.fn.bank)
+      → (OpensFit world → IsTailZero l.fn.members.newest list') → IsSafeOver world (g.B.Bank.given l.fn.bank) told l.fn.members (g.B.Bank.tape l.fn.bank)
       → KeepsSafe world (g.B.Bank.given l.fn.bank) told l.members (g.B.Bank.tape l.fn.bank) (g.B.Bank.tape l.bank);
   given : g.B.Bank.given l.bank ≡ g.B.Bank.given l.fn.bank;
   counts : NeverFalls (g.B.Bank.faults_of l.fn.bank) (g.B.Bank.faults_of l.bank);

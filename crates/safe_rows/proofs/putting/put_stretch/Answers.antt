@@ -46,13 +46,13 @@ returns-clause-written g c = λ told.
     (did.written told)
 
 pub returns-then-is_some-clause-safe : goal.returns-then-is_some-clause-safe
-returns-then-is_some-clause-safe g c = λ told world ledger room gone unclean dirty region list list' w has allowed safe. c.write_stretch-next.ensures.safe told world ledger dirty region list list' w has allowed safe
+returns-then-is_some-clause-safe g c = λ told world ledger room gone unclean dirty region list list' w has allowed zeros safe. c.write_stretch-next.ensures.safe told world ledger dirty region list list' w has allowed zeros safe
 
 pub returns-clause-rise : goal.returns-clause-rise
 returns-clause-rise g c = risen-then c.write_stretch-next.ensures.rise c.name_missing-spares.ensures.rise
 
 pub returns-clause-safe : goal.returns-clause-safe
-returns-clause-safe g c = λ told world ledger room gone unclean dirty region list list' w has allowed safe.
+returns-clause-safe g c = λ told world ledger room gone unclean dirty region list list' w has allowed zeros safe.
     let given = g.B.Bank.given c.args.bank.now in
     let given1 = g.B.Bank.given c.write_stretch-next.new.bank in
     let tape0 = g.B.Bank.tape c.args.bank.now in
@@ -61,7 +61,7 @@ returns-clause-safe g c = λ told world ledger room gone unclean dirty region li
     let n = c.write_stretch-next.new.members in
     let did = c.write_stretch-next.ensures in
     let named = c.name_missing-spares.ensures in
-    let one = did.safe told world ledger dirty region list list' w has allowed safe in
+    let one = did.safe told world ledger dirty region list list' w has allowed zeros safe in
     safe-then (OpensFit world) world.scope given ledger n c.name_missing-spares.new.members tape0 tape1 tape2 one
     (keeps-from world given given1 ledger c.name_missing-spares.new.members tape1 tape2 did.given
     (named.safe told world ledger (room-then tape2 told room did.rise) gone (λ is. unclean) (over-at world given given1 ledger n tape1 did.given one.next)))

@@ -96,11 +96,11 @@ returns-clause-rise g c =
     (λ told. list-in-is shape c.args.rows.now c.args.buffer.now.items c.args.start c.requires.once)).longer
 
 pub returns-clause-safe : goal.returns-clause-safe
-returns-clause-safe g c = λ told world ledger dirty region list list' w has allowed safe.
+returns-clause-safe g c = λ told world ledger dirty region list list' w has allowed zeros safe.
     let did = c.write_touched-written.ensures in
     let given = g.B.Bank.given c.args.bank.now in
     let tape0 = g.B.Bank.tape c.args.bank.now in
     let tape1 = g.B.Bank.tape c.write_touched-written.new.bank in
     safe-put (OpensFit world) world.scope given ledger c.args.members.now c.write_touched-written.new.members c.write_touched-written.result.lost c.args.shape.now list' c.args.rows.now tape0 tape1 told
-    did.lost.members c.requires.placed dirty c.requires.unlost region allowed
+    did.lost.members c.requires.placed dirty c.requires.unlost region allowed zeros
     (did.each_mark list list' w has) safe

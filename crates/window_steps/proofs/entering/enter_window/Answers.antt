@@ -22,7 +22,8 @@ use Rattle.shape_changes.specs.Safety.{HasLiveSlot}
 use Rattle.shape_changes.specs.Steady.{IsSafeOver, KeepsSafe}
 use Rattle.window_rows.specs.Copies.{IsRoomFor, AreLackingGood}
 use Rattle.window_steps.specs.Entering.{IsRead, IsEnterable}
-use Rattle.window_steps.proofs.EnterLaws.{window-filled, window-short, read-section, opened, unsure, copyable, read-or, entered, was-read, tolerated, lost-later, none-still, left-live, read-safe, saved-safe}
+use Rattle.shape_views.proofs.Headers.{window-filled, window-short}
+use Rattle.window_steps.proofs.EnterLaws.{read-section, opened, unsure, copyable, read-or, entered, was-read, tolerated, lost-later, none-still, left-live, read-safe, saved-safe}
 use Rattle.window_steps.proofs.entering.enter_window.Given.{Over}
 use Rattle.window_steps.proofs.entering.enter_window.Goals.{After-save-answer}
 use Rattle.window_steps.proofs.entering.enter_window.Goals as goal
@@ -56,7 +57,7 @@ module _ (g : Over) (c : After-save-answer g) where
   filled = window-filled c.args.members.now.newest c.requires.fit c.args.span.now c.requires.next
 
   small : c.args.span.now.hi < 18446744073709551616
-  small = window-short c.args.members.now c.requires.fit c.args.span.now c.requires.next c.requires.rows.short
+  small = window-short c.args.members.now.newest c.requires.fit c.args.span.now c.requires.next
 
   -- what the backup's call says, from the bank before the read on
   rebased : g.B.Bank.tells → (Q : Disk → Disk → Type 0)
@@ -133,7 +134,7 @@ module _ (g : Over) (c : After-save-answer g) (told : g.B.Bank.tells) (world : W
       let all = able (few is) in
       let its = (all.backup due).0 in
       saved-safe (OpensFit world) world.scope (first_given g c) ledger c.args.members.now c.read_window-lost.new.members c.read_window-lost.result.lost c.read_window-lost.ensures.lost.members
-      (first_tape g c) (last_tape g c) c.args.backup c.args.span.now c.read_window-lost.new.buffer its.backup
+      (first_tape g c) (last_tape g c) c.args.backup c.args.span.now c.read_window-lost.new.buffer its.backup (ap length its.array ∙ c.told-uuid)
       (none-still world.scope c.args.members.now c.read_window-lost.new.members (start g c) (newest-same g c) (λ header may. (all.backup due).1 header may))
       (read-section c.args.members.now.newest c.read_window-lost.new.members (newest-same g c) c.requires.fit c.args.span.now c.read_window-lost.new.buffer list ledger.values c.requires.next
       room (returns-clause-sectors g c is told list (λ x slot. all.stands x slot) (λ clean. subst (λ (s : Shape). AreLackingGood (reading_of c.args.members.now) (reading_of c.read_window-lost.new.members)

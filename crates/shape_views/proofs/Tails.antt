@@ -1,28 +1,57 @@
 -- The tail of a forward reshape that has gone through: its rows are the last ones of the list.
-use Rattle.std.proofs.Common.{◌≡◌, inl, inr, ℕ, ◌+◌, ◌-◌, ◌*◌, ◌/◌, ◌%◌, ◌<◌, ◌≤◌, nat_lt, Bool, true, false, cond, min, Some, sym, ◌∙◌, ap, subst, arith}
+use Rattle.std.proofs.Common.{◌≡◌, inl, inr, ℕ, ◌+◌, ◌-◌, ◌*◌, ◌/◌, ◌%◌, ◌<◌, ◌≤◌, nat_lt, Bool, true, false, cond, min, Some, refl, sym, ◌∙◌, ap, subst, arith}
 use Rattle.std.specs.Prelude.{IsTrue}
 use Rattle.std.proofs.lemmas.Bool.{and_parts, eqb-true, leb-true, cases_lt}
 use Rattle.std.proofs.lemmas.Bool.Decides.{nat_tests}
 use Rattle.std.proofs.lemmas.Nat.{mod_below, mul-le}
-use Rattle.std.proofs.Math.Nat.{mul-le-mul_right, mul_assoc}
+use Rattle.std.proofs.Math.Nat.{div-add-mod', mul-le-mul_right, mul_assoc}
 use Rattle.geometry.proofs.Divisions.{next_multiple}
 use Rattle.region_laws.proofs.RegionLaws.{forward-is}
 use Rattle.geometry.proofs.Rows.{rows_hold}
 use Rattle.geometry.specs.Geometry.{window, side, rows, ceiling}
 use Rattle.geometry.specs.Geometry as geometry
 use Rattle.md_base.specs.declared.places.Shape.{Shape}
+use Rattle.md_base.specs.declared.places.Place.{Place}
 use Rattle.md_base.specs.declared.places.Span.{Span}
 use Rattle.md_base.specs.declared.places.Side.TheVariants.{Old, New}
 use Rattle.md_base.specs.Shapes.{data_disks, is_valid_shape, stripe_sectors}
 use Rattle.sb1.specs.declared.sb.Sb.{Sb}
 use Rattle.layout.specs.Layout.{place, stripe_of}
-use Rattle.layout.proofs.Places.{chunk_some, data_some, sector_at}
-use Rattle.superblocks.specs.Reading.{is_reshaping, is_backward, shape_of, final_shape, list_length, next_window}
+use Rattle.layout.proofs.Places.{chunk_some, data_some, place-sector, sector_at}
+use Rattle.superblocks.specs.Reading.{is_backward, shape_of, final_shape, list_length, next_window}
 use Rattle.flat_history.specs.Stands.{shape_for}
 use Rattle.shape_views.specs.Regions.{AreShapesFit}
-use Rattle.shape_views.specs.Sound.{IsTail}
-use Rattle.shape_views.proofs.SoundViews.{row-of-first, first-listed}
+use Rattle.shape_views.specs.Views.{IsTail}
+use Rattle.shape_views.specs.Windows.{MovedTailsStand}
+use Rattle.shape_views.proofs.Stands.{data-at}
 use Rattle.shape_views.proofs.UnderWay.{window-is, shape-on}
+
+-- a listed sector in the row of one of the tail
+module _ (shape : Shape) (valid : IsTrue (is_valid_shape shape)) (L x n : ℕ) (some : 0 < L) (whole : L ≡ n * shape.chunk) (same : stripe_of shape x ≡ stripe_of shape (L - 1)) where
+  pub row-of-first : (place shape (sector_at shape (stripe_of shape x) 0 (x % shape.chunk))).row ≡ (place shape x).row
+  row-of-first = ap (λ (p : Place). p.row) (place-sector shape (stripe_of shape x) 0 (x % shape.chunk) (data_some shape valid) (mod_below x shape.chunk (chunk_some shape valid)))
+
+  pub first-listed : sector_at shape (stripe_of shape x) 0 (x % shape.chunk) < L
+  first-listed =
+      let c = shape.chunk in
+      let d = data_disks shape in
+      let q = (L - 1) / shape.chunk in
+      let inner : q / d * d ≤ q = (let e = div-add-mod' q d in omega (arith, e)) in
+      let outer : q * c ≤ L - 1 = (let e = div-add-mod' (L - 1) c in omega (arith, e)) in
+      let stripe : stripe_of shape x * d ≡ q / d * d = ap (λ (s : ℕ). s * d) same in
+      let few : stripe_of shape x * d ≤ q = omega (arith, stripe, inner) in
+      let chunks : stripe_of shape x * d * c ≤ q * c = mul-le-mul_right c few in
+      let lt : stripe_of shape x * d * c < n * c = omega (arith, chunks, outer, whole, some) in
+      let rest : x % shape.chunk < c = mod_below x shape.chunk (chunk_some shape valid) in
+      let room = below-multiple (stripe_of shape x * d) n c lt in
+      let zero_in : (stripe_of shape x * d + 0) * c ≡ stripe_of shape x * d * c = omega arith in
+      omega (arith, room, rest, whole, zero_in)
+    where
+      below-multiple : (a b c : ℕ) → a * c < b * c → a * c + c ≤ b * c
+      below-multiple a b c lt = elim (cases_lt a b) [
+        | inl less ↦ next_multiple a b c less
+        | inr more ↦ absurd (let le : b * c ≤ a * c = mul-le-mul_right c more in omega (arith, le, lt))
+      ]
 
 -- a window that is still ahead has no tail behind it
 pub no-tail : (newest : Sb) (span : Span) (x : ℕ) → next_window newest ≡ Some span → IsTail newest x → ⊥
@@ -61,8 +90,8 @@ module _ (newest : Sb) (fit : AreShapesFit newest) where
     same-row = row-of-first (final_shape newest) fit.valid.final (list_length newest) x
         (min (data_disks (shape_of newest)) (data_disks (final_shape newest)) * (newest.size / (final_shape newest).chunk)) some-listed whole-listed tail.stripe
 
-    pub new-there : is_reshaping newest ≡ true → shape_for newest first ≡ final_shape newest
-    new-there active = shape-on newest active first New (ap (λ (b : Bool). side b newest.reshape_position first) tail.forth ∙ ap (λ (b : Bool). cond b New Old) (lt-true first newest.reshape_position (let l = listed in let t = tail.through in omega (arith, l, t))))
+    pub new-there : shape_for newest first ≡ final_shape newest
+    new-there = shape-on newest tail.active first New (ap (λ (b : Bool). side b newest.reshape_position first) tail.forth ∙ ap (λ (b : Bool). cond b New Old) (lt-true first newest.reshape_position (let l = listed in let t = tail.through in omega (arith, l, t))))
       where
         lt-true : (a b : ℕ) → a < b → nat_lt a b ≡ true
         lt-true a b lt = grind (arith, nat_tests, lt)
@@ -108,3 +137,9 @@ tail-written newest fit span x next tail =
     let last : geometry.IsIn (list_length newest - 1) span = (omega (arith, ends, at.0, at.1), (let some = some-listed newest fit in omega (arith, ends, some))) in
     let holds = rows_hold (final_shape newest) span (list_length newest - 1) fit.valid.final last in
     stripe-rows (final_shape newest) fit.valid.final (span.lo / stripe_sectors (final_shape newest)) (ceiling span.hi (stripe_sectors (final_shape newest))) x (list_length newest - 1) tail.stripe holds.0 holds.1
+
+-- where the rows of that window stand, it does
+pub moved-tails : MovedTailsStand
+moved-tails scope given m span c list placed next copied x slot tail held =
+    data-at m c list (final_shape m.newest) placed.fit.valid.final (place (final_shape m.newest) x).row
+    (copied (place (final_shape m.newest) x).row (tail-written m.newest placed.fit span x next tail)) x refl slot held
