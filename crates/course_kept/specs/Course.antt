@@ -12,12 +12,11 @@ use Rattle.superblocks.specs.Reading.{Scope, is_backward, shape_of, final_shape,
 use Rattle.row_io.specs.Rows.{reading_of}
 use Rattle.list_io.specs.Full.{RowStands}
 use Rattle.shape_views.specs.Regions.{backup_of, open_by}
-use Rattle.shape_views.specs.Views.{Disk}
+use Rattle.shape_views.specs.Views.{AreHeadersFit, Disk}
 use Rattle.shape_views.specs.Windows.{HasNoSection, ListStands, RowsStand, AreTailsStanding}
 use Rattle.shape_views.specs.Backups.{IsOpenUnderAll, IsOpenOrNot}
 use Rattle.shape_ends.specs.Grown.{IsZeroPast}
 use Rattle.window_rows.specs.Copies.{HasWindow, IsRoomFor}
-use Rattle.window_steps.specs.Recording.{AreHeadersFit}
 use Rattle.window_steps.specs.Zeroing.{IsThrough}
 use Rattle.course_kept.specs.declared.course.Course.{Course}
 use Rattle.grow_asked.specs.declared.window.Window.{Window}

@@ -12,7 +12,7 @@ use Rattle.superblocks.specs.Reading.{Scope, is_reshaping, is_backward, shape_of
 use Rattle.row_io.specs.Rows.{reading_of}
 use Rattle.list_io.specs.Full.{RowStands}
 use Rattle.shape_views.specs.Regions.{ArePlaced}
-use Rattle.shape_views.specs.Views.{Disk}
+use Rattle.shape_views.specs.Views.{AreHeadersFit, Disk}
 use Rattle.shape_views.specs.Windows.{ListStands, RowsStand, moved_past}
 use Rattle.shape_views.specs.Backups.{IsOpenUnderAll}
 use Rattle.shape_changes.specs.Marking.{AreOthersPresent}
@@ -24,7 +24,6 @@ use Rattle.views.specs.Moving.{IsMoved}
 use Rattle.views.specs.Lacking.{IsOfStripe, AreOtherRowsKept}
 use Rattle.window_rows.specs.Copies.{tail_of, HasWindow, IsRoomFor, IsZeroIn, IsCopied}
 use Rattle.window_steps.specs.Copying.{AreHeadersKept}
-use Rattle.window_steps.specs.Recording.{AreHeadersFit}
 use Rattle.window_steps.specs.Zeroing.{IsThrough}
 use Rattle.course_kept.specs.declared.course.Course.{Course}
 use Rattle.grow_asked.specs.declared.window.Window.{Window}

@@ -23,7 +23,7 @@ use Rattle.flat_history.specs.Plain.{entries_of}
 use Rattle.flat_history.specs.Sound.{OpensFit}
 use Rattle.flat_history.specs.World.{World, opening_list}
 use Rattle.shape_views.specs.Regions.{DoWithout}
-use Rattle.shape_views.specs.Views.{Ledger}
+use Rattle.shape_views.specs.Views.{AreHeadersFit, Ledger}
 use Rattle.shape_views.specs.Windows.{HasNoSection, moved_past}
 use Rattle.shape_changes.specs.Marking.{AreOthersPresent}
 use Rattle.shape_changes.specs.Safety.{HasRoomLeft, IsRisen}
@@ -37,7 +37,7 @@ use Rattle.call_entries.specs.Losing.{losses_of}
 use Rattle.call_entries.proofs.CallLaws.{losses-are}
 use Rattle.window_rows.specs.Copies.{tail_of, IsZeroIn}
 use Rattle.window_steps.specs.Copying.{AreHeadersKept}
-use Rattle.window_steps.specs.Recording.{AreHeadersFit, IsCopiedWindow}
+use Rattle.window_steps.specs.Recording.{IsCopiedWindow}
 use Rattle.window_steps.specs.Zeroing.{IsThrough}
 use Rattle.window_steps.proofs.ZeroLaws.{through-moved}
 use Rattle.kept_history.specs.Recorded.{IsCallGoing, entry_of}
@@ -140,6 +140,7 @@ recorded-moves tells given tape tape' scope first entries old new carried span s
       stands = done.stands;
       rows_are = λ is enough so. done.rows_are so;
       headers = (was.stored t).headers;
+      zeros = λ so x tail. l.stands.zeros tail.forth x tail.past;
     }
       where
         done : IsWindowCopied (OpensFit (world_in given tape scope first)) old span (present given tape) l.list

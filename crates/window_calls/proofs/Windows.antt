@@ -22,7 +22,7 @@ use Rattle.row_io.proofs.Losses.{holder-of}
 use Rattle.list_io.specs.Full.{RowStands}
 use Rattle.flat_history.specs.Stands.{shape_for, has_room, backup_absent}
 use Rattle.shape_views.specs.Regions.{backup_of, place_by, ArePlaced}
-use Rattle.shape_views.specs.Views.{Disk, Ledger}
+use Rattle.shape_views.specs.Views.{AreHeadersFit, Disk, Ledger}
 use Rattle.shape_views.specs.Windows.{IsShown, IsCopyable, ListStands, RowsStand, moved_past}
 use Rattle.shape_views.proofs.Stands.{StandsAt, moved-stands, moved-rows-stand}
 use Rattle.shape_views.proofs.UnderWay.{row-apart}
@@ -38,7 +38,7 @@ use Rattle.views.proofs.LackingWrites.{others-then}
 use Rattle.views.proofs.SafeStretch.{allowed-later, gone-before}
 use Rattle.safe_updates.proofs.Under.{shown-moved, shown-rows-moved}
 use Rattle.window_steps.specs.Copying.{AreHeadersKept}
-use Rattle.window_steps.specs.Recording.{AreOthersFewer, AreHeadersFit, IsCopiedWindow}
+use Rattle.window_steps.specs.Recording.{AreOthersFewer, IsCopiedWindow}
 use Rattle.window_steps.proofs.CopyLaws.{row-later, tail-alike, copyable-later}
 use Rattle.window_steps.proofs.PastLaws.{roomy, placed-roomy, past-rows, past-placed, gone-past, header-alike}
 use Rattle.window_calls.specs.Finishing.{IsOfFirst, IsOfRest, AreStripesCopied, IsOpenWindow}

@@ -11,11 +11,10 @@ use Rattle.superblocks.specs.Reading.{Scope, is_clean, final_shape}
 use Rattle.row_io.specs.Rows.{reading_of}
 use Rattle.list_io.specs.Full.{RowStands}
 use Rattle.shape_views.specs.Regions.{DoWithout}
-use Rattle.shape_views.specs.Views.{Disk, Ledger}
+use Rattle.shape_views.specs.Views.{AreHeadersFit, Disk, Ledger}
 use Rattle.shape_views.specs.Windows.{IsCopyable, ListStands, RowsStand}
 use Rattle.shape_changes.specs.Steady.{AreWritesAllowed}
 use Rattle.window_rows.specs.Copies.{tail_of, IsCopied}
-use Rattle.window_steps.specs.Recording.{AreHeadersFit}
 
 -- ---- the stripes of a window
 

@@ -10,7 +10,7 @@ ghost use Rattle.row_io.specs.Rows.{present, reading_of};
 ghost use Rattle.flat_history.specs.World.{World};
 ghost use Rattle.flat_history.specs.Sound.{OpensFit};
 ghost use Rattle.shape_views.specs.Regions.{ArePlaced, DoWithout};
-ghost use Rattle.shape_views.specs.Views.{Ledger};
+ghost use Rattle.shape_views.specs.Views.{AreHeadersFit, Ledger};
 ghost use Rattle.shape_views.specs.Windows.{IsCopyable, HasNoSection, ListStands, RowsStand, moved_past};
 ghost use Rattle.shape_changes.specs.Safety.{HasLiveSlot, HasRoomLeft, IsRisen};
 ghost use Rattle.shape_changes.specs.Steady.{AreUnlost, IsSafeOver, KeepsSafe, AreGoneTold, IsUncleanTold};
@@ -21,7 +21,7 @@ ghost use Rattle.views.specs.Rebuilding.{AreSparesFree};
 ghost use Rattle.views.specs.Lacking.{HaveFailedSince, AreHoldersFlushed, AreTooMany, AreOtherRowsKept};
 ghost use Rattle.window_rows.specs.Copies.{IsRoomFor, tail_of, IsCopied};
 ghost use Rattle.window_steps.specs.Copying.{AreHeadersKept};
-ghost use Rattle.window_steps.specs.Recording.{AreHeadersFit, IsRecorded};
+ghost use Rattle.window_steps.specs.Recording.{IsRecorded};
 ghost use Rattle.window_calls.specs.Finishing.{IsOfRest, AreStripesCopied, IsOpenWindow};
 
 use bank::Bank;

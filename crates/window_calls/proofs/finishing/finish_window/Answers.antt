@@ -14,7 +14,7 @@ use Rattle.row_io.specs.Rows.{present, reading_of}
 use Rattle.flat_history.specs.World.{World}
 use Rattle.flat_history.specs.Sound.{OpensFit}
 use Rattle.shape_views.specs.Regions.{ArePlaced}
-use Rattle.shape_views.specs.Views.{Ledger}
+use Rattle.shape_views.specs.Views.{AreHeadersFit, Ledger}
 use Rattle.shape_views.specs.Windows.{HasNoSection, moved_past}
 use Rattle.shape_changes.specs.Marking.{AreOthersPresent}
 use Rattle.shape_changes.proofs.Risen.{risen-then, room-first, room-then}
@@ -26,7 +26,7 @@ use Rattle.views.proofs.LackingLaws.{since-then, in-either, holders-at}
 use Rattle.views.proofs.LackingLists.{none-of}
 use Rattle.views.proofs.MovedLaws.{moved-then, grows-then}
 use Rattle.views.proofs.SafeStretch.{safe-then, over-at, keeps-from, grows-longer}
-use Rattle.window_steps.specs.Recording.{AreOthersFewer, AreHeadersFit, IsCopiedWindow, IsRecorded}
+use Rattle.window_steps.specs.Recording.{AreOthersFewer, IsCopiedWindow, IsRecorded}
 use Rattle.window_steps.proofs.PastLaws.{past-moved, next-moved}
 use Rattle.window_calls.specs.Finishing.{IsOfRest, AreStripesCopied, IsOpenWindow}
 use Rattle.window_calls.proofs.Windows.{placed-later, headers-later, open-copied, all-copied, IsLeftBy, left-copied, left-others, left-gone, left-open, left-listed, left-rows}
