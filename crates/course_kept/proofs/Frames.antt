@@ -35,6 +35,7 @@ use Rattle.course_kept.specs.Course.{IsOfStripes, IsCopiedRow, IsZeroedRow, hidd
 module _ (old new : Sb) (reshape : HaveSameReshape old new) (shape : shape_of new ≡ shape_of old) (size : new.size ≡ old.size) where
   tail-before : (x : ℕ) → IsTail new x → IsTail old x
   tail-before x tail = record {
+    active = sym reshape.reshaping ∙ tail.active;
     forth = sym reshape.backward ∙ tail.forth;
     through = sym reshape.position ∙ tail.through ∙ list-alike old new reshape shape size;
     past = subst (λ (n : ℕ). n ≤ x) (list-alike old new reshape shape size) tail.past;

@@ -34,6 +34,7 @@ module _ (sound : Type 0) (scope : Scope) (given : Given) (told more : Ledger) (
     list = settled.list;
     allowed = λ x lt. is.values x (omega (arith, lt, sized)) (settled.list x) (settled.allowed x lt);
     rows = settled.rows;
+    zeros = settled.zeros;
   }
 
   view-told : (view : Members) → IsViewRight sound scope given told view d → IsViewRight sound scope given more view d
@@ -52,6 +53,8 @@ module _ (sound : Type 0) (scope : Scope) (given : Given) (told more : Ledger) (
         let sized = right.sized in
         is.values x (omega (arith, high, inside, sized)) v (right.sections header may span active x low high v there);
     settled = λ clean few premise. settled-told view right.sized (right.settled clean few premise);
+    headers = right.headers;
+    tails = right.tails;
   }
 
   pub seen-told : (c : Contents) → IsSeenRight sound scope given told d c → IsSeenRight sound scope given more d c

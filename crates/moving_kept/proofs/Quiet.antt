@@ -32,6 +32,7 @@ use Rattle.shape_views.specs.Views.{Ledger}
 use Rattle.shape_changes.specs.Safety.{HasRoomLeft, IsRisen}
 use Rattle.shape_changes.specs.Steady.{IsMoreTold, IsSafeNow, IsSafeOver, KeepsSafe, AreGoneTold, IsUncleanTold}
 use Rattle.views.specs.Moving.{Grows}
+use Rattle.views.proofs.SoundViews.{throughout-kept}
 use Rattle.call_entries.specs.Losing.{losses_of}
 use Rattle.call_entries.proofs.CallLaws.{AreLossEvents, losses-are, told-losses, last_end-behind, values-losses, length-losses}
 use Rattle.call_entries.proofs.StepLaws.{faults-are}
@@ -135,7 +136,7 @@ pub record IsLeftBy (given : Given) (tape : List Operation) (scope : Scope) (fir
   pub listed : DoWithout new → IsFilledRight (world_in given tape' scope first) all
       → HasListInCourse (OpensFit (world_in given tape' scope first)) new course' buffer' (present given tape') (now (opening_list (world_in given tape' scope first)) all)
   pub safe : IsFilledRight (world_in given tape' scope first) all → HasRoomForEvents (world_in given tape' scope first) → OpensAlike (world_in given tape' scope first)
-      → IsSafeHistory ⊥ (world_in given tape' scope first) given new carried true all
+      → IsSafeHistory ⊤ (world_in given tape' scope first) given new carried true all
   pub now_safe : IsFilledRight (world_in given tape' scope first) all → HasRoomForEvents (world_in given tape' scope first) → OpensAlike (world_in given tape' scope first)
       → IsSafeOver (world_in given tape' scope first) given (told_now (world_in given tape' scope first) carried true all) new tape'
 
@@ -148,7 +149,7 @@ module _ (given : Given) (tape : List Operation) (scope : Scope) (first : ℕ) (
     (unclean : is_clean old.newest ≡ false → (is_unsynced (world_in given tape scope first) entries || is_unsettled entries) ≡ true)
     (recorded : IsHistoryKept (IsFilledRight (world_in given tape scope first) entries) (world_in given tape scope first) (list_length old.newest) entries)
     (safe : IsFilledRight (world_in given tape scope first) entries → HasRoomForEvents (world_in given tape scope first) → OpensAlike (world_in given tape scope first)
-    → IsSafeHistory ⊥ (world_in given tape scope first) given old carried true entries)
+    → IsSafeHistory ⊤ (world_in given tape scope first) given old carried true entries)
     (now_safe : IsFilledRight (world_in given tape scope first) entries → HasRoomForEvents (world_in given tape scope first) → OpensAlike (world_in given tape scope first)
     → IsSafeOver (world_in given tape scope first) given (told_now (world_in given tape scope first) carried true entries) old tape)
     (call : IsQuietCall given tape scope first entries old new carried course' buffer' who roles spares event (tape ++ ops) (length (tape ++ ops))) where
@@ -286,7 +287,7 @@ module _ (given : Given) (tape : List Operation) (scope : Scope) (first : ℕ) (
   -- ---- each mark
 
   module _ (fills : IsFilledRight later all) (room : HasRoomForEvents later) (alike : OpensAlike later) where
-    abbrev was : IsSafeHistory ⊥ (world_in given tape scope first) given old carried true entries
+    abbrev was : IsSafeHistory ⊤ (world_in given tape scope first) given old carried true entries
     was = safe (fills-before fills) (room-before world ops begun room) (alike-before world ops begun alike)
 
     stretch : KeepsSafe world given told new tape (tape ++ ops)
@@ -298,9 +299,9 @@ module _ (given : Given) (tape : List Operation) (scope : Scope) (first : ℕ) (
     last : IsSafeOver world given (told_now later carried true all) new (tape ++ ops)
     last = now-more (OpensFit world) scope given told (told_now later carried true all) new (disk given.start (tape ++ ops)) told-last stretch.next
 
-    safe-all : IsSafeHistory ⊥ later given new carried true all
-    safe-all = safe-called ⊥ given tape scope first entries old new carried carried true true who losses (event ∷ []) told ops (tape ++ ops) end refl refl sizes_are begun recorded.ends was
-        fills call.rise (λ none. absurd none) (record { size = refl; values = λ x lt v may. may; gone = λ role is. is; unclean = λ is. is; reshaping = λ is. is; carried = λ number is. refl }) stretch last
+    safe-all : IsSafeHistory ⊤ later given new carried true all
+    safe-all = safe-called ⊤ given tape scope first entries old new carried carried true true who losses (event ∷ []) told ops (tape ++ ops) end refl refl sizes_are begun recorded.ends was
+        fills call.rise (λ claimed opened mark low high. throughout-kept world given told new ops refl begun stretch (was.sound tt) opened mark (omega (arith, begun, low)) high) (record { size = refl; values = λ x lt v may. may; gone = λ role is. is; unclean = λ is. is; reshaping = λ is. is; carried = λ number is. refl }) stretch last
 
     now-all : IsSafeOver later given (told_now later carried true all) new (tape ++ ops)
     now-all = subst (λ (fit : Type 0). IsSafeNow fit scope given (told_now later carried true all) new (disk given.start (tape ++ ops))) (sym (fit-grown world ops begun)) last

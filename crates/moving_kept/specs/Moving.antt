@@ -1,5 +1,5 @@
 -- What an array keeps that is in a reshape, over plain data.
-use Rattle.std.specs.Prelude.{◌≡◌, ℕ, ◌<◌, ◌≤◌, ◌||◌, Bool, true, false, List, length, IfSome}
+use Rattle.std.specs.Prelude.{◌≡◌, ℕ, ◌<◌, ◌≤◌, ◌||◌, Bool, true, false, List, length, IfSome, ⊤}
 use Rattle.md_base.specs.Sectors.{Sector}
 use Rattle.bank.specs.declared.bank.Operation.{Operation}
 use Rattle.bank.specs.Given.{Given, sizes}
@@ -64,6 +64,6 @@ pub record IsMoving (tells : Type 0) (given : Given) (tape : List Operation) (sc
   pub listed : tells → DoWithout members → IsFilledRight (world_in given tape scope first) entries
       → HasListInCourse (OpensFit (world_in given tape scope first)) members course buffer (present given tape) (now (opening_list (world_in given tape scope first)) entries)
   pub safe : tells → IsFilledRight (world_in given tape scope first) entries → HasRoomForEvents (world_in given tape scope first) → OpensAlike (world_in given tape scope first)
-      → IsSafeHistory ⊥ (world_in given tape scope first) given members carried true entries
+      → IsSafeHistory ⊤ (world_in given tape scope first) given members carried true entries
   pub now_safe : tells → IsFilledRight (world_in given tape scope first) entries → HasRoomForEvents (world_in given tape scope first) → OpensAlike (world_in given tape scope first)
       → IsSafeOver (world_in given tape scope first) given (told_now (world_in given tape scope first) carried true entries) members tape

@@ -35,12 +35,12 @@ use Rattle.views.proofs.Fit.{list-alike, for-alike}
 use Rattle.views.proofs.HeldRows.{held-moved, without-before}
 use Rattle.views.proofs.LackingLists.{row-moved}
 use Rattle.views.proofs.LackingWrites.{others-then}
-use Rattle.views.proofs.SafeStretch.{allowed-later, gone-before}
+use Rattle.views.proofs.SafeStretch.{allowed-later, zeros-later, gone-before}
 use Rattle.safe_updates.proofs.Under.{shown-moved, shown-rows-moved}
 use Rattle.window_steps.specs.Copying.{AreHeadersKept}
 use Rattle.window_steps.specs.Recording.{AreOthersFewer, IsCopiedWindow}
 use Rattle.window_steps.proofs.CopyLaws.{row-later, tail-alike, copyable-later}
-use Rattle.window_steps.proofs.PastLaws.{roomy, placed-roomy, past-rows, past-placed, gone-past, header-alike}
+use Rattle.window_steps.proofs.PastLaws.{roomy, placed-roomy, past-rows, past-placed, gone-past, header-alike, past-moved}
 use Rattle.window_calls.specs.Finishing.{IsOfFirst, IsOfRest, AreStripesCopied, IsOpenWindow}
 
 -- ---- the rows of the stripes
@@ -153,6 +153,7 @@ module _ (sound : Type 0) (scope : Scope) (given : Given) (told : Ledger) (m new
         (row-later given m new moved (shape_for m.newest x) list (place_by m.newest x).row before after (kept (place_by m.newest x).row (apart x (was-shown x shown)))
         (opened.rows_are (sym clean ∙ is) (without-before given m new moved does) premise x (was-shown x shown)));
     headers = headers-later scope given m new moved d e headers opened.headers;
+    zeros = λ so. zeros-later given (moved_past span m) (moved_past span new) (past-moved given m new span moved opened.able.next) list (opened.zeros so);
   }
 
 -- where all are, the window is copied
@@ -164,6 +165,7 @@ all-copied sound scope told m span buffer count list c d all opened = record {
   stands = opened.stands;
   rows_are = opened.rows_are;
   headers = opened.headers;
+  zeros = opened.zeros;
 }
 
 -- ---- the window is recorded
@@ -226,6 +228,7 @@ module _ (given : Given) (span : Span) (m new : Members) (was : IsPlaced given m
     stands = shown-moved given m new before after list moved was others (Some span) opened.stands;
     rows_are = λ is does premise. shown-rows-moved given m new before after list moved was others (Some span) (opened.rows_are (sym clean ∙ is) (without-before given m new moved does) premise);
     headers = headers-later scope given m new moved d e (λ s v may. fewer s 0 v (omega arith) may) opened.headers;
+    zeros = λ so. zeros-later given (moved_past span m) (moved_past span new) (past-moved given m new span moved opened.able.next) list (opened.zeros so);
   }
 
   -- where it is done, the list stands, and its rows
