@@ -14,7 +14,7 @@ use Rattle.flat_history.specs.declared.events.Event.TheVariants.{Wrote, Torn, Fl
 use Rattle.flat_history.specs.declared.events.LostCause.TheVariants.{Fault}
 use Rattle.flat_history.specs.declared.events.StepKind.TheVariants.{ResyncEnded}
 use Rattle.flat_history.specs.Flat.{length_after, length_of, covers, sector_at, behind, values_after, first_values, values_of, now}
-use Rattle.flat_history.specs.Losses.{takes, loses, settles, is_unsynced, is_gone_after}
+use Rattle.flat_history.specs.Losses.{takes, loses, settles, is_unsynced, is_gone_after, unsettles}
 use Rattle.flat_history.specs.OneShape.{is_lost, is_unsettled}
 use Rattle.flat_history.specs.Plain.{loses_role, entries_of}
 use Rattle.flat_history.specs.World.{World, reading_at, opening_list}
@@ -23,7 +23,7 @@ use Rattle.shape_changes.specs.Steady.{IsMoreTold, settled_ledger}
 use Rattle.kept_history.specs.Recorded.{gives_some}
 use Rattle.kept_history.specs.Told.{told_now, told_by}
 use Rattle.kept_history.proofs.Tests.{or-left, or-right}
-use Rattle.kept_history.proofs.Ledgers.{any-gone, told-more, told-now}
+use Rattle.kept_history.proofs.Ledgers.{any-gone, told-more, told-now, unclean-now}
 use Rattle.kept_history.proofs.Longer.{regains-none}
 
 -- ---- roles that are gone
@@ -138,6 +138,24 @@ told-adding world old new was is_now entries more adds carries turns =
 pub told-added : (world : World) (carried : ℕ → Bool) (reshaping : Bool) (entries more : List Entry) → AreAdding more → list_any (λ e. gives_some e.event) more ≡ false
     → IsMoreTold (told_by world carried reshaping entries more) (told_now world carried reshaping (entries ++ more))
 told-added world carried reshaping entries more adds none = told-now world carried reshaping entries more (λ role. regains-none world role more none) (settle-none more adds)
+
+-- The history with them tells what it told before, where the roles that were gone are gone still.
+pub now-given : (world : World) (old new : ℕ → Bool) (was is_now : Bool) (entries added : List Entry) → AreAdding added
+    → ((role : ℕ) → is_gone_after world entries role ≡ true → is_gone_after world (entries ++ added) role ≡ true) → ((number : ℕ) → old number ≡ true → new number ≡ true) → (was ≡ true → is_now ≡ true)
+    → IsMoreTold (told_now world old was entries) (told_now world new is_now (entries ++ added))
+now-given world old new was is_now entries added adds gone carries turns = record {
+  size = sym (length-adding (length (opening_list world)) entries added adds);
+  values = λ x lt v may. values-adding (opening_list world) entries added adds x v may;
+  gone = gone;
+  unclean = λ is. unclean-now world entries added (settle-none added adds) (more (is_unsynced world entries) (is_unsettled entries) (list_any (λ e. unsettles e.event) added) is);
+  reshaping = turns;
+  carried = carries;
+}
+  where
+    more : (a b c : Bool) → (a || b) ≡ true → (a || (b || c)) ≡ true
+    more true b c is = refl
+    more false true c is = refl
+    more false false c is = absurd (cc)
 
 -- ---- losses
 

@@ -15,3 +15,5 @@ pub mod Idle
 pub mod Unkept
 pub mod Turned
 pub mod Turns
+pub mod Opened
+pub mod Lengths

@@ -56,7 +56,7 @@ going-more entries added who goes more = record {
   number = goes.number;
 }
 
-same-call : (who : Who) (a b : Entry) → IsOfCall who a → IsOfCall who b → is_same_call a b ≡ true
+pub same-call : (who : Who) (a b : Entry) → IsOfCall who a → IsOfCall who b → is_same_call a b ≡ true
 same-call who a b mine yours = same a.caller b.caller a.number b.number (mine.0 ∙ sym yours.0) (mine.1 ∙ sym yours.1)
   where
     same : (c d n m : ℕ) → c ≡ d → n ≡ m → ((c == d) && (n == m)) ≡ true
@@ -275,7 +275,7 @@ going-numbered entries who e goes is = by goes.call goes.is goes.own
     by [] same own = inr (begins entries (same ∙ append-nil goes.before))
     by (x ∷ call) same own = inl (subst (λ (l : List Entry). GoesOn (last_of l) e) (sym same) (last-own who goes.before x call e own is))
 
-call_end-is : (who : Who) (end : ℕ) (event : Event) (events : List Event) → call_end (entry_of who end event) (entries_of who end events) ≡ end
+pub call_end-is : (who : Who) (end : ℕ) (event : Event) (events : List Event) → call_end (entry_of who end event) (entries_of who end events) ≡ end
 call_end-is who end event [] = refl
 call_end-is who end event (next ∷ events) = call_end-is who end next events
 

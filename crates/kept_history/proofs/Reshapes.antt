@@ -226,7 +226,7 @@ going-reshaped world entries added who goes own free right behind =
     mine = λ k d lt. (goes.own k d lt).0
 
 -- Entries that end at the tape's end end right what they end, where their events do.
-call-reshaped : (world : World) (before : List Entry) (who : Who) (events : List Event) → IsReshapedCall world before who (length world.tape) events → AreReshaped world before (entries_of who (length world.tape) events)
+pub call-reshaped : (world : World) (before : List Entry) (who : Who) (events : List Event) → IsReshapedCall world before who (length world.tape) events → AreReshaped world before (entries_of who (length world.tape) events)
 call-reshaped world before who [] call = tt
 call-reshaped world before who (event ∷ events) call = (
   subst (λ (w : World). IsReshapedBy w before (entry_of who (length world.tape) event) (entries_of who (length world.tape) events)) (sym (until-all world)) call.0,

@@ -1,27 +1,35 @@
 -- Which roles are gone behind a step that turns the shape, and when what is filled in is right.
-use Rattle.std.proofs.Common.{◌≡◌, inl, inr, ℕ, ◌<◌, ◌≤◌, ◌&&◌, ◌||◌, Bool, true, false, not, Option, Some, List, [], ◌∷◌, ◌++◌, length, nat_le, refl, sym, ◌∙◌, ap, ap₂, arith}
+use Rattle.std.proofs.Common.{◌≡◌, inl, inr, ℕ, ◌==◌, ◌<◌, ◌≤◌, ◌&&◌, ◌||◌, Bool, true, false, not, Option, Some, List, [], ◌∷◌, ◌++◌, length, nat_le, refl, sym, ◌∙◌, ap, ap₂, subst, arith, append_assoc}
 use Rattle.std.specs.List.{list_any}
 use Rattle.std.proofs.lemmas.Bool.Decides.{nat_tests}
+use Rattle.std.proofs.lemmas.List.Folds.{list_any-append}
 use Rattle.md_base.specs.Search.{count_below}
 use Rattle.md_base.specs.Shapes.{tolerance_of}
 use Rattle.bank.specs.declared.bank.Operation.{Operation}
+use Rattle.bank.specs.Tape.{IsIn}
 use Rattle.superblocks.specs.Reading.{Reading, shape_of}
 use Rattle.flat_history.specs.declared.events.Entry.{Entry}
 use Rattle.flat_history.specs.declared.events.Event.{Event}
-use Rattle.flat_history.specs.declared.events.Event.TheVariants.{Lost, Step}
+use Rattle.flat_history.specs.declared.events.Event.TheVariants.{Lost, Rebuilt, Step}
 use Rattle.flat_history.specs.declared.events.StepKind.TheVariants.{Begun, TakenOver}
 use Rattle.flat_history.specs.Growing.{grown, EndBy}
 use Rattle.flat_history.specs.Legal.{level_at, IsTooManyMissing}
-use Rattle.flat_history.specs.Losses.{takes, gives_back, loses, is_gone_after}
-use Rattle.flat_history.specs.OneShape.{is_lost}
+use Rattle.flat_history.specs.Flat.{length_of, values_of}
+use Rattle.flat_history.specs.Losses.{takes, gives_back, loses, settles, unsettles, is_gone_after, is_unsynced}
+use Rattle.flat_history.specs.OneShape.{is_lost, is_unsettled}
 use Rattle.flat_history.specs.Plain.{loses_role}
 use Rattle.flat_history.specs.Sound.{FillsRight}
-use Rattle.flat_history.specs.World.{World, reading_at}
+use Rattle.flat_history.specs.World.{World, reading_at, opening_list}
 use Rattle.flat_history.proofs.GoneCounts.{few_missing}
 use Rattle.flat_history.proofs.SoundLaws.{fit-before}
+use Rattle.shape_changes.specs.Steady.{IsMoreTold, given_back}
+use Rattle.kept_history.specs.Recorded.{gives_some}
 use Rattle.kept_history.specs.Safe.{IsFilledRight}
+use Rattle.kept_history.specs.Told.{told_now, told_by}
+use Rattle.kept_history.proofs.Entered.{adds_only, AreAdding, length-adding, values-adding, settle-none}
+use Rattle.kept_history.proofs.Longer.{regains-none}
 use Rattle.kept_history.proofs.Growing.{takes-grown}
-use Rattle.kept_history.proofs.Ledgers.{gone-behind}
+use Rattle.kept_history.proofs.Ledgers.{any-gone, gone-behind, unclean-now}
 use Rattle.kept_history.proofs.Tests.{neither, none-before}
 
 -- ---- a reshape begins
@@ -54,6 +62,53 @@ module _ (world : World) (entries : List Entry) (e : Entry) (left : ℕ) (r : Re
   -- and one that the reshape takes anew isn't
   pub begun-new : (role : ℕ) → (shape_of r.newest).disks ≤ role → is_gone_after world (entries ++ e ∷ []) role ≡ false
   begun-new role le = turned role ∙ ap (λ (b : Bool). is_gone_after world entries role && not b || false) (from-old (shape_of r.newest).disks role le) ∙ given (is_gone_after world entries role)
+
+-- ---- a role is rebuilt
+
+-- Behind events that only add, it isn't told gone any more, and what else a call told is told at its end.
+pub told-rebuilt : (world : World) (carried : ℕ → Bool) (reshaping : Bool) (entries more : List Entry) (e : Entry) (role : ℕ) → e.event ≡ Rebuilt role → AreAdding more → list_any (λ e. gives_some e.event) more ≡ false
+    → IsMoreTold (given_back role (told_by world carried reshaping entries more)) (told_now world carried reshaping (entries ++ (more ++ e ∷ [])))
+told-rebuilt world carried reshaping entries more e role is adds none = record {
+  size = sym (ap (λ (l : List Entry). length_of (length (opening_list world)) l) whole ∙ length-adding (length (opening_list world)) (entries ++ more) (e ∷ []) one-adds);
+  values = λ x lt v may. subst (λ (l : List Entry). IsIn (values_of (opening_list world) l x) v) (sym whole) (values-adding (opening_list world) (entries ++ more) (e ∷ []) one-adds x v may);
+  gone = λ r was.
+      let p = parts (is_gone_after world entries r || list_any (loses world r) more) (r == role) was in
+      ap (λ (l : List Entry). is_gone_after world l r) whole ∙ gone-behind world r (entries ++ more) (e ∷ [])
+      ∙ ap₂ (λ (b : Bool) (event : Event). b && not (gives_back (reading_at world e.end) r event) || takes (reading_at world e.end) r event) (any-gone world r entries more (regains-none world r more none) p.0) is
+      ∙ ap (λ (b : Bool). not b || false) (turn r role p.1);
+  unclean = λ was. unclean-now world entries (more ++ e ∷ []) settled (with_it was);
+  reshaping = λ was. was;
+  carried = λ number was. was;
+}
+  where
+    whole : entries ++ (more ++ e ∷ []) ≡ (entries ++ more) ++ e ∷ []
+    whole = sym (append_assoc entries more (e ∷ []))
+
+    one-adds : AreAdding (e ∷ [])
+    one-adds = ap (λ (event : Event). adds_only event && true) is
+
+    parts : (a b : Bool) → (a && not b) ≡ true → (a ≡ true) × (b ≡ false)
+    parts true false was = (refl, refl)
+    parts true true was = absurd (cc)
+    parts false b was = absurd (cc)
+
+    turn : (a b : ℕ) → (a == b) ≡ false → (b == a) ≡ false
+    turn a b apart = grind (arith, nat_tests, apart)
+
+    settled : list_any (λ e. settles e.event) (more ++ e ∷ []) ≡ false
+    settled = list_any-append (λ e. settles e.event) more (e ∷ []) ∙ ap₂ (λ (a b : Bool). a || b) (settle-none more adds) (settle-none (e ∷ []) one-adds)
+
+    three : (a b c d : Bool) → (a || (b || c)) ≡ true → (a || (b || (c || d))) ≡ true
+    three true b c d was = refl
+    three false true c d was = refl
+    three false false true d was = refl
+    three false false false d was = absurd (cc)
+
+    with_it : (is_unsynced world entries || (is_unsettled entries || list_any (λ e. unsettles e.event) more)) ≡ true
+        → (is_unsynced world entries || (is_unsettled entries || list_any (λ e. unsettles e.event) (more ++ e ∷ []))) ≡ true
+    with_it was =
+        ap (λ (b : Bool). is_unsynced world entries || (is_unsettled entries || b)) (list_any-append (λ e. unsettles e.event) more (e ∷ []))
+        ∙ three (is_unsynced world entries) (is_unsettled entries) (list_any (λ e. unsettles e.event) more) (list_any (λ e. unsettles e.event) (e ∷ [])) was
 
 -- ---- what is filled in
 

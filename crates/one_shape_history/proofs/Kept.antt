@@ -1,0 +1,109 @@
+-- What an array of one shape keeps of its history, in the words that also serve a reshape.
+use Rattle.std.proofs.Common.{◌≡◌, inl, inr, ℕ, ◌||◌, Bool, false, Option, List, ◌++◌, length, sym, ◌∙◌, ap, ap₂, subst}
+use Rattle.std.specs.Prelude.{⊤}
+use Rattle.std.specs.List.{list_any}
+use Rattle.bank.specs.Given.{Given}
+use Rattle.superblocks.specs.declared.members.Members.{Members}
+use Rattle.flat_history.specs.declared.events.Entry.{Entry}
+use Rattle.flat_history.specs.Flat.{length_of, values_of}
+use Rattle.flat_history.specs.Losses.{loses, is_gone_after, is_unsynced, unsettles}
+use Rattle.flat_history.specs.OneShape.{opening_in, is_gone_now, is_unsettled, KeepShape}
+use Rattle.flat_history.specs.Sound.{FillsRight}
+use Rattle.flat_history.specs.World.{World, opening_list}
+use Rattle.flat_history.proofs.OneShapeGone.{after-gone, gone-or_lost}
+use Rattle.flat_history.proofs.OneShapeLegal.{found-in, one_shape-legal}
+use Rattle.shape_views.specs.Views.{Ledger}
+use Rattle.shape_changes.specs.Steady.{IsSafeOver, AreGoneTold}
+use Rattle.views.specs.declared.work.Work.{Work}
+use Rattle.views.specs.Numbers.{is_carried}
+use Rattle.call_entries.proofs.CallLaws.{GivesNone}
+use Rattle.array_kept.specs.Kept.{ledger_now, AreTold, AreFillsRight, IsRecorded, IsCounted, IsSafe}
+use Rattle.array_kept.proofs.LedgerLaws.{told_by}
+use Rattle.kept_history.specs.Recorded.{IsHistoryKept}
+use Rattle.kept_history.specs.Safe.{IsFilledRight, IsSafeHistory}
+use Rattle.kept_history.specs.Safe as history
+use Rattle.kept_history.specs.Told.{told_now}
+use Rattle.kept_history.specs.Told as history_told
+use Rattle.kept_history.proofs.Growing.{takes-lost}
+
+-- ---- what is told
+
+-- a role is gone by the entries alone where it is gone
+pub gone-alike : (world : World) (entries : List Entry) → KeepShape entries → is_gone_now entries ≡ is_gone_after world entries
+gone-alike world entries keep = λ i role. sym (after-gone world role entries keep) i
+
+pub now-alike : (world : World) (work : Work) (entries : List Entry) → KeepShape entries → ledger_now world work entries ≡ told_now world (is_carried work) false entries
+now-alike world work entries keep = ap (λ (gone : ℕ → Bool). record {
+  size = length_of (length (opening_list world)) entries;
+  values = values_of (opening_list world) entries;
+  gone = gone;
+  unclean = is_unsynced world entries || is_unsettled entries;
+  reshaping = false;
+  carried = is_carried work;
+}) (gone-alike world entries keep)
+
+-- so it is in a call whose entries give no role back
+pub told-alike : (world : World) (work : Work) (entries more : List Entry) → KeepShape entries → KeepShape more → GivesNone more
+    → told_by world work entries more ≡ history_told.told_by world (is_carried work) false entries more
+told-alike world work entries more keep still none = ap (λ (gone : ℕ → Bool). record {
+  size = length_of (length (opening_list world)) (entries ++ more);
+  values = values_of (opening_list world) (entries ++ more);
+  gone = gone;
+  unclean = is_unsynced world entries || (is_unsettled entries || list_any (λ e. unsettles e.event) more);
+  reshaping = false;
+  carried = is_carried work;
+}) (λ i role. gone role i)
+  where
+    gone : (role : ℕ) → is_gone_now (entries ++ more) role ≡ (is_gone_after world entries role || list_any (loses world role) more)
+    gone role = gone-or_lost entries more role (none role) ∙ ap₂ (λ (a b : Bool). a || b) (sym (after-gone world role entries keep)) (sym (takes-lost world role more still))
+
+-- each missing role is told gone
+pub gone-told : (world : World) (carried : ℕ → Bool) (reshaping : Bool) (members : Members) (entries : List Entry) → KeepShape entries → AreTold members entries → AreGoneTold (told_now world carried reshaping entries) members
+gone-told world carried reshaping members entries keep told role lt missing = after-gone world role entries keep ∙ told role lt missing
+
+-- ---- what is filled in
+
+pub filled-alike : (world : World) (entries : List Entry) → KeepShape entries → FillsRight world entries → IsFilledRight world entries
+filled-alike world entries keep (inl none) = inl (λ role. takes-lost world role entries keep ∙ none role)
+filled-alike world entries keep (inr fit) = inr fit
+
+pub fills-alike : (world : World) (entries : List Entry) → KeepShape entries → IsFilledRight world entries → FillsRight world entries
+fills-alike world entries keep (inl none) = inl (λ role. sym (takes-lost world role entries keep) ∙ none role)
+fills-alike world entries keep (inr fit) = inr fit
+
+-- ---- the record, and what is safe
+
+counted-alike : (world : World) (members : Members) → IsCounted world members → history.IsCounted world members
+counted-alike world members counted = record { found = counted.found; is = counted.is; events = counted.events }
+
+-- An array of one shape is safe by them, and claims soundness.
+pub safe-alike : (world : World) (given : Given) (members : Members) (work : Work) (entries : List Entry) → KeepShape entries → IsSafe world given members work entries
+    → IsSafeHistory ⊤ world given members (is_carried work) false entries
+safe-alike world given members work entries keep safe = record {
+  past = safe.past;
+  sound = λ claimed opened. safe.sound opened;
+  now = inl (subst (λ (told : Ledger). IsSafeOver world given told members world.tape) (now-alike world work entries keep) safe.now);
+  counted = λ live. counted-alike world members (safe.counted live);
+}
+
+-- whatever it claims
+pub safe-claiming : (claims : Type 0) (world : World) (given : Given) (members : Members) (carried : ℕ → Bool) (reshaping : Bool) (entries : List Entry) → IsSafeHistory ⊤ world given members carried reshaping entries
+    → IsSafeHistory claims world given members carried reshaping entries
+safe-claiming claims world given members carried reshaping entries safe = record {
+  past = safe.past;
+  sound = λ claimed opened. safe.sound tt opened;
+  now = safe.now;
+  counted = safe.counted;
+}
+
+-- And it keeps its history by them, where the list kept its length.
+pub recorded-alike : {size : ℕ} {resync : Option ℕ} {members : Members} {entries : List Entry} (world : World) → IsRecorded world size resync members entries → length_of size entries ≡ size
+    → IsHistoryKept (AreFillsRight world resync members entries) world size entries
+recorded-alike {entries = entries} world was sized = record {
+  begun = was.begun;
+  sized = ap (λ (n : ℕ). length_of n entries) was.opened ∙ sized;
+  legal = λ right. (one_shape-legal world (opening_in world) entries (found-in world) (was.legal right)).0;
+  reshaped = λ right. (one_shape-legal world (opening_in world) entries (found-in world) (was.legal right)).1;
+  ends = was.ends;
+  ended = was.ended;
+}
