@@ -9,8 +9,9 @@ ghost use Rattle.superblocks.specs.Reading.{is_clean, is_reshaping, shape_of, li
 ghost use Rattle.row_io.specs.Rows.{reading_of, present, members_without};
 ghost use Rattle.list_io.specs.Buffers.{buffered, AreDistinct, AreStanding};
 ghost use Rattle.list_io.specs.Writing.{IsWritten, AreDataFrom, HasFull};
+ghost use Rattle.flat_history.specs.Sound.{OpensFit};
 ghost use Rattle.flat_history.specs.World.{World};
-ghost use Rattle.shape_views.specs.Views.{Ledger};
+ghost use Rattle.shape_views.specs.Views.{IsTail, IsTailZero, Ledger};
 ghost use Rattle.shape_views.specs.Windows.{IsOfRegion, IsShown, ListStands};
 ghost use Rattle.shape_changes.specs.Steady.{AreUnlost, IsSafeOver, KeepsSafe, AreGoneTold, AreWritesAllowed};
 ghost use Rattle.shape_changes.specs.Marking.{AreOthersPresent};
@@ -206,7 +207,8 @@ fn write_runs<B: Bank>(
         → IsOfRegion members.old low.now.shape (Contains rows.now) → IsOfRegion members.old high.now.shape (Contains far_rows.now)
         → (low_list low_list' high_list high_list' : ℕ → Sector) → IsWritten low_list low_list' first from.now → IsWritten high_list high_list' first from.now
         → AreDataFrom 0 low.now.shape low_list rows.now buffer.old.items → AreDataFrom 0 high.now.shape high_list far_rows.now far_buffer.old.items
-        → AreWritesAllowed members.old told.values low_list' → AreWritesAllowed members.old told.values high_list' → IsSafeOver world (B.given bank.old) told members.old (B.tape bank.old)
+        → AreWritesAllowed members.old told.values low_list' → AreWritesAllowed members.old told.values high_list'
+        → (OpensFit world → IsTailZero members.old.newest low_list') → (OpensFit world → IsTailZero members.old.newest high_list') → IsSafeOver world (B.given bank.old) told members.old (B.tape bank.old)
         → KeepsSafe world (B.given bank.old) told members.new (B.tape bank.old) (B.tape bank.new) }
     ensures given { B.given bank.new ≡ B.given bank.old }
     ensures counts { NeverFalls (B.faults_of bank.old) (B.faults_of bank.new) }
@@ -288,7 +290,8 @@ pub fn put_list<B: Bank>(
         → ((x : ℕ) → first ≤ x → x < first + length from.now / 512 → IsShown hidden members.old.newest x)
         → ListStands hidden members.old (present (B.given bank.old) (B.tape bank.old)) list
         → AreWhole members.new ⊎ RowsStandTo hidden relied members.old (present (B.given bank.old) (B.tape bank.old)) list
-        → (result.begun ≡ true → AreWritesAllowed members.old told.values list') → IsSafeOver world (B.given bank.old) told members.old (B.tape bank.old)
+        → (result.begun ≡ true → AreWritesAllowed members.old told.values list') → (OpensFit world → (x : ℕ) → IsTail members.old.newest x → ⊥)
+        → IsSafeOver world (B.given bank.old) told members.old (B.tape bank.old)
         → KeepsSafe world (B.given bank.old) told members.new (B.tape bank.old) (B.tape bank.new) }
     ensures given { B.given bank.new ≡ B.given bank.old }
     ensures counts { NeverFalls (B.faults_of bank.old) (B.faults_of bank.new) }

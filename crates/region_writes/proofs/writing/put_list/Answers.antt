@@ -14,7 +14,7 @@ use Rattle.views.proofs.MovedLaws.{moved-then, moved-same, moved-from, grows-the
 use Rattle.views.proofs.LackingLaws.{since-then, in-either}
 use Rattle.views.proofs.LackingLists.{none-of, sectors-whole}
 use Rattle.views.proofs.LackingWrites.{standing-later, others-same}
-use Rattle.views.proofs.SafeStretch.{gone-before, safe-then, allowed-later, region-later, grows-longer, over-at, keeps-from}
+use Rattle.views.proofs.SafeStretch.{gone-before, safe-then, allowed-later, zeros-later, region-later, grows-longer, over-at, keeps-from}
 use Rattle.flat_history.specs.Sound.{OpensFit}
 use Rattle.shape_changes.proofs.Risen.{risen-then, room-first, room-then}
 use Rattle.region_rows.proofs.StretchLaws.{list-short, data-few}
@@ -114,7 +114,7 @@ returns-then-is_some-clause-others g c =
 
 pub returns-then-is_some-clause-safe : goal.returns-then-is_some-clause-safe
 returns-then-is_some-clause-safe g c =
-    λ told world ledger room gone unclean hidden window list list' w shown stands which allowed safe. c.prepare_runs-begun.ensures.safe told world ledger room gone unclean safe
+    λ told world ledger room gone unclean hidden window list list' w shown stands which allowed untailed safe. c.prepare_runs-begun.ensures.safe told world ledger room gone unclean safe
 
 pub write_runs-done-requires-clause-low : goal.write_runs-done-requires-clause-low
 write_runs-done-requires-clause-low g c =
@@ -575,7 +575,7 @@ returns-clause-safe g c =
     let did2 = c.write_runs-done.ensures in
     let tape2 = g.B.Bank.tape c.write_runs-done.new.bank in
     let two : IsMoved given n p = moved-from given given1 n n p did.given refl did2.moved in
-    λ told world ledger room gone unclean hidden window list list' w shown stands which allowed safe.
+    λ told world ledger room gone unclean hidden window list list' w shown stands which allowed untailed safe.
     let low_rows = did.low_rows none in
     let high_rows = did.high_rows none in
     let low_shown : (x : ℕ) → cut.low.first ≤ x → x < cut.low.end → IsShown hidden m.newest x =
@@ -599,6 +599,8 @@ returns-clause-safe g c =
     (subst (λ (l : List ℕ). AreDataFrom 0 cut.high.shape far.chosen l far_buffer) (sym c.as_slice-2.ensures.value) far.read)
     (allowed-later given m n did.moved ledger.values near.chosen' (chosen-allowed m ledger.values cut.low.shape c.args.first c.args.from.now rows buffer list list' near may))
     (allowed-later given m n did.moved ledger.values far.chosen' (chosen-allowed m ledger.values cut.high.shape c.args.first c.args.from.now far_rows far_buffer list list' far may))
+    (λ fit. zeros-later given m n did.moved near.chosen' (λ x tail. absurd (untailed fit x tail)))
+    (λ fit. zeros-later given m n did.moved far.chosen' (λ x tail. absurd (untailed fit x tail)))
     (over-at world given given1 ledger n tape1 did.given one.next)))
 
 pub returns-clause-counts : goal.returns-clause-counts

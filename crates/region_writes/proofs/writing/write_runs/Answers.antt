@@ -12,7 +12,7 @@ use Rattle.views.proofs.MovedLaws.{moved-then, moved-from, grows-then}
 use Rattle.views.proofs.LackingLaws.{since-then, in-either}
 use Rattle.views.proofs.LackingLists.{none-of}
 use Rattle.views.proofs.LackingWrites.{others-then}
-use Rattle.views.proofs.SafeStretch.{gone-before, safe-then, allowed-later, region-later, grows-longer, over-at, keeps-from}
+use Rattle.views.proofs.SafeStretch.{gone-before, safe-then, allowed-later, zeros-later, region-later, grows-longer, over-at, keeps-from}
 use Rattle.flat_history.specs.Sound.{OpensFit}
 use Rattle.shape_changes.proofs.Risen.{risen-then, room-first, room-then}
 use Rattle.region_writes.proofs.RunLaws.{told-as}
@@ -136,8 +136,8 @@ returns-then-is_some-clause-others g c =
 
 pub returns-then-is_some-clause-safe : goal.returns-then-is_some-clause-safe
 returns-then-is_some-clause-safe g c =
-    λ told world ledger room gone unclean dirty region far_region low_list low_list' high_list high_list' w far_w holds far_holds allowed far_allowed safe.
-    c.put_rows-near.ensures.safe told world ledger room gone unclean dirty region low_list low_list' w (λ t. holds) allowed safe
+    λ told world ledger room gone unclean dirty region far_region low_list low_list' high_list high_list' w far_w holds far_holds allowed far_allowed zeros far_zeros safe.
+    c.put_rows-near.ensures.safe told world ledger room gone unclean dirty region low_list low_list' w (λ t. holds) allowed zeros safe
 
 pub returns-clause-moved : goal.returns-clause-moved
 returns-clause-moved g c =
@@ -310,12 +310,12 @@ returns-clause-safe g c =
     let did2 = c.put_rows-far.ensures in
     let tape2 = g.B.Bank.tape c.put_rows-far.new.bank in
     let two : IsMoved given n p = moved-from given given1 n n p did.given refl did2.moved in
-    λ told world ledger room gone unclean dirty region far_region low_list low_list' high_list high_list' w far_w holds far_holds allowed far_allowed safe.
-    let one = did.safe told world ledger (room-first m tape0 tape1 tape2 room (grows-longer did2.grows told)) (gone-before given n p did.moved.placed two ledger gone) unclean dirty region low_list low_list' w (λ t. holds) allowed safe in
+    λ told world ledger room gone unclean dirty region far_region low_list low_list' high_list high_list' w far_w holds far_holds allowed far_allowed zeros far_zeros safe.
+    let one = did.safe told world ledger (room-first m tape0 tape1 tape2 room (grows-longer did2.grows told)) (gone-before given n p did.moved.placed two ledger gone) unclean dirty region low_list low_list' w (λ t. holds) allowed zeros safe in
     safe-then (OpensFit world) world.scope given ledger n p tape0 tape1 tape2 one
     (keeps-from world given given1 ledger p tape1 tape2 did.given
     (did2.safe told world ledger (room-then tape2 told room did.rise) gone unclean (did.clean ∙ dirty) (region-later given m n high.shape (Contains far_rows) did.moved far_region) high_list high_list' far_w (λ t. far_holds)
-    (allowed-later given m n did.moved ledger.values high_list' far_allowed) (over-at world given given1 ledger n tape1 did.given one.next)))
+    (allowed-later given m n did.moved ledger.values high_list' far_allowed) (λ fit. zeros-later given m n did.moved high_list' (far_zeros fit)) (over-at world given given1 ledger n tape1 did.given one.next)))
 
 pub returns-clause-counts : goal.returns-clause-counts
 returns-clause-counts g c =
