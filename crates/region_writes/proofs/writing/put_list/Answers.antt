@@ -41,30 +41,12 @@ prepare_runs-begun-requires-clause-high g c =
 
 pub prepare_runs-begun-requires-clause-low_few : goal.prepare_runs-begun-requires-clause-low_few
 prepare_runs-begun-requires-clause-low_few g c =
-    let m = c.args.members.now in
-    let n = c.prepare_runs-begun.new.members in
-    let given = g.B.Bank.given c.args.bank.now in
-    let given1 = g.B.Bank.given c.prepare_runs-begun.new.bank in
-    let did = c.prepare_runs-begun.ensures in
-    let tape0 = g.B.Bank.tape c.args.bank.now in
-    let tape1 = g.B.Bank.tape c.prepare_runs-begun.new.bank in
-    let cut = c.runs_of-cut.result in
     let are = c.runs_of-cut.ensures in
-    let to = c.args.first + length c.args.from.now / 512 in
     let begins = are.begins in let order = are.high.order in let meet = are.meet in let ends = are.ends in omega (arith, begins, order, meet, ends, c.requires.few)
 
 pub prepare_runs-begun-requires-clause-high_few : goal.prepare_runs-begun-requires-clause-high_few
 prepare_runs-begun-requires-clause-high_few g c =
-    let m = c.args.members.now in
-    let n = c.prepare_runs-begun.new.members in
-    let given = g.B.Bank.given c.args.bank.now in
-    let given1 = g.B.Bank.given c.prepare_runs-begun.new.bank in
-    let did = c.prepare_runs-begun.ensures in
-    let tape0 = g.B.Bank.tape c.args.bank.now in
-    let tape1 = g.B.Bank.tape c.prepare_runs-begun.new.bank in
-    let cut = c.runs_of-cut.result in
     let are = c.runs_of-cut.ensures in
-    let to = c.args.first + length c.args.from.now / 512 in
     let begins = are.begins in let some = are.some in let meet = are.meet in let ends = are.ends in omega (arith, begins, some, meet, ends, c.requires.few)
 
 pub returns-then-is_some-clause-refused : goal.returns-then-is_some-clause-refused
@@ -143,6 +125,13 @@ write_runs-done-requires-clause-high g c =
     let are = c.runs_of-cut.ensures in
     let to = c.args.first + length c.args.from.now / 512 in
     alike-force m.newest n.newest did.moved.reshape did.moved.shape did.moved.size cut.high.shape are.high.force
+
+pub write_runs-done-requires-clause-short : goal.write_runs-done-requires-clause-short
+write_runs-done-requires-clause-short g c =
+    let newest = c.args.members.now.newest in
+    let few = data-few newest c.requires.placed.fit _ (inl refl) in
+    let short = list-short newest _ (inl refl) in
+    omega (arith, few, short, c.requires.within)
 
 pub write_runs-done-requires-clause-free : goal.write_runs-done-requires-clause-free
 write_runs-done-requires-clause-free g c =
