@@ -1,13 +1,13 @@
 //! Writes of the list of an array in a reshape.
 
-ghost use Rattle.std.specs.Prelude.{◌≡◌, ◌⊎◌, ◌+◌, ◌-◌, ◌*◌, ◌/◌, ◌^◌, ◌<◌, ◌≤◌, ℕ, true, false, length, slice_index, Contains, vec_capacity, None, Option, MatchOption, ⊤};
+ghost use Rattle.std.specs.Prelude.{◌≡◌, ◌⊎◌, ◌+◌, ◌-◌, ◌/◌, ◌^◌, ◌<◌, ◌≤◌, ℕ, true, false, length, slice_index, Contains, vec_capacity, None, Option, MatchOption, ⊤};
 ghost use Rattle.bank.specs.Given.{NeverFalls};
 ghost use Rattle.md_base.specs.Sectors.{Sector, IsWhole};
 ghost use Rattle.md_base.specs.declared.places.Span.{Span};
 ghost use Rattle.md_base.specs.declared.status.Role.TheVariants.{Recovering as IsRecovering};
 ghost use Rattle.superblocks.specs.Reading.{is_clean, is_reshaping, shape_of, list_length, role_state};
 ghost use Rattle.row_io.specs.Rows.{reading_of, present, members_without};
-ghost use Rattle.list_io.specs.Buffers.{buffered, AreDistinct, AreStanding};
+ghost use Rattle.list_io.specs.Buffers.{buffered, AreStanding};
 ghost use Rattle.list_io.specs.Writing.{IsWritten, AreDataFrom, HasFull};
 ghost use Rattle.flat_history.specs.World.{World};
 ghost use Rattle.shape_views.specs.Views.{Ledger};
