@@ -1,5 +1,5 @@
 -- Which rows a run touches, and why two runs aren't written.
-use Rattle.std.proofs.Common.{◌≡◌, ◌⊎◌, inl, inr, ℕ, ◌+◌, ◌-◌, ◌*◌, ◌^◌, ◌<◌, ◌≤◌, Bool, true, false, Option, Some, None, is_some, Result, Ok, Err, refl, sym, ◌∙◌, ap, subst, arith}
+use Rattle.std.proofs.Common.{◌≡◌, inl, inr, ℕ, ◌+◌, ◌-◌, ◌*◌, ◌^◌, ◌<◌, ◌≤◌, Bool, true, false, Option, Some, None, is_some, Result, Ok, Err, refl, sym, ◌∙◌, ap, subst, arith}
 use Rattle.std.specs.Prelude.{MatchOption, ⊤}
 use Rattle.std.specs.Result.{is_ok, is_err}
 use Rattle.std.proofs.lemmas.Bool.{cases_lt}
@@ -126,6 +126,11 @@ pub told-never : (A : Type 0) (P : Refusal → Type 0) (found : Option Refusal) 
 told-never A P None never is none = never is
 told-never A P (Some refusal) never is none = absurd (cc)
 
+-- and where none is told, it is so
+pub told-no : (A : Type 0) (P : Refusal → Type 0) (found : Option Refusal) → found ≡ None → MatchOption found A P → A
+told-no A P None none is = is
+told-no A P (Some refusal) none is = absurd (cc)
+
 pub ok-err : {T E : Type 0} (answer : Result T E) → is_ok answer ≡ false → is_err answer ≡ true
 ok-err (Ok done) is = absurd (cc)
 ok-err (Err cause) is = refl
@@ -185,7 +190,7 @@ module _ (m : Members) (relied first to : ℕ) (low high : Run) (are : AreRuns m
       (there.0, there.1, there.2, subst (λ (s : Shape). LacksTooMany s m refusal) (sym there.3) many)
 
   -- each sector's shape does without what is missing
-  each-does : DoesWithout low.shape m → DoesWithout high.shape m → (y : ℕ) → first ≤ y → y < to → DoesWithout (shape_for m.newest y) m
+  pub each-does : DoesWithout low.shape m → DoesWithout high.shape m → (y : ℕ) → first ≤ y → y < to → DoesWithout (shape_for m.newest y) m
   each-does few far y from under = elim (cases_lt y low.end) [
     | inl near ↦ subst (λ (s : Shape). DoesWithout s m) (sym (are.low.one y (let begins = are.begins in omega (arith, begins, from)) near)) few
     | inr past ↦ subst (λ (s : Shape). DoesWithout s m) (sym (are.high.one y (let meet = are.meet in omega (arith, meet, past)) (let ends = are.ends in omega (arith, ends, under)))) far

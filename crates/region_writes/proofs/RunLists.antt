@@ -1,5 +1,5 @@
 -- What the list is behind a write of two runs, and by which list their rows may be written.
-use Rattle.std.proofs.Common.{◌≡◌, ◌⊎◌, inl, inr, ℕ, ◌+◌, ◌-◌, ◌*◌, ◌/◌, ◌<◌, ◌≤◌, ◌==◌, nat_lt, Bool, true, false, if◌then◌else◌, List, [], length, slice_index, Contains, Option, Some, refl, sym, ◌∙◌, ap, subst, arith, eqb-true, eq-eqb}
+use Rattle.std.proofs.Common.{◌≡◌, ◌⊎◌, inl, inr, ℕ, ◌+◌, ◌-◌, ◌/◌, ◌<◌, ◌≤◌, ◌==◌, nat_lt, Bool, true, false, if◌then◌else◌, List, [], length, slice_index, Contains, Option, Some, refl, sym, ◌∙◌, ap, subst, arith, eqb-true, eq-eqb}
 use Rattle.std.specs.Option.{option_map_or}
 use Rattle.std.proofs.lemmas.Bool.{cases_lt}
 use Rattle.std.proofs.lemmas.Bool.Decides.{nat_tests}
@@ -20,7 +20,6 @@ use Rattle.superblocks.specs.Reading.{is_reshaping, shape_of, list_length, role_
 use Rattle.row_io.specs.Rows.{reading_of, held_slot}
 use Rattle.row_io.proofs.Losses.{holder-of}
 use Rattle.list_io.specs.Full.{full_sector, AreWholeIn, RowStands}
-use Rattle.list_io.specs.Buffers.{buffered}
 use Rattle.list_io.specs.Writing.{IsWritten, AreDataFrom, HasFull}
 use Rattle.list_io.proofs.FullLaws.{full-data, full-same}
 use Rattle.flat_history.specs.Stands.{shape_for}
@@ -39,7 +38,7 @@ use Rattle.views.proofs.HeldRows.{held-moved}
 use Rattle.views.proofs.MovedLaws.{moved-then}
 use Rattle.views.proofs.LackingLists.{data-held}
 use Rattle.views.proofs.LackingWrites.{list-in, list-in-is, list-with, list-with-is}
-use Rattle.region_rows.specs.Stretches.{RowsStandTo, relied_rows}
+use Rattle.region_rows.specs.Stretches.{RowsStandTo}
 use Rattle.region_rows.proofs.StretchLaws.{relied-below}
 use Rattle.region_writes.specs.declared.runs.Run.{Run}
 use Rattle.region_writes.specs.Runs.{IsRun, IsRelied, AreRuns, AreRowsOf, AreFull, StayRebuilt, MayBeHidden}

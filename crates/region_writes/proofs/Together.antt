@@ -1,5 +1,5 @@
 -- Sectors of the list that stand in one row are on one side of the position, and all of them are hidden or none.
-use Rattle.std.proofs.Common.{◌≡◌, ◌⊎◌, inl, inr, ℕ, ◌+◌, ◌-◌, ◌*◌, ◌/◌, ◌<◌, ◌≤◌, ◌&&◌, nat_lt, nat_le, min, Bool, true, false, if◌then◌else◌, cond, Option, Some, None, refl, sym, ◌∙◌, ap, subst, arith}
+use Rattle.std.proofs.Common.{◌≡◌, ◌⊎◌, inl, inr, ℕ, ◌+◌, ◌-◌, ◌/◌, ◌<◌, ◌≤◌, ◌&&◌, nat_lt, nat_le, min, Bool, true, false, if◌then◌else◌, Option, Some, None, refl, sym, ◌∙◌, ap, subst, arith}
 use Rattle.std.specs.Int.{◌∣◌}
 use Rattle.std.proofs.lemmas.Bool.{cases_lt}
 use Rattle.std.proofs.lemmas.Bool.Decides.{nat_tests}
@@ -11,7 +11,7 @@ use Rattle.md_base.specs.declared.places.Side.TheVariants.{Old, New}
 use Rattle.md_base.specs.Shapes.{data_disks}
 use Rattle.sb1.specs.declared.sb.Sb.{Sb}
 use Rattle.layout.specs.Layout.{place}
-use Rattle.geometry.specs.Geometry.{unit, list_end, side, window}
+use Rattle.geometry.specs.Geometry.{unit, side, window}
 use Rattle.geometry.specs.Geometry as geometry
 use Rattle.region_laws.specs.Regions.{IsDirected, IsUnderWay}
 use Rattle.region_laws.proofs.RegionLaws.{IsDivided, by-old, by-new, regions-apart, forward-is, backward-is}

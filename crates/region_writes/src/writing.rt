@@ -1,15 +1,16 @@
 //! Writes of the list of an array in a reshape.
 
-ghost use Rattle.std.specs.Prelude.{◌≡◌, ◌⊎◌, ◌+◌, ◌-◌, ◌*◌, ◌/◌, ◌^◌, ◌<◌, ◌≤◌, ℕ, true, false, length, slice_index, Contains, vec_capacity, None, Option, MatchOption, ⊤};
+ghost use Rattle.std.specs.Prelude.{◌≡◌, ◌⊎◌, ◌+◌, ◌-◌, ◌/◌, ◌^◌, ◌<◌, ◌≤◌, ℕ, true, false, length, slice_index, Contains, vec_capacity, None, Option, MatchOption, ⊤};
 ghost use Rattle.bank.specs.Given.{NeverFalls};
 ghost use Rattle.md_base.specs.Sectors.{Sector, IsWhole};
 ghost use Rattle.md_base.specs.declared.places.Span.{Span};
 ghost use Rattle.md_base.specs.declared.status.Role.TheVariants.{Recovering as IsRecovering};
 ghost use Rattle.superblocks.specs.Reading.{is_clean, is_reshaping, shape_of, list_length, role_state};
 ghost use Rattle.row_io.specs.Rows.{reading_of, present, members_without};
-ghost use Rattle.list_io.specs.Buffers.{buffered, AreDistinct, AreStanding};
+ghost use Rattle.list_io.specs.Buffers.{buffered, AreStanding};
 ghost use Rattle.list_io.specs.Writing.{IsWritten, AreDataFrom, HasFull};
 ghost use Rattle.flat_history.specs.Sound.{OpensFit};
+ghost use Rattle.flat_history.specs.Stands.{shape_for};
 ghost use Rattle.flat_history.specs.World.{World};
 ghost use Rattle.shape_views.specs.Views.{IsTail, IsTailZero, Ledger};
 ghost use Rattle.shape_views.specs.Windows.{IsOfRegion, IsShown, ListStands};
@@ -19,7 +20,7 @@ ghost use Rattle.shape_changes.specs.Safety.{HasRoomLeft, IsRisen};
 ghost use Rattle.views.specs.Placed.{AreWhole, IsPlaced, IsInForce};
 ghost use Rattle.views.specs.Rebuilding.{AreSparesFree};
 ghost use Rattle.views.specs.Moving.{Grows, IsMoved};
-ghost use Rattle.views.specs.Lacking.{HaveFailedSince, AreOtherRowsKept, AreBytes, AreRowsRead};
+ghost use Rattle.views.specs.Lacking.{HaveFailedSince, DoesWithout, AreOtherRowsKept, AreBytes, AreRowsRead};
 ghost use Rattle.safe_updates.specs.First.{write_refusal};
 ghost use Rattle.region_rows.specs.Stretches.{RowsStandTo};
 ghost use Rattle.region_writes.specs.Runs.{IsRun, AreRowsOf, AreFull, StayRebuilt, IsListTouched, MayBeHidden, IsListTorn, IsListUnwritten, AreRunsTorn, AreRunsUnwritten};
@@ -134,6 +135,7 @@ fn prepare_runs<B: Bank>(
     ensures high { result.refusal ≡ None → B.tells → AreRowsRead high.now.shape high.now.synced members.old members.new (present (B.given bank.old) (B.tape bank.old)) far_rows.new.items far_buffer.new.items }
     ensures low_rows { result.refusal ≡ None → AreRowsOf low.now members.old.newest.size rows.new.items }
     ensures high_rows { result.refusal ≡ None → AreRowsOf high.now members.old.newest.size far_rows.new.items }
+    ensures does { result.refusal ≡ None → DoesWithout low.now.shape members.new × DoesWithout high.now.shape members.new }
     ensures dirty { result.refusal ≡ None → is_clean members.new.newest ≡ false }
     ensures stays { is_clean members.old.newest ≡ false → is_clean members.new.newest ≡ false }
     ensures rise { IsRisen B.tells members.old members.new (B.tape bank.old) (B.tape bank.new) }
@@ -268,6 +270,7 @@ pub fn put_list<B: Bank>(
     ensures moved { IsMoved (B.given bank.old) members.old members.new }
     ensures failed { HaveFailedSince members.old members.new result.spares (B.faults_of bank.old) (B.faults_of bank.new) }
     ensures refused { MatchOption result.refusal ⊤ (IsListUnwritten relied first (first + length from.now / 512) members.new) }
+    ensures begun { result.begun ≡ true → (x : ℕ) → first ≤ x → x < first + length from.now / 512 → DoesWithout (shape_for members.old.newest x) members.old }
     ensures torn { result.begun ≡ true → MatchOption result.refusal ⊤ (IsListTorn first (first + length from.now / 512) members.new) }
     ensures grows { Grows B.tells (B.tape bank.old) (B.tape bank.new) }
     ensures put { result.refusal ≡ None → B.tells → (hidden : Option Span) → (list list' : ℕ → Sector) → IsWritten list list' first from.now

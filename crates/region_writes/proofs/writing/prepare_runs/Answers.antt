@@ -1,7 +1,6 @@
-use Rattle.std.proofs.Common.{◌≡◌, ◌≤◌, inl, false, List, length, true, refl, sym, ◌∙◌, ap, subst, arith}
+use Rattle.std.proofs.Common.{◌≡◌, ◌≤◌, inl, false, List, length, refl, sym, subst, arith}
 use Rattle.bank.specs.Given.{Given}
 use Rattle.bank.specs.declared.bank.Operation.{Operation}
-use Rattle.sb1.specs.declared.sb.Sb.{Sb}
 use Rattle.superblocks.specs.declared.members.Members.{Members}
 use Rattle.superblocks.specs.Reading.{is_clean}
 use Rattle.row_io.specs.Rows.{present}
@@ -17,7 +16,7 @@ use Rattle.views.proofs.SafeStretch.{safe-then, safe-lost, over-at, keeps-from}
 use Rattle.flat_history.specs.Sound.{OpensFit}
 use Rattle.shape_changes.specs.Marking.{AreOthersPresent}
 use Rattle.shape_changes.proofs.Risen.{risen-then, risen-lost, room-then}
-use Rattle.region_writes.proofs.RunLaws.{told-as, told-never}
+use Rattle.region_writes.proofs.RunLaws.{told-as, told-never, told-no}
 use Rattle.region_writes.proofs.writing.prepare_runs.Goals as goal
 
 -- the reads make no operation
@@ -100,6 +99,17 @@ returns-then-not-read-clause-high_rows g c =
 
 pub returns-then-not-read-clause-dirty : goal.returns-then-not-read-clause-dirty
 returns-then-not-read-clause-dirty g c =
+    let m = c.args.members.now in
+    let n = c.read_runs-read.new.members in
+    let given = g.B.Bank.given c.args.bank.now in
+    let given1 = g.B.Bank.given c.read_runs-read.new.bank in
+    let did = c.read_runs-read.ensures in
+    let tape0 = g.B.Bank.tape c.args.bank.now in
+    let tape1 = g.B.Bank.tape c.read_runs-read.new.bank in
+    λ none. absurd (told-never _ _ c.unwritten_runs.result (did.unread c.if-not-read.true) c.unwritten_runs.ensures none)
+
+pub returns-then-not-read-clause-does : goal.returns-then-not-read-clause-does
+returns-then-not-read-clause-does g c =
     let m = c.args.members.now in
     let n = c.read_runs-read.new.members in
     let given = g.B.Bank.given c.args.bank.now in
@@ -366,3 +376,6 @@ returns-clause-safe g c =
 pub returns-clause-counts : goal.returns-clause-counts
 returns-clause-counts g c =
     λ s. let one = c.read_runs-read.ensures.counts s in let two = c.raise-spares.ensures.counts s in omega (arith, one, two)
+
+pub returns-clause-does : goal.returns-clause-does
+returns-clause-does g c = λ none. told-no _ _ c.too_many_runs.result none c.too_many_runs.ensures

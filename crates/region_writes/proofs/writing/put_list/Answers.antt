@@ -1,4 +1,4 @@
-use Rattle.std.proofs.Common.{◌≡◌, ◌⊎◌, inl, inr, ◌+◌, ◌-◌, ◌/◌, ◌<◌, ◌≤◌, ℕ, List, length, refl, sym, ◌∙◌, subst, arith}
+use Rattle.std.proofs.Common.{◌⊎◌, inl, ◌+◌, ◌-◌, ◌/◌, ◌<◌, ◌≤◌, ℕ, List, length, refl, sym, ◌∙◌, subst, arith}
 use Rattle.std.specs.Prelude.{Contains, slice_index, None}
 use Rattle.bank.specs.Given.{Given}
 use Rattle.row_io.specs.Rows.{reading_of, present}
@@ -10,6 +10,7 @@ use Rattle.views.specs.Moving.{IsMoved}
 use Rattle.views.specs.Rebuilding.{AreSparesFree}
 use Rattle.views.specs.Lacking.{AreOtherRowsKept}
 use Rattle.views.proofs.Fit.{alike-force}
+use Rattle.views.proofs.HeldRows.{shape-without-before}
 use Rattle.views.proofs.MovedLaws.{moved-then, moved-same, moved-from, grows-then}
 use Rattle.views.proofs.LackingLaws.{since-then, in-either}
 use Rattle.views.proofs.LackingLists.{none-of, sectors-whole}
@@ -19,7 +20,7 @@ use Rattle.flat_history.specs.Sound.{OpensFit}
 use Rattle.shape_changes.proofs.Risen.{risen-then, room-first, room-then}
 use Rattle.region_rows.proofs.StretchLaws.{list-short, data-few}
 use Rattle.region_writes.specs.Runs.{AreRowsOf, AreFull, StayRebuilt, IsListTouched}
-use Rattle.region_writes.proofs.RunLaws.{told-as, runs-apart, runs-torn, runs-unwritten, touched-low, touched-high, run-region}
+use Rattle.region_writes.proofs.RunLaws.{told-as, each-does, runs-apart, runs-torn, runs-unwritten, touched-low, touched-high, run-region}
 use Rattle.region_writes.proofs.RunLists.{others-kept, list-written, rows-written, rebuilt-written, choose, chosen-allowed}
 use Rattle.region_writes.proofs.WriteLaws.{some-none, runs-alike}
 use Rattle.region_writes.proofs.writing.put_list.Goals as goal
@@ -41,30 +42,12 @@ prepare_runs-begun-requires-clause-high g c =
 
 pub prepare_runs-begun-requires-clause-low_few : goal.prepare_runs-begun-requires-clause-low_few
 prepare_runs-begun-requires-clause-low_few g c =
-    let m = c.args.members.now in
-    let n = c.prepare_runs-begun.new.members in
-    let given = g.B.Bank.given c.args.bank.now in
-    let given1 = g.B.Bank.given c.prepare_runs-begun.new.bank in
-    let did = c.prepare_runs-begun.ensures in
-    let tape0 = g.B.Bank.tape c.args.bank.now in
-    let tape1 = g.B.Bank.tape c.prepare_runs-begun.new.bank in
-    let cut = c.runs_of-cut.result in
     let are = c.runs_of-cut.ensures in
-    let to = c.args.first + length c.args.from.now / 512 in
     let begins = are.begins in let order = are.high.order in let meet = are.meet in let ends = are.ends in omega (arith, begins, order, meet, ends, c.requires.few)
 
 pub prepare_runs-begun-requires-clause-high_few : goal.prepare_runs-begun-requires-clause-high_few
 prepare_runs-begun-requires-clause-high_few g c =
-    let m = c.args.members.now in
-    let n = c.prepare_runs-begun.new.members in
-    let given = g.B.Bank.given c.args.bank.now in
-    let given1 = g.B.Bank.given c.prepare_runs-begun.new.bank in
-    let did = c.prepare_runs-begun.ensures in
-    let tape0 = g.B.Bank.tape c.args.bank.now in
-    let tape1 = g.B.Bank.tape c.prepare_runs-begun.new.bank in
-    let cut = c.runs_of-cut.result in
     let are = c.runs_of-cut.ensures in
-    let to = c.args.first + length c.args.from.now / 512 in
     let begins = are.begins in let some = are.some in let meet = are.meet in let ends = are.ends in omega (arith, begins, some, meet, ends, c.requires.few)
 
 pub returns-then-is_some-clause-refused : goal.returns-then-is_some-clause-refused
@@ -143,6 +126,13 @@ write_runs-done-requires-clause-high g c =
     let are = c.runs_of-cut.ensures in
     let to = c.args.first + length c.args.from.now / 512 in
     alike-force m.newest n.newest did.moved.reshape did.moved.shape did.moved.size cut.high.shape are.high.force
+
+pub write_runs-done-requires-clause-short : goal.write_runs-done-requires-clause-short
+write_runs-done-requires-clause-short g c =
+    let newest = c.args.members.now.newest in
+    let few = data-few newest c.requires.placed.fit _ (inl refl) in
+    let short = list-short newest _ (inl refl) in
+    omega (arith, few, short, c.requires.within)
 
 pub write_runs-done-requires-clause-free : goal.write_runs-done-requires-clause-free
 write_runs-done-requires-clause-free g c =
@@ -503,6 +493,26 @@ returns-clause-good g c =
     rows-written given m n p did.moved two c.requires.placed (present given tape0) (present given tape1) (present given tape2) (did.others told) c.args.relied c.args.first c.args.from.now cut.low cut.high are
     rows buffer far_rows far_buffer (did.low_rows none) (did.high_rows none) (did.low none told) (did.high none told) kept low_full high_full hidden list list' w
     (λ x low high. sectors-whole c.args.from.now c.requires.from small (x - c.args.first) (omega (arith, low, high))) shown stands
+
+pub returns-clause-begun : goal.returns-clause-begun
+returns-clause-begun g c =
+    let m = c.args.members.now in
+    let n = c.prepare_runs-begun.new.members in
+    let given = g.B.Bank.given c.args.bank.now in
+    let given1 = g.B.Bank.given c.prepare_runs-begun.new.bank in
+    let did = c.prepare_runs-begun.ensures in
+    let tape0 = g.B.Bank.tape c.args.bank.now in
+    let tape1 = g.B.Bank.tape c.prepare_runs-begun.new.bank in
+    let cut = c.runs_of-cut.result in
+    let are = c.runs_of-cut.ensures in
+    let to = c.args.first + length c.args.from.now / 512 in
+    let none = none-of c.prepare_runs-begun.result.refusal (sym c.is_some.ensures ∙ c.if-is_some.false) in
+    let rows = c.prepare_runs-begun.new.rows.items in
+    let far_rows = c.prepare_runs-begun.new.far_rows.items in
+    let buffer = c.prepare_runs-begun.new.buffer.items in
+    let far_buffer = c.prepare_runs-begun.new.far_buffer.items in
+    let does = did.does none in
+    λ begun. each-does m c.args.relied c.args.first to cut.low cut.high are (shape-without-before given m n did.moved cut.low.shape does.0) (shape-without-before given m n did.moved cut.high.shape does.1)
 
 pub returns-clause-dirty : goal.returns-clause-dirty
 returns-clause-dirty g c =

@@ -1,4 +1,4 @@
-use Rattle.std.proofs.Common.{◌≡◌, ℕ, ◌<◌, true, refl, sym, ◌∙◌, ap, subst, arith}
+use Rattle.std.proofs.Common.{◌≡◌, ℕ, ◌<◌, refl, sym, ◌∙◌, ap, subst, arith}
 use Rattle.std.specs.Prelude.{bit_or, Contains}
 use Rattle.bank.specs.Given.{Given}
 use Rattle.bank.specs.Tape.{Contents}
@@ -10,7 +10,7 @@ use Rattle.list_io.specs.Buffers.{buffered, AreRead}
 use Rattle.list_io.proofs.BufferLaws.{data_read}
 use Rattle.list_io.proofs.ListLaws.{present_same}
 use Rattle.list_io.proofs.LossLaws.{members_then}
-use Rattle.views.specs.Placed.{IsPlaced, AreLost, IsInForce}
+use Rattle.views.specs.Placed.{AreLost, IsInForce}
 use Rattle.views.specs.Moving.{IsMoved}
 use Rattle.views.proofs.MovedLaws.{moved-lost, moved-then}
 use Rattle.views.proofs.Fit.{has-rows}

@@ -1,5 +1,5 @@
-use Rattle.std.proofs.Common.{◌≡◌, ◌⊎◌, inl, inr, ◌<◌, ℕ, refl, sym, ◌∙◌, subst, arith}
-use Rattle.std.specs.Prelude.{Contains, slice_index, length}
+use Rattle.std.proofs.Common.{◌⊎◌, inl, inr, ◌<◌, ℕ, refl, sym, ◌∙◌, subst, arith}
+use Rattle.std.specs.Prelude.{Contains, slice_index}
 use Rattle.bank.specs.Given.{Given}
 use Rattle.row_io.specs.Rows.{reading_of, present}
 use Rattle.list_io.specs.Buffers.{buffered, AreStanding}
