@@ -2,9 +2,7 @@
 
 use crate::members::{Made, are_fit, is_under_way, members_of};
 use grow_asked::left::{next_window, stripes_in};
-use grow_asked::{
-    GrowPlan, PhasesLeft, Window, judge_grow, plan_of, planned_left, reshape_left,
-};
+use grow_asked::{GrowPlan, PhasesLeft, Window, judge_grow, plan_of, planned_left, reshape_left};
 use md_base::{BusyKind, Phase, Refusal, Shape, ShapeField, Wish, WishedLayout};
 use std::process::Abort;
 use std::test::Fail;
@@ -227,11 +225,15 @@ fn left(rt: &impl Abort, members: &Members, copied: Option<u64>) -> u64 {
     match (next_window(members), copied) {
         (Some(span), Some(copied)) => {
             assert!(rt; copied <= stripes_in(members, &span));
-            reshape_left(members, &Window::Entered {
-                span,
-                copied,
-                sectioned: true,
-            }, 0)
+            reshape_left(
+                members,
+                &Window::Entered {
+                    span,
+                    copied,
+                    sectioned: true,
+                },
+                0,
+            )
         }
         _ => reshape_left(members, &Window::Closed, 0),
     }

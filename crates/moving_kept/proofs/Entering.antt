@@ -78,9 +78,10 @@ module _ (tells : Type 0) (given : Given) (tape tape' : List Operation) (scope :
       (list-alike old.newest new.newest moved.reshape moved.shape moved.size) (ap (λ (s : Shape). s.level) moved.shape) did.clean
       (record {
         window = (
-            window-alike old.newest new.newest moved.reshape moved.shape moved.size ∙ did.next,
-            omega arith,
-            λ is. critical (sym (critical-alike old.newest new.newest moved.reshape moved.shape moved.size span) ∙ is));
+          window-alike old.newest new.newest moved.reshape moved.shape moved.size ∙ did.next,
+          omega arith,
+          λ is. critical (sym (critical-alike old.newest new.newest moved.reshape moved.shape moved.size span) ∙ is),
+        );
         through = λ some. absurd (omega (arith, some));
         few = omega arith;
       })
