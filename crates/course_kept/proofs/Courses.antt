@@ -1,5 +1,5 @@
 -- The course of a reshape, through its steps.
-use Rattle.std.proofs.Common.{◌≡◌, ◌⊎◌, inl, inr, ℕ, zero, suc, ◌+◌, ◌-◌, ◌*◌, ◌/◌, ◌<◌, ◌≤◌, ◌&&◌, ◌^◌, nat_le, nat_lt, Bool, true, false, not, cond, List, Option, Some, None, refl, sym, ◌∙◌, ap, subst, arith}
+use Rattle.std.proofs.Common.{◌≡◌, ◌⊎◌, inl, inr, ℕ, zero, ◌+◌, ◌-◌, ◌*◌, ◌/◌, ◌<◌, ◌≤◌, ◌&&◌, ◌^◌, nat_le, nat_lt, Bool, true, false, cond, Option, Some, None, refl, sym, ◌∙◌, ap, subst, arith}
 use Rattle.std.specs.Prelude.{min}
 use Rattle.std.proofs.lemmas.Bool.{and_parts, eqb-true, cases_lt}
 use Rattle.std.proofs.lemmas.Bool.Decides.{nat_tests}
@@ -12,7 +12,7 @@ use Rattle.md_base.specs.declared.status.Role.TheVariants.{Whole, Recovering, Mi
 use Rattle.md_base.specs.Sectors.{Sector, zero_sector}
 use Rattle.md_base.specs.Shapes.{stripe_sectors, data_disks, is_multiple, has_slot}
 use Rattle.bank.specs.Given.{Given}
-use Rattle.bank.specs.Tape.{Contents, IsIn}
+use Rattle.bank.specs.Tape.{IsIn}
 use Rattle.sb1.specs.declared.sb.Sb.{Sb}
 use Rattle.layout.specs.Layout.{place}
 use Rattle.geometry.specs.Geometry.{ceiling, stripes, rows, zeroed_stripes, is_critical}
@@ -22,12 +22,10 @@ use Rattle.superblocks.specs.Reading.{Scope, is_reshaping, is_backward, shape_of
 use Rattle.superblocks.specs.Update.{own_in}
 use Rattle.row_io.specs.Rows.{reading_of, held_slot}
 use Rattle.list_io.specs.Full.{RowStands}
-use Rattle.backup.specs.Section.{is_header_of, names_span, has_section}
-use Rattle.flat_history.specs.Stands.{covers}
+use Rattle.backup.specs.Section.{names_span, has_section}
 use Rattle.flat_history.specs.ActiveSection.{section_for}
 use Rattle.region_laws.specs.Regions.{IsDirected}
-use Rattle.shape_views.specs.Regions.{backup_of, open_by, place_by, ArePlaced, AreShapesFit}
-use Rattle.shape_views.specs.Views.{Disk, IsTail}
+use Rattle.shape_views.specs.Regions.{backup_of, open_by, place_by}
 use Rattle.shape_views.specs.Windows.{IsShown, ListStands, RowsStand, moved_past}
 use Rattle.shape_views.proofs.Headers.{backup-is, names-one, span-same}
 use Rattle.shape_views.proofs.Tails.{no-tail, some-listed, row-within, moved-tails}
@@ -38,18 +36,16 @@ use Rattle.shape_ends.proofs.EndLaws.{places-alike-stand, begun-alike}
 use Rattle.shape_ends.proofs.GrownLaws.{zero-is-sector}
 use Rattle.geometry.proofs.Rows.{rows_hold}
 use Rattle.views.specs.Placed.{IsPlaced}
-use Rattle.views.specs.Moving.{IsMoved}
 use Rattle.views.specs.Lacking.{IsOfStripe}
 use Rattle.views.proofs.LackingWrites.{others-same}
-use Rattle.window_rows.specs.Copies.{tail_of, IsZeroIn, IsCopied}
+use Rattle.window_rows.specs.Copies.{tail_of}
 use Rattle.window_steps.proofs.CopyLaws.{open-alike}
 use Rattle.window_steps.proofs.PastLaws.{header-alike, past-placed}
-use Rattle.course_kept.specs.declared.course.Course.{Course}
 use Rattle.grow_asked.specs.declared.window.Window.{Window}
 use Rattle.grow_asked.specs.declared.window.Window.TheVariants.{Closed, Entered, Unsure}
-use Rattle.course_kept.specs.Course.{IsOfStripes, IsZeroedRow, hidden_in, IsStoredAs, StandsInCourse, past_stripe}
+use Rattle.course_kept.specs.Course.{IsOfStripes, hidden_in, IsStoredAs, StandsInCourse, past_stripe}
 use Rattle.course_kept.specs.Laws.{BeginsStand, EntersStand, CoursesMove, CopiesGoOn, CoursesAreCopied, WindowsAreCopied, RecordsClose, ZeroesGoOn, ZeroesAreAll, StoredMove, OpenHeadersFit, entered, closed, next_stripe}
-use Rattle.course_kept.proofs.Frames.{AreBeside, stands-on, past-alike}
+use Rattle.course_kept.proofs.Frames.{stands-on, past-alike}
 
 -- ---- members that lost slots
 

@@ -1,7 +1,6 @@
 -- What stands in a course stands on where other rows are written, on members that may have lost slots.
-use Rattle.std.proofs.Common.{◌≡◌, ℕ, ◌+◌, ◌/◌, ◌≤◌, ◌<◌, ◌-◌, List, Option, Some, sym, ◌∙◌, ap, subst}
+use Rattle.std.proofs.Common.{◌≡◌, ℕ, ◌+◌, ◌/◌, ◌≤◌, ◌<◌, ◌-◌, List, sym, ◌∙◌, ap, subst}
 use Rattle.md_base.specs.declared.places.Shape.{Shape}
-use Rattle.md_base.specs.declared.places.Span.{Span}
 use Rattle.md_base.specs.Sectors.{Sector, zero_sector}
 use Rattle.md_base.specs.Shapes.{stripe_sectors}
 use Rattle.bank.specs.Given.{Given}
@@ -10,8 +9,8 @@ use Rattle.sb1.specs.declared.sb.Sb.{Sb}
 use Rattle.layout.specs.Layout.{place, stripe_of}
 use Rattle.geometry.specs.Geometry.{ceiling}
 use Rattle.superblocks.specs.declared.members.Members.{Members}
-use Rattle.superblocks.specs.Reading.{is_backward, shape_of, final_shape, list_length, data_offset_of}
-use Rattle.row_io.specs.Rows.{reading_of, held_slot}
+use Rattle.superblocks.specs.Reading.{shape_of, final_shape}
+use Rattle.row_io.specs.Rows.{reading_of}
 use Rattle.row_io.proofs.Losses.{holder-of}
 use Rattle.list_io.specs.Full.{RowStands}
 use Rattle.flat_history.specs.Stands.{shape_for}

@@ -1,17 +1,16 @@
 -- How far a reshape has come: its window, what headers a stop leaves of it in the backup, and the rows that stand by the new shape already.
-use Rattle.std.specs.Prelude.{◌≡◌, ◌⊎◌, ℕ, ◌+◌, ◌*◌, ◌/◌, ◌<◌, ◌≤◌, Bool, true, false, List, Option, Some, None, ⊤}
+use Rattle.std.specs.Prelude.{◌≡◌, ℕ, ◌+◌, ◌*◌, ◌/◌, ◌<◌, ◌≤◌, true, false, List, Option, Some, None, ⊤}
 use Rattle.md_base.specs.declared.places.Shape.{Shape}
 use Rattle.md_base.specs.declared.places.Span.{Span}
 use Rattle.md_base.specs.Sectors.{Sector, zero_sector}
 use Rattle.md_base.specs.Shapes.{stripe_sectors}
-use Rattle.bank.specs.Tape.{Contents, IsIn}
+use Rattle.bank.specs.Tape.{Contents}
 use Rattle.sb1.specs.declared.sb.Sb.{Sb}
 use Rattle.geometry.specs.Geometry.{ceiling, stripes, is_critical, zeroed_stripes}
 use Rattle.superblocks.specs.declared.members.Members.{Members}
 use Rattle.superblocks.specs.Reading.{Scope, is_backward, shape_of, final_shape, list_length, next_window}
 use Rattle.row_io.specs.Rows.{reading_of}
 use Rattle.list_io.specs.Full.{RowStands}
-use Rattle.shape_views.specs.Regions.{backup_of, open_by}
 use Rattle.shape_views.specs.Views.{AreHeadersFit, Disk}
 use Rattle.shape_views.specs.Windows.{HasNoSection, ListStands, RowsStand, AreTailsStanding}
 use Rattle.shape_views.specs.Backups.{IsOpenUnderAll, IsOpenOrNot}

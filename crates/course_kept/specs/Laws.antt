@@ -1,5 +1,5 @@
 -- What a step makes of the course of a reshape, by what its call leaves: on members that lost slots, with a stripe copied, recorded or zeroed.
-use Rattle.std.specs.Prelude.{◌≡◌, ◌⊎◌, ℕ, ◌+◌, ◌/◌, ◌<◌, Bool, true, false, List, Some, None}
+use Rattle.std.specs.Prelude.{◌≡◌, ℕ, ◌+◌, ◌/◌, ◌<◌, Bool, true, false, List, Some, None}
 use Rattle.md_base.specs.declared.places.Span.{Span}
 use Rattle.md_base.specs.Sectors.{Sector, zero_sector}
 use Rattle.md_base.specs.Shapes.{stripe_sectors}
@@ -22,7 +22,7 @@ use Rattle.reshape_ends.specs.Finished.{IsZeroBehind}
 use Rattle.views.specs.Placed.{IsPlaced}
 use Rattle.views.specs.Moving.{IsMoved}
 use Rattle.views.specs.Lacking.{IsOfStripe, AreOtherRowsKept}
-use Rattle.window_rows.specs.Copies.{tail_of, HasWindow, IsRoomFor, IsZeroIn, IsCopied}
+use Rattle.window_rows.specs.Copies.{tail_of, HasWindow, IsRoomFor, IsCopied}
 use Rattle.window_steps.specs.Copying.{AreHeadersKept}
 use Rattle.window_steps.specs.Zeroing.{IsThrough}
 use Rattle.course_kept.specs.declared.course.Course.{Course}

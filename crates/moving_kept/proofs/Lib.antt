@@ -5,3 +5,4 @@ pub mod Steps
 pub mod MoreSteps
 pub mod Staying
 pub mod Entering
+pub mod Adding

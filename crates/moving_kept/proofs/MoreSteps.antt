@@ -1,9 +1,7 @@
 -- More steps of a reshape under way: a stripe behind the list is zeroed, a window is recorded; and steps that are refused.
-use Rattle.std.proofs.Common.{◌≡◌, ◌≢◌, ◌⊎◌, inl, inr, ℕ, ◌+◌, ◌<◌, ◌≤◌, ◌==◌, Bool, true, false, List, [], ◌∷◌, ◌++◌, length, refl, sym, ◌∙◌, ap, subst, arith}
-use Rattle.std.specs.Prelude.{IsFalse, IfSome, ⊤}
+use Rattle.std.proofs.Common.{◌≡◌, ◌≢◌, ℕ, ◌+◌, ◌<◌, ◌≤◌, ◌==◌, Bool, true, List, [], ◌∷◌, ◌++◌, length, refl, sym, ap, subst, arith}
+use Rattle.std.specs.Prelude.{IsFalse, ⊤}
 use Rattle.md_base.specs.Sectors.{Sector, zero_sector}
-use Rattle.md_base.specs.Shapes.{has_slot}
-use Rattle.md_base.specs.declared.answers.Refusal.{Refusal}
 use Rattle.md_base.specs.declared.answers.Who.{Who}
 use Rattle.md_base.specs.declared.places.Shape.{Shape}
 use Rattle.md_base.specs.declared.places.Span.{Span}
@@ -12,11 +10,11 @@ use Rattle.bank.specs.Given.{Given}
 use Rattle.bank.specs.Tape.{IsIn, disk}
 use Rattle.geometry.specs.Geometry.{stripes, zeroed_stripes}
 use Rattle.superblocks.specs.declared.members.Members.{Members}
-use Rattle.superblocks.specs.Reading.{Scope, is_clean, is_backward, shape_of, final_shape, list_length, next_window, role_count}
-use Rattle.row_io.specs.Rows.{reading_of, present, is_missing}
+use Rattle.superblocks.specs.Reading.{Scope, is_clean, is_backward, shape_of, final_shape, list_length, role_count}
+use Rattle.row_io.specs.Rows.{reading_of, present}
 use Rattle.list_io.specs.Full.{RowStands}
 use Rattle.flat_history.specs.declared.events.Entry.{Entry}
-use Rattle.flat_history.specs.declared.events.Event.TheVariants.{Refused, Step}
+use Rattle.flat_history.specs.declared.events.Event.TheVariants.{Step}
 use Rattle.flat_history.specs.declared.events.StepKind.TheVariants.{Checkpointed as RecordsWindow, Zeroed as ZeroesStripe}
 use Rattle.flat_history.specs.Flat.{now, length_of, values_of}
 use Rattle.flat_history.specs.Plain.{entries_of}
@@ -28,9 +26,8 @@ use Rattle.shape_views.specs.Windows.{HasNoSection, moved_past}
 use Rattle.shape_changes.specs.Marking.{AreOthersPresent}
 use Rattle.shape_changes.specs.Safety.{HasRoomLeft, IsRisen}
 use Rattle.shape_changes.specs.Steady.{IsMoreTold, IsSafeOver, KeepsSafe, AreGoneTold, IsUncleanTold}
-use Rattle.shape_ends.specs.Grown.{IsZeroPast}
 use Rattle.views.specs.Moving.{Grows, IsMoved}
-use Rattle.views.specs.Lacking.{IsOfStripe, AreTooMany, AreOtherRowsKept}
+use Rattle.views.specs.Lacking.{IsOfStripe, AreOtherRowsKept}
 use Rattle.views.proofs.Fit.{list-alike}
 use Rattle.views.proofs.HeldRows.{without-before}
 use Rattle.call_entries.specs.Losing.{losses_of}
@@ -45,7 +42,7 @@ use Rattle.kept_history.specs.Safe.{world_in}
 use Rattle.kept_history.specs.Told.{told_now}
 use Rattle.kept_history.proofs.Lists.{newest-in}
 use Rattle.grow_asked.specs.declared.window.Window.TheVariants.{Closed}
-use Rattle.course_kept.specs.Course.{IsCourseOf, IsStored, past_stripe}
+use Rattle.course_kept.specs.Course.{IsCourseOf, past_stripe}
 use Rattle.course_kept.specs.Laws.{closed, entered, IsWindowCopied}
 use Rattle.course_kept.proofs.Courses.{zeroes-go-on, stored-moves, windows-copied, records-close}
 use Rattle.moving_kept.specs.Moving.{HasListInCourse, IsMoving}

@@ -1,6 +1,6 @@
 -- A call that leaves the list as it is, and enters losses and one event behind them.
 use Rattle.std.proofs.Common.{◌≡◌, ◌⊎◌, inl, inr, ℕ, ◌<◌, ◌≤◌, ◌==◌, ◌&&◌, ◌||◌, Bool, true, false, Option, List, [], ◌∷◌, ◌++◌, length, refl, sym, ◌∙◌, ap, subst, arith, append_assoc, append-nil}
-use Rattle.std.specs.Prelude.{IsFalse, IsTrue, IfSome, fold, slice_index_or, ⊤}
+use Rattle.std.specs.Prelude.{IsFalse, IfSome, fold, slice_index_or, ⊤}
 use Rattle.std.specs.List.{list_any}
 use Rattle.std.specs.Option.{option_map_or}
 use Rattle.std.proofs.lemmas.List.Sums.{fold-append}
@@ -18,10 +18,9 @@ use Rattle.flat_history.specs.declared.events.Event.{Event}
 use Rattle.flat_history.specs.declared.events.Event.TheVariants.{Lost, SpareLost}
 use Rattle.flat_history.specs.declared.events.LostCause.TheVariants.{Fault}
 use Rattle.flat_history.specs.Epochs.{HasRoomForEvents, OpensAlike}
-use Rattle.flat_history.specs.Flat.{now, values_of, values_after, length_of}
-use Rattle.flat_history.specs.Growing.{grown}
+use Rattle.flat_history.specs.Flat.{now, values_of, values_after}
 use Rattle.flat_history.specs.Legal.{told_left, level_at, level_after, MayBeInner, IsInnerOrLast, IsLegalEvent}
-use Rattle.flat_history.specs.Losses.{is_gone_after, is_unsynced, loses, unsettles, is_resync_end}
+use Rattle.flat_history.specs.Losses.{is_gone_after, is_unsynced, loses}
 use Rattle.flat_history.specs.OneShape.{is_lost, is_unsettled}
 use Rattle.flat_history.specs.Plain.{entries_of}
 use Rattle.flat_history.specs.Sound.{OpensFit}
@@ -34,13 +33,13 @@ use Rattle.shape_changes.specs.Steady.{IsMoreTold, IsSafeNow, IsSafeOver, KeepsS
 use Rattle.views.specs.Moving.{Grows}
 use Rattle.views.proofs.SoundViews.{throughout-kept}
 use Rattle.call_entries.specs.Losing.{losses_of}
-use Rattle.call_entries.proofs.CallLaws.{AreLossEvents, losses-are, told-losses, last_end-behind, values-losses, length-losses}
+use Rattle.call_entries.proofs.CallLaws.{AreLossEvents, losses-are, told-losses, last_end-behind, values-losses}
 use Rattle.call_entries.proofs.StepLaws.{faults-are}
 use Rattle.call_entries.proofs.LosingLaws.{entries-both}
-use Rattle.kept_history.specs.Recorded.{IsHistoryKept, IsLegalCall, IsReshapedCall, IsCallGoing, MayFollow, entry_of, ends_reshape, gives_some}
+use Rattle.kept_history.specs.Recorded.{IsHistoryKept, IsLegalCall, IsCallGoing, entry_of, ends_reshape, gives_some}
 use Rattle.kept_history.specs.Safe.{world_in, IsFilledRight, IsSafeHistory}
 use Rattle.kept_history.specs.Told.{told_now, told_by}
-use Rattle.kept_history.proofs.Growing.{reading-grown, opening-grown, fit-grown, gone-grown, takes-grown, unsynced-grown, now-grown, alike-before, room-before, room-now}
+use Rattle.kept_history.proofs.Growing.{reading-grown, opening-grown, fit-grown, gone-grown, takes-grown, now-grown, alike-before, room-before, room-now}
 use Rattle.kept_history.proofs.Tests.{none-before}
 use Rattle.kept_history.proofs.Ledgers.{more-then, any-gone}
 use Rattle.kept_history.proofs.Longer.{regains-none}
@@ -64,7 +63,7 @@ pub record IsQuiet (event : Event) : Type 0 where
 -- ---- losses
 
 -- losses are legal before whatever else a call enters
-legal-losses : (world : World) (before : List Entry) (who : Who) (end : ℕ) (xs tail : List Event) → AreLossEvents xs → IsLegalCall world (before ++ entries_of who end xs) who end tail
+pub legal-losses : (world : World) (before : List Entry) (who : Who) (end : ℕ) (xs tail : List Event) → AreLossEvents xs → IsLegalCall world (before ++ entries_of who end xs) who end tail
     → IsLegalCall world before who end (xs ++ tail)
 legal-losses world before who end [] tail are call = subst (λ (l : List Entry). IsLegalCall world l who end tail) (append-nil before) call
 legal-losses world before who end (Lost role Fault ∷ xs) tail are call = (
@@ -90,24 +89,24 @@ legal-losses world before who end (SpareLost slot ∷ xs) tail are call = (
 legal-losses world before who end (event ∷ xs) tail are call = absurd are
 
 -- and none of them ends a reshape
-ends-losses : (xs tail : List Event) → AreLossEvents xs → list_any ends_reshape tail ≡ false → list_any ends_reshape (xs ++ tail) ≡ false
+pub ends-losses : (xs tail : List Event) → AreLossEvents xs → list_any ends_reshape tail ≡ false → list_any ends_reshape (xs ++ tail) ≡ false
 ends-losses [] tail are none = none
 ends-losses (Lost role Fault ∷ xs) tail are none = ends-losses xs tail are none
 ends-losses (SpareLost slot ∷ xs) tail are none = ends-losses xs tail are none
 ends-losses (event ∷ xs) tail are none = absurd are
 
 -- nor changes the level
-level-losses : (who : Who) (end n : ℕ) (xs tail : List Event) → AreLossEvents xs → fold (λ level e. level_after level e.event) n (entries_of who end (xs ++ tail)) ≡ fold (λ level e. level_after level e.event) n (entries_of who end tail)
+pub level-losses : (who : Who) (end n : ℕ) (xs tail : List Event) → AreLossEvents xs → fold (λ level e. level_after level e.event) n (entries_of who end (xs ++ tail)) ≡ fold (λ level e. level_after level e.event) n (entries_of who end tail)
 level-losses who end n [] tail are = refl
 level-losses who end n (Lost role Fault ∷ xs) tail are = level-losses who end n xs tail are
 level-losses who end n (SpareLost slot ∷ xs) tail are = level-losses who end n xs tail are
 level-losses who end n (event ∷ xs) tail are = absurd are
 
-or-false : (a b : Bool) → a ≡ false → b ≡ false → (a || b) ≡ false
+pub or-false : (a b : Bool) → a ≡ false → b ≡ false → (a || b) ≡ false
 or-false true b e f = absurd (cc)
 or-false false b e f = f
 
-and-true : (a b : Bool) → a ≡ true → b ≡ true → (a && b) ≡ true
+pub and-true : (a b : Bool) → a ≡ true → b ≡ true → (a && b) ≡ true
 and-true true b e f = f
 and-true false b e f = absurd (cc)
 

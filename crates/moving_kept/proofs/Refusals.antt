@@ -1,17 +1,16 @@
 -- A refusal is right by the history, in an array that is in a reshape.
-use Rattle.std.proofs.Common.{◌≡◌, ◌⊎◌, inl, inr, ℕ, zero, suc, ◌+◌, ◌-◌, ◌<◌, ◌≤◌, Bool, true, false, cond, List, refl, sym, ◌∙◌, ap, subst, arith}
+use Rattle.std.proofs.Common.{◌≡◌, inl, inr, ℕ, zero, suc, ◌+◌, ◌-◌, ◌≤◌, Bool, true, false, cond, List, refl, sym, ◌∙◌, ap, subst, arith}
 use Rattle.md_base.specs.declared.answers.Refusal.{Refusal}
-use Rattle.md_base.specs.declared.answers.Refusal.TheVariants.{TooManyMissing, PastEnd, NotResynced, BackupFault}
+use Rattle.md_base.specs.declared.answers.Refusal.TheVariants.{TooManyMissing, PastEnd, NotResynced}
 use Rattle.md_base.specs.declared.places.Shape.{Shape}
 use Rattle.md_base.specs.Search.{count_below}
 use Rattle.md_base.specs.Shapes.{tolerance, tolerance_of}
 use Rattle.bank.specs.Given.{Given}
 use Rattle.superblocks.specs.declared.members.Members.{Members}
-use Rattle.superblocks.specs.Reading.{shape_of, final_shape, role_count}
+use Rattle.superblocks.specs.Reading.{shape_of, final_shape}
 use Rattle.superblocks.proofs.ValidFields.{few-roles}
 use Rattle.row_io.specs.Rows.{reading_of, is_missing}
 use Rattle.flat_history.specs.declared.events.Entry.{Entry}
-use Rattle.flat_history.specs.declared.events.Event.{Event}
 use Rattle.flat_history.specs.declared.events.Event.TheVariants.{Refused}
 use Rattle.flat_history.specs.Legal.{level_at, IsTooManyMissing, IsRefusedRight}
 use Rattle.flat_history.specs.Losses.{is_gone_after}

@@ -42,7 +42,7 @@ use Rattle.call_entries.proofs.LeftLaws.{left-behind, left-more, fold-left}
 use Rattle.window_rows.specs.Copies.{tail_of, IsCopied}
 use Rattle.window_steps.specs.Copying.{AreHeadersKept}
 use Rattle.kept_history.specs.Recorded.{IsCallGoing, entry_of}
-use Rattle.kept_history.specs.Safe.{world_in, IsFilledRight}
+use Rattle.kept_history.specs.Safe.{world_in}
 use Rattle.window_steps.proofs.CopyLaws.{window-alike, critical-alike}
 use Rattle.grow_asked.specs.declared.window.Window.TheVariants.{Entered}
 use Rattle.course_kept.specs.Course.{IsWindowOf, IsCourseOf, IsStoredAs, IsStored}
