@@ -6,6 +6,7 @@ use grow_asked::{
     GrowPlan, PhasesLeft, WindowState, judge_grow, plan_of, planned_left, reshape_left,
 };
 use md_base::{BusyKind, Phase, Refusal, Shape, ShapeField, Wish, WishedLayout};
+use std::alloc::Global;
 use std::process::Abort;
 use std::test::Fail;
 use superblocks::Members;
@@ -198,8 +199,8 @@ fn judged_requests(rt: HostRuntime) -> Result<(), Fail> {
     Ok(())
 }
 
-fn try_plan(rt: &HostRuntime, size: u64, steps: u64) -> Result<(), Fail> {
-    let members = members_of(rt.alloc(), (size, 4, None, 0, true))?;
+fn try_plan(rt: &impl Abort, alloc: Global, size: u64, steps: u64) -> Result<(), Fail> {
+    let members = members_of(alloc, (size, 4, None, 0, true))?;
     let wanted = GrowPlan {
         first: Phase::Reshape(Shape {
             level: 5,
@@ -217,8 +218,9 @@ fn try_plan(rt: &HostRuntime, size: u64, steps: u64) -> Result<(), Fail> {
 
 #[test]
 fn planned_steps(rt: HostRuntime) -> Result<(), Fail> {
-    try_plan(&rt, 128, 26)?;
-    try_plan(&rt, 40, 11)
+    let alloc = rt.alloc();
+    try_plan(&rt, alloc, 128, 26)?;
+    try_plan(&rt, alloc, 40, 11)
 }
 
 // What is left of the reshape, where so many stripes of its next window are copied, if it is entered.
