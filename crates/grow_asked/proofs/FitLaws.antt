@@ -1,6 +1,6 @@
 -- The answers to a request to grow fit it.
 use Rattle.std.proofs.Common.{◌≡◌, ◌⊎◌, inl, inr, ℕ, zero, suc, ◌+◌, ◌*◌, ◌<◌, ◌||◌, ◌&&◌, nat_lt, Bool, true, false, cond, length, List, Option, Some, None, option_map, IsTrue, refl, sym, ap, subst, ◌∙◌, arith, lit<, eq-or-lt_of_le, le_of_suc-le-suc}
-use Rattle.std.specs.Prelude.{IfSome, IsSome}
+use Rattle.std.specs.Prelude.{IfSome, IsSome, MatchBool, ⊤}
 use Rattle.std.specs.Option.{option_or, option_map_or}
 use Rattle.std.specs.List.{list_any}
 use Rattle.md_base.specs.Search.{least_below}
@@ -15,10 +15,11 @@ use Rattle.superblocks.specs.Reading.{Reading, is_reshaping, role_count, shape_o
 use Rattle.row_io.specs.Rows.{reading_of, is_missing}
 use Rattle.grow_plan.specs.Plans.{phases, plan_refusal, largest_window, least_data, new_roles, phases_steps}
 use Rattle.flat_history.specs.World.{World, reading_at}
+use Rattle.flat_history.specs.Legal.{known_left, is_free_step}
 use Rattle.flat_history.specs.Fits.{slot_length, is_rebuildable, is_missing_role, is_recovering_role, IfShape}
 use Rattle.flat_history.proofs.OneShapeReplies.{where-asked}
 use Rattle.grow_asked.specs.Asked.{Asked, lowest_missing, order, IsFirst, IsUngrowable, grow_refusal}
-use Rattle.grow_asked.specs.Fitting.{SaysSameShape, AreAllWhole, GrowRefusalsFit, GrowPlansFit}
+use Rattle.grow_asked.specs.Fitting.{SaysSameShape, AreAllWhole, GrowRefusalsFit, GrowPlansFit, FallenStepsAreLegal}
 use Rattle.grow_asked.proofs.FirstLaws.{judged, none-exactly, unrefused-plan}
 
 -- ---- the lowest that passes
@@ -131,3 +132,11 @@ plans-fit world before e a wish left told none steps = (
 
     whole : AreAllWhole a.members
     whole = all-whole a.members (λ role is. nothing (Degraded role) is)
+
+pub fallen-legal : FallenStepsAreLegal
+fallen-legal world before e rest kind old left told fall = by (is_free_step world before kind) (known_left before e rest) told
+  where
+    by : (free : Bool) (known : Option ℕ) → IfSome known (λ n. n ≡ old) → MatchBool free ⊤ (IfSome known (λ n. left + 1 ≡ n))
+    by true known told = tt
+    by false None told = tt
+    by false (Some n) told = fall ∙ sym told

@@ -1,5 +1,5 @@
 -- Why the answer to a request to grow fits it, over a bank that tells its contents.
-use Rattle.std.specs.Prelude.{◌≡◌, ℕ, ◌<◌, true, false, List, Some, None, option_map, is_some, IsTrue}
+use Rattle.std.specs.Prelude.{◌≡◌, ℕ, ◌<◌, true, false, List, Some, None, option_map, is_some, IsTrue, ◌+◌, IfSome}
 use Rattle.md_base.specs.declared.wishes.Wish.{Wish}
 use Rattle.md_base.specs.declared.answers.Refusal.{Refusal}
 use Rattle.sb1.specs.declared.sb.Sb.{Sb}
@@ -10,9 +10,10 @@ use Rattle.grow_plan.specs.Plans.{phases, phases_steps}
 use Rattle.flat_history.specs.declared.events.Entry.{Entry}
 use Rattle.flat_history.specs.declared.events.Event.TheVariants.{Planned}
 use Rattle.flat_history.specs.declared.events.Request.TheVariants.{Grow as AsksGrow}
+use Rattle.flat_history.specs.declared.events.StepKind.{StepKind}
 use Rattle.flat_history.specs.World.{World, reading_at}
 use Rattle.flat_history.specs.Losses.{is_gone_after, is_unsynced}
-use Rattle.flat_history.specs.Legal.{visible_at}
+use Rattle.flat_history.specs.Legal.{visible_at, known_left, IsStep}
 use Rattle.flat_history.specs.Fits.{is_asked, phases_left, slot_length, IsGrowRefused, Answers}
 use Rattle.grow_asked.specs.Asked.{Asked, IsFirst, grow_refusal}
 
@@ -53,3 +54,8 @@ abbrev pub GrowPlansFit : Type 0
 GrowPlansFit = (world : World) (before : List Entry) (e : Entry) (a : Asked) (wish : Wish) (left : ℕ) → IsToldBy world before e.end a → grow_refusal a wish ≡ None
     → left ≡ phases_steps (shape_of a.members.newest) a.members.newest.size (phases (shape_of a.members.newest) wish)
     → Answers world before e (AsksGrow wish) (Planned left wish)
+
+-- A step whose entry tells one fewer than were left before it is legal, where as many were told.
+abbrev pub FallenStepsAreLegal : Type 0
+FallenStepsAreLegal = (world : World) (before : List Entry) (e : Entry) (rest : List Entry) (kind : StepKind) (old left : ℕ)
+    → IfSome (known_left before e rest) (λ n. n ≡ old) → left + 1 ≡ old → IsStep world before e rest kind left

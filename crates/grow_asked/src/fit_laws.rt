@@ -1,6 +1,6 @@
 //! The answers to a request to grow fit it. Each function's contract is the law.
 
-ghost use Rattle.grow_asked.specs.Fitting.{GrowRefusalsFit, GrowPlansFit};
+ghost use Rattle.grow_asked.specs.Fitting.{GrowRefusalsFit, GrowPlansFit, FallenStepsAreLegal};
 
 /// The first refusal that is true fits the request.
 pub fn grow_refusals_fit()
@@ -10,4 +10,9 @@ pub fn grow_refusals_fit()
 /// So does the plan that nothing refuses.
 pub fn grow_plans_fit()
     ensures { GrowPlansFit }
+{}
+
+/// A step that tells one fewer than were left is legal.
+pub fn fallen_steps_are_legal()
+    ensures { FallenStepsAreLegal }
 {}

@@ -4,6 +4,7 @@ use crate::members::{Made, are_fit, is_under_way, members_of};
 use grow_asked::left::{next_window, stripes_in};
 use grow_asked::{GrowPlan, PhasesLeft, Window, judge_grow, plan_of, planned_left, reshape_left};
 use md_base::{BusyKind, Phase, Refusal, Shape, ShapeField, Wish, WishedLayout};
+use std::alloc::Global;
 use std::process::Abort;
 use std::test::Fail;
 use superblocks::Members;
@@ -196,8 +197,8 @@ fn judged_requests(rt: HostRuntime) -> Result<(), Fail> {
     Ok(())
 }
 
-fn try_plan(rt: &HostRuntime, size: u64, steps: u64) -> Result<(), Fail> {
-    let members = members_of(rt.alloc(), (size, 4, None, 0, true))?;
+fn try_plan(rt: &impl Abort, alloc: Global, size: u64, steps: u64) -> Result<(), Fail> {
+    let members = members_of(alloc, (size, 4, None, 0, true))?;
     let wanted = GrowPlan {
         first: Phase::Reshape(Shape {
             level: 5,
@@ -215,8 +216,9 @@ fn try_plan(rt: &HostRuntime, size: u64, steps: u64) -> Result<(), Fail> {
 
 #[test]
 fn planned_steps(rt: HostRuntime) -> Result<(), Fail> {
-    try_plan(&rt, 128, 26)?;
-    try_plan(&rt, 40, 11)
+    let alloc = rt.alloc();
+    try_plan(&rt, alloc, 128, 26)?;
+    try_plan(&rt, alloc, 40, 11)
 }
 
 // What is left of the reshape, where so many stripes of its next window are copied, if it is entered.
