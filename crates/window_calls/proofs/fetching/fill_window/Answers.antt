@@ -1,4 +1,4 @@
-use Rattle.std.proofs.Common.{◌≡◌, ℕ, ◌+◌, ◌-◌, ◌*◌, ◌<◌, List, sym, ◌∙◌, ap, arith}
+use Rattle.std.proofs.Common.{◌≡◌, ℕ, ◌+◌, ◌-◌, ◌<◌, List, ◌∙◌, ap, arith}
 use Rattle.parity.specs.Rows.{sector_of}
 use Rattle.window_calls.proofs.Beside.{sector-taken}
 use Rattle.window_calls.proofs.fetching.fill_window.Goals as goal
