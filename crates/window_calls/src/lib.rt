@@ -1,6 +1,8 @@
 //! Calls of an array whose reshape has a window open: the window is finished, and the list is read beside it.
 #![tactic(auto)]
 
+mod fetching;
 mod finishing;
 
+pub use fetching::fetch_beside;
 pub use finishing::{Finished, finish_window};

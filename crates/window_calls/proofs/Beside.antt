@@ -1,0 +1,112 @@
+-- What is read beside an open window: the bytes of its three parts, and the list once slots were lost.
+use Rattle.std.proofs.Common.{◌≡◌, inl, inr, ℕ, ◌+◌, ◌-◌, ◌*◌, ◌<◌, ◌≤◌, false, List, [], length, take, drop, max, min, Option, Some, None, refl, sym, ◌∙◌, ap, subst, arith}
+use Rattle.std.specs.Prelude.{MatchOption, ⊤}
+use borrow.Rule.Slice.PartMut.{put_mid, put_same, same_len_mid}
+use Rattle.md_base.specs.Sectors.{Sector}
+use Rattle.md_base.specs.declared.places.Shape.{Shape}
+use Rattle.md_base.specs.declared.places.Span.{Span}
+use Rattle.md_base.specs.declared.answers.Refusal.{Refusal}
+use Rattle.bank.specs.Given.{Given}
+use Rattle.bank.specs.Tape.{Contents}
+use Rattle.layout.specs.Layout.{place}
+use Rattle.parity.specs.Rows.{sector_of}
+use Rattle.superblocks.specs.declared.members.Members.{Members}
+use Rattle.row_io.specs.Rows.{reading_of}
+use Rattle.list_io.specs.Full.{RowStands}
+use Rattle.flat_history.specs.Stands.{covers, shape_for}
+use Rattle.shape_views.specs.Regions.{place_by}
+use Rattle.shape_views.specs.Windows.{IsShown}
+use Rattle.shape_views.proofs.UnderWay.{in-or-out}
+use Rattle.views.specs.Placed.{IsPlaced}
+use Rattle.views.specs.Moving.{IsMoved}
+use Rattle.views.proofs.Fit.{list-alike, for-alike}
+use Rattle.views.proofs.LackingLists.{row-moved}
+use Rattle.region_rows.specs.Stretches.{RowsStandTo, IsListUnread}
+use Rattle.region_rows.proofs.StretchReads.{part-long, sector-here, sector-before}
+use Rattle.window_calls.specs.Fetching.{IsUnreadBeside}
+
+-- ---- the sectors outside the window
+
+module _ (span : Span) (first to lo hi x : ℕ) (low : lo ≡ min (max span.lo first) to) (high : hi ≡ min (max span.hi lo) to) where
+  pub out-before : first ≤ x → x < lo → covers (Some span) x ≡ false
+  out-before from lt = elim (in-or-out span x) [ inl inside ↦ absurd (let begins = inside.0 in omega (arith, from, lt, begins, low)) | inr out ↦ out ]
+
+  pub out-behind : hi ≤ x → x < to → covers (Some span) x ≡ false
+  out-behind past lt = elim (in-or-out span x) [ inl inside ↦ absurd (let ends = inside.1 in omega (arith, past, lt, ends, high)) | inr out ↦ out ]
+
+-- why one of some sectors outside can't be read is why the request can't
+pub unread-beside : (hidden : Option Span) (relied from to first last : ℕ) (m : Members) → first ≤ from → to ≤ last → ((x : ℕ) → from ≤ x → x < to → covers hidden x ≡ false) → (found : Option Refusal)
+    → MatchOption found ⊤ (IsListUnread relied from to m) → MatchOption found ⊤ (IsUnreadBeside hidden relied first last m)
+unread-beside hidden relied from to first last m early late out None told = tt
+unread-beside hidden relied from to first last m early late out (Some refusal) told =
+    let low = told.1 in
+    let high = told.2 in
+    (told.0, omega (arith, early, low), omega (arith, late, high), out told.0 low high, told.3)
+
+-- ---- the bytes
+
+-- put back, a part as long as it was leaves the length
+pub put-long : (bytes part : List ℕ) (d e : ℕ) → 512 * e ≤ length bytes → d ≤ e → length part ≡ 512 * e - 512 * d → length (put_mid (512 * d) (512 * e - 512 * d) bytes part) ≡ length bytes
+put-long bytes part d e within some long = same_len_mid (512 * d) (512 * e - 512 * d) bytes part (long ∙ sym (part-long bytes part d e within some))
+
+-- a sector of a part is one of the whole
+pub sector-taken : (bytes : List ℕ) (d e i : ℕ) → 512 * e ≤ length bytes → d + i < e → sector_of (take (512 * e - 512 * d) (drop (512 * d) bytes)) i ≡ sector_of bytes (d + i)
+sector-taken bytes d e i within lt =
+    let some : d ≤ e = omega (arith, lt) in
+    let at : d + i - d ≡ i = omega arith in
+    sym (sector-here bytes (take (512 * e - 512 * d) (drop (512 * d) bytes)) d e within some (part-long bytes [] d e within some) (d + i) (omega arith) lt ∙ ap (sector_of (take (512 * e - 512 * d) (drop (512 * d) bytes))) at)
+    ∙ ap (λ (l : List ℕ). sector_of l (d + i)) (put_same (512 * d) (512 * e - 512 * d) bytes)
+
+module _ (bytes one two three : List ℕ) (d e n len : ℕ) (is : len ≡ 512 * n) (whole : length bytes ≡ 512 * n) (de : d ≤ e) (en : e ≤ n)
+    (long-one : length one ≡ 512 * d - 512 * 0) (long-two : length two ≡ 512 * e - 512 * d) (long-three : length three ≡ 512 * n - 512 * e) where
+  abbrev once : List ℕ
+  once = put_mid (512 * 0) (512 * d - 512 * 0) bytes one
+
+  abbrev twice : List ℕ
+  twice = put_mid (512 * d) (512 * e - 512 * d) once two
+
+  abbrev thrice : List ℕ
+  thrice = put_mid (512 * e) (len - 512 * e) twice three
+
+  in-bytes : 512 * d ≤ length bytes
+  in-bytes = omega (arith, whole, de, en)
+
+  once-long : length once ≡ 512 * n
+  once-long = put-long bytes one 0 d in-bytes (omega arith) long-one ∙ whole
+
+  in-once : 512 * e ≤ length once
+  in-once = omega (arith, once-long, en)
+
+  twice-long : length twice ≡ 512 * n
+  twice-long = put-long once two d e in-once de long-two ∙ once-long
+
+  in-twice : 512 * n ≤ length twice
+  in-twice = omega (arith, twice-long)
+
+  pub behind-part : (i : ℕ) → e ≤ i → i < n → sector_of thrice i ≡ sector_of three (i - e)
+  behind-part i low high = subst (λ (l : ℕ). sector_of (put_mid (512 * e) (l - 512 * e) twice three) i ≡ sector_of three (i - e)) (sym is) (sector-here twice three e n in-twice en long-three i low high)
+
+  early : (i : ℕ) → i < e → sector_of thrice i ≡ sector_of twice i
+  early i high = subst (λ (l : ℕ). sector_of (put_mid (512 * e) (l - 512 * e) twice three) i ≡ sector_of twice i) (sym is) (sector-before twice three e n in-twice en i high)
+
+  pub window-part : (i : ℕ) → d ≤ i → i < e → sector_of thrice i ≡ sector_of two (i - d)
+  window-part i low high = early i high ∙ sector-here once two d e in-once de long-two i low high
+
+  pub before-part : (i : ℕ) → i < d → sector_of thrice i ≡ sector_of one i
+  before-part i high = early i (omega (arith, high, de)) ∙ sector-before once two d e in-once de i high ∙ sector-here bytes one 0 d in-bytes (omega arith) long-one i (omega arith) high
+      ∙ ap (sector_of one) none
+    where
+      none : i - 0 ≡ i
+      none = omega arith
+
+-- ---- the list, once slots were lost
+
+module _ (given : Given) (old new : Members) (c : Contents) (list : ℕ → Sector) (moved : IsMoved given old new) (was : IsPlaced given old) (hidden : Option Span) (relied : ℕ) where
+  pub rows-to-moved : RowsStandTo hidden relied old c list → RowsStandTo hidden relied new c list
+  rows-to-moved stands x below shown =
+      let shown-then : IsShown hidden old.newest x = record {
+        within = subst (λ (n : ℕ). x < n) (list-alike old.newest new.newest moved.reshape moved.shape moved.size) shown.within;
+        outside = shown.outside;
+      } in
+      subst (λ (s : Shape). RowStands (reading_of new) c s list (place s x).row) (sym (for-alike old.newest new.newest moved.reshape moved.shape moved.size x))
+      (row-moved given old new c c list moved was (λ s k other. refl) (place_by old.newest x).row (shape_for old.newest x) (stands x below shown-then))

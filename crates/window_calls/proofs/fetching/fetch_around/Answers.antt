@@ -1,0 +1,187 @@
+use Rattle.std.proofs.Common.{◌≡◌, ◌≤◌, true, List, length, Option, Some, None, is_some, inl, inr, refl, sym, ◌∙◌, subst, arith}
+use Rattle.bank.specs.declared.bank.Operation.{Operation}
+use Rattle.bank.specs.Given.{Given}
+use Rattle.md_base.specs.declared.answers.Refusal.{Refusal}
+use Rattle.superblocks.specs.declared.members.Members.{Members}
+use Rattle.row_io.specs.Rows.{present}
+use Rattle.flat_history.specs.Sound.{OpensFit}
+use Rattle.shape_changes.specs.Steady.{IsUncleanTold}
+use Rattle.shape_changes.specs.Marking.{AreOthersPresent}
+use Rattle.shape_changes.proofs.Risen.{risen-then, risen-lost, room-then}
+use Rattle.views.specs.Rebuilding.{AreSparesFree}
+use Rattle.views.proofs.MovedLaws.{moved-then, moved-from, grows-none, grows-then}
+use Rattle.views.proofs.LackingLaws.{since-then, in-second}
+use Rattle.views.proofs.SafeStretch.{safe-then, safe-lost, over-at, keeps-from}
+use Rattle.views.proofs.LackingLists.{none-of}
+use Rattle.window_calls.proofs.fetching.fetch_around.Goals as goal
+
+-- the reads make no operation
+still-long : (before after : List Operation) → after ≡ before → length before ≤ length after
+still-long before after same = subst (λ (l : List Operation). length before ≤ length l) (sym same) (omega arith)
+
+pub returns-then-is_some-clause-holds : goal.returns-then-is_some-clause-holds
+returns-then-is_some-clause-holds g c = λ none. absurd (never c.read_beside-refusal.result (sym c.is_some.ensures ∙ c.if-is_some.true) none)
+  where
+    never : (o : Option Refusal) → is_some o ≡ true → o ≡ None → ⊥
+    never None is none = absurd (cc)
+    never (Some refusal) is none = absurd (cc)
+
+pub returns-then-is_some-clause-grows : goal.returns-then-is_some-clause-grows
+returns-then-is_some-clause-grows g c =
+    grows-none c.read_beside-refusal.ensures.tape
+
+pub returns-then-is_some-clause-rise : goal.returns-then-is_some-clause-rise
+returns-then-is_some-clause-rise g c =
+    let m = c.args.members.now in
+    let n = c.read_beside-refusal.new.members in
+    let tape0 = g.B.Bank.tape c.args.bank.now in
+    let tape1 = g.B.Bank.tape c.read_beside-refusal.new.bank in
+    let did = c.read_beside-refusal.ensures in
+    risen-lost m n did.lost.0 tape0 tape1 did.lost.1 (λ t. still-long tape0 tape1 (did.tape t))
+
+pub returns-then-is_some-clause-safe : goal.returns-then-is_some-clause-safe
+returns-then-is_some-clause-safe g c =
+    let m = c.args.members.now in
+    let n = c.read_beside-refusal.new.members in
+    let given = g.B.Bank.given c.args.bank.now in
+    let given1 = g.B.Bank.given c.read_beside-refusal.new.bank in
+    let tape0 = g.B.Bank.tape c.args.bank.now in
+    let tape1 = g.B.Bank.tape c.read_beside-refusal.new.bank in
+    let did = c.read_beside-refusal.ensures in
+    λ tell world told room gone unclean now. safe-lost (OpensFit world) world.scope given told m n did.lost.0 tape0 tape1 did.lost.1 (did.tape tell) now
+
+pub name_missing-spares-requires-clause-free : goal.name_missing-spares-requires-clause-free
+name_missing-spares-requires-clause-free g c =
+    let n = c.read_beside-refusal.new.members in
+    let did = c.read_beside-refusal.ensures in
+    subst (λ (b : Given). AreSparesFree b n) (sym did.given) (did.moved.free c.requires.free)
+
+pub returns-clause-moved : goal.returns-clause-moved
+returns-clause-moved g c =
+    let m = c.args.members.now in
+    let n = c.read_beside-refusal.new.members in
+    let given = g.B.Bank.given c.args.bank.now in
+    let given1 = g.B.Bank.given c.read_beside-refusal.new.bank in
+    let tape0 = g.B.Bank.tape c.args.bank.now in
+    let tape1 = g.B.Bank.tape c.read_beside-refusal.new.bank in
+    let did = c.read_beside-refusal.ensures in
+    let p = c.name_missing-spares.new.members in
+    let named = c.name_missing-spares.ensures in
+    let tape2 = g.B.Bank.tape c.name_missing-spares.new.bank in
+    moved-then given m n p did.moved (moved-from given given1 n n p did.given refl named.moved)
+
+pub returns-clause-failed : goal.returns-clause-failed
+returns-clause-failed g c =
+    let m = c.args.members.now in
+    let n = c.read_beside-refusal.new.members in
+    let given = g.B.Bank.given c.args.bank.now in
+    let given1 = g.B.Bank.given c.read_beside-refusal.new.bank in
+    let tape0 = g.B.Bank.tape c.args.bank.now in
+    let tape1 = g.B.Bank.tape c.read_beside-refusal.new.bank in
+    let did = c.read_beside-refusal.ensures in
+    let p = c.name_missing-spares.new.members in
+    let named = c.name_missing-spares.ensures in
+    let tape2 = g.B.Bank.tape c.name_missing-spares.new.bank in
+    let f0 = g.B.Bank.faults_of c.args.bank.now in
+    let f1 = g.B.Bank.faults_of c.read_beside-refusal.new.bank in
+    let f2 = g.B.Bank.faults_of c.name_missing-spares.new.bank in
+    let s = c.name_missing-spares.result in
+    since-then m n p 0 s s f0 f1 f2 did.counts named.counts did.failed named.failed (in-second s)
+
+pub returns-clause-others : goal.returns-clause-others
+returns-clause-others g c =
+    let m = c.args.members.now in
+    let n = c.read_beside-refusal.new.members in
+    let given = g.B.Bank.given c.args.bank.now in
+    let given1 = g.B.Bank.given c.read_beside-refusal.new.bank in
+    let tape0 = g.B.Bank.tape c.args.bank.now in
+    let tape1 = g.B.Bank.tape c.read_beside-refusal.new.bank in
+    let did = c.read_beside-refusal.ensures in
+    let p = c.name_missing-spares.new.members in
+    let named = c.name_missing-spares.ensures in
+    let tape2 = g.B.Bank.tape c.name_missing-spares.new.bank in
+    λ told. subst (λ (l : List Operation). AreOthersPresent (present given l) (present given tape2)) (did.tape told)
+    (subst (λ (b : Given). AreOthersPresent (present b tape1) (present b tape2)) did.given (named.others told))
+
+pub returns-clause-holds : goal.returns-clause-holds
+returns-clause-holds g c =
+    let m = c.args.members.now in
+    let n = c.read_beside-refusal.new.members in
+    let given = g.B.Bank.given c.args.bank.now in
+    let given1 = g.B.Bank.given c.read_beside-refusal.new.bank in
+    let tape0 = g.B.Bank.tape c.args.bank.now in
+    let tape1 = g.B.Bank.tape c.read_beside-refusal.new.bank in
+    let did = c.read_beside-refusal.ensures in
+    let p = c.name_missing-spares.new.members in
+    let named = c.name_missing-spares.ensures in
+    let tape2 = g.B.Bank.tape c.name_missing-spares.new.bank in
+    λ ok told list stands buffered fills i lt.
+    did.holds (none-of c.read_beside-refusal.result (sym c.is_some.ensures ∙ c.if-is_some.false)) told list stands buffered (elim fills [ inl whole ↦ inl (named.moved.whole whole) | inr rows ↦ inr rows ]) i lt
+
+pub returns-clause-kept : goal.returns-clause-kept
+returns-clause-kept g c =
+    let m = c.args.members.now in
+    let n = c.read_beside-refusal.new.members in
+    let given = g.B.Bank.given c.args.bank.now in
+    let given1 = g.B.Bank.given c.read_beside-refusal.new.bank in
+    let tape0 = g.B.Bank.tape c.args.bank.now in
+    let tape1 = g.B.Bank.tape c.read_beside-refusal.new.bank in
+    let did = c.read_beside-refusal.ensures in
+    let p = c.name_missing-spares.new.members in
+    let named = c.name_missing-spares.ensures in
+    let tape2 = g.B.Bank.tape c.name_missing-spares.new.bank in
+    λ whole. let mid = named.moved.whole whole in named.kept mid ∙ did.kept mid
+
+pub returns-clause-tape : goal.returns-clause-tape
+returns-clause-tape g c =
+    let m = c.args.members.now in
+    let n = c.read_beside-refusal.new.members in
+    let given = g.B.Bank.given c.args.bank.now in
+    let given1 = g.B.Bank.given c.read_beside-refusal.new.bank in
+    let tape0 = g.B.Bank.tape c.args.bank.now in
+    let tape1 = g.B.Bank.tape c.read_beside-refusal.new.bank in
+    let did = c.read_beside-refusal.ensures in
+    let p = c.name_missing-spares.new.members in
+    let named = c.name_missing-spares.ensures in
+    let tape2 = g.B.Bank.tape c.name_missing-spares.new.bank in
+    λ whole told. named.tape (named.moved.whole whole) told ∙ did.tape told
+
+pub returns-clause-rise : goal.returns-clause-rise
+returns-clause-rise g c =
+    let m = c.args.members.now in
+    let n = c.read_beside-refusal.new.members in
+    let given = g.B.Bank.given c.args.bank.now in
+    let given1 = g.B.Bank.given c.read_beside-refusal.new.bank in
+    let tape0 = g.B.Bank.tape c.args.bank.now in
+    let tape1 = g.B.Bank.tape c.read_beside-refusal.new.bank in
+    let did = c.read_beside-refusal.ensures in
+    let p = c.name_missing-spares.new.members in
+    let named = c.name_missing-spares.ensures in
+    let tape2 = g.B.Bank.tape c.name_missing-spares.new.bank in
+    risen-then (risen-lost m n did.lost.0 tape0 tape1 did.lost.1 (λ t. still-long tape0 tape1 (did.tape t))) named.rise
+
+pub returns-clause-safe : goal.returns-clause-safe
+returns-clause-safe g c =
+    let m = c.args.members.now in
+    let n = c.read_beside-refusal.new.members in
+    let given = g.B.Bank.given c.args.bank.now in
+    let given1 = g.B.Bank.given c.read_beside-refusal.new.bank in
+    let tape0 = g.B.Bank.tape c.args.bank.now in
+    let tape1 = g.B.Bank.tape c.read_beside-refusal.new.bank in
+    let did = c.read_beside-refusal.ensures in
+    let p = c.name_missing-spares.new.members in
+    let named = c.name_missing-spares.ensures in
+    let tape2 = g.B.Bank.tape c.name_missing-spares.new.bank in
+    λ tell world told room gone unclean now.
+    let read = safe-lost (OpensFit world) world.scope given told m n did.lost.0 tape0 tape1 did.lost.1 (did.tape tell) now in
+    safe-then (OpensFit world) world.scope given told n p tape0 tape1 tape2 read
+    (keeps-from world given given1 told p tape1 tape2 did.given
+    (named.safe tell world told (room-then tape2 tell room (risen-lost m n did.lost.0 tape0 tape1 did.lost.1 (λ t. still-long tape0 tape1 (did.tape t)))) gone
+    (subst (λ (x : Members). IsUncleanTold told x) (sym did.lost.1) unclean) (over-at world given given1 told n tape1 did.given read.next)))
+
+pub returns-clause-counts : goal.returns-clause-counts
+returns-clause-counts g c =
+    λ s. let one = c.read_beside-refusal.ensures.counts s in let two = c.name_missing-spares.ensures.counts s in omega (arith, one, two)
+
+pub returns-clause-grows : goal.returns-clause-grows
+returns-clause-grows g c = grows-then (grows-none c.read_beside-refusal.ensures.tape) c.name_missing-spares.ensures.grows

@@ -1,0 +1,341 @@
+use Rattle.std.proofs.Common.{◌≡◌, inl, inr, ℕ, ◌+◌, ◌-◌, ◌*◌, ◌/◌, ◌≤◌, true, List, [], length, take, drop, Option, Some, None, is_some, refl, sym, ◌∙◌, ap, subst, arith}
+use Rattle.std.specs.Prelude.{bit_or}
+use Rattle.std.proofs.lemmas.Bool.{cases_lt}
+use borrow.Rule.Slice.PartMut.{put_mid}
+use Rattle.md_base.specs.declared.answers.Refusal.{Refusal}
+use Rattle.bank.specs.Tape.{Contents}
+use Rattle.superblocks.specs.declared.members.Members.{Members}
+use Rattle.superblocks.specs.Reading.{list_length}
+use Rattle.row_io.specs.Rows.{present, members_without}
+use Rattle.list_io.proofs.LossLaws.{members_then}
+use Rattle.list_io.proofs.ListLaws.{present_same}
+use Rattle.shape_views.specs.Windows.{ListStands}
+use Rattle.views.specs.Moving.{IsMoved}
+use Rattle.views.proofs.MovedLaws.{moved-then, moved-from}
+use Rattle.views.proofs.LackingLaws.{since-then, in-second}
+use Rattle.views.proofs.LackingLists.{none-of}
+use Rattle.safe_updates.proofs.Under.{shown-moved}
+use Rattle.region_rows.specs.Stretches.{RowsStandTo}
+use Rattle.region_rows.proofs.StretchReads.{part-long}
+use Rattle.region_rows.proofs.StretchLaws.{list-short, data-few}
+use Rattle.window_calls.proofs.Beside.{unread-beside, put-long, before-part, window-part, behind-part, rows-to-moved}
+use Rattle.window_calls.proofs.fetching.read_beside.Goals as goal
+
+pub overflow_add-first : goal.overflow_add-first
+overflow_add-first g c =
+    let newest = c.args.members.now.newest in
+    let few = data-few newest c.requires.placed.fit _ (inl refl) in
+    let short = list-short newest _ (inl refl) in
+    omega (arith, few, short, c.requires.within)
+
+pub read_regions-refusal-requires-clause-into : goal.read_regions-refusal-requires-clause-into
+read_regions-refusal-requires-clause-into g c =
+    let bytes = c.args.into.now in
+    let n : ℕ = length bytes / 512 in
+    let part = c.part_of-part.ensures in
+    let lo = c.part_of-part.result.lo in
+    let hi = c.part_of-part.result.hi in
+    let d : ℕ = lo - c.args.first in
+    let e : ℕ = hi - c.args.first in
+    let whole = c.requires.into in
+    let begins = part.begins in
+    let order = part.order in
+    let ends = part.ends in
+    let de : d ≤ e = omega (arith, begins, order) in
+    let en : e ≤ n = omega (arith, begins, order, ends) in
+    let long1 = part-long bytes [] 0 d (omega (arith, whole, de, en)) (omega arith) in
+    omega (arith, long1)
+
+pub read_regions-refusal-requires-clause-within : goal.read_regions-refusal-requires-clause-within
+read_regions-refusal-requires-clause-within g c =
+    let bytes = c.args.into.now in
+    let n : ℕ = length bytes / 512 in
+    let part = c.part_of-part.ensures in
+    let lo = c.part_of-part.result.lo in
+    let hi = c.part_of-part.result.hi in
+    let d : ℕ = lo - c.args.first in
+    let e : ℕ = hi - c.args.first in
+    let whole = c.requires.into in
+    let begins = part.begins in
+    let order = part.order in
+    let ends = part.ends in
+    let de : d ≤ e = omega (arith, begins, order) in
+    let en : e ≤ n = omega (arith, begins, order, ends) in
+    let long1 = part-long bytes [] 0 d (omega (arith, whole, de, en)) (omega arith) in
+    let within = c.requires.within in
+    omega (arith, long1, de, en, within)
+
+never : (o : Option Refusal) → is_some o ≡ true → o ≡ None → ⊥
+never None is none = absurd (cc)
+never (Some refusal) is none = absurd (cc)
+
+pub returns-then-is_some-clause-refused : goal.returns-then-is_some-clause-refused
+returns-then-is_some-clause-refused g c =
+    let bytes = c.args.into.now in
+    let n : ℕ = length bytes / 512 in
+    let part = c.part_of-part.ensures in
+    let lo = c.part_of-part.result.lo in
+    let hi = c.part_of-part.result.hi in
+    let d : ℕ = lo - c.args.first in
+    let e : ℕ = hi - c.args.first in
+    let whole = c.requires.into in
+    let begins = part.begins in
+    let order = part.order in
+    let ends = part.ends in
+    let de : d ≤ e = omega (arith, begins, order) in
+    let en : e ≤ n = omega (arith, begins, order, ends) in
+    let long1 = part-long bytes [] 0 d (omega (arith, whole, de, en)) (omega arith) in
+    unread-beside (Some c.args.span.now) c.args.relied c.args.first (c.args.first + length (take (512 * d - 512 * 0) (drop (512 * 0) bytes)) / 512) c.args.first (c.args.first + n) c.read_regions-refusal.new.members (omega arith) (omega (arith, long1, de, en))
+    (λ x low high. part.before x low (omega (arith, high, long1, begins))) c.read_regions-refusal.result c.read_regions-refusal.ensures.refused
+
+pub returns-then-is_some-clause-holds : goal.returns-then-is_some-clause-holds
+returns-then-is_some-clause-holds g c = λ none. absurd (never c.read_regions-refusal.result (sym c.is_some.ensures ∙ c.if-is_some.true) none)
+
+pub fill_window-requires-clause-into : goal.fill_window-requires-clause-into
+fill_window-requires-clause-into g c =
+    let bytes = c.args.into.now in
+    let n : ℕ = length bytes / 512 in
+    let part = c.part_of-part.ensures in
+    let first = c.args.first in
+    let lo = c.part_of-part.result.lo in
+    let hi = c.part_of-part.result.hi in
+    let d : ℕ = lo - first in
+    let e : ℕ = hi - first in
+    let whole = c.requires.into in
+    let begins = part.begins in
+    let order = part.order in
+    let ends = part.ends in
+    let de : d ≤ e = omega (arith, begins, order) in
+    let en : e ≤ n = omega (arith, begins, order, ends) in
+    let one = c.read_regions-refusal.new.into in
+    let part1 = part-long bytes [] 0 d (omega (arith, whole, de, en)) (omega arith) in
+    let long1 : length one ≡ 512 * d - 512 * 0 = c.read_regions-refusal.auto.into ∙ part1 in
+    let once : List ℕ = put_mid (512 * 0) (512 * d - 512 * 0) bytes one in
+    let long-once : length once ≡ length bytes = put-long bytes one 0 d (omega (arith, whole, de, en)) (omega arith) long1 in
+    let part2 = part-long once [] d e (omega (arith, whole, long-once, en)) de in
+    omega (arith, part2, begins, order)
+
+pub read_regions-requires-clause-into : goal.read_regions-requires-clause-into
+read_regions-requires-clause-into g c =
+    let bytes = c.args.into.now in
+    let n : ℕ = length bytes / 512 in
+    let part = c.part_of-part.ensures in
+    let first = c.args.first in
+    let lo = c.part_of-part.result.lo in
+    let hi = c.part_of-part.result.hi in
+    let d : ℕ = lo - first in
+    let e : ℕ = hi - first in
+    let whole = c.requires.into in
+    let begins = part.begins in
+    let order = part.order in
+    let ends = part.ends in
+    let de : d ≤ e = omega (arith, begins, order) in
+    let en : e ≤ n = omega (arith, begins, order, ends) in
+    let one = c.read_regions-refusal.new.into in
+    let part1 = part-long bytes [] 0 d (omega (arith, whole, de, en)) (omega arith) in
+    let long1 : length one ≡ 512 * d - 512 * 0 = c.read_regions-refusal.auto.into ∙ part1 in
+    let once : List ℕ = put_mid (512 * 0) (512 * d - 512 * 0) bytes one in
+    let long-once : length once ≡ length bytes = put-long bytes one 0 d (omega (arith, whole, de, en)) (omega arith) long1 in
+    let part2 = part-long once [] d e (omega (arith, whole, long-once, en)) de in
+    let two = c.fill_window.new.into in
+    let long2 : length two ≡ 512 * e - 512 * d = c.fill_window.auto.into ∙ part2 in
+    let twice : List ℕ = put_mid (512 * d) (512 * e - 512 * d) once two in
+    let long-twice : length twice ≡ length once = put-long once two d e (omega (arith, whole, long-once, en)) de long2 in
+    let part3 : length (take (length bytes - 512 * e) (drop (512 * e) twice)) ≡ 512 * n - 512 * e =
+    subst (λ (l : ℕ). length (take (l - 512 * e) (drop (512 * e) twice)) ≡ 512 * n - 512 * e) (sym whole) (part-long twice [] e n (omega (arith, whole, long-once, long-twice)) en) in
+    omega (arith, part3, whole)
+
+pub read_regions-requires-clause-within : goal.read_regions-requires-clause-within
+read_regions-requires-clause-within g c =
+    let bytes = c.args.into.now in
+    let n : ℕ = length bytes / 512 in
+    let part = c.part_of-part.ensures in
+    let first = c.args.first in
+    let lo = c.part_of-part.result.lo in
+    let hi = c.part_of-part.result.hi in
+    let d : ℕ = lo - first in
+    let e : ℕ = hi - first in
+    let whole = c.requires.into in
+    let begins = part.begins in
+    let order = part.order in
+    let ends = part.ends in
+    let de : d ≤ e = omega (arith, begins, order) in
+    let en : e ≤ n = omega (arith, begins, order, ends) in
+    let one = c.read_regions-refusal.new.into in
+    let part1 = part-long bytes [] 0 d (omega (arith, whole, de, en)) (omega arith) in
+    let long1 : length one ≡ 512 * d - 512 * 0 = c.read_regions-refusal.auto.into ∙ part1 in
+    let once : List ℕ = put_mid (512 * 0) (512 * d - 512 * 0) bytes one in
+    let long-once : length once ≡ length bytes = put-long bytes one 0 d (omega (arith, whole, de, en)) (omega arith) long1 in
+    let part2 = part-long once [] d e (omega (arith, whole, long-once, en)) de in
+    let two = c.fill_window.new.into in
+    let long2 : length two ≡ 512 * e - 512 * d = c.fill_window.auto.into ∙ part2 in
+    let twice : List ℕ = put_mid (512 * d) (512 * e - 512 * d) once two in
+    let long-twice : length twice ≡ length once = put-long once two d e (omega (arith, whole, long-once, en)) de long2 in
+    let part3 : length (take (length bytes - 512 * e) (drop (512 * e) twice)) ≡ 512 * n - 512 * e =
+    subst (λ (l : ℕ). length (take (l - 512 * e) (drop (512 * e) twice)) ≡ 512 * n - 512 * e) (sym whole) (part-long twice [] e n (omega (arith, whole, long-once, long-twice)) en) in
+    let within = c.requires.within in
+    let same : list_length c.read_regions-refusal.new.members.newest ≡ list_length c.args.members.now.newest = ap (λ (m : Members). list_length m.newest) c.read_regions-refusal.ensures.lost.1 in
+    omega (arith, part3, whole, within, begins, order, ends, same)
+
+pub returns-clause-moved : goal.returns-clause-moved
+returns-clause-moved g c =
+    let m = c.args.members.now in
+    let k = c.read_regions-refusal.new.members in
+    let new = c.read_regions.new.members in
+    let given = g.B.Bank.given c.args.bank.now in
+    let given1 = g.B.Bank.given c.read_regions-refusal.new.bank in
+    let tape0 = g.B.Bank.tape c.args.bank.now in
+    let tape1 = g.B.Bank.tape c.read_regions-refusal.new.bank in
+    let did = c.read_regions-refusal.ensures in
+    let then = c.read_regions.ensures in
+    let moved2 : IsMoved given k new = moved-from given given1 k k new did.given refl then.moved in
+    moved-then given m k new did.moved moved2
+
+pub returns-clause-lost : goal.returns-clause-lost
+returns-clause-lost g c =
+    let m = c.args.members.now in
+    let k = c.read_regions-refusal.new.members in
+    let new = c.read_regions.new.members in
+    let given = g.B.Bank.given c.args.bank.now in
+    let given1 = g.B.Bank.given c.read_regions-refusal.new.bank in
+    let tape0 = g.B.Bank.tape c.args.bank.now in
+    let tape1 = g.B.Bank.tape c.read_regions-refusal.new.bank in
+    let did = c.read_regions-refusal.ensures in
+    let then = c.read_regions.ensures in
+    let moved2 : IsMoved given k new = moved-from given given1 k k new did.given refl then.moved in
+    (bit_or did.lost.0 then.lost.0, then.lost.1 ∙ ap (members_without then.lost.0) did.lost.1 ∙ members_then did.lost.0 then.lost.0 m)
+
+pub returns-clause-failed : goal.returns-clause-failed
+returns-clause-failed g c =
+    let m = c.args.members.now in
+    let k = c.read_regions-refusal.new.members in
+    let new = c.read_regions.new.members in
+    let given = g.B.Bank.given c.args.bank.now in
+    let given1 = g.B.Bank.given c.read_regions-refusal.new.bank in
+    let tape0 = g.B.Bank.tape c.args.bank.now in
+    let tape1 = g.B.Bank.tape c.read_regions-refusal.new.bank in
+    let did = c.read_regions-refusal.ensures in
+    let then = c.read_regions.ensures in
+    let moved2 : IsMoved given k new = moved-from given given1 k k new did.given refl then.moved in
+    since-then m k new 0 0 0 (g.B.Bank.faults_of c.args.bank.now) (g.B.Bank.faults_of c.read_regions-refusal.new.bank) (g.B.Bank.faults_of c.read_regions.new.bank) did.counts then.counts did.failed then.failed (in-second 0)
+
+pub returns-clause-kept : goal.returns-clause-kept
+returns-clause-kept g c =
+    let m = c.args.members.now in
+    let k = c.read_regions-refusal.new.members in
+    let new = c.read_regions.new.members in
+    let given = g.B.Bank.given c.args.bank.now in
+    let given1 = g.B.Bank.given c.read_regions-refusal.new.bank in
+    let tape0 = g.B.Bank.tape c.args.bank.now in
+    let tape1 = g.B.Bank.tape c.read_regions-refusal.new.bank in
+    let did = c.read_regions-refusal.ensures in
+    let then = c.read_regions.ensures in
+    let moved2 : IsMoved given k new = moved-from given given1 k k new did.given refl then.moved in
+    λ whole. then.kept whole ∙ did.kept (moved2.whole whole)
+
+pub returns-clause-refused : goal.returns-clause-refused
+returns-clause-refused g c =
+    let bytes = c.args.into.now in
+    let n : ℕ = length bytes / 512 in
+    let part = c.part_of-part.ensures in
+    let first = c.args.first in
+    let lo = c.part_of-part.result.lo in
+    let hi = c.part_of-part.result.hi in
+    let d : ℕ = lo - first in
+    let e : ℕ = hi - first in
+    let whole = c.requires.into in
+    let begins = part.begins in
+    let order = part.order in
+    let ends = part.ends in
+    let de : d ≤ e = omega (arith, begins, order) in
+    let en : e ≤ n = omega (arith, begins, order, ends) in
+    let one = c.read_regions-refusal.new.into in
+    let part1 = part-long bytes [] 0 d (omega (arith, whole, de, en)) (omega arith) in
+    let long1 : length one ≡ 512 * d - 512 * 0 = c.read_regions-refusal.auto.into ∙ part1 in
+    let once : List ℕ = put_mid (512 * 0) (512 * d - 512 * 0) bytes one in
+    let long-once : length once ≡ length bytes = put-long bytes one 0 d (omega (arith, whole, de, en)) (omega arith) long1 in
+    let part2 = part-long once [] d e (omega (arith, whole, long-once, en)) de in
+    let two = c.fill_window.new.into in
+    let long2 : length two ≡ 512 * e - 512 * d = c.fill_window.auto.into ∙ part2 in
+    let twice : List ℕ = put_mid (512 * d) (512 * e - 512 * d) once two in
+    let long-twice : length twice ≡ length once = put-long once two d e (omega (arith, whole, long-once, en)) de long2 in
+    let part3 : length (take (length bytes - 512 * e) (drop (512 * e) twice)) ≡ 512 * n - 512 * e =
+    subst (λ (l : ℕ). length (take (l - 512 * e) (drop (512 * e) twice)) ≡ 512 * n - 512 * e) (sym whole) (part-long twice [] e n (omega (arith, whole, long-once, long-twice)) en) in
+    unread-beside (Some c.args.span.now) c.args.relied hi (hi + length (take (length bytes - 512 * e) (drop (512 * e) twice)) / 512) first (first + n) c.read_regions.new.members (omega (arith, begins, order)) (omega (arith, part3, begins, order, ends, whole))
+    (λ x low high. part.behind x low (omega (arith, high, part3, begins, order, ends, whole))) c.read_regions.result c.read_regions.ensures.refused
+
+pub returns-clause-holds : goal.returns-clause-holds
+returns-clause-holds g c = λ none told list stands buffered fills i lt.
+    let bytes = c.args.into.now in
+    let n : ℕ = length bytes / 512 in
+    let part = c.part_of-part.ensures in
+    let first = c.args.first in
+    let lo = c.part_of-part.result.lo in
+    let hi = c.part_of-part.result.hi in
+    let d : ℕ = lo - first in
+    let e : ℕ = hi - first in
+    let whole = c.requires.into in
+    let begins = part.begins in
+    let order = part.order in
+    let ends = part.ends in
+    let de : d ≤ e = omega (arith, begins, order) in
+    let en : e ≤ n = omega (arith, begins, order, ends) in
+    let one = c.read_regions-refusal.new.into in
+    let part1 = part-long bytes [] 0 d (omega (arith, whole, de, en)) (omega arith) in
+    let long1 : length one ≡ 512 * d - 512 * 0 = c.read_regions-refusal.auto.into ∙ part1 in
+    let once : List ℕ = put_mid (512 * 0) (512 * d - 512 * 0) bytes one in
+    let long-once : length once ≡ length bytes = put-long bytes one 0 d (omega (arith, whole, de, en)) (omega arith) long1 in
+    let part2 = part-long once [] d e (omega (arith, whole, long-once, en)) de in
+    let two = c.fill_window.new.into in
+    let long2 : length two ≡ 512 * e - 512 * d = c.fill_window.auto.into ∙ part2 in
+    let twice : List ℕ = put_mid (512 * d) (512 * e - 512 * d) once two in
+    let long-twice : length twice ≡ length once = put-long once two d e (omega (arith, whole, long-once, en)) de long2 in
+    let part3 : length (take (length bytes - 512 * e) (drop (512 * e) twice)) ≡ 512 * n - 512 * e =
+    subst (λ (l : ℕ). length (take (l - 512 * e) (drop (512 * e) twice)) ≡ 512 * n - 512 * e) (sym whole) (part-long twice [] e n (omega (arith, whole, long-once, long-twice)) en) in
+    let m = c.args.members.now in
+    let k = c.read_regions-refusal.new.members in
+    let new = c.read_regions.new.members in
+    let given = g.B.Bank.given c.args.bank.now in
+    let given1 = g.B.Bank.given c.read_regions-refusal.new.bank in
+    let tape0 = g.B.Bank.tape c.args.bank.now in
+    let tape1 = g.B.Bank.tape c.read_regions-refusal.new.bank in
+    let did = c.read_regions-refusal.ensures in
+    let then = c.read_regions.ensures in
+    let moved2 : IsMoved given k new = moved-from given given1 k k new did.given refl then.moved in
+    let three = c.read_regions.new.into in
+    let long3 : length three ≡ 512 * n - 512 * e = c.read_regions.auto.into ∙ part3 in
+    let within = c.requires.within in
+    let long : list_length k.newest ≡ list_length m.newest = ap (λ (m : Members). list_length m.newest) did.lost.1 in
+    let now = present given tape0 in
+    let same : present given1 tape1 ≡ now = present_same did.given (did.tape told) in
+    elim (cases_lt i d) [
+      | inl early ↦ before-part bytes one two three d e n (length bytes) whole whole de en long1 long2 long3 i early
+          ∙ did.holds (none-of c.read_regions-refusal.result (sym c.is_some.ensures ∙ c.if-is_some.false)) told (Some c.args.span.now) list stands
+          (elim fills [ inl all ↦ inl (moved2.whole all) | inr rows ↦ inr rows ]) i (omega (arith, part1, early))
+          (record { within = omega (arith, within, lt); outside = part.before (first + i) (omega arith) (omega (arith, early, begins)) })
+      | inr late ↦ elim (cases_lt i e) [
+        | inl inside ↦
+            let here : lo + (i - d) ≡ first + i = omega (arith, late, begins) in
+            window-part bytes one two three d e n (length bytes) whole whole de en long1 long2 long3 i late inside
+            ∙ c.fill_window.ensures list buffered (i - d) (omega (arith, inside, late, begins)) ∙ ap list here
+        | inr past ↦
+            let here : hi + (i - e) ≡ first + i = omega (arith, past, begins, order) in
+            behind-part bytes one two three d e n (length bytes) whole whole de en long1 long2 long3 i past lt
+            ∙ then.holds none told (Some c.args.span.now) list
+            (subst (λ (l : Contents). ListStands (Some c.args.span.now) k l list) (sym same)
+            (shown-moved given m k now now list did.moved c.requires.placed (λ s j other. refl) (Some c.args.span.now) stands))
+            (elim fills [
+              | inl all ↦ inl all
+              | inr rows ↦ inr (subst (λ (l : Contents). RowsStandTo (Some c.args.span.now) c.args.relied k l list) (sym same)
+                  (rows-to-moved given m k now list did.moved c.requires.placed (Some c.args.span.now) c.args.relied rows))
+            ]) (i - e) (omega (arith, past, lt, part3, whole))
+            (record { within = omega (arith, within, lt, here, long); outside = part.behind (hi + (i - e)) (omega arith) (omega (arith, here, lt)) })
+            ∙ ap list here
+      ]
+    ]
+
+pub returns-clause-tape : goal.returns-clause-tape
+returns-clause-tape g c = λ told. c.read_regions.ensures.tape told ∙ c.read_regions-refusal.ensures.tape told
+
+pub returns-clause-counts : goal.returns-clause-counts
+returns-clause-counts g c = λ s. let first = c.read_regions-refusal.ensures.counts s in let second = c.read_regions.ensures.counts s in omega (arith, first, second)
