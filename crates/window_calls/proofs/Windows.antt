@@ -154,7 +154,6 @@ module _ (sound : Type 0) (scope : Scope) (given : Given) (told : Ledger) (m new
         (opened.rows_are (sym clean ∙ is) (without-before given m new moved does) premise x (was-shown x shown)));
     headers = headers-later scope given m new moved d e headers opened.headers;
     zeros = λ so. zeros-later given (moved_past span m) (moved_past span new) (past-moved given m new span moved opened.able.next) list (opened.zeros so);
-    zeros = λ so. zeros-later given (moved_past span m) (moved_past span new) (past-moved given m new span moved opened.able.next) list (opened.zeros so);
   }
 
 -- where all are, the window is copied
@@ -229,7 +228,6 @@ module _ (given : Given) (span : Span) (m new : Members) (was : IsPlaced given m
     stands = shown-moved given m new before after list moved was others (Some span) opened.stands;
     rows_are = λ is does premise. shown-rows-moved given m new before after list moved was others (Some span) (opened.rows_are (sym clean ∙ is) (without-before given m new moved does) premise);
     headers = headers-later scope given m new moved d e (λ s v may. fewer s 0 v (omega arith) may) opened.headers;
-    zeros = λ so. zeros-later given (moved_past span m) (moved_past span new) (past-moved given m new span moved opened.able.next) list (opened.zeros so);
     zeros = λ so. zeros-later given (moved_past span m) (moved_past span new) (past-moved given m new span moved opened.able.next) list (opened.zeros so);
   }
 

@@ -11,7 +11,7 @@ use Rattle.superblocks.specs.Reading.{Scope, is_clean, final_shape}
 use Rattle.row_io.specs.Rows.{reading_of}
 use Rattle.list_io.specs.Full.{RowStands}
 use Rattle.shape_views.specs.Regions.{DoWithout}
-use Rattle.shape_views.specs.Views.{AreHeadersFit, IsTailZero, IsTailZero, Disk, Ledger}
+use Rattle.shape_views.specs.Views.{AreHeadersFit, IsTailZero, Disk, Ledger}
 use Rattle.shape_views.specs.Windows.{IsCopyable, ListStands, RowsStand, moved_past}
 use Rattle.shape_changes.specs.Steady.{AreWritesAllowed}
 use Rattle.window_rows.specs.Copies.{tail_of, IsCopied}
@@ -42,5 +42,4 @@ pub record IsOpenWindow (sound : Type 0) (scope : Scope) (told : Ledger) (m : Me
   pub stands : ListStands (Some span) m c list
   pub rows_are : is_clean m.newest ≡ true → DoWithout m → sound → RowsStand (Some span) m c list
   pub headers : AreHeadersFit scope m d
-  pub zeros : sound → IsTailZero (moved_past span m).newest list
   pub zeros : sound → IsTailZero (moved_past span m).newest list
