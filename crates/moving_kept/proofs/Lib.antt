@@ -6,3 +6,4 @@ pub mod MoreSteps
 pub mod Staying
 pub mod Entering
 pub mod Adding
+pub mod Settling
