@@ -1,5 +1,5 @@
 -- What a step makes of the course of a reshape, by what its call leaves: on members that lost slots, with a stripe copied, recorded or zeroed.
-use Rattle.std.specs.Prelude.{◌≡◌, ℕ, ◌+◌, ◌/◌, ◌<◌, Bool, true, false, List, Some, None}
+use Rattle.std.specs.Prelude.{◌≡◌, ℕ, ◌+◌, ◌/◌, ◌<◌, Bool, true, false, List, [], ◌∷◌, Some, None}
 use Rattle.md_base.specs.declared.places.Span.{Span}
 use Rattle.md_base.specs.Sectors.{Sector, zero_sector}
 use Rattle.md_base.specs.Shapes.{stripe_sectors}
@@ -12,7 +12,7 @@ use Rattle.superblocks.specs.Reading.{Scope, is_reshaping, is_backward, shape_of
 use Rattle.row_io.specs.Rows.{reading_of}
 use Rattle.list_io.specs.Full.{RowStands}
 use Rattle.shape_views.specs.Regions.{ArePlaced}
-use Rattle.shape_views.specs.Views.{AreHeadersFit, Disk}
+use Rattle.shape_views.specs.Views.{AreHeadersFit, AreSectionsAllowed, Disk}
 use Rattle.shape_views.specs.Windows.{ListStands, RowsStand, moved_past}
 use Rattle.shape_views.specs.Backups.{IsOpenUnderAll}
 use Rattle.shape_changes.specs.Marking.{AreOthersPresent}
@@ -22,6 +22,7 @@ use Rattle.reshape_ends.specs.Finished.{IsZeroBehind}
 use Rattle.views.specs.Placed.{IsPlaced}
 use Rattle.views.specs.Moving.{IsMoved}
 use Rattle.views.specs.Lacking.{IsOfStripe, AreOtherRowsKept}
+use Rattle.views.specs.Under.{StandsUnder, RowsStandUnder}
 use Rattle.window_rows.specs.Copies.{tail_of, HasWindow, IsRoomFor, IsCopied}
 use Rattle.window_steps.specs.Copying.{AreHeadersKept}
 use Rattle.window_steps.specs.Zeroing.{IsThrough}
@@ -109,6 +110,11 @@ ZeroesGoOn sound = (given : Given) (old new : Members) (zeroed : ℕ) (buffer : 
 abbrev pub ZeroesAreAll : (sound : Type 0) → Type 0
 ZeroesAreAll sound = (given : Given) (m : Members) (buffer : List ℕ) (c : Contents) (list : ℕ → Sector) → IsPlaced given m → is_reshaping m.newest ≡ true → is_backward m.newest ≡ false
     → StandsInCourse sound m (closed (zeroed_stripes (shape_of m.newest) (final_shape m.newest) m.newest.size (is_backward m.newest))) buffer c list → IsZeroBehind m c list
+
+-- Where an active section has the list's sectors alone, the list stands whichever header a stop leaves, and so do its rows.
+abbrev pub CoursesStandUnder : (sound : Type 0) → Type 0
+CoursesStandUnder sound = (scope : Scope) (m : Members) (course : Course) (buffer : List ℕ) (c : Contents) (d : Disk) (list : ℕ → Sector) → IsStored scope m course.window d
+    → AreSectionsAllowed scope m (λ x. list x ∷ []) d → StandsInCourse sound m course buffer c list → StandsUnder scope m c d list × (sound → RowsStandUnder scope m c d list)
 
 -- ---- the headers
 

@@ -7,3 +7,4 @@ pub mod Staying
 pub mod Entering
 pub mod Adding
 pub mod Settling
+pub mod Flushing

@@ -37,6 +37,7 @@ use Rattle.call_entries.specs.Losing.{losses_of}
 use Rattle.call_entries.proofs.CallLaws.{AreLossEvents, losses-are, told-losses, last_end-behind, length-losses, values-losses}
 use Rattle.call_entries.proofs.StepLaws.{faults-are}
 use Rattle.call_entries.proofs.LosingLaws.{entries-both}
+use Rattle.call_entries.proofs.LeftLaws.{TellLeft}
 use Rattle.kept_history.specs.Recorded.{IsHistoryKept, IsLegalCall, IsCallGoing, entry_of, ends_reshape, gives_some}
 use Rattle.kept_history.specs.Safe.{world_in, IsFilledRight, IsSafeHistory}
 use Rattle.kept_history.specs.Told.{told_now, told_by}
@@ -65,12 +66,14 @@ pub record IsSettling (event : Event) : Type 0 where
   pub level : (n : ℕ) → level_after n event ≡ n
   pub length : (n : ℕ) → length_after n event ≡ n
   pub newest : (x : ℕ) (values : List Sector) → values_after x values event ≡ take 1 values
+  pub legal : (world : World) (before : List Entry) (e : Entry) → IsLegalEvent world before e [] event
+  pub tells : (left : ℕ) (who : Who) (end : ℕ) → TellLeft left who end (event ∷ [])
 
 pub flush-is : IsSettling Flushed
-flush-is = record { gives = refl; ends = refl; resync = refl; level = λ n. refl; length = λ n. refl; newest = λ x values. refl }
+flush-is = record { gives = refl; ends = refl; resync = refl; level = λ n. refl; length = λ n. refl; newest = λ x values. refl; legal = λ world before e. tt; tells = λ left who end told is. is }
 
 pub stop-is : IsSettling Stopped
-stop-is = record { gives = refl; ends = refl; resync = refl; level = λ n. refl; length = λ n. refl; newest = λ x values. refl }
+stop-is = record { gives = refl; ends = refl; resync = refl; level = λ n. refl; length = λ n. refl; newest = λ x values. refl; legal = λ world before e. tt; tells = λ left who end told is. is }
 
 -- the newest value is among those that stay, and is the newest of them
 first-in : (values : List Sector) (v : Sector) → IsIn values v → IsIn (take 1 values) (slice_index_or values 0 [])
@@ -104,24 +107,25 @@ settled-alike unsynced list other told same = record {
 
 -- ---- the call
 
--- What is asked of a call, from this tape to that one with its end there: by what is told while it runs each mark is safe, and at its end the list alone.
+-- Once it is over, the array is safe by a list that is this one as far as it goes, and by no other.
+pub record IsSettledBy (world : World) (given : Given) (told : Ledger) (old new : Members) (tape' : List Operation) (unsynced : Bool) (newest : ℕ → Sector) : Type 0 where
+  pub list : ℕ → Sector
+  pub is : (x : ℕ) → x < list_length old.newest → list x ≡ newest x
+  pub safe : IsSafeOver world given (settled_ledger unsynced list told) new tape'
+
+-- What is asked of a call, from this tape to that one with its end there: by what is told while it runs each mark is safe, and its end by the list alone.
 pub record IsSettlingCall (given : Given) (tape : List Operation) (scope : Scope) (first : ℕ) (entries : List Entry) (old new : Members) (carried : ℕ → Bool) (unsynced : Bool) (course' : Course) (buffer' : List ℕ)
     (who : Who) (roles spares : ℕ) (event : Event) (tape' : List Operation) (end : ℕ) : Type 0 where
   pub rise : IsRisen ⊤ old new tape tape'
-  pub list : ℕ → Sector
-  pub is : (x : ℕ) → x < list_length old.newest → list x ≡ now (opening_list (world_in given tape scope first)) entries x
   pub keeps : (told : Ledger) → IsFilledRight (world_in given tape scope first) entries → IsMoreTold (told_now (world_in given tape scope first) carried true entries) told
-      → AreWritesAllowed old told.values list → HasRoomLeft old tape tape' → AreGoneTold told new → IsUncleanTold told old
+      → AreWritesAllowed old told.values (now (opening_list (world_in given tape scope first)) entries) → HasRoomLeft old tape tape' → AreGoneTold told new → IsUncleanTold told old
       → IsSafeOver (world_in given tape scope first) given told old tape → KeepsSafe (world_in given tape scope first) given told new tape tape'
   pub settled : (told : Ledger) → IsFilledRight (world_in given tape scope first) entries → IsMoreTold (told_now (world_in given tape scope first) carried true entries) told
-      → AreWritesAllowed old told.values list → HasRoomLeft old tape tape' → AreGoneTold told new → IsUncleanTold told old
-      → IsSafeOver (world_in given tape scope first) given told old tape → IsSafeOver (world_in given tape scope first) given (settled_ledger unsynced list told) new tape'
+      → AreWritesAllowed old told.values (now (opening_list (world_in given tape scope first)) entries) → HasRoomLeft old tape tape' → AreGoneTold told new → IsUncleanTold told old
+      → IsSafeOver (world_in given tape scope first) given told old tape
+      → IsSettledBy (world_in given tape scope first) given told old new tape' unsynced (now (opening_list (world_in given tape scope first)) entries)
   pub listed : DoWithout new → IsFilledRight (world_in given tape scope first) entries
       → HasListInCourse (OpensFit (world_in given tape scope first)) new course' buffer' (present given tape') (now (opening_list (world_in given tape scope first)) entries)
-  pub legal : IsFilledRight (world_in given tape' scope first) (entries ++ entries_of who end (losses_of roles spares ++ event ∷ []))
-      → AreToldGone (world_in given tape' scope first) (entries ++ entries_of who end (losses_of roles spares)) new
-      → level_at (world_in given tape' scope first) (entries ++ entries_of who end (losses_of roles spares)) ≡ level_at (world_in given tape scope first) entries
-      → IsLegalEvent (world_in given tape' scope first) (entries ++ entries_of who end (losses_of roles spares)) (entry_of who end event) [] event
 
 module _ (given : Given) (tape : List Operation) (scope : Scope) (first : ℕ) (entries : List Entry) (old new : Members) (carried : ℕ → Bool) (unsynced : Bool) (course' : Course) (buffer' : List ℕ)
     (who : Who) (roles spares : ℕ) (event : Event) (ops : List Operation)
@@ -191,19 +195,12 @@ module _ (given : Given) (tape : List Operation) (scope : Scope) (first : ℕ) (
   gone-all : AreToldGone later all new
   gone-all role lt miss = any-gone later role entries added (regains-none later role added gives-all) (gone-counts added (λ role lt has. told-losses role roles spares who end (event ∷ []) lt has) role lt miss)
 
-  gone-more : AreToldGone later (entries ++ more) new
-  gone-more role lt miss = any-gone later role entries more (regains-none later role more gives-more) (gone-counts more lost-more role lt miss)
-
   level-from : (xs : List Event) → fold (λ level e. level_after level e.event) (level_at world entries) (entries_of who end xs) ≡ level_at world entries
       → level_at later (entries ++ entries_of who end xs) ≡ level_at world entries
   level-from xs same =
       ap (λ (found : Option Reading). fold (λ level e. level_after level e.event) (option_map_or (λ r. r.newest.level) found 5) (entries ++ entries_of who end xs)) (reading-grown world ops first recorded.begun)
       ∙ fold-append (λ level e. level_after level e.event) (option_map_or (λ r. r.newest.level) (reading_at world world.first) 5) entries (entries_of who end xs)
       ∙ same
-
-  level-more : level_at later (entries ++ more) ≡ level_at world entries
-  level-more = level-from losses (subst (λ (l : List Event). fold (λ level e. level_after level e.event) (level_at world entries) (entries_of who end l) ≡ level_at world entries) (append-nil losses)
-      (level-losses who end (level_at world entries) losses [] (losses-are roles spares)))
 
   level-all : level_at later all ≡ level_at world entries
   level-all = level-from (losses ++ event ∷ []) (level-losses who end (level_at world entries) losses (event ∷ []) (losses-are roles spares) ∙ settling.level (level_at world entries))
@@ -247,11 +244,8 @@ module _ (given : Given) (tape : List Operation) (scope : Scope) (first : ℕ) (
   newest-all x lt = subst (λ (l : List Sector). IsIn l (now (opening_list later) entries x)) (sym (values-all x))
       (first-in (values_of (opening_list later) entries x) (now (opening_list later) entries x) (newest-in (opening_list later) entries x (let n = length-opened in omega (arith, lt, n))))
 
-  list-is : (x : ℕ) → x < list_length old.newest → call.list x ≡ now (opening_list later) entries x
-  list-is x lt = call.is x lt ∙ sym (ap (λ (l : List Sector). now l entries x) opened-same)
-
-  allowed : AreWritesAllowed old told.values call.list
-  allowed x lt = subst (IsIn (told.values x)) (sym (list-is x lt))
+  allowed : AreWritesAllowed old told.values (now (opening_list world) entries)
+  allowed x lt = subst (λ (l : List Sector). IsIn (told.values x) (now l entries x)) opened-same
       (subst (λ (l : List Sector). IsIn l (now (opening_list later) entries x)) (sym (values-more (opening_list later) entries more x))
       (all-stay x more (values_of (opening_list later) entries x) (now (opening_list later) entries x) adds-more
       (newest-in (opening_list later) entries x (let n = length-opened in omega (arith, lt, n)))))
@@ -279,7 +273,7 @@ module _ (given : Given) (tape : List Operation) (scope : Scope) (first : ℕ) (
   -- ---- the history
 
   legal-call : IsFilledRight later all → IsLegalCall later entries who end (losses ++ event ∷ [])
-  legal-call fills = legal-losses later entries who end losses (event ∷ []) (losses-are roles spares) (call.legal fills gone-more level-more, tt, tt)
+  legal-call fills = legal-losses later entries who end losses (event ∷ []) (losses-are roles spares) (settling.legal later (entries ++ more) (entry_of who end event), tt, tt)
 
   recorded-all : IsHistoryKept (IsFilledRight later all) later (list_length new.newest) all
   recorded-all = kept-call (IsFilledRight world entries) (IsFilledRight later all) world ops (list_length old.newest) (list_length new.newest) entries who (losses ++ event ∷ []) goes recorded fills-before caller
@@ -305,9 +299,10 @@ module _ (given : Given) (tape : List Operation) (scope : Scope) (first : ℕ) (
 
   -- ---- each mark
 
-  told-last : IsMoreTold (settled_ledger unsynced call.list told) (told_now later carried true all)
-  told-last = more-then (settled_ledger unsynced call.list told) (settled_ledger unsynced (now (opening_list later) entries) told) (told_now later carried true all)
-      (settled-alike unsynced call.list (now (opening_list later) entries) told (λ x lt. list-is x (let n = length-now in omega (arith, lt, n))))
+  told-last : (list : ℕ → Sector) → ((x : ℕ) → x < list_length old.newest → list x ≡ now (opening_list world) entries x) → IsMoreTold (settled_ledger unsynced list told) (told_now later carried true all)
+  told-last list is = more-then (settled_ledger unsynced list told) (settled_ledger unsynced (now (opening_list later) entries) told) (told_now later carried true all)
+      (settled-alike unsynced list (now (opening_list later) entries) told
+      (λ x lt. is x (let n = length-now in omega (arith, lt, n)) ∙ sym (ap (λ (l : List Sector). now l entries x) opened-same)))
       (subst (λ (l : List Entry). IsMoreTold (settled_ledger unsynced (now (opening_list later) entries) told) (told_now later carried true (entries ++ l))) (sym both)
       (settled-now later carried true unsynced entries more rest
       (subst (λ (l : List Entry). is_unsynced later (entries ++ l) ≡ unsynced) both unsynced-all)
@@ -328,9 +323,10 @@ module _ (given : Given) (tape : List Operation) (scope : Scope) (first : ℕ) (
         (λ role lt miss. gone-counts more lost-more role lt miss) (λ dirty. told-first.unclean (unclean dirty)) before
 
     last : IsSafeOver world given (told_now later carried true all) new (tape ++ ops)
-    last = now-more (OpensFit world) scope given (settled_ledger unsynced call.list told) (told_now later carried true all) new (disk given.start (tape ++ ops)) told-last
-        (call.settled told (fills-before fills) told-first allowed (room-now world ops begun old was.counted room)
-        (λ role lt miss. gone-counts more lost-more role lt miss) (λ dirty. told-first.unclean (unclean dirty)) before)
+    last =
+        let by = call.settled told (fills-before fills) told-first allowed (room-now world ops begun old was.counted room)
+        (λ role lt miss. gone-counts more lost-more role lt miss) (λ dirty. told-first.unclean (unclean dirty)) before in
+        now-more (OpensFit world) scope given (settled_ledger unsynced by.list told) (told_now later carried true all) new (disk given.start (tape ++ ops)) (told-last by.list by.is) by.safe
 
     safe-all : IsSafeHistory ⊤ later given new carried true all
     safe-all = safe-called ⊤ given tape scope first entries old new carried carried true true who losses (event ∷ []) told ops (tape ++ ops) end refl refl sizes_are begun recorded.ends was

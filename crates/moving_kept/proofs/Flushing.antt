@@ -1,0 +1,197 @@
+-- A flush or a stop of an array in a reshape, from what `settle` leaves of its members, and one that is refused for missing members.
+use Rattle.std.proofs.Common.{◌≡◌, ◌⊎◌, inl, inr, ℕ, ◌<◌, ◌≤◌, ◌==◌, Bool, true, false, List, [], ◌∷◌, ◌++◌, length, refl, sym, ◌∙◌, ap, subst, arith}
+use Rattle.std.specs.Prelude.{IsFalse, slice_index_or, ⊤}
+use Rattle.std.proofs.lemmas.Bool.{cases_lt}
+use Rattle.md_base.specs.Sectors.{Sector}
+use Rattle.md_base.specs.declared.answers.Refusal.{Refusal}
+use Rattle.md_base.specs.declared.answers.Who.{Who}
+use Rattle.md_base.specs.declared.places.Shape.{Shape}
+use Rattle.md_base.specs.Shapes.{tolerance}
+use Rattle.bank.specs.declared.bank.Operation.{Operation}
+use Rattle.bank.specs.Given.{Given}
+use Rattle.bank.specs.Tape.{IsIn, disk}
+use Rattle.superblocks.specs.declared.members.Members.{Members}
+use Rattle.superblocks.specs.Reading.{Scope, is_clean, shape_of, final_shape, list_length, role_count}
+use Rattle.row_io.specs.Rows.{reading_of, present, missing_count}
+use Rattle.flat_history.specs.declared.events.Entry.{Entry}
+use Rattle.flat_history.specs.declared.events.Event.{Event}
+use Rattle.flat_history.specs.declared.events.Event.TheVariants.{Refused}
+use Rattle.flat_history.specs.Flat.{now, values_of}
+use Rattle.flat_history.specs.Losses.{is_unsynced, unsettles}
+use Rattle.flat_history.specs.Plain.{entries_of}
+use Rattle.flat_history.specs.Sound.{OpensFit}
+use Rattle.flat_history.specs.World.{World, opening_list}
+use Rattle.shape_views.specs.Regions.{DoWithout}
+use Rattle.shape_views.specs.Views.{Ledger, AreSectionsAllowed}
+use Rattle.shape_changes.specs.Marking.{AreOthersPresent}
+use Rattle.shape_changes.specs.Safety.{HasRoomLeft, IsRisen}
+use Rattle.shape_changes.specs.Steady.{IsSafeOver, KeepsSafe, AreGoneTold, IsUncleanTold, AreWritesAllowed, settled_ledger}
+use Rattle.views.specs.Lacking.{AreTooMany}
+use Rattle.views.specs.Moving.{Grows, IsMoved}
+use Rattle.views.specs.Under.{StandsUnder, RowsStandUnder}
+use Rattle.views.proofs.Fit.{list-alike}
+use Rattle.views.proofs.HeldRows.{without-before}
+use Rattle.views.proofs.LackingLaws.{never-both}
+use Rattle.call_entries.specs.Losing.{losses_of}
+use Rattle.call_entries.proofs.CallLaws.{losses-are, values-losses}
+use Rattle.call_entries.proofs.LeftLaws.{left-behind, left-more}
+use Rattle.window_steps.specs.Copying.{AreHeadersKept}
+use Rattle.kept_history.specs.Recorded.{IsCallGoing}
+use Rattle.kept_history.specs.Safe.{world_in, IsFilledRight}
+use Rattle.kept_history.proofs.Entered.{values-more}
+use Rattle.course_kept.specs.declared.course.Course.{Course}
+use Rattle.course_kept.specs.Course.{StandsInCourse}
+use Rattle.course_kept.proofs.Courses.{courses-move, stored-moves}
+use Rattle.course_kept.proofs.Under.{courses-stand-under}
+use Rattle.moving_kept.specs.Moving.{HasListInCourse, IsMoving}
+use Rattle.moving_kept.proofs.Adding.{adding-moves}
+use Rattle.moving_kept.proofs.MembersMove.{reshaping-moved}
+use Rattle.moving_kept.proofs.Refusals.{refused-right}
+use Rattle.moving_kept.proofs.Settling.{IsSettling, settling-moves}
+use Rattle.moving_kept.proofs.Staying.{course-moved}
+use Rattle.moving_kept.proofs.Steps.{AreMissingSince, missing-moved}
+
+-- an array can do without what it misses, or not
+without-or : (m : Members) → DoWithout m ⊎ (DoWithout m → ⊥)
+without-or m = elim (cases_lt (tolerance (shape_of m.newest)) (missing_count (reading_of m) (shape_of m.newest))) [
+  | inl above ↦ inr (λ does. let few = does.old in absurd (omega (arith, above, few)))
+  | inr old ↦ elim (cases_lt (tolerance (final_shape m.newest)) (missing_count (reading_of m) (final_shape m.newest))) [
+    | inl above ↦ inr (λ does. let few = does.final in absurd (omega (arith, above, few)))
+    | inr new ↦ inl (record { old = old; final = new })
+  ]
+]
+
+-- What a flush of the members leaves, in an array whose resync is pending or not: none but superblocks is written, and each mark is safe as long as the list
+-- stands whichever header a stop leaves.
+pub record AreFlushed (tells : Type 0) (given : Given) (tape tape' : List Operation) (scope : Scope) (first : ℕ) (entries : List Entry) (old new : Members) (course : Course) (buffer : List ℕ)
+    (roles : ℕ) (unsynced : Bool) : Type 0 where
+  pub moved : IsMoved given old new
+  pub few : role_count new.newest ≤ 16
+  pub since : AreMissingSince old new roles
+  pub rise : tells → IsRisen ⊤ old new tape tape'
+  pub others : tells → AreOthersPresent (present given tape) (present given tape')
+  pub headers : tells → AreHeadersKept (disk given.start tape) (disk given.start tape')
+  pub pending : tells → is_unsynced (world_in given tape scope first) entries ≡ unsynced
+  pub dirty : tells → DoWithout old → unsynced ≡ true → is_clean old.newest ≡ false
+  pub sections : tells → DoWithout old → (list : ℕ → Sector) → StandsInCourse (OpensFit (world_in given tape scope first)) old course buffer (present given tape) list
+      → AreSectionsAllowed scope old (λ x. list x ∷ []) (disk given.start tape)
+  pub safe : tells → (world : World) → (told : Ledger) → HasRoomLeft old tape tape' → AreGoneTold told new → IsUncleanTold told old → (list : ℕ → Sector)
+      → (DoWithout old → StandsUnder world.scope old (present given tape) (disk given.start tape) list)
+      → (unsynced ≡ false → DoWithout old → OpensFit world → RowsStandUnder world.scope old (present given tape) (disk given.start tape) list)
+      → AreWritesAllowed old told.values list → IsSafeOver world given told old tape → KeepsSafe world given told new tape tape'
+
+-- what it leaves where it is done
+pub record AreSettled (tells : Type 0) (given : Given) (tape tape' : List Operation) (old new : Members) (unsynced : Bool) : Type 0 where
+  pub clean : unsynced ≡ false → is_clean new.newest ≡ true
+  pub settled : tells → (world : World) → (told : Ledger) → HasRoomLeft old tape tape' → AreGoneTold told new → IsUncleanTold told old → (DoWithout old → unsynced ≡ true → is_clean old.newest ≡ false) → (list : ℕ → Sector)
+      → (DoWithout old → StandsUnder world.scope old (present given tape) (disk given.start tape) list)
+      → (unsynced ≡ false → DoWithout old → OpensFit world → RowsStandUnder world.scope old (present given tape) (disk given.start tape) list)
+      → AreWritesAllowed old told.values list → IsSafeOver world given told old tape → IsSafeOver world given (settled_ledger unsynced list told) new tape'
+
+-- A list by which it may be flushed: the history's as far as that goes, and it stands whichever header a stop leaves.
+record IsFlushable (given : Given) (tape : List Operation) (scope : Scope) (first : ℕ) (entries : List Entry) (old : Members) : Type 0 where
+  pub list : ℕ → Sector
+  pub is : (x : ℕ) → x < list_length old.newest → list x ≡ now (opening_list (world_in given tape scope first)) entries x
+  pub stands : DoWithout old → StandsUnder scope old (present given tape) (disk given.start tape) list
+  pub rows : DoWithout old → OpensFit (world_in given tape scope first) → RowsStandUnder scope old (present given tape) (disk given.start tape) list
+
+module _ (tells : Type 0) (given : Given) (tape tape' : List Operation) (scope : Scope) (first : ℕ) (entries : List Entry) (old new : Members) (carried : ℕ → Bool)
+    (course : Course) (buffer : List ℕ) (left : ℕ) (who : Who) (end roles spares : ℕ) (unsynced : Bool)
+    (was : IsMoving tells given tape scope first entries old carried course buffer left) (goes : IsCallGoing entries who) (caller : IsFalse (who.caller == 254))
+    (at_end : tells → end ≡ length tape') (grows : Grows tells tape tape')
+    (did : AreFlushed tells given tape tape' scope first entries old new course buffer roles unsynced) where
+  flushable : tells → IsFilledRight (world_in given tape scope first) entries → IsFlushable given tape scope first entries old
+  flushable t fills = elim (without-or old) [
+    | inl does ↦
+        let l = was.listed t does fills in
+        let both = courses-stand-under (OpensFit (world_in given tape scope first)) scope old course buffer (present given tape) (disk given.start tape) l.list (was.stored t)
+        (did.sections t does l.list l.stands) l.stands in
+        record {
+          list = l.list;
+          is = l.is;
+          stands = λ same. both.0;
+          rows = λ same fit. both.1 fit;
+        }
+    | inr not ↦ record {
+      list = now (opening_list (world_in given tape scope first)) entries;
+      is = λ x lt. refl;
+      stands = λ does. absurd (not does);
+      rows = λ does fit. absurd (not does);
+    }
+  ]
+
+  list-same : list_length new.newest ≡ list_length old.newest
+  list-same = list-alike old.newest new.newest did.moved.reshape did.moved.shape did.moved.size
+
+  level-same : (shape_of new.newest).level ≡ (shape_of old.newest).level
+  level-same = ap (λ (s : Shape). s.level) did.moved.shape
+
+  -- the list stands on, on the members that are left
+  still-listed : tells → DoWithout new → IsFilledRight (world_in given tape scope first) entries
+      → HasListInCourse (OpensFit (world_in given tape scope first)) new course buffer (present given tape') (now (opening_list (world_in given tape scope first)) entries)
+  still-listed t does fills =
+      let l = was.listed t (without-before given old new did.moved does) fills in
+      record {
+        list = l.list;
+        is = λ x lt. l.is x (subst (λ (n : ℕ). x < n) list-same lt);
+        stands = courses-move (OpensFit (world_in given tape scope first)) given old new course buffer (present given tape) (present given tape') l.list was.members_are.placed did.moved (did.others t) l.stands;
+      }
+
+  -- each mark of it is safe
+  keeps : (t : tells) → (told : Ledger) → IsFilledRight (world_in given tape scope first) entries → AreWritesAllowed old told.values (now (opening_list (world_in given tape scope first)) entries)
+      → HasRoomLeft old tape tape' → AreGoneTold told new → IsUncleanTold told old → IsSafeOver (world_in given tape scope first) given told old tape → KeepsSafe (world_in given tape scope first) given told new tape tape'
+  keeps t told fills allowed room gone unclean before =
+      let able = flushable t fills in
+      did.safe t (world_in given tape scope first) told room gone unclean able.list able.stands (λ synced. able.rows) (λ x lt. subst (IsIn (told.values x)) (sym (able.is x lt)) (allowed x lt)) before
+
+  -- a flush or a stop that is done
+  pub flushed-moves : (event : Event) → IsSettling event → AreSettled tells given tape tape' old new unsynced
+      → IsMoving tells given tape' scope first (entries ++ entries_of who end (losses_of roles spares ++ event ∷ [])) new carried course buffer left
+  flushed-moves event settling done =
+      settling-moves tells given tape tape' scope first entries old new carried unsynced course course buffer buffer left left who end roles spares event was goes caller at_end grows settling
+      (reshaping-moved scope given old new did.moved was.members_are) did.few (missing-moved roles did.moved did.since) list-same level-same done.clean did.pending
+      (course-moved given old new course did.moved was.course_is)
+      (λ t. stored-moves scope given old new course.window (disk given.start tape) (disk given.start tape') did.moved (did.headers t) (was.stored t))
+      (left-more left entries who end (losses_of roles spares ++ event ∷ []) was.left_told (left-behind left who end (losses_of roles spares) (event ∷ []) (losses-are roles spares) (settling.tells left who end)))
+      (λ t. record {
+        rise = did.rise t;
+        keeps = λ told fills more allowed room gone unclean before. keeps t told fills allowed room gone unclean before;
+        settled = λ told fills more allowed room gone unclean before.
+            let able = flushable t fills in
+            record {
+              list = able.list;
+              is = able.is;
+              safe = done.settled t (world_in given tape scope first) told room gone unclean (did.dirty t) able.list able.stands (λ synced. able.rows)
+                  (λ x lt. subst (IsIn (told.values x)) (sym (able.is x lt)) (allowed x lt)) before;
+            };
+        listed = still-listed t;
+      })
+
+  -- one that is refused, since more are missing than the array can do without
+  pub unflushed-moves : (refusal : Refusal) → AreTooMany new refusal
+      → IsMoving tells given tape' scope first (entries ++ entries_of who end (losses_of roles spares ++ Refused refusal ∷ [])) new carried course buffer left
+  unflushed-moves refusal many =
+      adding-moves tells given tape tape' scope first entries old new carried course course buffer buffer left left who end roles spares (Refused refusal) was goes caller at_end grows
+      (record { adds = refl; gives = refl; ends = refl; level = λ n. refl })
+      (reshaping-moved scope given old new did.moved was.members_are) did.few (missing-moved roles did.moved did.since) list-same level-same (λ dirty. inr (unsettled refusal many))
+      (course-moved given old new course did.moved was.course_is)
+      (λ t. stored-moves scope given old new course.window (disk given.start tape) (disk given.start tape') did.moved (did.headers t) (was.stored t))
+      (left-more left entries who end (losses_of roles spares ++ Refused refusal ∷ []) was.left_told (left-behind left who end (losses_of roles spares) (Refused refusal ∷ []) (losses-are roles spares) (λ told is. is)))
+      (λ t. record {
+        rise = did.rise t;
+        keeps = λ told fills more allowed room gone unclean unsettled before.
+            keeps t told fills (λ x lt. subst (IsIn (told.values x)) (now-same x) (allowed x lt)) room gone unclean before;
+        listed = λ does fills. absurd (never-both new refusal does many);
+        legal = λ fills gone level. refused-right (world_in given tape' scope first) (entries ++ entries_of who end (losses_of roles spares)) given new did.moved.placed gone
+            (level ∙ was.levelled t ∙ sym level-same) refusal many;
+      })
+    where
+      unsettled : (refusal : Refusal) → AreTooMany new refusal → unsettles (Refused refusal) ≡ true
+      unsettled refusal (inl many) = subst (λ (r : Refusal). unsettles (Refused r) ≡ true) (sym many.told) refl
+      unsettled refusal (inr many) = subst (λ (r : Refusal). unsettles (Refused r) ≡ true) (sym many.1.told) refl
+
+      now-same : (x : ℕ) → now (opening_list (world_in given tape scope first)) (entries ++ entries_of who end (losses_of roles spares ++ Refused refusal ∷ [])) x
+          ≡ now (opening_list (world_in given tape scope first)) entries x
+      now-same x = ap (λ (l : List Sector). slice_index_or l 0 [])
+          (values-more (opening_list (world_in given tape scope first)) entries (entries_of who end (losses_of roles spares ++ Refused refusal ∷ [])) x
+          ∙ values-losses who end (losses_of roles spares) (Refused refusal ∷ []) (losses-are roles spares) x (values_of (opening_list (world_in given tape scope first)) entries x))
