@@ -1,31 +1,24 @@
 -- A call that leaves the list as it is, and enters losses and one event behind them.
-use Rattle.std.proofs.Common.{◌≡◌, ◌⊎◌, inl, inr, ℕ, ◌<◌, ◌≤◌, ◌==◌, ◌&&◌, ◌||◌, Bool, true, false, Option, List, [], ◌∷◌, ◌++◌, length, refl, sym, ◌∙◌, ap, subst, arith, append_assoc, append-nil}
-use Rattle.std.specs.Prelude.{IsFalse, IfSome, fold, slice_index_or, ⊤}
-use Rattle.std.specs.List.{list_any}
-use Rattle.std.specs.Option.{option_map_or}
-use Rattle.std.proofs.lemmas.List.Sums.{fold-append}
+use Rattle.std.proofs.Common.{◌≡◌, inr, ℕ, ◌≤◌, ◌==◌, ◌||◌, Bool, true, false, List, [], ◌∷◌, ◌++◌, length, refl, sym, ◌∙◌, ap, subst, arith, append_assoc}
+use Rattle.std.specs.Prelude.{IsFalse, IfSome, slice_index_or, ⊤}
 use Rattle.md_base.specs.Sectors.{Sector}
-use Rattle.md_base.specs.Shapes.{has_slot}
 use Rattle.md_base.specs.declared.answers.Who.{Who}
 use Rattle.bank.specs.declared.bank.Operation.{Operation}
 use Rattle.bank.specs.Given.{Given, sizes}
 use Rattle.bank.specs.Tape.{disk}
 use Rattle.superblocks.specs.declared.members.Members.{Members}
-use Rattle.superblocks.specs.Reading.{Scope, Reading, is_clean, shape_of, list_length, role_count}
-use Rattle.row_io.specs.Rows.{reading_of, present, is_missing}
+use Rattle.superblocks.specs.Reading.{Scope, is_clean, shape_of, list_length, role_count}
+use Rattle.row_io.specs.Rows.{present}
 use Rattle.flat_history.specs.declared.events.Entry.{Entry}
 use Rattle.flat_history.specs.declared.events.Event.{Event}
-use Rattle.flat_history.specs.declared.events.Event.TheVariants.{Lost, SpareLost}
-use Rattle.flat_history.specs.declared.events.LostCause.TheVariants.{Fault}
 use Rattle.flat_history.specs.Epochs.{HasRoomForEvents, OpensAlike}
 use Rattle.flat_history.specs.Flat.{now, values_of, values_after}
-use Rattle.flat_history.specs.Legal.{told_left, level_at, level_after, MayBeInner, IsInnerOrLast, IsLegalEvent}
-use Rattle.flat_history.specs.Losses.{is_gone_after, is_unsynced, loses}
-use Rattle.flat_history.specs.OneShape.{is_lost, is_unsettled}
+use Rattle.flat_history.specs.Legal.{told_left, level_at, level_after, IsLegalEvent}
+use Rattle.flat_history.specs.Losses.{is_unsynced}
+use Rattle.flat_history.specs.OneShape.{is_unsettled}
 use Rattle.flat_history.specs.Plain.{entries_of}
 use Rattle.flat_history.specs.Sound.{OpensFit}
-use Rattle.flat_history.specs.World.{World, reading_at, opening_list}
-use Rattle.history_laws.proofs.OneShapeGrowing.{AreFaults}
+use Rattle.flat_history.specs.World.{World, opening_list}
 use Rattle.shape_views.specs.Regions.{DoWithout}
 use Rattle.shape_views.specs.Views.{Ledger}
 use Rattle.shape_changes.specs.Safety.{HasRoomLeft, IsRisen}
@@ -33,24 +26,23 @@ use Rattle.shape_changes.specs.Steady.{IsMoreTold, IsSafeNow, IsSafeOver, KeepsS
 use Rattle.views.specs.Moving.{Grows}
 use Rattle.views.proofs.SoundViews.{throughout-kept}
 use Rattle.call_entries.specs.Losing.{losses_of}
-use Rattle.call_entries.proofs.CallLaws.{AreLossEvents, losses-are, told-losses, last_end-behind, values-losses}
+use Rattle.call_entries.proofs.CallLaws.{losses-are, last_end-behind, values-losses}
 use Rattle.call_entries.proofs.StepLaws.{faults-are}
 use Rattle.call_entries.proofs.LosingLaws.{entries-both}
 use Rattle.kept_history.specs.Recorded.{IsHistoryKept, IsLegalCall, IsCallGoing, entry_of, ends_reshape, gives_some}
 use Rattle.kept_history.specs.Safe.{world_in, IsFilledRight, IsSafeHistory}
 use Rattle.kept_history.specs.Told.{told_now, told_by}
-use Rattle.kept_history.proofs.Growing.{reading-grown, opening-grown, fit-grown, gone-grown, takes-grown, now-grown, alike-before, room-before, room-now}
-use Rattle.kept_history.proofs.Tests.{none-before}
-use Rattle.kept_history.proofs.Ledgers.{more-then, any-gone}
-use Rattle.kept_history.proofs.Longer.{regains-none}
+use Rattle.kept_history.proofs.Growing.{fit-grown, now-grown, alike-before, room-before, room-now}
+use Rattle.kept_history.proofs.Ledgers.{more-then}
 use Rattle.kept_history.proofs.Seen.{now-more}
 use Rattle.kept_history.proofs.Calls.{safe-called}
 use Rattle.kept_history.proofs.KeptCalls.{kept-call}
-use Rattle.kept_history.proofs.Entered.{adds_only, AreAdding, told-adding, told-added, adding-losses, none-losses, gone-was, gone-lost, values-more, length-adding}
+use Rattle.kept_history.proofs.Entered.{adds_only, AreAdding, told-adding, told-added, adding-losses, values-more, length-adding}
 use Rattle.kept_history.proofs.Reshapes.{call-ends_none}
 use Rattle.course_kept.specs.declared.course.Course.{Course}
 use Rattle.course_kept.specs.Course.{IsCourseOf, IsStored, StandsInCourse}
 use Rattle.moving_kept.specs.Moving.{AreReshaping, AreToldGone, HasListInCourse, IsMoving}
+use Rattle.moving_kept.proofs.Behind.{AreLostOrMissing, IsBehind, is-behind, legal-losses, or-false, and-true}
 
 -- An event that leaves the list and the level, settles nothing and neither ends a reshape nor gives a role.
 pub record IsQuiet (event : Event) : Type 0 where
@@ -59,56 +51,6 @@ pub record IsQuiet (event : Event) : Type 0 where
   pub ends : ends_reshape event ≡ false
   pub still : (x : ℕ) (values : List Sector) → values_after x values event ≡ values
   pub level : (n : ℕ) → level_after n event ≡ n
-
--- ---- losses
-
--- losses are legal before whatever else a call enters
-pub legal-losses : (world : World) (before : List Entry) (who : Who) (end : ℕ) (xs tail : List Event) → AreLossEvents xs → IsLegalCall world (before ++ entries_of who end xs) who end tail
-    → IsLegalCall world before who end (xs ++ tail)
-legal-losses world before who end [] tail are call = subst (λ (l : List Entry). IsLegalCall world l who end tail) (append-nil before) call
-legal-losses world before who end (Lost role Fault ∷ xs) tail are call = (
-  tt,
-  inner (Lost role Fault) tt (xs ++ tail),
-  legal-losses world (before ++ entry_of who end (Lost role Fault) ∷ []) who end xs tail are
-      (subst (λ (l : List Entry). IsLegalCall world l who end tail) (sym (append_assoc before (entry_of who end (Lost role Fault) ∷ []) (entries_of who end xs))) call),
-)
-  where
-    inner : (event : Event) → MayBeInner event → (events : List Event) → IsInnerOrLast event (entries_of who end events)
-    inner event may [] = tt
-    inner event may (x ∷ events) = may
-legal-losses world before who end (SpareLost slot ∷ xs) tail are call = (
-  tt,
-  inner (SpareLost slot) tt (xs ++ tail),
-  legal-losses world (before ++ entry_of who end (SpareLost slot) ∷ []) who end xs tail are
-      (subst (λ (l : List Entry). IsLegalCall world l who end tail) (sym (append_assoc before (entry_of who end (SpareLost slot) ∷ []) (entries_of who end xs))) call),
-)
-  where
-    inner : (event : Event) → MayBeInner event → (events : List Event) → IsInnerOrLast event (entries_of who end events)
-    inner event may [] = tt
-    inner event may (x ∷ events) = may
-legal-losses world before who end (event ∷ xs) tail are call = absurd are
-
--- and none of them ends a reshape
-pub ends-losses : (xs tail : List Event) → AreLossEvents xs → list_any ends_reshape tail ≡ false → list_any ends_reshape (xs ++ tail) ≡ false
-ends-losses [] tail are none = none
-ends-losses (Lost role Fault ∷ xs) tail are none = ends-losses xs tail are none
-ends-losses (SpareLost slot ∷ xs) tail are none = ends-losses xs tail are none
-ends-losses (event ∷ xs) tail are none = absurd are
-
--- nor changes the level
-pub level-losses : (who : Who) (end n : ℕ) (xs tail : List Event) → AreLossEvents xs → fold (λ level e. level_after level e.event) n (entries_of who end (xs ++ tail)) ≡ fold (λ level e. level_after level e.event) n (entries_of who end tail)
-level-losses who end n [] tail are = refl
-level-losses who end n (Lost role Fault ∷ xs) tail are = level-losses who end n xs tail are
-level-losses who end n (SpareLost slot ∷ xs) tail are = level-losses who end n xs tail are
-level-losses who end n (event ∷ xs) tail are = absurd are
-
-pub or-false : (a b : Bool) → a ≡ false → b ≡ false → (a || b) ≡ false
-or-false true b e f = absurd (cc)
-or-false false b e f = f
-
-pub and-true : (a b : Bool) → a ≡ true → b ≡ true → (a && b) ≡ true
-and-true true b e f = f
-and-true false b e f = absurd (cc)
 
 -- ---- the call
 
@@ -142,7 +84,7 @@ pub record IsLeftBy (given : Given) (tape : List Operation) (scope : Scope) (fir
 module _ (given : Given) (tape : List Operation) (scope : Scope) (first : ℕ) (entries : List Entry) (old new : Members) (carried : ℕ → Bool) (course' : Course) (buffer' : List ℕ)
     (who : Who) (roles spares : ℕ) (event : Event) (ops : List Operation)
     (goes : IsCallGoing entries who) (caller : IsFalse (who.caller == 254)) (quiet : IsQuiet event) (few : role_count new.newest ≤ 16)
-    (missing : (role : ℕ) → role < role_count new.newest → is_missing (reading_of new) role ≡ true → ((role < role_count old.newest) × (is_missing (reading_of old) role ≡ true)) ⊎ (has_slot roles role ≡ true))
+    (missing : AreLostOrMissing old new roles)
     (sized : list_length new.newest ≡ list_length old.newest) (clean : is_clean new.newest ≡ is_clean old.newest) (sizes_are : scope.sizes ≡ sizes given)
     (gone : AreToldGone (world_in given tape scope first) entries old)
     (unclean : is_clean old.newest ≡ false → (is_unsynced (world_in given tape scope first) entries || is_unsettled entries) ≡ true)
@@ -173,55 +115,14 @@ module _ (given : Given) (tape : List Operation) (scope : Scope) (first : ℕ) (
   abbrev all : List Entry
   all = entries ++ entries_of who (length (tape ++ ops)) (losses_of roles spares ++ event ∷ [])
 
-  faults : AreFaults losses
-  faults = faults-are losses (losses-are roles spares)
+  behind : IsBehind (world_in given tape scope first) (world_in given (tape ++ ops) scope first) entries new who (length (tape ++ ops)) roles spares event
+  behind = is-behind given tape scope first entries old new who roles spares event ops quiet.gives quiet.ends quiet.level few missing gone recorded
 
   adds-last : AreAdding (entries_of who end (event ∷ []))
   adds-last = and-true (adds_only event) true quiet.adds refl
 
-  adds-more : AreAdding more
-  adds-more = subst (λ (l : List Event). AreAdding (entries_of who end l)) (append-nil losses) (adding-losses who end losses [] faults refl)
-
   adds-all : AreAdding added
-  adds-all = adding-losses who end losses (event ∷ []) faults adds-last
-
-  gives-more : list_any (λ e. gives_some e.event) more ≡ false
-  gives-more = subst (λ (l : List Event). list_any (λ e. gives_some e.event) (entries_of who end l) ≡ false) (append-nil losses) (none-losses who end losses [] faults refl)
-
-  gives-all : list_any (λ e. gives_some e.event) added ≡ false
-  gives-all = none-losses who end losses (event ∷ []) faults (or-false (gives_some event) false quiet.gives refl)
-
-  lost-more : (role : ℕ) → role < 16 → has_slot roles role ≡ true → is_lost more role ≡ true
-  lost-more role lt has = subst (λ (l : List Event). is_lost (entries_of who end l) role ≡ true) (append-nil losses) (told-losses role roles spares who end [] lt has)
-
-  -- ---- what is gone
-
-  gone-counts : (ys : List Entry) → ((role : ℕ) → role < 16 → has_slot roles role ≡ true → is_lost ys role ≡ true) → (role : ℕ) → role < role_count new.newest → is_missing (reading_of new) role ≡ true
-      → (is_gone_after later entries role || list_any (loses later role) ys) ≡ true
-  gone-counts ys lost role lt miss = elim (missing role lt miss) [
-    | inl was ↦ gone-was later entries ys role (gone-grown world ops entries role recorded.ends ∙ gone role was.0 was.1)
-    | inr has ↦ gone-lost later entries ys role (lost role (omega (arith, lt, few)) has)
-  ]
-
-  gone-all : AreToldGone later all new
-  gone-all role lt miss = any-gone later role entries added (regains-none later role added gives-all) (gone-counts added (λ role lt has. told-losses role roles spares who end (event ∷ []) lt has) role lt miss)
-
-  gone-more : AreToldGone later (entries ++ more) new
-  gone-more role lt miss = any-gone later role entries more (regains-none later role more gives-more) (gone-counts more lost-more role lt miss)
-
-  level-from : (xs : List Event) → fold (λ level e. level_after level e.event) (level_at world entries) (entries_of who end xs) ≡ level_at world entries
-      → level_at later (entries ++ entries_of who end xs) ≡ level_at world entries
-  level-from xs same =
-      ap (λ (found : Option Reading). fold (λ level e. level_after level e.event) (option_map_or (λ r. r.newest.level) found 5) (entries ++ entries_of who end xs)) (reading-grown world ops first recorded.begun)
-      ∙ fold-append (λ level e. level_after level e.event) (option_map_or (λ r. r.newest.level) (reading_at world world.first) 5) entries (entries_of who end xs)
-      ∙ same
-
-  level-more : level_at later (entries ++ more) ≡ level_at world entries
-  level-more = level-from losses (subst (λ (l : List Event). fold (λ level e. level_after level e.event) (level_at world entries) (entries_of who end l) ≡ level_at world entries) (append-nil losses)
-      (level-losses who end (level_at world entries) losses [] (losses-are roles spares)))
-
-  level-all : level_at later all ≡ level_at world entries
-  level-all = level-from (losses ++ event ∷ []) (level-losses who end (level_at world entries) losses (event ∷ []) (losses-are roles spares) ∙ quiet.level (level_at world entries))
+  adds-all = adding-losses who end losses (event ∷ []) (faults-are losses (losses-are roles spares)) adds-last
 
   -- ---- what is told
 
@@ -233,12 +134,12 @@ module _ (given : Given) (tape : List Operation) (scope : Scope) (first : ℕ) (
 
   told-first : IsMoreTold (told_now world carried true entries) told
   told-first = subst (λ (l : Ledger). IsMoreTold l told) (now-grown world ops begun carried true entries recorded.ends)
-      (told-adding later carried carried true true entries more adds-more (λ number is. is) (λ is. is))
+      (told-adding later carried carried true true entries more behind.adds_more (λ number is. is) (λ is. is))
 
   told-last : IsMoreTold told (told_now later carried true all)
   told-last = subst (λ (l : List Entry). IsMoreTold told (told_now later carried true l)) (append_assoc entries more (entries_of who end (event ∷ [])) ∙ ap (λ (l : List Entry). entries ++ l) (sym (entries-both who end losses (event ∷ []))))
       (more-then told (told_now later carried true (entries ++ more)) (told_now later carried true ((entries ++ more) ++ entries_of who end (event ∷ [])))
-      (told-added later carried true entries more adds-more gives-more)
+      (told-added later carried true entries more behind.adds_more behind.gives_more)
       (more-then (told_now later carried true (entries ++ more)) (told_by later carried true (entries ++ more) (entries_of who end (event ∷ []))) (told_now later carried true ((entries ++ more) ++ entries_of who end (event ∷ [])))
       (told-adding later carried carried true true (entries ++ more) (entries_of who end (event ∷ [])) adds-last (λ number is. is) (λ is. is))
       (told-added later carried true (entries ++ more) (entries_of who end (event ∷ [])) adds-last (or-false (gives_some event) false quiet.gives refl))))
@@ -246,37 +147,28 @@ module _ (given : Given) (tape : List Operation) (scope : Scope) (first : ℕ) (
   unclean-all : is_clean new.newest ≡ false → (is_unsynced later all || is_unsettled all) ≡ true
   unclean-all dirty = told-last.unclean (told-first.unclean (unclean (sym clean ∙ dirty)))
 
-  -- ---- what was right before
-
-  fills-before : IsFilledRight later all → IsFilledRight world entries
-  fills-before (inl none) = inl (λ role. sym (takes-grown world ops entries role recorded.ends) ∙ none-before (loses later role) entries added (none role))
-  fills-before (inr fit) = inr (subst (λ (p : Type 0). p) (fit-grown world ops begun) fit)
-
   -- ---- the history
 
   legal-call : IsFilledRight later all → IsLegalCall later entries who end (losses ++ event ∷ [])
-  legal-call fills = legal-losses later entries who end losses (event ∷ []) (losses-are roles spares) (call.legal fills gone-more level-more, tt, tt)
+  legal-call fills = legal-losses later entries who end losses (event ∷ []) (losses-are roles spares) (call.legal fills behind.gone_more behind.level_more, tt, tt)
 
   recorded-all : IsHistoryKept (IsFilledRight later all) later (list_length new.newest) all
-  recorded-all = kept-call (IsFilledRight world entries) (IsFilledRight later all) world ops (list_length old.newest) (list_length new.newest) entries who (losses ++ event ∷ []) goes recorded fills-before caller
-      (λ fills. inr gives-all) (length-adding (length (opening_list world)) entries added adds-all ∙ recorded.sized ∙ sym sized)
+  recorded-all = kept-call (IsFilledRight world entries) (IsFilledRight later all) world ops (list_length old.newest) (list_length new.newest) entries who (losses ++ event ∷ []) goes recorded behind.fills caller
+      (λ fills. inr behind.gives_all) (length-adding (length (opening_list world)) entries added adds-all ∙ recorded.sized ∙ sym sized)
       (last_end-behind first entries who end losses event) legal-call
-      (λ fills. call-ends_none later entries who end (losses ++ event ∷ []) (ends-losses losses (event ∷ []) (losses-are roles spares) (or-false (ends_reshape event) false quiet.ends refl)))
+      (λ fills. call-ends_none later entries who end (losses ++ event ∷ []) behind.ends)
 
   -- ---- the list
 
-  opened-same : opening_list later ≡ opening_list world
-  opened-same = opening-grown world ops begun
-
   now-same : (x : ℕ) → now (opening_list later) all x ≡ now (opening_list world) entries x
   now-same x =
-      ap (λ (l : List Sector). now l all x) opened-same
+      ap (λ (l : List Sector). now l all x) behind.opened
       ∙ ap (λ (l : List Sector). slice_index_or l 0 []) (values-more (opening_list world) entries added x
       ∙ values-losses who end losses (event ∷ []) (losses-are roles spares) x (values_of (opening_list world) entries x) ∙ quiet.still x (values_of (opening_list world) entries x))
 
   listed-all : DoWithout new → IsFilledRight later all → HasListInCourse (OpensFit later) new course' buffer' (present given (tape ++ ops)) (now (opening_list later) all)
   listed-all does fills =
-      let l = call.listed does (fills-before fills) in
+      let l = call.listed does (behind.fills fills) in
       record {
         list = l.list;
         is = λ x lt. l.is x lt ∙ sym (now-same x);
@@ -287,13 +179,13 @@ module _ (given : Given) (tape : List Operation) (scope : Scope) (first : ℕ) (
 
   module _ (fills : IsFilledRight later all) (room : HasRoomForEvents later) (alike : OpensAlike later) where
     abbrev was : IsSafeHistory ⊤ (world_in given tape scope first) given old carried true entries
-    was = safe (fills-before fills) (room-before world ops begun room) (alike-before world ops begun alike)
+    was = safe (behind.fills fills) (room-before world ops begun room) (alike-before world ops begun alike)
 
     stretch : KeepsSafe world given told new tape (tape ++ ops)
-    stretch = call.keeps told (fills-before fills) told-first (room-now world ops begun old was.counted room)
-        (λ role lt miss. gone-counts more lost-more role lt miss)
+    stretch = call.keeps told (behind.fills fills) told-first (room-now world ops begun old was.counted room)
+        (λ role lt miss. behind.counts_more role lt miss)
         (λ dirty. told-first.unclean (unclean dirty))
-        (now-more (OpensFit world) scope given (told_now world carried true entries) told old (disk given.start tape) told-first (now_safe (fills-before fills) (room-before world ops begun room) (alike-before world ops begun alike)))
+        (now-more (OpensFit world) scope given (told_now world carried true entries) told old (disk given.start tape) told-first (now_safe (behind.fills fills) (room-before world ops begun room) (alike-before world ops begun alike)))
 
     last : IsSafeOver world given (told_now later carried true all) new (tape ++ ops)
     last = now-more (OpensFit world) scope given told (told_now later carried true all) new (disk given.start (tape ++ ops)) told-last stretch.next
@@ -307,8 +199,8 @@ module _ (given : Given) (tape : List Operation) (scope : Scope) (first : ℕ) (
 
   quiet-leaves : IsLeftBy given tape scope first entries all new carried course' buffer' (tape ++ ops)
   quiet-leaves = record {
-    levelled = level-all;
-    gone = gone-all;
+    levelled = behind.level_all;
+    gone = behind.gone_all;
     unclean = unclean-all;
     recorded = recorded-all;
     listed = listed-all;
@@ -323,7 +215,7 @@ pub quiet-moves : (tells : Type 0) (given : Given) (tape tape' : List Operation)
     (buffer buffer' : List ℕ) (left left' : ℕ) (who : Who) (end roles spares : ℕ) (event : Event)
     → IsMoving tells given tape scope first entries old carried course buffer left → IsCallGoing entries who → IsFalse (who.caller == 254) → (tells → end ≡ length tape') → Grows tells tape tape' → IsQuiet event
     → AreReshaping scope given new → role_count new.newest ≤ 16
-    → ((role : ℕ) → role < role_count new.newest → is_missing (reading_of new) role ≡ true → ((role < role_count old.newest) × (is_missing (reading_of old) role ≡ true)) ⊎ (has_slot roles role ≡ true))
+    → AreLostOrMissing old new roles
     → list_length new.newest ≡ list_length old.newest → (shape_of new.newest).level ≡ (shape_of old.newest).level → is_clean new.newest ≡ is_clean old.newest → IsCourseOf new.newest course' → (tells → IsStored scope new course'.window (disk given.start tape'))
     → IfSome (told_left (entries ++ entries_of who end (losses_of roles spares ++ event ∷ []))) (λ n. n ≡ left')
     → (tells → IsQuietCall given tape scope first entries old new carried course' buffer' who roles spares event tape' end)

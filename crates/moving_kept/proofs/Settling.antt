@@ -1,18 +1,15 @@
 -- A call that enters losses, and behind them an event that settles what was written: a flush or a stop.
-use Rattle.std.proofs.Common.{◌≡◌, ◌⊎◌, inl, inr, ℕ, ◌<◌, ◌≤◌, ◌==◌, ◌||◌, Bool, true, false, Option, List, [], ◌∷◌, ◌++◌, length, refl, sym, ◌∙◌, ap, subst, arith, append-nil}
-use Rattle.std.specs.Prelude.{IsFalse, IfSome, fold, slice_index_or, take, ⊤}
+use Rattle.std.proofs.Common.{◌≡◌, inl, inr, ℕ, ◌<◌, ◌≤◌, ◌==◌, ◌||◌, Bool, true, false, List, [], ◌∷◌, ◌++◌, length, refl, sym, ◌∙◌, ap, subst, arith}
+use Rattle.std.specs.Prelude.{IsFalse, IfSome, slice_index_or, take, ⊤}
 use Rattle.std.specs.List.{list_any}
-use Rattle.std.specs.Option.{option_map_or}
-use Rattle.std.proofs.lemmas.List.Sums.{fold-append}
 use Rattle.md_base.specs.Sectors.{Sector}
-use Rattle.md_base.specs.Shapes.{has_slot}
 use Rattle.md_base.specs.declared.answers.Who.{Who}
 use Rattle.bank.specs.declared.bank.Operation.{Operation}
 use Rattle.bank.specs.Given.{Given, sizes}
 use Rattle.bank.specs.Tape.{IsIn, disk}
 use Rattle.superblocks.specs.declared.members.Members.{Members}
-use Rattle.superblocks.specs.Reading.{Scope, Reading, is_clean, shape_of, list_length, role_count}
-use Rattle.row_io.specs.Rows.{reading_of, present, is_missing}
+use Rattle.superblocks.specs.Reading.{Scope, is_clean, shape_of, list_length, role_count}
+use Rattle.row_io.specs.Rows.{present}
 use Rattle.flat_history.specs.declared.events.Entry.{Entry}
 use Rattle.flat_history.specs.declared.events.Event.{Event}
 use Rattle.flat_history.specs.declared.events.Event.TheVariants.{Flushed, Stopped}
@@ -20,13 +17,12 @@ use Rattle.flat_history.specs.declared.events.Event.TheVariants.{Lost, SpareLost
 use Rattle.flat_history.specs.declared.events.LostCause.TheVariants.{Fault}
 use Rattle.flat_history.specs.Epochs.{HasRoomForEvents, OpensAlike}
 use Rattle.flat_history.specs.Flat.{now, length_of, length_after, values_of, values_after}
-use Rattle.flat_history.specs.Legal.{told_left, level_at, level_after, IsLegalEvent}
-use Rattle.flat_history.specs.Losses.{is_gone_after, is_unsynced, is_resync_end, loses}
-use Rattle.flat_history.specs.OneShape.{is_lost, is_unsettled}
+use Rattle.flat_history.specs.Legal.{told_left, level_after, IsLegalEvent}
+use Rattle.flat_history.specs.Losses.{is_unsynced, is_resync_end}
+use Rattle.flat_history.specs.OneShape.{is_unsettled}
 use Rattle.flat_history.specs.Plain.{entries_of}
 use Rattle.flat_history.specs.Sound.{OpensFit}
-use Rattle.flat_history.specs.World.{World, reading_at, opening_list}
-use Rattle.history_laws.proofs.OneShapeGrowing.{AreFaults}
+use Rattle.flat_history.specs.World.{World, opening_list}
 use Rattle.shape_views.specs.Regions.{DoWithout}
 use Rattle.shape_views.specs.Views.{Ledger}
 use Rattle.shape_changes.specs.Safety.{HasRoomLeft, IsRisen}
@@ -34,27 +30,25 @@ use Rattle.shape_changes.specs.Steady.{IsMoreTold, IsSafeNow, IsSafeOver, KeepsS
 use Rattle.views.specs.Moving.{Grows}
 use Rattle.views.proofs.SoundViews.{throughout-kept}
 use Rattle.call_entries.specs.Losing.{losses_of}
-use Rattle.call_entries.proofs.CallLaws.{AreLossEvents, losses-are, told-losses, last_end-behind, length-losses, values-losses}
-use Rattle.call_entries.proofs.StepLaws.{faults-are}
+use Rattle.call_entries.proofs.CallLaws.{AreLossEvents, losses-are, last_end-behind, length-losses, values-losses}
 use Rattle.call_entries.proofs.LosingLaws.{entries-both}
 use Rattle.call_entries.proofs.LeftLaws.{TellLeft}
 use Rattle.kept_history.specs.Recorded.{IsHistoryKept, IsLegalCall, IsCallGoing, entry_of, ends_reshape, gives_some}
 use Rattle.kept_history.specs.Safe.{world_in, IsFilledRight, IsSafeHistory}
 use Rattle.kept_history.specs.Told.{told_now, told_by}
-use Rattle.kept_history.proofs.Growing.{reading-grown, opening-grown, fit-grown, gone-grown, takes-grown, unsynced-grown, now-grown, alike-before, room-before, room-now}
-use Rattle.kept_history.proofs.Tests.{none-before}
-use Rattle.kept_history.proofs.Ledgers.{more-then, any-gone, unsynced-still}
+use Rattle.kept_history.proofs.Growing.{fit-grown, unsynced-grown, now-grown, alike-before, room-before, room-now}
+use Rattle.kept_history.proofs.Ledgers.{more-then, unsynced-still}
 use Rattle.kept_history.proofs.Lists.{newest-in}
-use Rattle.kept_history.proofs.Longer.{regains-none}
 use Rattle.kept_history.proofs.Seen.{now-more}
 use Rattle.kept_history.proofs.Calls.{safe-called}
 use Rattle.kept_history.proofs.KeptCalls.{kept-call}
-use Rattle.kept_history.proofs.Entered.{AreAdding, told-adding, adding-losses, none-losses, gone-was, gone-lost, values-more, length-more, length-adding, all-stay, settled-now}
+use Rattle.kept_history.proofs.Entered.{told-adding, values-more, length-more, length-adding, all-stay, settled-now}
 use Rattle.kept_history.proofs.Reshapes.{call-ends_none}
 use Rattle.course_kept.specs.declared.course.Course.{Course}
 use Rattle.course_kept.specs.Course.{IsCourseOf, IsStored, StandsInCourse}
 use Rattle.moving_kept.specs.Moving.{AreReshaping, AreToldGone, HasListInCourse, IsMoving}
-use Rattle.moving_kept.proofs.Quiet.{IsLeftBy, legal-losses, ends-losses, level-losses, or-false}
+use Rattle.moving_kept.proofs.Behind.{AreLostOrMissing, IsBehind, is-behind, legal-losses, or-false}
+use Rattle.moving_kept.proofs.Quiet.{IsLeftBy}
 
 -- ---- the event
 
@@ -130,7 +124,7 @@ pub record IsSettlingCall (given : Given) (tape : List Operation) (scope : Scope
 module _ (given : Given) (tape : List Operation) (scope : Scope) (first : ℕ) (entries : List Entry) (old new : Members) (carried : ℕ → Bool) (unsynced : Bool) (course' : Course) (buffer' : List ℕ)
     (who : Who) (roles spares : ℕ) (event : Event) (ops : List Operation)
     (goes : IsCallGoing entries who) (caller : IsFalse (who.caller == 254)) (settling : IsSettling event) (few : role_count new.newest ≤ 16)
-    (missing : (role : ℕ) → role < role_count new.newest → is_missing (reading_of new) role ≡ true → ((role < role_count old.newest) × (is_missing (reading_of old) role ≡ true)) ⊎ (has_slot roles role ≡ true))
+    (missing : AreLostOrMissing old new roles)
     (sized : list_length new.newest ≡ list_length old.newest) (clean : unsynced ≡ false → is_clean new.newest ≡ true) (sizes_are : scope.sizes ≡ sizes given)
     (unsynced_is : is_unsynced (world_in given tape scope first) entries ≡ unsynced)
     (gone : AreToldGone (world_in given tape scope first) entries old)
@@ -165,67 +159,30 @@ module _ (given : Given) (tape : List Operation) (scope : Scope) (first : ℕ) (
   abbrev all : List Entry
   all = entries ++ entries_of who (length (tape ++ ops)) (losses_of roles spares ++ event ∷ [])
 
-  faults : AreFaults losses
-  faults = faults-are losses (losses-are roles spares)
-
   both : added ≡ more ++ rest
   both = entries-both who end losses (event ∷ [])
 
-  adds-more : AreAdding more
-  adds-more = subst (λ (l : List Event). AreAdding (entries_of who end l)) (append-nil losses) (adding-losses who end losses [] faults refl)
-
-  gives-more : list_any (λ e. gives_some e.event) more ≡ false
-  gives-more = subst (λ (l : List Event). list_any (λ e. gives_some e.event) (entries_of who end l) ≡ false) (append-nil losses) (none-losses who end losses [] faults refl)
-
-  gives-all : list_any (λ e. gives_some e.event) added ≡ false
-  gives-all = none-losses who end losses (event ∷ []) faults (or-false (gives_some event) false settling.gives refl)
-
-  lost-more : (role : ℕ) → role < 16 → has_slot roles role ≡ true → is_lost more role ≡ true
-  lost-more role lt has = subst (λ (l : List Event). is_lost (entries_of who end l) role ≡ true) (append-nil losses) (told-losses role roles spares who end [] lt has)
-
-  -- ---- what is gone
-
-  gone-counts : (ys : List Entry) → ((role : ℕ) → role < 16 → has_slot roles role ≡ true → is_lost ys role ≡ true) → (role : ℕ) → role < role_count new.newest → is_missing (reading_of new) role ≡ true
-      → (is_gone_after later entries role || list_any (loses later role) ys) ≡ true
-  gone-counts ys lost role lt miss = elim (missing role lt miss) [
-    | inl was ↦ gone-was later entries ys role (gone-grown world ops entries role recorded.ends ∙ gone role was.0 was.1)
-    | inr has ↦ gone-lost later entries ys role (lost role (omega (arith, lt, few)) has)
-  ]
-
-  gone-all : AreToldGone later all new
-  gone-all role lt miss = any-gone later role entries added (regains-none later role added gives-all) (gone-counts added (λ role lt has. told-losses role roles spares who end (event ∷ []) lt has) role lt miss)
-
-  level-from : (xs : List Event) → fold (λ level e. level_after level e.event) (level_at world entries) (entries_of who end xs) ≡ level_at world entries
-      → level_at later (entries ++ entries_of who end xs) ≡ level_at world entries
-  level-from xs same =
-      ap (λ (found : Option Reading). fold (λ level e. level_after level e.event) (option_map_or (λ r. r.newest.level) found 5) (entries ++ entries_of who end xs)) (reading-grown world ops first recorded.begun)
-      ∙ fold-append (λ level e. level_after level e.event) (option_map_or (λ r. r.newest.level) (reading_at world world.first) 5) entries (entries_of who end xs)
-      ∙ same
-
-  level-all : level_at later all ≡ level_at world entries
-  level-all = level-from (losses ++ event ∷ []) (level-losses who end (level_at world entries) losses (event ∷ []) (losses-are roles spares) ∙ settling.level (level_at world entries))
+  behind : IsBehind (world_in given tape scope first) (world_in given (tape ++ ops) scope first) entries new who (length (tape ++ ops)) roles spares event
+  behind = is-behind given tape scope first entries old new who roles spares event ops settling.gives settling.ends settling.level few missing gone recorded
 
   -- ---- what is told
 
   begun : first ≤ length tape
   begun = recorded.begun
 
-  opened-same : opening_list later ≡ opening_list world
-  opened-same = opening-grown world ops begun
-
   abbrev told : Ledger
   told = told_by later carried true entries more
 
   told-first : IsMoreTold (told_now world carried true entries) told
   told-first = subst (λ (l : Ledger). IsMoreTold l told) (now-grown world ops begun carried true entries recorded.ends)
-      (told-adding later carried carried true true entries more adds-more (λ number is. is) (λ is. is))
+      (told-adding later carried carried true true entries more behind.adds_more (λ number is. is) (λ is. is))
 
   -- the list keeps its length
   length-opened : length_of (length (opening_list later)) entries ≡ list_length old.newest
-  length-opened = ap (λ (l : List Sector). length_of (length l) entries) opened-same ∙ recorded.sized
+  length-opened = ap (λ (l : List Sector). length_of (length l) entries) behind.opened ∙ recorded.sized
 
   length-now : length_of (length (opening_list later)) (entries ++ more) ≡ list_length old.newest
-  length-now = length-adding (length (opening_list later)) entries more adds-more ∙ length-opened
+  length-now = length-adding (length (opening_list later)) entries more behind.adds_more ∙ length-opened
 
   length-all : length_of (length (opening_list later)) all ≡ list_length old.newest
   length-all =
@@ -245,9 +202,9 @@ module _ (given : Given) (tape : List Operation) (scope : Scope) (first : ℕ) (
       (first-in (values_of (opening_list later) entries x) (now (opening_list later) entries x) (newest-in (opening_list later) entries x (let n = length-opened in omega (arith, lt, n))))
 
   allowed : AreWritesAllowed old told.values (now (opening_list world) entries)
-  allowed x lt = subst (λ (l : List Sector). IsIn (told.values x) (now l entries x)) opened-same
+  allowed x lt = subst (λ (l : List Sector). IsIn (told.values x) (now l entries x)) behind.opened
       (subst (λ (l : List Sector). IsIn l (now (opening_list later) entries x)) (sym (values-more (opening_list later) entries more x))
-      (all-stay x more (values_of (opening_list later) entries x) (now (opening_list later) entries x) adds-more
+      (all-stay x more (values_of (opening_list later) entries x) (now (opening_list later) entries x) behind.adds_more
       (newest-in (opening_list later) entries x (let n = length-opened in omega (arith, lt, n)))))
 
   -- ---- whether it is unclean
@@ -264,33 +221,27 @@ module _ (given : Given) (tape : List Operation) (scope : Scope) (first : ℕ) (
       by true marked = refl
       by false marked = absurd (let no = sym (marked refl) ∙ dirty in cc)
 
-  -- ---- what was right before
-
-  fills-before : IsFilledRight later all → IsFilledRight world entries
-  fills-before (inl none) = inl (λ role. sym (takes-grown world ops entries role recorded.ends) ∙ none-before (loses later role) entries added (none role))
-  fills-before (inr fit) = inr (subst (λ (p : Type 0). p) (fit-grown world ops begun) fit)
-
   -- ---- the history
 
   legal-call : IsFilledRight later all → IsLegalCall later entries who end (losses ++ event ∷ [])
   legal-call fills = legal-losses later entries who end losses (event ∷ []) (losses-are roles spares) (settling.legal later (entries ++ more) (entry_of who end event), tt, tt)
 
   recorded-all : IsHistoryKept (IsFilledRight later all) later (list_length new.newest) all
-  recorded-all = kept-call (IsFilledRight world entries) (IsFilledRight later all) world ops (list_length old.newest) (list_length new.newest) entries who (losses ++ event ∷ []) goes recorded fills-before caller
-      (λ fills. inr gives-all) (ap (λ (l : List Sector). length_of (length l) all) (sym opened-same) ∙ length-all ∙ sym sized)
+  recorded-all = kept-call (IsFilledRight world entries) (IsFilledRight later all) world ops (list_length old.newest) (list_length new.newest) entries who (losses ++ event ∷ []) goes recorded behind.fills caller
+      (λ fills. inr behind.gives_all) (ap (λ (l : List Sector). length_of (length l) all) (sym behind.opened) ∙ length-all ∙ sym sized)
       (last_end-behind first entries who end losses event) legal-call
-      (λ fills. call-ends_none later entries who end (losses ++ event ∷ []) (ends-losses losses (event ∷ []) (losses-are roles spares) (or-false (ends_reshape event) false settling.ends refl)))
+      (λ fills. call-ends_none later entries who end (losses ++ event ∷ []) behind.ends)
 
   -- ---- the list
 
   now-same : (x : ℕ) → now (opening_list later) all x ≡ now (opening_list world) entries x
   now-same x =
       ap (λ (l : List Sector). slice_index_or l 0 []) (values-all x) ∙ first-stays (values_of (opening_list later) entries x)
-      ∙ ap (λ (l : List Sector). now l entries x) opened-same
+      ∙ ap (λ (l : List Sector). now l entries x) behind.opened
 
   listed-all : DoWithout new → IsFilledRight later all → HasListInCourse (OpensFit later) new course' buffer' (present given (tape ++ ops)) (now (opening_list later) all)
   listed-all does fills =
-      let l = call.listed does (fills-before fills) in
+      let l = call.listed does (behind.fills fills) in
       record {
         list = l.list;
         is = λ x lt. l.is x lt ∙ sym (now-same x);
@@ -302,30 +253,30 @@ module _ (given : Given) (tape : List Operation) (scope : Scope) (first : ℕ) (
   told-last : (list : ℕ → Sector) → ((x : ℕ) → x < list_length old.newest → list x ≡ now (opening_list world) entries x) → IsMoreTold (settled_ledger unsynced list told) (told_now later carried true all)
   told-last list is = more-then (settled_ledger unsynced list told) (settled_ledger unsynced (now (opening_list later) entries) told) (told_now later carried true all)
       (settled-alike unsynced list (now (opening_list later) entries) told
-      (λ x lt. is x (let n = length-now in omega (arith, lt, n)) ∙ sym (ap (λ (l : List Sector). now l entries x) opened-same)))
+      (λ x lt. is x (let n = length-now in omega (arith, lt, n)) ∙ sym (ap (λ (l : List Sector). now l entries x) behind.opened)))
       (subst (λ (l : List Entry). IsMoreTold (settled_ledger unsynced (now (opening_list later) entries) told) (told_now later carried true (entries ++ l))) (sym both)
       (settled-now later carried true unsynced entries more rest
       (subst (λ (l : List Entry). is_unsynced later (entries ++ l) ≡ unsynced) both unsynced-all)
       (subst (λ (l : List Entry). length_of (length (opening_list later)) (entries ++ l) ≡ length_of (length (opening_list later)) (entries ++ more)) both (length-all ∙ sym length-now))
       (λ x lt. subst (λ (l : List Entry). IsIn (values_of (opening_list later) (entries ++ l) x) (now (opening_list later) entries x)) both
       (newest-all x (let n = length-now in omega (arith, lt, n))))
-      (subst (λ (l : List Entry). list_any (λ e. gives_some e.event) l ≡ false) both gives-all)))
+      (subst (λ (l : List Entry). list_any (λ e. gives_some e.event) l ≡ false) both behind.gives_all)))
 
   module _ (fills : IsFilledRight later all) (room : HasRoomForEvents later) (alike : OpensAlike later) where
     abbrev was : IsSafeHistory ⊤ (world_in given tape scope first) given old carried true entries
-    was = safe (fills-before fills) (room-before world ops begun room) (alike-before world ops begun alike)
+    was = safe (behind.fills fills) (room-before world ops begun room) (alike-before world ops begun alike)
 
     before : IsSafeOver world given told old tape
-    before = now-more (OpensFit world) scope given (told_now world carried true entries) told old (disk given.start tape) told-first (now_safe (fills-before fills) (room-before world ops begun room) (alike-before world ops begun alike))
+    before = now-more (OpensFit world) scope given (told_now world carried true entries) told old (disk given.start tape) told-first (now_safe (behind.fills fills) (room-before world ops begun room) (alike-before world ops begun alike))
 
     stretch : KeepsSafe world given told new tape (tape ++ ops)
-    stretch = call.keeps told (fills-before fills) told-first allowed (room-now world ops begun old was.counted room)
-        (λ role lt miss. gone-counts more lost-more role lt miss) (λ dirty. told-first.unclean (unclean dirty)) before
+    stretch = call.keeps told (behind.fills fills) told-first allowed (room-now world ops begun old was.counted room)
+        (λ role lt miss. behind.counts_more role lt miss) (λ dirty. told-first.unclean (unclean dirty)) before
 
     last : IsSafeOver world given (told_now later carried true all) new (tape ++ ops)
     last =
-        let by = call.settled told (fills-before fills) told-first allowed (room-now world ops begun old was.counted room)
-        (λ role lt miss. gone-counts more lost-more role lt miss) (λ dirty. told-first.unclean (unclean dirty)) before in
+        let by = call.settled told (behind.fills fills) told-first allowed (room-now world ops begun old was.counted room)
+        (λ role lt miss. behind.counts_more role lt miss) (λ dirty. told-first.unclean (unclean dirty)) before in
         now-more (OpensFit world) scope given (settled_ledger unsynced by.list told) (told_now later carried true all) new (disk given.start (tape ++ ops)) (told-last by.list by.is) by.safe
 
     safe-all : IsSafeHistory ⊤ later given new carried true all
@@ -338,8 +289,8 @@ module _ (given : Given) (tape : List Operation) (scope : Scope) (first : ℕ) (
 
   settling-leaves : IsLeftBy given tape scope first entries all new carried course' buffer' (tape ++ ops)
   settling-leaves = record {
-    levelled = level-all;
-    gone = gone-all;
+    levelled = behind.level_all;
+    gone = behind.gone_all;
     unclean = unclean-all;
     recorded = recorded-all;
     listed = listed-all;
@@ -354,7 +305,7 @@ pub settling-moves : (tells : Type 0) (given : Given) (tape tape' : List Operati
     (buffer buffer' : List ℕ) (left left' : ℕ) (who : Who) (end roles spares : ℕ) (event : Event)
     → IsMoving tells given tape scope first entries old carried course buffer left → IsCallGoing entries who → IsFalse (who.caller == 254) → (tells → end ≡ length tape') → Grows tells tape tape' → IsSettling event
     → AreReshaping scope given new → role_count new.newest ≤ 16
-    → ((role : ℕ) → role < role_count new.newest → is_missing (reading_of new) role ≡ true → ((role < role_count old.newest) × (is_missing (reading_of old) role ≡ true)) ⊎ (has_slot roles role ≡ true))
+    → AreLostOrMissing old new roles
     → list_length new.newest ≡ list_length old.newest → (shape_of new.newest).level ≡ (shape_of old.newest).level → (unsynced ≡ false → is_clean new.newest ≡ true)
     → (tells → is_unsynced (world_in given tape scope first) entries ≡ unsynced) → IsCourseOf new.newest course' → (tells → IsStored scope new course'.window (disk given.start tape'))
     → IfSome (told_left (entries ++ entries_of who end (losses_of roles spares ++ event ∷ []))) (λ n. n ≡ left')
