@@ -44,7 +44,7 @@ use Rattle.kept_history.proofs.Reshapes.{call-ends_none}
 use Rattle.course_kept.specs.declared.course.Course.{Course}
 use Rattle.course_kept.specs.Course.{IsCourseOf, IsStored, StandsInCourse}
 use Rattle.moving_kept.specs.Moving.{AreReshaping, AreToldGone, HasListInCourse, IsMoving}
-use Rattle.moving_kept.proofs.Behind.{AreLostOrMissing, IsBehind, is-behind, legal-losses, and-true}
+use Rattle.moving_kept.proofs.Behind.{AreLostOrMissing, IsAmong, IsBehind, early-losses, is-behind, legal-losses, and-true}
 use Rattle.moving_kept.proofs.Quiet.{IsLeftBy}
 
 -- An event that only adds to what is told: it settles nothing, keeps the length and the level, and neither ends a reshape nor gives a role.
@@ -73,7 +73,7 @@ pub record IsAddingCall (given : Given) (tape : List Operation) (scope : Scope) 
 module _ (given : Given) (tape : List Operation) (scope : Scope) (first : ℕ) (entries : List Entry) (old new : Members) (carried : ℕ → Bool) (course' : Course) (buffer' : List ℕ)
     (who : Who) (roles spares : ℕ) (event : Event) (ops : List Operation)
     (goes : IsCallGoing entries who) (caller : IsFalse (who.caller == 254)) (adding : IsAdding event) (few : role_count new.newest ≤ 16)
-    (missing : AreLostOrMissing old new roles)
+    (missing : AreLostOrMissing old new (IsAmong roles))
     (sized : list_length new.newest ≡ list_length old.newest) (clean : is_clean new.newest ≡ false → (is_clean old.newest ≡ false) ⊎ (unsettles event ≡ true)) (sizes_are : scope.sizes ≡ sizes given)
     (gone : AreToldGone (world_in given tape scope first) entries old)
     (unclean : is_clean old.newest ≡ false → (is_unsynced (world_in given tape scope first) entries || is_unsettled entries) ≡ true)
@@ -104,8 +104,8 @@ module _ (given : Given) (tape : List Operation) (scope : Scope) (first : ℕ) (
   abbrev all : List Entry
   all = entries ++ entries_of who (length (tape ++ ops)) (losses_of roles spares ++ event ∷ [])
 
-  behind : IsBehind (world_in given tape scope first) (world_in given (tape ++ ops) scope first) entries new who (length (tape ++ ops)) roles spares event
-  behind = is-behind given tape scope first entries old new who roles spares event ops adding.gives adding.ends adding.level few missing gone recorded
+  behind : IsBehind (world_in given tape scope first) (world_in given (tape ++ ops) scope first) entries new who (length (tape ++ ops)) (losses_of roles spares) event
+  behind = is-behind given tape scope first entries old new who (losses_of roles spares) (IsAmong roles) event ops (early-losses roles spares) adding.gives adding.ends adding.level few missing gone recorded
 
   adds-all : AreAdding added
   adds-all = adding-losses who end losses (event ∷ []) (faults-are losses (losses-are roles spares)) (and-true (adds_only event) true adding.adds refl)
@@ -224,7 +224,7 @@ pub adding-moves : (tells : Type 0) (given : Given) (tape tape' : List Operation
     (buffer buffer' : List ℕ) (left left' : ℕ) (who : Who) (end roles spares : ℕ) (event : Event)
     → IsMoving tells given tape scope first entries old carried course buffer left → IsCallGoing entries who → IsFalse (who.caller == 254) → (tells → end ≡ length tape') → Grows tells tape tape' → IsAdding event
     → AreReshaping scope given new → role_count new.newest ≤ 16
-    → AreLostOrMissing old new roles
+    → AreLostOrMissing old new (IsAmong roles)
     → list_length new.newest ≡ list_length old.newest → (shape_of new.newest).level ≡ (shape_of old.newest).level → (is_clean new.newest ≡ false → (is_clean old.newest ≡ false) ⊎ (unsettles event ≡ true)) → IsCourseOf new.newest course' → (tells → IsStored scope new course'.window (disk given.start tape'))
     → IfSome (told_left (entries ++ entries_of who end (losses_of roles spares ++ event ∷ []))) (λ n. n ≡ left')
     → (tells → IsAddingCall given tape scope first entries old new carried course' buffer' who roles spares event tape' end)

@@ -4,6 +4,7 @@ use Rattle.std.specs.Prelude.{fold}
 use Rattle.std.specs.List.{list_any}
 use Rattle.std.specs.Option.{option_map_or}
 use Rattle.std.proofs.lemmas.List.Sums.{fold-append}
+use Rattle.md_base.specs.Sectors.{Sector}
 use Rattle.md_base.specs.Shapes.{has_slot}
 use Rattle.md_base.specs.declared.answers.Who.{Who}
 use Rattle.bank.specs.declared.bank.Operation.{Operation}
@@ -15,14 +16,14 @@ use Rattle.flat_history.specs.declared.events.Entry.{Entry}
 use Rattle.flat_history.specs.declared.events.Event.{Event}
 use Rattle.flat_history.specs.declared.events.Event.TheVariants.{Lost, SpareLost}
 use Rattle.flat_history.specs.declared.events.LostCause.TheVariants.{Fault}
+use Rattle.flat_history.specs.Flat.{values_after}
 use Rattle.flat_history.specs.Legal.{level_at, level_after, MayBeInner, IsInnerOrLast}
 use Rattle.flat_history.specs.Losses.{is_gone_after, loses}
 use Rattle.flat_history.specs.OneShape.{is_lost}
 use Rattle.flat_history.specs.Plain.{entries_of}
 use Rattle.flat_history.specs.World.{World, reading_at, opening_list}
-use Rattle.history_laws.proofs.OneShapeGrowing.{AreFaults}
 use Rattle.call_entries.specs.Losing.{losses_of}
-use Rattle.call_entries.proofs.CallLaws.{AreLossEvents, losses-are, told-losses}
+use Rattle.call_entries.proofs.CallLaws.{AreLossEvents, losses-are, told-losses, values-losses}
 use Rattle.call_entries.proofs.StepLaws.{faults-are}
 use Rattle.kept_history.specs.Recorded.{IsHistoryKept, IsLegalCall, entry_of, ends_reshape, gives_some}
 use Rattle.kept_history.specs.Safe.{world_in, IsFilledRight}
@@ -83,32 +84,58 @@ pub and-true : (a b : Bool) → a ≡ true → b ≡ true → (a && b) ≡ true
 and-true true b e f = f
 and-true false b e f = absurd (cc)
 
+-- ---- what stands before the event
+
+-- What stands before the event of a call only adds to what is told, and tells these roles lost; it leaves the list and the level, gives no role and ends no
+-- reshape.
+pub record AreEarly (early : List Event) (IsTaken : ℕ → Type 0) : Type 0 where
+  pub adds : (who : Who) (end : ℕ) (tail : List Event) → AreAdding (entries_of who end tail) → AreAdding (entries_of who end (early ++ tail))
+  pub gives : (who : Who) (end : ℕ) (tail : List Event) → list_any (λ e. gives_some e.event) (entries_of who end tail) ≡ false → list_any (λ e. gives_some e.event) (entries_of who end (early ++ tail)) ≡ false
+  pub lost : (who : Who) (end : ℕ) (tail : List Event) (role : ℕ) → role < 16 → IsTaken role → is_lost (entries_of who end (early ++ tail)) role ≡ true
+  pub ends : (tail : List Event) → list_any ends_reshape tail ≡ false → list_any ends_reshape (early ++ tail) ≡ false
+  pub level : (who : Who) (end : ℕ) (tail : List Event) (n : ℕ) → fold (λ level e. level_after level e.event) n (entries_of who end (early ++ tail)) ≡ fold (λ level e. level_after level e.event) n (entries_of who end tail)
+  pub values : (who : Who) (end : ℕ) (tail : List Event) (x : ℕ) (values : List Sector)
+      → fold (λ values e. values_after x values e.event) values (entries_of who end (early ++ tail)) ≡ fold (λ values e. values_after x values e.event) values (entries_of who end tail)
+
+-- one of these roles
+abbrev pub IsAmong : ℕ → ℕ → Type 0
+IsAmong roles role = has_slot roles role ≡ true
+
+pub early-losses : (roles spares : ℕ) → AreEarly (losses_of roles spares) (IsAmong roles)
+early-losses roles spares = record {
+  adds = λ who end tail adds. adding-losses who end (losses_of roles spares) tail (faults-are (losses_of roles spares) (losses-are roles spares)) adds;
+  gives = λ who end tail none. none-losses who end (losses_of roles spares) tail (faults-are (losses_of roles spares) (losses-are roles spares)) none;
+  lost = λ who end tail role lt has. told-losses role roles spares who end tail lt has;
+  ends = λ tail none. ends-losses (losses_of roles spares) tail (losses-are roles spares) none;
+  level = λ who end tail n. level-losses who end n (losses_of roles spares) tail (losses-are roles spares);
+  values = λ who end tail x values. values-losses who end (losses_of roles spares) tail (losses-are roles spares) x values;
+}
+
 -- ---- the call
 
--- what is missing then was missing before, or is one of these roles
-abbrev pub AreLostOrMissing : Members → Members → ℕ → Type 0
-AreLostOrMissing old new roles = (role : ℕ) → role < role_count new.newest → is_missing (reading_of new) role ≡ true → ((role < role_count old.newest) × (is_missing (reading_of old) role ≡ true)) ⊎ (has_slot roles role ≡ true)
+-- what is missing then was missing before, or is told lost
+abbrev pub AreLostOrMissing : Members → Members → (ℕ → Type 0) → Type 0
+AreLostOrMissing old new IsTaken = (role : ℕ) → role < role_count new.newest → is_missing (reading_of new) role ≡ true → ((role < role_count old.newest) × (is_missing (reading_of old) role ≡ true)) ⊎ IsTaken role
 
--- Of the entries of such a call: the losses only add, and no entry gives a role; what is missing is gone by the losses, and behind the event too; the level
--- stays; what was filled in before was right, if it is right behind it; and the opening's list is what it was.
-pub record IsBehind (world later : World) (entries : List Entry) (new : Members) (who : Who) (end roles spares : ℕ) (event : Event) : Type 0 where
-  pub adds_more : AreAdding (entries_of who end (losses_of roles spares))
-  pub gives_more : list_any (λ e. gives_some e.event) (entries_of who end (losses_of roles spares)) ≡ false
-  pub gives_all : list_any (λ e. gives_some e.event) (entries_of who end (losses_of roles spares ++ event ∷ [])) ≡ false
-  pub counts_more : (role : ℕ) → role < role_count new.newest → is_missing (reading_of new) role ≡ true
-      → (is_gone_after later entries role || list_any (loses later role) (entries_of who end (losses_of roles spares))) ≡ true
+-- Of the entries of such a call: those before the event only add, and no entry gives a role; what is missing is gone by them, and behind the event too; the
+-- level stays; what was filled in before was right, if it is right behind it; and the opening's list is what it was.
+pub record IsBehind (world later : World) (entries : List Entry) (new : Members) (who : Who) (end : ℕ) (early : List Event) (event : Event) : Type 0 where
+  pub adds_more : AreAdding (entries_of who end early)
+  pub gives_more : list_any (λ e. gives_some e.event) (entries_of who end early) ≡ false
+  pub gives_all : list_any (λ e. gives_some e.event) (entries_of who end (early ++ event ∷ [])) ≡ false
+  pub counts_more : (role : ℕ) → role < role_count new.newest → is_missing (reading_of new) role ≡ true → (is_gone_after later entries role || list_any (loses later role) (entries_of who end early)) ≡ true
   pub counts_all : (role : ℕ) → role < role_count new.newest → is_missing (reading_of new) role ≡ true
-      → (is_gone_after later entries role || list_any (loses later role) (entries_of who end (losses_of roles spares ++ event ∷ []))) ≡ true
-  pub gone_more : AreToldGone later (entries ++ entries_of who end (losses_of roles spares)) new
-  pub gone_all : AreToldGone later (entries ++ entries_of who end (losses_of roles spares ++ event ∷ [])) new
-  pub level_more : level_at later (entries ++ entries_of who end (losses_of roles spares)) ≡ level_at world entries
-  pub level_all : level_at later (entries ++ entries_of who end (losses_of roles spares ++ event ∷ [])) ≡ level_at world entries
-  pub fills : IsFilledRight later (entries ++ entries_of who end (losses_of roles spares ++ event ∷ [])) → IsFilledRight world entries
-  pub ends : list_any ends_reshape (losses_of roles spares ++ event ∷ []) ≡ false
+      → (is_gone_after later entries role || list_any (loses later role) (entries_of who end (early ++ event ∷ []))) ≡ true
+  pub gone_more : AreToldGone later (entries ++ entries_of who end early) new
+  pub gone_all : AreToldGone later (entries ++ entries_of who end (early ++ event ∷ [])) new
+  pub level_more : level_at later (entries ++ entries_of who end early) ≡ level_at world entries
+  pub level_all : level_at later (entries ++ entries_of who end (early ++ event ∷ [])) ≡ level_at world entries
+  pub fills : IsFilledRight later (entries ++ entries_of who end (early ++ event ∷ [])) → IsFilledRight world entries
+  pub ends : list_any ends_reshape (early ++ event ∷ []) ≡ false
   pub opened : opening_list later ≡ opening_list world
 
-module _ (given : Given) (tape : List Operation) (scope : Scope) (first : ℕ) (entries : List Entry) (old new : Members) (who : Who) (roles spares : ℕ) (event : Event) (ops : List Operation)
-    (gives : gives_some event ≡ false) (ends : ends_reshape event ≡ false) (level : (n : ℕ) → level_after n event ≡ n) (few : role_count new.newest ≤ 16) (missing : AreLostOrMissing old new roles)
+module _ (given : Given) (tape : List Operation) (scope : Scope) (first : ℕ) (entries : List Entry) (old new : Members) (who : Who) (early : List Event) (IsTaken : ℕ → Type 0) (event : Event) (ops : List Operation)
+    (are : AreEarly early IsTaken) (gives : gives_some event ≡ false) (ends : ends_reshape event ≡ false) (level : (n : ℕ) → level_after n event ≡ n) (few : role_count new.newest ≤ 16) (missing : AreLostOrMissing old new IsTaken)
     (gone : AreToldGone (world_in given tape scope first) entries old)
     (recorded : IsHistoryKept (IsFilledRight (world_in given tape scope first) entries) (world_in given tape scope first) (list_length old.newest) entries) where
   abbrev world : World
@@ -120,25 +147,22 @@ module _ (given : Given) (tape : List Operation) (scope : Scope) (first : ℕ) (
   abbrev end : ℕ
   end = length (tape ++ ops)
 
-  abbrev losses : List Event
-  losses = losses_of roles spares
-
   abbrev more : List Entry
-  more = entries_of who (length (tape ++ ops)) (losses_of roles spares)
+  more = entries_of who (length (tape ++ ops)) (early)
 
   abbrev added : List Entry
-  added = entries_of who (length (tape ++ ops)) (losses_of roles spares ++ event ∷ [])
+  added = entries_of who (length (tape ++ ops)) (early ++ event ∷ [])
 
-  faults : AreFaults losses
-  faults = faults-are losses (losses-are roles spares)
+  all-but : (P : List Event → Type 0) → P (early ++ []) → P early
+  all-but P holds = subst P (append-nil early) holds
 
   gives-more : list_any (λ e. gives_some e.event) more ≡ false
-  gives-more = subst (λ (l : List Event). list_any (λ e. gives_some e.event) (entries_of who end l) ≡ false) (append-nil losses) (none-losses who end losses [] faults refl)
+  gives-more = all-but (λ (l : List Event). list_any (λ e. gives_some e.event) (entries_of who end l) ≡ false) (are.gives who end [] refl)
 
   gives-all : list_any (λ e. gives_some e.event) added ≡ false
-  gives-all = none-losses who end losses (event ∷ []) faults (or-false (gives_some event) false gives refl)
+  gives-all = are.gives who end (event ∷ []) (or-false (gives_some event) false gives refl)
 
-  gone-counts : (ys : List Entry) → ((role : ℕ) → role < 16 → has_slot roles role ≡ true → is_lost ys role ≡ true) → (role : ℕ) → role < role_count new.newest → is_missing (reading_of new) role ≡ true
+  gone-counts : (ys : List Entry) → ((role : ℕ) → role < 16 → IsTaken role → is_lost ys role ≡ true) → (role : ℕ) → role < role_count new.newest → is_missing (reading_of new) role ≡ true
       → (is_gone_after later entries role || list_any (loses later role) ys) ≡ true
   gone-counts ys lost role lt miss = elim (missing role lt miss) [
     | inl was ↦ gone-was later entries ys role (gone-grown world ops entries role recorded.ends ∙ gone role was.0 was.1)
@@ -146,10 +170,10 @@ module _ (given : Given) (tape : List Operation) (scope : Scope) (first : ℕ) (
   ]
 
   counts-more : (role : ℕ) → role < role_count new.newest → is_missing (reading_of new) role ≡ true → (is_gone_after later entries role || list_any (loses later role) more) ≡ true
-  counts-more = gone-counts more (λ role lt has. subst (λ (l : List Event). is_lost (entries_of who end l) role ≡ true) (append-nil losses) (told-losses role roles spares who end [] lt has))
+  counts-more = gone-counts more (λ role lt has. all-but (λ (l : List Event). is_lost (entries_of who end l) role ≡ true) (are.lost who end [] role lt has))
 
   counts-all : (role : ℕ) → role < role_count new.newest → is_missing (reading_of new) role ≡ true → (is_gone_after later entries role || list_any (loses later role) added) ≡ true
-  counts-all = gone-counts added (λ role lt has. told-losses role roles spares who end (event ∷ []) lt has)
+  counts-all = gone-counts added (λ role lt has. are.lost who end (event ∷ []) role lt has)
 
   level-from : (xs : List Event) → fold (λ level e. level_after level e.event) (level_at world entries) (entries_of who end xs) ≡ level_at world entries
       → level_at later (entries ++ entries_of who end xs) ≡ level_at world entries
@@ -162,19 +186,18 @@ module _ (given : Given) (tape : List Operation) (scope : Scope) (first : ℕ) (
   fills-before (inl none) = inl (λ role. sym (takes-grown world ops entries role recorded.ends) ∙ none-before (loses later role) entries added (none role))
   fills-before (inr fit) = inr (subst (λ (p : Type 0). p) (fit-grown world ops recorded.begun) fit)
 
-  pub is-behind : IsBehind (world_in given tape scope first) (world_in given (tape ++ ops) scope first) entries new who (length (tape ++ ops)) roles spares event
+  pub is-behind : IsBehind (world_in given tape scope first) (world_in given (tape ++ ops) scope first) entries new who (length (tape ++ ops)) early event
   is-behind = record {
-    adds_more = subst (λ (l : List Event). AreAdding (entries_of who end l)) (append-nil losses) (adding-losses who end losses [] faults refl);
+    adds_more = all-but (λ (l : List Event). AreAdding (entries_of who end l)) (are.adds who end [] refl);
     gives_more = gives-more;
     gives_all = gives-all;
     counts_more = counts-more;
     counts_all = counts-all;
     gone_more = λ role lt miss. any-gone later role entries more (regains-none later role more gives-more) (counts-more role lt miss);
     gone_all = λ role lt miss. any-gone later role entries added (regains-none later role added gives-all) (counts-all role lt miss);
-    level_more = level-from losses (subst (λ (l : List Event). fold (λ level e. level_after level e.event) (level_at world entries) (entries_of who end l) ≡ level_at world entries) (append-nil losses)
-        (level-losses who end (level_at world entries) losses [] (losses-are roles spares)));
-    level_all = level-from (losses ++ event ∷ []) (level-losses who end (level_at world entries) losses (event ∷ []) (losses-are roles spares) ∙ level (level_at world entries));
+    level_more = level-from early (all-but (λ (l : List Event). fold (λ level e. level_after level e.event) (level_at world entries) (entries_of who end l) ≡ level_at world entries) (are.level who end [] (level_at world entries)));
+    level_all = level-from (early ++ event ∷ []) (are.level who end (event ∷ []) (level_at world entries) ∙ level (level_at world entries));
     fills = fills-before;
-    ends = ends-losses losses (event ∷ []) (losses-are roles spares) (or-false (ends_reshape event) false ends refl);
+    ends = are.ends (event ∷ []) (or-false (ends_reshape event) false ends refl);
     opened = opening-grown world ops recorded.begun;
   }

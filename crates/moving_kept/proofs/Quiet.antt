@@ -26,8 +26,7 @@ use Rattle.shape_changes.specs.Steady.{IsMoreTold, IsSafeNow, IsSafeOver, KeepsS
 use Rattle.views.specs.Moving.{Grows}
 use Rattle.views.proofs.SoundViews.{throughout-kept}
 use Rattle.call_entries.specs.Losing.{losses_of}
-use Rattle.call_entries.proofs.CallLaws.{losses-are, last_end-behind, values-losses}
-use Rattle.call_entries.proofs.StepLaws.{faults-are}
+use Rattle.call_entries.proofs.CallLaws.{losses-are, last_end-behind}
 use Rattle.call_entries.proofs.LosingLaws.{entries-both}
 use Rattle.kept_history.specs.Recorded.{IsHistoryKept, IsLegalCall, IsCallGoing, entry_of, ends_reshape, gives_some}
 use Rattle.kept_history.specs.Safe.{world_in, IsFilledRight, IsSafeHistory}
@@ -37,12 +36,12 @@ use Rattle.kept_history.proofs.Ledgers.{more-then}
 use Rattle.kept_history.proofs.Seen.{now-more}
 use Rattle.kept_history.proofs.Calls.{safe-called}
 use Rattle.kept_history.proofs.KeptCalls.{kept-call}
-use Rattle.kept_history.proofs.Entered.{adds_only, AreAdding, told-adding, told-added, adding-losses, values-more, length-adding}
+use Rattle.kept_history.proofs.Entered.{adds_only, AreAdding, told-adding, told-added, values-more, length-adding}
 use Rattle.kept_history.proofs.Reshapes.{call-ends_none}
 use Rattle.course_kept.specs.declared.course.Course.{Course}
 use Rattle.course_kept.specs.Course.{IsCourseOf, IsStored, StandsInCourse}
 use Rattle.moving_kept.specs.Moving.{AreReshaping, AreToldGone, HasListInCourse, IsMoving}
-use Rattle.moving_kept.proofs.Behind.{AreLostOrMissing, IsBehind, is-behind, legal-losses, or-false, and-true}
+use Rattle.moving_kept.proofs.Behind.{AreEarly, AreLostOrMissing, IsAmong, IsBehind, early-losses, is-behind, legal-losses, or-false, and-true}
 
 -- An event that leaves the list and the level, settles nothing and neither ends a reshape nor gives a role.
 pub record IsQuiet (event : Event) : Type 0 where
@@ -54,7 +53,20 @@ pub record IsQuiet (event : Event) : Type 0 where
 
 -- ---- the call
 
--- What is asked of a call, from this tape to that one with its end there.
+-- What is asked of a call, from this tape to that one with its end there, that enters these events before its last one.
+pub record IsEarlyCall (given : Given) (tape : List Operation) (scope : Scope) (first : ℕ) (entries : List Entry) (old new : Members) (carried : ℕ → Bool) (course' : Course) (buffer' : List ℕ)
+    (who : Who) (early : List Event) (event : Event) (tape' : List Operation) (end : ℕ) : Type 0 where
+  pub rise : IsRisen ⊤ old new tape tape'
+  pub keeps : (told : Ledger) → IsFilledRight (world_in given tape scope first) entries → IsMoreTold (told_now (world_in given tape scope first) carried true entries) told
+      → HasRoomLeft old tape tape' → AreGoneTold told new → IsUncleanTold told old
+      → IsSafeOver (world_in given tape scope first) given told old tape → KeepsSafe (world_in given tape scope first) given told new tape tape'
+  pub listed : DoWithout new → IsFilledRight (world_in given tape scope first) entries
+      → HasListInCourse (OpensFit (world_in given tape scope first)) new course' buffer' (present given tape') (now (opening_list (world_in given tape scope first)) entries)
+  pub legal : IsFilledRight (world_in given tape' scope first) (entries ++ entries_of who end (early ++ event ∷ [])) → AreToldGone (world_in given tape' scope first) (entries ++ entries_of who end early) new
+      → level_at (world_in given tape' scope first) (entries ++ entries_of who end early) ≡ level_at (world_in given tape scope first) entries
+      → IsLegalCall (world_in given tape' scope first) entries who end (early ++ event ∷ [])
+
+-- The same of a call that enters losses before its event.
 pub record IsQuietCall (given : Given) (tape : List Operation) (scope : Scope) (first : ℕ) (entries : List Entry) (old new : Members) (carried : ℕ → Bool) (course' : Course) (buffer' : List ℕ)
     (who : Who) (roles spares : ℕ) (event : Event) (tape' : List Operation) (end : ℕ) : Type 0 where
   pub rise : IsRisen ⊤ old new tape tape'
@@ -82,9 +94,9 @@ pub record IsLeftBy (given : Given) (tape : List Operation) (scope : Scope) (fir
       → IsSafeOver (world_in given tape' scope first) given (told_now (world_in given tape' scope first) carried true all) new tape'
 
 module _ (given : Given) (tape : List Operation) (scope : Scope) (first : ℕ) (entries : List Entry) (old new : Members) (carried : ℕ → Bool) (course' : Course) (buffer' : List ℕ)
-    (who : Who) (roles spares : ℕ) (event : Event) (ops : List Operation)
+    (who : Who) (early : List Event) (IsTaken : ℕ → Type 0) (event : Event) (ops : List Operation) (are : AreEarly early IsTaken)
     (goes : IsCallGoing entries who) (caller : IsFalse (who.caller == 254)) (quiet : IsQuiet event) (few : role_count new.newest ≤ 16)
-    (missing : AreLostOrMissing old new roles)
+    (missing : AreLostOrMissing old new IsTaken)
     (sized : list_length new.newest ≡ list_length old.newest) (clean : is_clean new.newest ≡ is_clean old.newest) (sizes_are : scope.sizes ≡ sizes given)
     (gone : AreToldGone (world_in given tape scope first) entries old)
     (unclean : is_clean old.newest ≡ false → (is_unsynced (world_in given tape scope first) entries || is_unsettled entries) ≡ true)
@@ -93,7 +105,7 @@ module _ (given : Given) (tape : List Operation) (scope : Scope) (first : ℕ) (
     → IsSafeHistory ⊤ (world_in given tape scope first) given old carried true entries)
     (now_safe : IsFilledRight (world_in given tape scope first) entries → HasRoomForEvents (world_in given tape scope first) → OpensAlike (world_in given tape scope first)
     → IsSafeOver (world_in given tape scope first) given (told_now (world_in given tape scope first) carried true entries) old tape)
-    (call : IsQuietCall given tape scope first entries old new carried course' buffer' who roles spares event (tape ++ ops) (length (tape ++ ops))) where
+    (call : IsEarlyCall given tape scope first entries old new carried course' buffer' who early event (tape ++ ops) (length (tape ++ ops))) where
   abbrev world : World
   world = world_in given tape scope first
 
@@ -103,26 +115,23 @@ module _ (given : Given) (tape : List Operation) (scope : Scope) (first : ℕ) (
   abbrev end : ℕ
   end = length (tape ++ ops)
 
-  abbrev losses : List Event
-  losses = losses_of roles spares
-
   abbrev more : List Entry
-  more = entries_of who (length (tape ++ ops)) (losses_of roles spares)
+  more = entries_of who (length (tape ++ ops)) (early)
 
   abbrev added : List Entry
-  added = entries_of who (length (tape ++ ops)) (losses_of roles spares ++ event ∷ [])
+  added = entries_of who (length (tape ++ ops)) (early ++ event ∷ [])
 
   abbrev all : List Entry
-  all = entries ++ entries_of who (length (tape ++ ops)) (losses_of roles spares ++ event ∷ [])
+  all = entries ++ entries_of who (length (tape ++ ops)) (early ++ event ∷ [])
 
-  behind : IsBehind (world_in given tape scope first) (world_in given (tape ++ ops) scope first) entries new who (length (tape ++ ops)) roles spares event
-  behind = is-behind given tape scope first entries old new who roles spares event ops quiet.gives quiet.ends quiet.level few missing gone recorded
+  behind : IsBehind (world_in given tape scope first) (world_in given (tape ++ ops) scope first) entries new who (length (tape ++ ops)) early event
+  behind = is-behind given tape scope first entries old new who early IsTaken event ops are quiet.gives quiet.ends quiet.level few missing gone recorded
 
   adds-last : AreAdding (entries_of who end (event ∷ []))
   adds-last = and-true (adds_only event) true quiet.adds refl
 
   adds-all : AreAdding added
-  adds-all = adding-losses who end losses (event ∷ []) (faults-are losses (losses-are roles spares)) adds-last
+  adds-all = are.adds who end (event ∷ []) adds-last
 
   -- ---- what is told
 
@@ -137,7 +146,7 @@ module _ (given : Given) (tape : List Operation) (scope : Scope) (first : ℕ) (
       (told-adding later carried carried true true entries more behind.adds_more (λ number is. is) (λ is. is))
 
   told-last : IsMoreTold told (told_now later carried true all)
-  told-last = subst (λ (l : List Entry). IsMoreTold told (told_now later carried true l)) (append_assoc entries more (entries_of who end (event ∷ [])) ∙ ap (λ (l : List Entry). entries ++ l) (sym (entries-both who end losses (event ∷ []))))
+  told-last = subst (λ (l : List Entry). IsMoreTold told (told_now later carried true l)) (append_assoc entries more (entries_of who end (event ∷ [])) ∙ ap (λ (l : List Entry). entries ++ l) (sym (entries-both who end early (event ∷ []))))
       (more-then told (told_now later carried true (entries ++ more)) (told_now later carried true ((entries ++ more) ++ entries_of who end (event ∷ [])))
       (told-added later carried true entries more behind.adds_more behind.gives_more)
       (more-then (told_now later carried true (entries ++ more)) (told_by later carried true (entries ++ more) (entries_of who end (event ∷ []))) (told_now later carried true ((entries ++ more) ++ entries_of who end (event ∷ [])))
@@ -149,14 +158,11 @@ module _ (given : Given) (tape : List Operation) (scope : Scope) (first : ℕ) (
 
   -- ---- the history
 
-  legal-call : IsFilledRight later all → IsLegalCall later entries who end (losses ++ event ∷ [])
-  legal-call fills = legal-losses later entries who end losses (event ∷ []) (losses-are roles spares) (call.legal fills behind.gone_more behind.level_more, tt, tt)
-
   recorded-all : IsHistoryKept (IsFilledRight later all) later (list_length new.newest) all
-  recorded-all = kept-call (IsFilledRight world entries) (IsFilledRight later all) world ops (list_length old.newest) (list_length new.newest) entries who (losses ++ event ∷ []) goes recorded behind.fills caller
+  recorded-all = kept-call (IsFilledRight world entries) (IsFilledRight later all) world ops (list_length old.newest) (list_length new.newest) entries who (early ++ event ∷ []) goes recorded behind.fills caller
       (λ fills. inr behind.gives_all) (length-adding (length (opening_list world)) entries added adds-all ∙ recorded.sized ∙ sym sized)
-      (last_end-behind first entries who end losses event) legal-call
-      (λ fills. call-ends_none later entries who end (losses ++ event ∷ []) behind.ends)
+      (last_end-behind first entries who end early event) (λ fills. call.legal fills behind.gone_more behind.level_more)
+      (λ fills. call-ends_none later entries who end (early ++ event ∷ []) behind.ends)
 
   -- ---- the list
 
@@ -164,7 +170,7 @@ module _ (given : Given) (tape : List Operation) (scope : Scope) (first : ℕ) (
   now-same x =
       ap (λ (l : List Sector). now l all x) behind.opened
       ∙ ap (λ (l : List Sector). slice_index_or l 0 []) (values-more (opening_list world) entries added x
-      ∙ values-losses who end losses (event ∷ []) (losses-are roles spares) x (values_of (opening_list world) entries x) ∙ quiet.still x (values_of (opening_list world) entries x))
+      ∙ are.values who end (event ∷ []) x (values_of (opening_list world) entries x) ∙ quiet.still x (values_of (opening_list world) entries x))
 
   listed-all : DoWithout new → IsFilledRight later all → HasListInCourse (OpensFit later) new course' buffer' (present given (tape ++ ops)) (now (opening_list later) all)
   listed-all does fills =
@@ -191,7 +197,7 @@ module _ (given : Given) (tape : List Operation) (scope : Scope) (first : ℕ) (
     last = now-more (OpensFit world) scope given told (told_now later carried true all) new (disk given.start (tape ++ ops)) told-last stretch.next
 
     safe-all : IsSafeHistory ⊤ later given new carried true all
-    safe-all = safe-called ⊤ given tape scope first entries old new carried carried true true who losses (event ∷ []) told ops (tape ++ ops) end refl refl sizes_are begun recorded.ends was
+    safe-all = safe-called ⊤ given tape scope first entries old new carried carried true true who early (event ∷ []) told ops (tape ++ ops) end refl refl sizes_are begun recorded.ends was
         fills call.rise (λ claimed opened mark low high. throughout-kept world given told new ops refl begun stretch (was.sound tt) opened mark (omega (arith, begun, low)) high) (record { size = refl; values = λ x lt v may. may; gone = λ role is. is; unclean = λ is. is; reshaping = λ is. is; carried = λ number is. refl }) stretch last
 
     now-all : IsSafeOver later given (told_now later carried true all) new (tape ++ ops)
@@ -211,16 +217,16 @@ module _ (given : Given) (tape : List Operation) (scope : Scope) (first : ℕ) (
 -- ---- what is kept
 
 -- The call keeps the record: the array is in its reshape still, however far that has come then.
-pub quiet-moves : (tells : Type 0) (given : Given) (tape tape' : List Operation) (scope : Scope) (first : ℕ) (entries : List Entry) (old new : Members) (carried : ℕ → Bool) (course course' : Course)
-    (buffer buffer' : List ℕ) (left left' : ℕ) (who : Who) (end roles spares : ℕ) (event : Event)
+pub early-moves : (tells : Type 0) (given : Given) (tape tape' : List Operation) (scope : Scope) (first : ℕ) (entries : List Entry) (old new : Members) (carried : ℕ → Bool) (course course' : Course)
+    (buffer buffer' : List ℕ) (left left' : ℕ) (who : Who) (end : ℕ) (early : List Event) (IsTaken : ℕ → Type 0) (event : Event)
     → IsMoving tells given tape scope first entries old carried course buffer left → IsCallGoing entries who → IsFalse (who.caller == 254) → (tells → end ≡ length tape') → Grows tells tape tape' → IsQuiet event
     → AreReshaping scope given new → role_count new.newest ≤ 16
-    → AreLostOrMissing old new roles
+    → AreEarly early IsTaken → AreLostOrMissing old new IsTaken
     → list_length new.newest ≡ list_length old.newest → (shape_of new.newest).level ≡ (shape_of old.newest).level → is_clean new.newest ≡ is_clean old.newest → IsCourseOf new.newest course' → (tells → IsStored scope new course'.window (disk given.start tape'))
-    → IfSome (told_left (entries ++ entries_of who end (losses_of roles spares ++ event ∷ []))) (λ n. n ≡ left')
-    → (tells → IsQuietCall given tape scope first entries old new carried course' buffer' who roles spares event tape' end)
-    → IsMoving tells given tape' scope first (entries ++ entries_of who end (losses_of roles spares ++ event ∷ [])) new carried course' buffer' left'
-quiet-moves tells given tape tape' scope first entries old new carried course course' buffer buffer' left left' who end roles spares event was goes caller at_end grows quiet members few missing sized level clean
+    → IfSome (told_left (entries ++ entries_of who end (early ++ event ∷ []))) (λ n. n ≡ left')
+    → (tells → IsEarlyCall given tape scope first entries old new carried course' buffer' who early event tape' end)
+    → IsMoving tells given tape' scope first (entries ++ entries_of who end (early ++ event ∷ [])) new carried course' buffer' left'
+early-moves tells given tape tape' scope first entries old new carried course course' buffer buffer' left left' who end early IsTaken event was goes caller at_end grows quiet members few are missing sized level clean
     course_is stored told call = record {
       slots = was.slots;
       members_are = members;
@@ -238,14 +244,35 @@ quiet-moves tells given tape tape' scope first entries old new carried course co
     }
   where
     Then : List Operation → ℕ → Type 0
-    Then l e = IsQuietCall given tape scope first entries old new carried course' buffer' who roles spares event l e
-        → IsLeftBy given tape scope first entries (entries ++ entries_of who e (losses_of roles spares ++ event ∷ [])) new carried course' buffer' l
+    Then l e = IsEarlyCall given tape scope first entries old new carried course' buffer' who early event l e
+        → IsLeftBy given tape scope first entries (entries ++ entries_of who e (early ++ event ∷ [])) new carried course' buffer' l
 
-    leaves : tells → IsLeftBy given tape scope first entries (entries ++ entries_of who end (losses_of roles spares ++ event ∷ [])) new carried course' buffer' tape'
+    leaves : tells → IsLeftBy given tape scope first entries (entries ++ entries_of who end (early ++ event ∷ [])) new carried course' buffer' tape'
     leaves t =
         let g = grows.more t in
         subst (λ (l : List Operation). Then l end) (sym g.1)
         (subst (Then (tape ++ g.0)) (sym (at_end t ∙ ap (λ (l : List Operation). length l) g.1))
-        (λ quiet_call. quiet-leaves given tape scope first entries old new carried course' buffer' who roles spares event g.0 goes caller quiet few missing sized clean was.sizes_are
-        (was.gone t) (was.unclean t) (was.recorded t) (was.safe t) (was.now_safe t) quiet_call))
+        (λ call_to. quiet-leaves given tape scope first entries old new carried course' buffer' who early IsTaken event g.0 are goes caller quiet few missing sized clean was.sizes_are
+        (was.gone t) (was.unclean t) (was.recorded t) (was.safe t) (was.now_safe t) call_to))
         (call t)
+
+-- And so does a call that enters losses before its event.
+pub quiet-moves : (tells : Type 0) (given : Given) (tape tape' : List Operation) (scope : Scope) (first : ℕ) (entries : List Entry) (old new : Members) (carried : ℕ → Bool) (course course' : Course)
+    (buffer buffer' : List ℕ) (left left' : ℕ) (who : Who) (end roles spares : ℕ) (event : Event)
+    → IsMoving tells given tape scope first entries old carried course buffer left → IsCallGoing entries who → IsFalse (who.caller == 254) → (tells → end ≡ length tape') → Grows tells tape tape' → IsQuiet event
+    → AreReshaping scope given new → role_count new.newest ≤ 16
+    → AreLostOrMissing old new (IsAmong roles)
+    → list_length new.newest ≡ list_length old.newest → (shape_of new.newest).level ≡ (shape_of old.newest).level → is_clean new.newest ≡ is_clean old.newest → IsCourseOf new.newest course' → (tells → IsStored scope new course'.window (disk given.start tape'))
+    → IfSome (told_left (entries ++ entries_of who end (losses_of roles spares ++ event ∷ []))) (λ n. n ≡ left')
+    → (tells → IsQuietCall given tape scope first entries old new carried course' buffer' who roles spares event tape' end)
+    → IsMoving tells given tape' scope first (entries ++ entries_of who end (losses_of roles spares ++ event ∷ [])) new carried course' buffer' left'
+quiet-moves tells given tape tape' scope first entries old new carried course course' buffer buffer' left left' who end roles spares event was goes caller at_end grows quiet members few missing sized level clean
+    course_is stored told call =
+    early-moves tells given tape tape' scope first entries old new carried course course' buffer buffer' left left' who end (losses_of roles spares) (IsAmong roles) event was goes caller at_end grows quiet members few
+    (early-losses roles spares) missing sized level clean course_is stored told
+    (λ t. let of = call t in record {
+      rise = of.rise;
+      keeps = of.keeps;
+      listed = of.listed;
+      legal = λ fills gone level. legal-losses (world_in given tape' scope first) entries who end (losses_of roles spares) (event ∷ []) (losses-are roles spares) (of.legal fills gone level, tt, tt);
+    })

@@ -47,7 +47,7 @@ use Rattle.kept_history.proofs.Reshapes.{call-ends_none}
 use Rattle.course_kept.specs.declared.course.Course.{Course}
 use Rattle.course_kept.specs.Course.{IsCourseOf, IsStored, StandsInCourse}
 use Rattle.moving_kept.specs.Moving.{AreReshaping, AreToldGone, HasListInCourse, IsMoving}
-use Rattle.moving_kept.proofs.Behind.{AreLostOrMissing, IsBehind, is-behind, legal-losses, or-false}
+use Rattle.moving_kept.proofs.Behind.{AreLostOrMissing, IsAmong, IsBehind, early-losses, is-behind, legal-losses, or-false}
 use Rattle.moving_kept.proofs.Quiet.{IsLeftBy}
 
 -- ---- the event
@@ -124,7 +124,7 @@ pub record IsSettlingCall (given : Given) (tape : List Operation) (scope : Scope
 module _ (given : Given) (tape : List Operation) (scope : Scope) (first : ℕ) (entries : List Entry) (old new : Members) (carried : ℕ → Bool) (unsynced : Bool) (course' : Course) (buffer' : List ℕ)
     (who : Who) (roles spares : ℕ) (event : Event) (ops : List Operation)
     (goes : IsCallGoing entries who) (caller : IsFalse (who.caller == 254)) (settling : IsSettling event) (few : role_count new.newest ≤ 16)
-    (missing : AreLostOrMissing old new roles)
+    (missing : AreLostOrMissing old new (IsAmong roles))
     (sized : list_length new.newest ≡ list_length old.newest) (clean : unsynced ≡ false → is_clean new.newest ≡ true) (sizes_are : scope.sizes ≡ sizes given)
     (unsynced_is : is_unsynced (world_in given tape scope first) entries ≡ unsynced)
     (gone : AreToldGone (world_in given tape scope first) entries old)
@@ -162,8 +162,8 @@ module _ (given : Given) (tape : List Operation) (scope : Scope) (first : ℕ) (
   both : added ≡ more ++ rest
   both = entries-both who end losses (event ∷ [])
 
-  behind : IsBehind (world_in given tape scope first) (world_in given (tape ++ ops) scope first) entries new who (length (tape ++ ops)) roles spares event
-  behind = is-behind given tape scope first entries old new who roles spares event ops settling.gives settling.ends settling.level few missing gone recorded
+  behind : IsBehind (world_in given tape scope first) (world_in given (tape ++ ops) scope first) entries new who (length (tape ++ ops)) (losses_of roles spares) event
+  behind = is-behind given tape scope first entries old new who (losses_of roles spares) (IsAmong roles) event ops (early-losses roles spares) settling.gives settling.ends settling.level few missing gone recorded
 
   -- ---- what is told
 
@@ -305,7 +305,7 @@ pub settling-moves : (tells : Type 0) (given : Given) (tape tape' : List Operati
     (buffer buffer' : List ℕ) (left left' : ℕ) (who : Who) (end roles spares : ℕ) (event : Event)
     → IsMoving tells given tape scope first entries old carried course buffer left → IsCallGoing entries who → IsFalse (who.caller == 254) → (tells → end ≡ length tape') → Grows tells tape tape' → IsSettling event
     → AreReshaping scope given new → role_count new.newest ≤ 16
-    → AreLostOrMissing old new roles
+    → AreLostOrMissing old new (IsAmong roles)
     → list_length new.newest ≡ list_length old.newest → (shape_of new.newest).level ≡ (shape_of old.newest).level → (unsynced ≡ false → is_clean new.newest ≡ true)
     → (tells → is_unsynced (world_in given tape scope first) entries ≡ unsynced) → IsCourseOf new.newest course' → (tells → IsStored scope new course'.window (disk given.start tape'))
     → IfSome (told_left (entries ++ entries_of who end (losses_of roles spares ++ event ∷ []))) (λ n. n ≡ left')
