@@ -9,3 +9,4 @@ pub mod Entering
 pub mod Adding
 pub mod Settling
 pub mod Flushing
+pub mod Failing

@@ -1,0 +1,138 @@
+-- A role that is failed by command in an array in a reshape.
+use Rattle.std.proofs.Common.{◌≡◌, ◌⊎◌, inl, inr, ℕ, ◌<◌, ◌≤◌, ◌==◌, ◌||◌, Bool, true, false, Option, None, List, [], ◌∷◌, ◌++◌, length, refl, sym, ◌∙◌, ap, subst, arith, append_assoc}
+use Rattle.std.specs.Prelude.{IsFalse, MatchOption, ⊤}
+use Rattle.std.specs.List.{list_any}
+use Rattle.std.proofs.lemmas.Bool.Decides.{nat_tests}
+use Rattle.md_base.specs.declared.answers.Who.{Who}
+use Rattle.md_base.specs.declared.places.Shape.{Shape}
+use Rattle.bank.specs.declared.bank.Operation.{Operation}
+use Rattle.bank.specs.Given.{Given}
+use Rattle.bank.specs.Tape.{disk}
+use Rattle.superblocks.specs.declared.members.Members.{Members}
+use Rattle.superblocks.specs.Reading.{Scope, is_clean, list_length, role_count}
+use Rattle.row_io.specs.Rows.{reading_of, present, is_missing}
+use Rattle.flat_history.specs.declared.events.Entry.{Entry}
+use Rattle.flat_history.specs.declared.events.Event.{Event}
+use Rattle.flat_history.specs.declared.events.Event.TheVariants.{Lost, Failed}
+use Rattle.flat_history.specs.declared.events.LostCause.TheVariants.{Command}
+use Rattle.flat_history.specs.Flat.{last_of}
+use Rattle.flat_history.specs.Legal.{is_lost_by_command, IsFailed, IsFailedByCall, MayBeInner, IsInnerOrLast}
+use Rattle.flat_history.specs.OneShape.{is_lost}
+use Rattle.flat_history.specs.Plain.{entries_of}
+use Rattle.flat_history.specs.Sound.{OpensFit}
+use Rattle.flat_history.specs.World.{World}
+use Rattle.history_laws.proofs.OneShapeGrowing.{found-before}
+use Rattle.shape_views.specs.Views.{Ledger}
+use Rattle.shape_changes.specs.Marking.{AreOthersPresent}
+use Rattle.shape_changes.specs.Safety.{HasRoomLeft, IsRisen}
+use Rattle.shape_changes.specs.Steady.{IsSafeOver, KeepsSafe, AreGoneTold, IsUncleanTold}
+use Rattle.views.specs.Moving.{Grows, IsMoved}
+use Rattle.views.proofs.Fit.{list-alike, count-alike}
+use Rattle.views.proofs.HeldRows.{without-before}
+use Rattle.call_entries.specs.Losing.{losses_of}
+use Rattle.call_entries.proofs.CallLaws.{losses-are}
+use Rattle.call_entries.proofs.LeftLaws.{left-behind, left-more}
+use Rattle.call_entries.proofs.LosingLaws.{entries-both}
+use Rattle.call_entries.proofs.PlainLaws.{last-snoc}
+use Rattle.window_steps.specs.Copying.{AreHeadersKept}
+use Rattle.kept_history.specs.Recorded.{IsLegalCall, IsCallGoing, entry_of}
+use Rattle.kept_history.specs.Safe.{world_in}
+use Rattle.course_kept.specs.declared.course.Course.{Course}
+use Rattle.course_kept.proofs.Courses.{courses-move, stored-moves}
+use Rattle.moving_kept.specs.Moving.{IsMoving}
+use Rattle.moving_kept.proofs.Behind.{AreEarly, AreLostOrMissing, IsAmong, early-losses, legal-losses}
+use Rattle.moving_kept.proofs.MembersMove.{reshaping-moved}
+use Rattle.moving_kept.proofs.Quiet.{early-moves}
+use Rattle.moving_kept.proofs.Staying.{course-moved}
+
+-- the role that was failed, or one of those that were lost besides
+abbrev pub IsFailedOrAmong : ℕ → ℕ → ℕ → Type 0
+IsFailedOrAmong failed roles role = (role ≡ failed) ⊎ IsAmong roles role
+
+itself : (role other : ℕ) (more : Bool) → role ≡ other → ((other == role) || more) ≡ true
+itself role other more is = grind (arith, nat_tests, is)
+
+behind-it : (a b : Bool) → b ≡ true → (a || b) ≡ true
+behind-it true b is = refl
+behind-it false b is = is
+
+-- the loss by command stands before the others
+pub early-failed : (role roles spares : ℕ) → AreEarly (Lost role Command ∷ losses_of roles spares) (IsFailedOrAmong role roles)
+early-failed role roles spares = record {
+  adds = λ who end tail adds. (early-losses roles spares).adds who end tail adds;
+  gives = λ who end tail none. (early-losses roles spares).gives who end tail none;
+  lost = λ who end tail other lt which. elim which [
+    | inl is ↦ itself other role (is_lost (entries_of who end (losses_of roles spares ++ tail)) other) is
+    | inr has ↦ behind-it (role == other) (is_lost (entries_of who end (losses_of roles spares ++ tail)) other) ((early-losses roles spares).lost who end tail other lt has)
+  ];
+  ends = λ tail none. (early-losses roles spares).ends tail none;
+  level = λ who end tail n. (early-losses roles spares).level who end tail n;
+  values = λ who end tail x values. (early-losses roles spares).values who end tail x values;
+}
+
+-- Its entries are legal: the loss stands in a call that ends with the failed role, and that role was lost in its call.
+legal-failed : (world : World) (before : List Entry) (who : Who) (end role roles spares : ℕ) → IsLegalCall world before who end ((Lost role Command ∷ losses_of roles spares) ++ Failed role ∷ [])
+legal-failed world before who end role roles spares = (
+  last,
+  inner (Lost role Command) tt (losses_of roles spares ++ Failed role ∷ []),
+  legal-losses world (before ++ entry_of who end (Lost role Command) ∷ []) who end (losses_of roles spares) (Failed role ∷ []) (losses-are roles spares) (failed, tt, tt),
+)
+  where
+    inner : (event : Event) → MayBeInner event → (events : List Event) → IsInnerOrLast event (entries_of who end events)
+    inner event may [] = tt
+    inner event may (x ∷ events) = may
+
+    last : MatchOption (last_of (entries_of who end (losses_of roles spares ++ Failed role ∷ []))) ⊥ (λ last. IsFailed role last.event)
+    last = subst (λ (o : Option Entry). MatchOption o ⊥ (λ last. IsFailed role last.event))
+        (sym (ap (λ (l : List Entry). last_of l) (entries-both who end (losses_of roles spares) (Failed role ∷ [])) ∙ last-snoc (entries_of who end (losses_of roles spares)) (entry_of who end (Failed role)))) refl
+
+    failed : IsFailedByCall ((before ++ entry_of who end (Lost role Command) ∷ []) ++ entries_of who end (losses_of roles spares)) (entry_of who end (Failed role)) role
+    failed = subst (λ (l : List Entry). IsFailedByCall l (entry_of who end (Failed role)) role) (sym (append_assoc before (entry_of who end (Lost role Command) ∷ []) (entries_of who end (losses_of roles spares))))
+        (found-before (λ e. is_lost_by_command role e.event) before who end (Failed role) (Lost role Command ∷ losses_of roles spares)
+        (itself role role (list_any (λ e. is_lost_by_command role e.event) (entries_of who end (losses_of roles spares))) refl))
+
+-- What the call leaves: its slot is taken out, and what is missing is named.
+pub record IsTakenOut (tells : Type 0) (given : Given) (tape tape' : List Operation) (old new : Members) (role roles : ℕ) : Type 0 where
+  pub moved : IsMoved given old new
+  pub few : role_count new.newest ≤ 16
+  pub since : (other : ℕ) → other < role_count new.newest → is_missing (reading_of new) other ≡ true → (is_missing (reading_of old) other ≡ true) ⊎ IsFailedOrAmong role roles other
+  pub clean : is_clean new.newest ≡ is_clean old.newest
+  pub rise : tells → IsRisen ⊤ old new tape tape'
+  pub others : tells → AreOthersPresent (present given tape) (present given tape')
+  pub headers : tells → AreHeadersKept (disk given.start tape) (disk given.start tape')
+  pub safe : tells → (world : World) → (told : Ledger) → HasRoomLeft old tape tape' → AreGoneTold told new → IsUncleanTold told old → IsSafeOver world given told old tape → KeepsSafe world given told new tape tape'
+
+pub failed-moves : (tells : Type 0) (given : Given) (tape tape' : List Operation) (scope : Scope) (first : ℕ) (entries : List Entry) (old new : Members) (carried : ℕ → Bool)
+    (course : Course) (buffer : List ℕ) (left : ℕ) (who : Who) (end role roles spares : ℕ)
+    → IsMoving tells given tape scope first entries old carried course buffer left → IsCallGoing entries who → IsFalse (who.caller == 254) → (tells → end ≡ length tape') → Grows tells tape tape'
+    → IsTakenOut tells given tape tape' old new role roles
+    → IsMoving tells given tape' scope first (entries ++ entries_of who end ((Lost role Command ∷ losses_of roles spares) ++ Failed role ∷ [])) new carried course buffer left
+failed-moves tells given tape tape' scope first entries old new carried course buffer left who end role roles spares was goes caller at_end grows did =
+    early-moves tells given tape tape' scope first entries old new carried course course buffer buffer left left who end (Lost role Command ∷ losses_of roles spares) (IsFailedOrAmong role roles) (Failed role)
+    was goes caller at_end grows (record { adds = refl; gives = refl; ends = refl; still = λ x values. refl; level = λ n. refl })
+    (reshaping-moved scope given old new did.moved was.members_are) did.few (early-failed role roles spares) missing list-same (ap (λ (s : Shape). s.level) did.moved.shape) did.clean
+    (course-moved given old new course did.moved was.course_is)
+    (λ t. stored-moves scope given old new course.window (disk given.start tape) (disk given.start tape') did.moved (did.headers t) (was.stored t))
+    (left-more left entries who end ((Lost role Command ∷ losses_of roles spares) ++ Failed role ∷ []) was.left_told
+    (λ told is. left-behind left who end (losses_of roles spares) (Failed role ∷ []) (losses-are roles spares) (λ told is. is) None tt))
+    (λ t. record {
+      rise = did.rise t;
+      keeps = λ told fills more room gone unclean before. did.safe t (world_in given tape scope first) told room gone unclean before;
+      listed = λ does fills.
+          let l = was.listed t (without-before given old new did.moved does) fills in
+          record {
+            list = l.list;
+            is = λ x lt. l.is x (subst (λ (n : ℕ). x < n) list-same lt);
+            stands = courses-move (OpensFit (world_in given tape scope first)) given old new course buffer (present given tape) (present given tape') l.list was.members_are.placed did.moved (did.others t) l.stands;
+          };
+      legal = λ fills gone level. legal-failed (world_in given tape' scope first) entries who end role roles spares;
+    })
+  where
+    list-same : list_length new.newest ≡ list_length old.newest
+    list-same = list-alike old.newest new.newest did.moved.reshape did.moved.shape did.moved.size
+
+    missing : AreLostOrMissing old new (IsFailedOrAmong role roles)
+    missing other lt gone = elim (did.since other lt gone) [
+      | inl was_gone ↦ inl (subst (λ (n : ℕ). other < n) (count-alike old.newest new.newest did.moved.reshape did.moved.shape did.moved.size) lt, was_gone)
+      | inr told ↦ inr told
+    ]
