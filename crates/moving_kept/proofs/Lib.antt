@@ -10,3 +10,4 @@ pub mod Adding
 pub mod Settling
 pub mod Flushing
 pub mod Failing
+pub mod ReadShapes
