@@ -11,3 +11,4 @@ pub mod Settling
 pub mod Flushing
 pub mod Failing
 pub mod ReadShapes
+pub mod BegunRead

@@ -1,0 +1,44 @@
+-- What is read behind the begin of a reshape says the old shape, also where all live slots were lost in its update.
+use Rattle.std.proofs.Common.{◌≡◌, List, length, Some, sym, subst}
+use Rattle.std.specs.Prelude.{⊤, false, ℕ}
+use Rattle.md_base.specs.declared.places.Shape.{Shape}
+use Rattle.bank.specs.declared.bank.Operation.{Operation}
+use Rattle.bank.specs.Given.{Given}
+use Rattle.bank.specs.Tape.{Contents, EachMark, disk}
+use Rattle.bank.proofs.Marks.{each_mark-along}
+use Rattle.backup.specs.Written.{cleared_header}
+use Rattle.backup.specs.Storing.{IsHeading}
+use Rattle.backup.proofs.StoringLaws.{heading-along}
+use Rattle.geometry.specs.Geometry.{AreInForce}
+use Rattle.superblocks.specs.declared.members.Members.{Members}
+use Rattle.superblocks.specs.Held.{AreDrawn}
+use Rattle.superblocks.specs.Reading.{Scope, is_reshaping, shape_of}
+use Rattle.shape_views.specs.Views.{Ledger}
+use Rattle.shape_changes.specs.Safety.{HasLiveSlot, HasRoomLeft}
+use Rattle.shape_changes.specs.Steady.{IsSteady, IsSafeNow}
+use Rattle.shape_changes.proofs.ChangeSafe.{told-changed}
+use Rattle.shape_changes.proofs.FitKinds.{taking-is-fit}
+use Rattle.reshape_updates.specs.Beginning.{beginning}
+use Rattle.reshape_updates.proofs.BegunPlan.{is-beginning, planned-begun-is, planned-fits-is}
+use Rattle.reshape_ends.specs.Begun.{IsBegunBehind}
+use Rattle.reshape_ends.proofs.Cleared.{marks-of, steady-then, room-longer}
+use Rattle.moving_kept.proofs.ReadShapes.{IsShapeRead, shape-read_since}
+
+module _ (tells : Type 0) (sound : Type 0) (scope : Scope) (given : Given) (told : Ledger) (backup : ℕ) (uuid : List ℕ) (to : Shape) (old new : Members) (before after : List Operation)
+    (there : scope.backup ≡ Some backup) (array : scope.uuid ≡ uuid) (sixteen : length scope.uuid ≡ 16) (still : is_reshaping old.newest ≡ false) (roles : length old.roles ≡ (shape_of old.newest).disks)
+    (forced : AreInForce (shape_of old.newest) to old.newest.size) (level : to.level ≡ old.newest.level) (live : HasLiveSlot old) (room : HasRoomLeft old before after)
+    (did : IsBegunBehind tells given backup uuid to old new before after) (t : tells) (safe : IsSafeNow sound scope given told old (disk given.start before)) where
+  marks : EachMark ⊤ given.start before did.mid (IsHeading backup (cleared_header scope.uuid) (disk given.start before))
+  marks = marks-of scope given.start before did.mid backup uuid (disk given.start before) t array
+      (subst (λ (l : List Operation). EachMark tells given.start before l (IsHeading backup (cleared_header uuid) (disk given.start before))) (sym (did.cleared t))
+      (each_mark-along tells given.start before _ (IsHeading backup (cleared_header uuid) (disk given.start before)) (heading-along backup (cleared_header uuid) (disk given.start before))))
+
+  steady : IsSteady sound scope given told old (disk given.start did.mid)
+  steady = steady-then sound scope given told old backup before did.mid there sixteen still live marks safe
+
+  pub begun-read : (c : Contents) → AreDrawn (disk given.start after) c → IsShapeRead scope c (shape_of old.newest)
+  begun-read =
+      shape-read_since scope given (beginning old to) old new did.mid after steady.former steady.since (told-changed t did.update)
+      (room-longer old before did.mid after (marks.longer tt) room live)
+      (taking-is-fit scope steady.former old (beginning old to) (disk given.start did.mid) steady.since (is-beginning old to still roles forced level).taking)
+      (planned-fits-is old to still roles forced level) (planned-begun-is old to still roles forced level).old
