@@ -12,3 +12,4 @@ pub mod Flushing
 pub mod Failing
 pub mod ReadShapes
 pub mod BegunRead
+pub mod Beginning

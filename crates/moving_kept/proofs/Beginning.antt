@@ -1,0 +1,254 @@
+-- A reshape begins in an array that had none: what is missing then is told, and each mark of the call is safe by what was told before it or with it.
+use Rattle.std.proofs.Common.{◌≡◌, ◌⊎◌, inl, inr, ℕ, ◌<◌, ◌≤◌, ◌&&◌, ◌||◌, nat_lt, Bool, true, false, List, [], ◌∷◌, ◌++◌, length, refl, sym, ◌∙◌, ap, subst, arith, append_assoc, append-nil}
+use Rattle.std.specs.Prelude.{⊤}
+use Rattle.std.specs.List.{list_any}
+use Rattle.std.proofs.lemmas.Bool.Decides.{nat_tests}
+use Rattle.md_base.specs.Sectors.{Sector}
+use Rattle.md_base.specs.declared.answers.Who.{Who}
+use Rattle.md_base.specs.declared.places.Shape.{Shape}
+use Rattle.bank.specs.declared.bank.Operation.{Operation}
+use Rattle.bank.specs.Given.{Given, sizes}
+use Rattle.bank.specs.Tape.{IsIn, disk}
+use Rattle.superblocks.specs.declared.members.Members.{Members}
+use Rattle.superblocks.specs.Reading.{Scope, shape_of, list_length, role_count}
+use Rattle.row_io.specs.Rows.{reading_of, is_missing}
+use Rattle.flat_history.specs.declared.events.Entry.{Entry}
+use Rattle.flat_history.specs.declared.events.Event.{Event}
+use Rattle.flat_history.specs.declared.events.Event.TheVariants.{Step}
+use Rattle.flat_history.specs.declared.events.StepKind.TheVariants.{Begun}
+use Rattle.flat_history.specs.Epochs.{HasRoomForEvents, OpensAlike}
+use Rattle.flat_history.specs.Flat.{length_of, values_of}
+use Rattle.flat_history.specs.Growing.{EndBy}
+use Rattle.flat_history.specs.Losses.{is_gone_after, is_unsynced, unsettles, loses}
+use Rattle.flat_history.specs.OneShape.{is_lost, is_unsettled}
+use Rattle.flat_history.specs.Plain.{entries_of}
+use Rattle.flat_history.specs.Sound.{OpensFit}
+use Rattle.flat_history.specs.World.{World, contents_at, reading_at, opening_list}
+use Rattle.shape_views.specs.Views.{Ledger}
+use Rattle.shape_changes.specs.Changing.{IsSafeChange}
+use Rattle.shape_changes.specs.Safety.{HasLiveSlot, HasRoomLeft, IsRisen}
+use Rattle.shape_changes.specs.Steady.{IsMoreTold, IsSafeNow, IsSafeOver, AreGoneTold}
+use Rattle.shape_ends.specs.Ends.{IsToldWith}
+use Rattle.views.proofs.SoundViews.{throughout-changed}
+use Rattle.call_entries.specs.Losing.{losses_of}
+use Rattle.kept_history.specs.Recorded.{entry_of, gives_some}
+use Rattle.kept_history.specs.Safe.{world_in, IsFilledRight, IsSafeHistory}
+use Rattle.kept_history.specs.Told.{told_now, told_by}
+use Rattle.kept_history.proofs.Growing.{opening-grown, fit-grown, gone-grown, unsynced-grown, now-grown, alike-before, room-before, room-now}
+use Rattle.kept_history.proofs.Ledgers.{more-alike, more-then, any-gone, unclean-now}
+use Rattle.kept_history.proofs.Longer.{regains-none}
+use Rattle.kept_history.proofs.Calls.{now-live}
+use Rattle.kept_history.proofs.Changes.{either-last}
+use Rattle.kept_history.proofs.Entered.{AreAdding, told-adding, settle-none, values-adding, length-adding, gone-was, gone-lost}
+use Rattle.kept_history.proofs.Turned.{begun-old, filled-before}
+use Rattle.kept_history.proofs.Turns.{either-call}
+use Rattle.moving_kept.specs.Moving.{AreToldGone}
+use Rattle.moving_kept.proofs.Behind.{IsAmong, early-losses}
+use Rattle.moving_kept.proofs.ReadShapes.{IsShapeRead}
+
+-- what is told before it, of the roles that the old shape has
+abbrev told_before : World → (ℕ → Bool) → List Entry → ℕ → Ledger
+told_before world carried entries disks = record {
+  size = length_of (length (opening_list world)) entries;
+  values = values_of (opening_list world) entries;
+  gone = λ role. is_gone_after world entries role && nat_lt role disks;
+  unclean = is_unsynced world entries || is_unsettled entries;
+  reshaping = false;
+  carried = carried;
+}
+
+-- What the begin of a reshape leaves: its update is safe from one ledger to another, what is missing then was missing among the roles of the old shape or is
+-- told lost, and what is read at its end says the old shape.
+pub record IsBeginningCall (given : Given) (tape : List Operation) (scope : Scope) (first : ℕ) (old plan new : Members) (carried carried' : ℕ → Bool) (roles : ℕ) (tape' : List Operation) : Type 0 where
+  pub live : HasLiveSlot old
+  pub count : role_count old.newest ≡ (shape_of old.newest).disks
+  pub planned : list_length plan.newest ≡ list_length old.newest
+  pub sized : list_length new.newest ≡ list_length old.newest
+  pub few : role_count new.newest ≤ 16
+  pub numbers : (number : ℕ) → carried number ≡ true → carried' number ≡ true
+  pub since : (role : ℕ) → role < role_count new.newest → is_missing (reading_of new) role ≡ true → ((role < (shape_of old.newest).disks) × (is_missing (reading_of old) role ≡ true)) ⊎ IsAmong roles role
+  pub fewer : (role : ℕ) → role < role_count plan.newest → is_missing (reading_of plan) role ≡ true → (role < role_count new.newest) × (is_missing (reading_of new) role ≡ true)
+  pub rise : IsRisen ⊤ old new tape tape'
+  pub read : IsShapeRead scope (contents_at (world_in given tape' scope first) (length tape')) (shape_of old.newest)
+  pub safe : (told more : Ledger) → HasRoomLeft old tape tape' → IsToldWith told more plan → AreGoneTold told old → AreGoneTold more new → ((number : ℕ) → told.carried number ≡ true → more.carried number ≡ true)
+      → IsSafeOver (world_in given tape scope first) given told old tape → IsSafeChange (OpensFit (world_in given tape scope first)) scope given told more new tape tape'
+
+module _ (given : Given) (tape : List Operation) (scope : Scope) (first : ℕ) (entries : List Entry) (old plan new : Members) (carried carried' : ℕ → Bool) (who : Who) (left roles spares : ℕ) (ops : List Operation)
+    (sizes_are : scope.sizes ≡ sizes given) (begun : first ≤ length tape) (ends : EndBy (length tape) entries) (recorded : length_of (length (opening_list (world_in given tape scope first))) entries ≡ list_length old.newest)
+    (gone : AreToldGone (world_in given tape scope first) entries old)
+    (call : IsBeginningCall given tape scope first old plan new carried carried' roles (tape ++ ops)) where
+  abbrev world : World
+  world = world_in given tape scope first
+
+  abbrev later : World
+  later = world_in given (tape ++ ops) scope first
+
+  abbrev end : ℕ
+  end = length (tape ++ ops)
+
+  abbrev disks : ℕ
+  disks = (shape_of old.newest).disks
+
+  abbrev entry : Entry
+  entry = entry_of who (length (tape ++ ops)) (Step Begun left)
+
+  abbrev more : List Entry
+  more = entries_of who (length (tape ++ ops)) (losses_of roles spares)
+
+  abbrev added : List Entry
+  added = entries_of who (length (tape ++ ops)) (Step Begun left ∷ losses_of roles spares)
+
+  abbrev all : List Entry
+  all = entries ++ entries_of who (length (tape ++ ops)) (Step Begun left ∷ losses_of roles spares)
+
+  parts : (entries ++ entry ∷ []) ++ more ≡ all
+  parts = append_assoc entries (entry ∷ []) more
+
+  all-but : (P : List Event → Type 0) → P (losses_of roles spares ++ []) → P (losses_of roles spares)
+  all-but P holds = subst P (append-nil (losses_of roles spares)) holds
+
+  adds-more : AreAdding more
+  adds-more = all-but (λ (l : List Event). AreAdding (entries_of who end l)) ((early-losses roles spares).adds who end [] refl)
+
+  adds-all : AreAdding added
+  adds-all = adds-more
+
+  gives-more : list_any (λ e. gives_some e.event) more ≡ false
+  gives-more = all-but (λ (l : List Event). list_any (λ e. gives_some e.event) (entries_of who end l) ≡ false) ((early-losses roles spares).gives who end [] refl)
+
+  -- ---- what is gone
+
+  -- a role of the old shape is gone behind it as before
+  gone-begun : (role : ℕ) → role < disks → is_gone_after later (entries ++ entry ∷ []) role ≡ is_gone_after world entries role
+  unfolding reading_at
+  gone-begun role lt =
+      begun-old later entries entry left call.read.found refl call.read.is role (let same = ap (λ (s : Shape). s.disks) call.read.says in omega (arith, lt, same))
+      ∙ gone-grown world ops entries role ends
+
+  gone-behind : (role : ℕ) → (is_gone_after later (entries ++ entry ∷ []) role || list_any (loses later role) more) ≡ true → is_gone_after later all role ≡ true
+  gone-behind role is = subst (λ (l : List Entry). is_gone_after later l role ≡ true) parts (any-gone later role (entries ++ entry ∷ []) more (regains-none later role more gives-more) is)
+
+  pub begun-gone : AreToldGone later all new
+  begun-gone role lt miss = gone-behind role (elim (call.since role lt miss) [
+    | inl was ↦ gone-was later (entries ++ entry ∷ []) more role (gone-begun role was.0 ∙ gone role (let count = call.count in omega (arith, was.0, count)) was.1)
+    | inr has ↦ gone-lost later (entries ++ entry ∷ []) more role
+        (all-but (λ (l : List Event). is_lost (entries_of who end l) role ≡ true) ((early-losses roles spares).lost who end [] role (let few = call.few in omega (arith, lt, few)) has))
+  ])
+
+  -- ---- what is told
+
+  abbrev told : Ledger
+  told = told_before world carried entries disks
+
+  abbrev with_it : Ledger
+  with_it = told_now later carried' true all
+
+  and-parts : (a b : Bool) → (a && b) ≡ true → (a ≡ true) × (b ≡ true)
+  and-parts true b is = (refl, is)
+  and-parts false b is = absurd (cc)
+
+  below : (role : ℕ) → nat_lt role disks ≡ true → role < disks
+  below role is = grind (arith, nat_tests, is)
+
+  is-below : (role : ℕ) → role < disks → nat_lt role disks ≡ true
+  is-below role lt = grind (arith, nat_tests, lt)
+
+  both-true : (a b : Bool) → a ≡ true → b ≡ true → (a && b) ≡ true
+  both-true true b a_is b_is = b_is
+  both-true false b a_is b_is = absurd (cc)
+
+  told-less : IsMoreTold told (told_now world carried false entries)
+  told-less = record {
+    size = refl;
+    values = λ x lt v may. may;
+    gone = λ role is. (and-parts (is_gone_after world entries role) (nat_lt role disks) is).0;
+    unclean = λ is. is;
+    reshaping = λ is. is;
+    carried = λ number is. is;
+  }
+
+  less : IsMoreTold told (told_by later (λ number. true) true entries added)
+  less = more-then told (told_now world carried false entries) (told_by later (λ number. true) true entries added) told-less
+      (subst (λ (l : Ledger). IsMoreTold l (told_by later (λ number. true) true entries added)) (now-grown world ops begun carried false entries ends)
+      (told-adding later carried (λ number. true) false true entries added adds-all (λ number is. refl) (λ is. refl)))
+
+  length-all : length_of (length (opening_list later)) all ≡ length_of (length (opening_list world)) entries
+  length-all = length-adding (length (opening_list later)) entries added adds-all ∙ ap (λ (l : List Sector). length_of (length l) entries) (opening-grown world ops begun)
+
+  values-all : (x : ℕ) (v : Sector) → IsIn (told.values x) v → IsIn (with_it.values x) v
+  values-all x v may = values-adding (opening_list later) entries added adds-all x v (subst (λ (l : List Sector). IsIn (values_of l entries x) v) (sym (opening-grown world ops begun)) may)
+
+  unclean-all : told.unclean ≡ true → with_it.unclean ≡ true
+  unclean-all is = unclean-now later entries added (settle-none added adds-all)
+      (three (is_unsynced later entries) (is_unsettled entries) (list_any (λ e. unsettles e.event) added) (ap (λ (b : Bool). b || is_unsettled entries) (unsynced-grown world ops begun entries) ∙ is))
+    where
+      three : (a b c : Bool) → (a || b) ≡ true → (a || (b || c)) ≡ true
+      three true b c is = refl
+      three false true c is = refl
+      three false false c is = absurd (cc)
+
+  most : IsMoreTold told with_it
+  most = record {
+    size = sym length-all;
+    values = λ x lt v may. values-all x v may;
+    gone = λ role is.
+        let both = and-parts (is_gone_after world entries role) (nat_lt role disks) is in
+        gone-behind role (gone-was later (entries ++ entry ∷ []) more role (gone-begun role (below role both.1) ∙ both.0));
+    unclean = unclean-all;
+    reshaping = λ is. refl;
+    carried = call.numbers;
+  }
+
+  told-with : IsToldWith told with_it plan
+  told-with = record {
+    sized = call.planned ∙ sym recorded ∙ sym length-all;
+    gone = λ role lt miss. let there = call.fewer role lt miss in begun-gone role there.0 there.1;
+    unclean = unclean-all;
+    reshaping = λ is. refl;
+    values = λ x v lt lt' may. values-all x v may;
+  }
+
+  gone-old : AreGoneTold told old
+  gone-old role lt miss = both-true (is_gone_after world entries role) (nat_lt role disks) (gone role lt miss) (is-below role (let count = call.count in omega (arith, lt, count)))
+
+  -- the array is safe by it before the call
+  safe-old : IsSafeNow (OpensFit world) scope given (told_now world carried false entries) old (disk given.start tape) → IsSafeNow (OpensFit world) scope given told old (disk given.start tape)
+  safe-old (inl steady) = inl (record {
+    former = steady.former;
+    since = steady.since;
+    right = record {
+      placed = steady.right.placed;
+      sized = steady.right.sized;
+      gone = λ role lt miss. both-true (is_gone_after world entries role) (nat_lt role disks) (steady.right.gone role lt miss)
+          (is-below role (let same = ap (λ (m : Members). role_count m.newest) steady.since.since in let count = call.count in omega (arith, lt, same, count)));
+      unclean = steady.right.unclean;
+      reshaping = steady.right.reshaping;
+      held = steady.right.held;
+      sections = steady.right.sections;
+      settled = steady.right.settled;
+      headers = steady.right.headers;
+      tails = steady.right.tails;
+    };
+    numbers = steady.numbers;
+  })
+  safe-old (inr spent) = absurd (spent.none call.live)
+
+  -- ---- each mark
+
+  module _ (safe : IsFilledRight (world_in given tape scope first) entries → HasRoomForEvents (world_in given tape scope first) → OpensAlike (world_in given tape scope first)
+      → IsSafeHistory ⊤ (world_in given tape scope first) given old carried false entries)
+      (fills : IsFilledRight (world_in given (tape ++ ops) scope first) (entries ++ entries_of who (length (tape ++ ops)) (Step Begun left ∷ losses_of roles spares)))
+      (room : HasRoomForEvents (world_in given (tape ++ ops) scope first)) (alike : OpensAlike (world_in given (tape ++ ops) scope first)) where
+    abbrev was : IsSafeHistory ⊤ (world_in given tape scope first) given old carried false entries
+    was = safe (filled-before world ops entries added begun ends fills) (room-before world ops begun room) (alike-before world ops begun alike)
+
+    change : IsSafeChange (OpensFit world) scope given told with_it new tape (tape ++ ops)
+    change = call.safe told with_it (room-now world ops begun old was.counted room) told-with gone-old begun-gone call.numbers (safe-old (now-live world call.live was.now))
+
+    pub begun-safe : IsSafeHistory ⊤ later given new carried' true all
+    begun-safe = either-call ⊤ given tape scope first entries old new carried carried' false true who (Step Begun left ∷ losses_of roles spares) ops told sizes_are begun ends fills was call.rise
+        (λ claimed opened mark low high. throughout-changed world given told with_it new ops refl begun change (was.sound tt) opened mark (omega (arith, begun, low)) high) less change (λ none. most)
+
+    pub begun-now : IsSafeOver later given (told_now later carried' true all) new (tape ++ ops)
+    begun-now = subst (λ (fit : Type 0). IsSafeNow fit scope given with_it new (disk given.start (tape ++ ops))) (sym (fit-grown world ops begun))
+        (either-last world given told with_it with_it new tape (tape ++ ops) change (more-alike with_it) (λ none. most))
