@@ -1,8 +1,10 @@
 -- A reshape begins in an array that had none: what is missing then is told, and each mark of the call is safe by what was told before it or with it.
-use Rattle.std.proofs.Common.{◌≡◌, ◌⊎◌, inl, inr, ℕ, ◌<◌, ◌≤◌, ◌&&◌, ◌||◌, nat_lt, Bool, true, false, List, [], ◌∷◌, ◌++◌, length, refl, sym, ◌∙◌, ap, subst, arith, append_assoc, append-nil}
-use Rattle.std.specs.Prelude.{⊤}
+use Rattle.std.proofs.Common.{◌≡◌, ◌≢◌, ◌⊎◌, inl, inr, ℕ, ◌+◌, ◌<◌, ◌≤◌, ◌==◌, ◌&&◌, ◌||◌, nat_lt, Bool, true, false, cond, Option, Some, None, List, [], ◌∷◌, ◌++◌, length, refl, sym, ◌∙◌, ap, subst, arith, append_assoc, append-nil}
+use Rattle.std.specs.Prelude.{IsFalse, IfSome, fold, slice_index_or, ⊤}
 use Rattle.std.specs.List.{list_any}
+use Rattle.std.specs.Option.{option_map_or}
 use Rattle.std.proofs.lemmas.Bool.Decides.{nat_tests}
+use Rattle.std.proofs.lemmas.List.Sums.{fold-append}
 use Rattle.md_base.specs.Sectors.{Sector}
 use Rattle.md_base.specs.declared.answers.Who.{Who}
 use Rattle.md_base.specs.declared.places.Shape.{Shape}
@@ -10,15 +12,16 @@ use Rattle.bank.specs.declared.bank.Operation.{Operation}
 use Rattle.bank.specs.Given.{Given, sizes}
 use Rattle.bank.specs.Tape.{IsIn, disk}
 use Rattle.superblocks.specs.declared.members.Members.{Members}
-use Rattle.superblocks.specs.Reading.{Scope, shape_of, list_length, role_count}
+use Rattle.superblocks.specs.Reading.{Scope, Reading, shape_of, list_length, role_count}
 use Rattle.row_io.specs.Rows.{reading_of, is_missing}
 use Rattle.flat_history.specs.declared.events.Entry.{Entry}
 use Rattle.flat_history.specs.declared.events.Event.{Event}
 use Rattle.flat_history.specs.declared.events.Event.TheVariants.{Step}
 use Rattle.flat_history.specs.declared.events.StepKind.TheVariants.{Begun}
 use Rattle.flat_history.specs.Epochs.{HasRoomForEvents, OpensAlike}
-use Rattle.flat_history.specs.Flat.{length_of, values_of}
+use Rattle.flat_history.specs.Flat.{length_of, values_of, values_after, now}
 use Rattle.flat_history.specs.Growing.{EndBy}
+use Rattle.flat_history.specs.Legal.{told_left, level_at, level_after, call_before, disturbs, MayBeInner, IsInnerOrLast}
 use Rattle.flat_history.specs.Losses.{is_gone_after, is_unsynced, unsettles, loses}
 use Rattle.flat_history.specs.OneShape.{is_lost, is_unsettled}
 use Rattle.flat_history.specs.Plain.{entries_of}
@@ -31,19 +34,23 @@ use Rattle.shape_changes.specs.Steady.{IsMoreTold, IsSafeNow, IsSafeOver, AreGon
 use Rattle.shape_ends.specs.Ends.{IsToldWith}
 use Rattle.views.proofs.SoundViews.{throughout-changed}
 use Rattle.call_entries.specs.Losing.{losses_of}
-use Rattle.kept_history.specs.Recorded.{entry_of, gives_some}
+use Rattle.call_entries.proofs.CallLaws.{losses-are}
+use Rattle.call_entries.proofs.PlainLaws.{last_end-call}
+use Rattle.kept_history.specs.Recorded.{IsHistoryKept, IsLegalCall, IsCallGoing, IsOpenBehind, entry_of, ends_reshape, gives_some}
 use Rattle.kept_history.specs.Safe.{world_in, IsFilledRight, IsSafeHistory}
 use Rattle.kept_history.specs.Told.{told_now, told_by}
-use Rattle.kept_history.proofs.Growing.{opening-grown, fit-grown, gone-grown, unsynced-grown, now-grown, alike-before, room-before, room-now}
+use Rattle.kept_history.proofs.Growing.{reading-grown, opening-grown, fit-grown, gone-grown, unsynced-grown, now-grown, alike-before, room-before, room-now}
 use Rattle.kept_history.proofs.Ledgers.{more-alike, more-then, any-gone, unclean-now}
 use Rattle.kept_history.proofs.Longer.{regains-none}
 use Rattle.kept_history.proofs.Calls.{now-live}
 use Rattle.kept_history.proofs.Changes.{either-last}
-use Rattle.kept_history.proofs.Entered.{AreAdding, told-adding, settle-none, values-adding, length-adding, gone-was, gone-lost}
+use Rattle.kept_history.proofs.Entered.{AreAdding, told-adding, settle-none, values-more, values-adding, length-adding, gone-was, gone-lost}
+use Rattle.kept_history.proofs.KeptCalls.{kept-call}
+use Rattle.kept_history.proofs.Reshapes.{call-ends_none}
 use Rattle.kept_history.proofs.Turned.{begun-old, filled-before}
 use Rattle.kept_history.proofs.Turns.{either-call}
 use Rattle.moving_kept.specs.Moving.{AreToldGone}
-use Rattle.moving_kept.proofs.Behind.{IsAmong, early-losses}
+use Rattle.moving_kept.proofs.Behind.{IsAmong, early-losses, legal-losses, or-false}
 use Rattle.moving_kept.proofs.ReadShapes.{IsShapeRead}
 
 -- what is told before it, of the roles that the old shape has
@@ -232,6 +239,60 @@ module _ (given : Given) (tape : List Operation) (scope : Scope) (first : ℕ) (
     numbers = steady.numbers;
   })
   safe-old (inr spent) = absurd (spent.none call.live)
+
+  -- ---- the history
+
+  inner : (event : Event) → MayBeInner event → (events : List Event) → IsInnerOrLast event (entries_of who end events)
+  inner event may [] = tt
+  inner event may (x ∷ events) = may
+
+  -- its step is one of those that are left, and legal
+  begun-legal : IfSome (told_left entries) (λ n. n ≡ left + 1) → IsLegalCall later entries who end (Step Begun left ∷ losses_of roles spares)
+  begun-legal told = (
+    known (list_any (λ e. disturbs e.event) (call_before entries entry ++ more)) (told_left entries) told,
+    inner (Step Begun left) tt (losses_of roles spares),
+    all-but (λ (l : List Event). IsLegalCall later (entries ++ entry ∷ []) who end l) (legal-losses later (entries ++ entry ∷ []) who end (losses_of roles spares) [] (losses-are roles spares) tt),
+  )
+    where
+      known : (b : Bool) (o : Option ℕ) → IfSome o (λ n. n ≡ left + 1) → IfSome (cond b None o) (λ n. left + 1 ≡ n)
+      known true o is = tt
+      known false None is = tt
+      known false (Some n) is = sym is
+
+  not-zero : (n : ℕ) → n ≢ 0 → (n == 0) ≡ false
+  not-zero n ne = grind (arith, nat_tests, ne)
+
+  -- it ends no reshape
+  begun-ends_none : left ≢ 0 → list_any ends_reshape (Step Begun left ∷ losses_of roles spares) ≡ false
+  begun-ends_none some = or-false (left == 0) (list_any ends_reshape (losses_of roles spares)) (not-zero left some)
+      (all-but (λ (l : List Event). list_any ends_reshape l ≡ false) ((early-losses roles spares).ends [] refl))
+
+  pub begun-recorded : IsHistoryKept (IsFilledRight (world_in given tape scope first) entries) (world_in given tape scope first) (list_length old.newest) entries → (goes : IsCallGoing entries who)
+      → IsFalse (who.caller == 254) → IsOpenBehind later goes.call → IfSome (told_left entries) (λ n. n ≡ left + 1) → left ≢ 0 → IsHistoryKept (IsFilledRight later all) later (list_length new.newest) all
+  begun-recorded was goes caller behind told some =
+      kept-call (IsFilledRight world entries) (IsFilledRight later all) world ops (list_length old.newest) (list_length new.newest) entries who (Step Begun left ∷ losses_of roles spares) goes was
+      (filled-before world ops entries added begun ends) caller (λ fills. inl behind)
+      (length-adding (length (opening_list world)) entries added adds-all ∙ recorded ∙ sym call.sized) (last_end-call first entries who end (Step Begun left) (losses_of roles spares))
+      (λ fills. begun-legal told) (λ fills. call-ends_none later entries who end (Step Begun left ∷ losses_of roles spares) (begun-ends_none some))
+
+  -- the level stays
+  pub begun-level : level_at later all ≡ level_at world entries
+  begun-level =
+      ap (λ (found : Option Reading). fold (λ level e. level_after level e.event) (option_map_or (λ r. r.newest.level) found 5) all) (reading-grown world ops first begun)
+      ∙ fold-append (λ level e. level_after level e.event) (option_map_or (λ r. r.newest.level) (reading_at world world.first) 5) entries added
+      ∙ all-but (λ (l : List Event). fold (λ level e. level_after level e.event) (level_at world entries) (entries_of who end l) ≡ level_at world entries) ((early-losses roles spares).level who end [] (level_at world entries))
+
+  -- what is told unclean stays so
+  pub begun-unclean : (is_unsynced world entries || is_unsettled entries) ≡ true → (is_unsynced later all || is_unsettled all) ≡ true
+  begun-unclean is = unclean-all is
+
+  -- each sector of the list has the value that it had
+  pub begun-values : (x : ℕ) → now (opening_list later) all x ≡ now (opening_list world) entries x
+  begun-values x =
+      ap (λ (l : List Sector). now l all x) (opening-grown world ops begun)
+      ∙ ap (λ (l : List Sector). slice_index_or l 0 []) (values-more (opening_list world) entries added x
+      ∙ all-but (λ (l : List Event). fold (λ values e. values_after x values e.event) (values_of (opening_list world) entries x) (entries_of who end l) ≡ values_of (opening_list world) entries x)
+      ((early-losses roles spares).values who end [] x (values_of (opening_list world) entries x)))
 
   -- ---- each mark
 

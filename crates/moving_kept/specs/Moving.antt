@@ -1,5 +1,5 @@
 -- What an array keeps that is in a reshape, over plain data.
-use Rattle.std.specs.Prelude.{◌≡◌, ℕ, ◌<◌, ◌≤◌, ◌||◌, Bool, true, false, List, length, IfSome, ⊤}
+use Rattle.std.specs.Prelude.{◌≡◌, ℕ, ◌<◌, ◌≤◌, ◌||◌, Bool, true, false, List, length, IfSome, None, ⊤}
 use Rattle.md_base.specs.Sectors.{Sector}
 use Rattle.bank.specs.declared.bank.Operation.{Operation}
 use Rattle.bank.specs.Given.{Given, sizes}
@@ -16,7 +16,9 @@ use Rattle.flat_history.specs.OneShape.{is_unsettled}
 use Rattle.flat_history.specs.Sound.{OpensFit}
 use Rattle.flat_history.specs.World.{World, opening_list}
 use Rattle.shape_views.specs.Regions.{ArePlaced, DoWithout}
+use Rattle.shape_views.specs.Windows.{ListStands, RowsStand}
 use Rattle.shape_changes.specs.Steady.{AreUnlost, IsSafeOver}
+use Rattle.shape_ends.specs.Grown.{IsZeroPast}
 use Rattle.shape_ends.specs.Plans.{HasNoneRecovering}
 use Rattle.views.specs.Placed.{IsPlaced}
 use Rattle.views.specs.Rebuilding.{AreSparesFree}
@@ -45,6 +47,30 @@ pub record HasListInCourse (sound : Type 0) (members : Members) (course : Course
   pub list : ℕ → Sector
   pub is : (x : ℕ) → x < list_length members.newest → list x ≡ current x
   pub stands : StandsInCourse sound members course buffer c list
+
+-- The list of the history stands on members without a reshape: it is zero behind its end, and where the epoch opened sound, its rows stand too.
+pub record HasListStill (sound : Type 0) (members : Members) (c : Contents) (current : ℕ → Sector) : Type 0 where
+  pub list : ℕ → Sector
+  pub is : (x : ℕ) → x < list_length members.newest → list x ≡ current x
+  pub zeros : IsZeroPast (list_length members.newest) list
+  pub stands : ListStands None members c list
+  pub rows : sound → RowsStand None members c list
+
+-- No reshape is active in the array, though some may have been before. What is missing was told so, and a dirty mark; over a bank that tells its contents the
+-- history is legal and reaches to the tape's end, the list stands where what is filled in is right, and each mark so far is safe.
+pub record IsStillKept (tells : Type 0) (given : Given) (tape : List Operation) (scope : Scope) (first : ℕ) (entries : List Entry) (members : Members) (carried : ℕ → Bool) : Type 0 where
+  pub slots : given.slots ≤ 32
+  pub placed : IsPlaced given members
+  pub still : is_reshaping members.newest ≡ false
+  pub sizes_are : scope.sizes ≡ sizes given
+  pub levelled : tells → level_at (world_in given tape scope first) entries ≡ (shape_of members.newest).level
+  pub gone : tells → AreToldGone (world_in given tape scope first) entries members
+  pub unclean : tells → is_clean members.newest ≡ false → (is_unsynced (world_in given tape scope first) entries || is_unsettled entries) ≡ true
+  pub recorded : tells → IsHistoryKept (IsFilledRight (world_in given tape scope first) entries) (world_in given tape scope first) (list_length members.newest) entries
+  pub listed : tells → DoWithout members → IsFilledRight (world_in given tape scope first) entries
+      → HasListStill (OpensFit (world_in given tape scope first)) members (present given tape) (now (opening_list (world_in given tape scope first)) entries)
+  pub safe : tells → IsFilledRight (world_in given tape scope first) entries → HasRoomForEvents (world_in given tape scope first) → OpensAlike (world_in given tape scope first)
+      → IsSafeHistory ⊤ (world_in given tape scope first) given members carried false entries
 
 -- A reshape is active in the array, and this is how far it has come; so many steps are left. What is missing was told so, and a dirty mark; over a bank that
 -- tells its contents the history is legal and reaches to the tape's end, the backup's headers say how far the window has come, the list stands where what is
