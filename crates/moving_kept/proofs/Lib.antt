@@ -13,3 +13,4 @@ pub mod Failing
 pub mod ReadShapes
 pub mod BegunRead
 pub mod Beginning
+pub mod Begun

@@ -1,0 +1,146 @@
+-- A reshape that begins in an array that keeps its record without one leaves an array that keeps it in the reshape.
+use Rattle.std.proofs.Common.{◌≡◌, ◌≢◌, ℕ, ◌+◌, ◌≤◌, ◌==◌, Bool, Option, Some, None, List, [], ◌∷◌, ◌++◌, length, refl, sym, ◌∙◌, ap, subst, arith, append-nil}
+use Rattle.std.specs.Prelude.{IsFalse, IfSome, fold}
+use Rattle.md_base.specs.Search.{count_below}
+use Rattle.md_base.specs.Shapes.{tolerance}
+use Rattle.md_base.specs.declared.answers.Who.{Who}
+use Rattle.md_base.specs.declared.places.Shape.{Shape}
+use Rattle.bank.specs.declared.bank.Operation.{Operation}
+use Rattle.bank.specs.Given.{Given}
+use Rattle.bank.specs.Tape.{disk}
+use Rattle.superblocks.specs.declared.members.Members.{Members}
+use Rattle.superblocks.specs.Reading.{Scope, is_clean, shape_of, list_length}
+use Rattle.row_io.specs.Rows.{reading_of, present, is_missing}
+use Rattle.flat_history.specs.declared.events.Entry.{Entry}
+use Rattle.flat_history.specs.declared.events.Event.{Event}
+use Rattle.flat_history.specs.declared.events.Event.TheVariants.{Step}
+use Rattle.flat_history.specs.declared.events.StepKind.TheVariants.{Begun}
+use Rattle.flat_history.specs.Flat.{now}
+use Rattle.flat_history.specs.Legal.{told_left, left_after}
+use Rattle.flat_history.specs.Plain.{entries_of}
+use Rattle.flat_history.specs.Sound.{OpensFit}
+use Rattle.flat_history.specs.World.{World, opening_list}
+use Rattle.shape_views.specs.Regions.{ArePlaced, DoWithout}
+use Rattle.shape_views.proofs.Stands.{final-still}
+use Rattle.shape_ends.specs.Ends.{IsBegun, IsCleared}
+use Rattle.shape_ends.proofs.EndLaws.{cleared-plain, fewer-pass}
+use Rattle.views.specs.Moving.{Grows, IsMoved}
+use Rattle.views.specs.Lacking.{AreOtherRowsKept}
+use Rattle.views.proofs.HeldRows.{missing-moved}
+use Rattle.call_entries.specs.Losing.{losses_of}
+use Rattle.call_entries.proofs.CallLaws.{losses-are}
+use Rattle.call_entries.proofs.LeftLaws.{left-behind, fold-left}
+use Rattle.kept_history.specs.Recorded.{IsHistoryKept, IsCallGoing, IsOpenBehind}
+use Rattle.kept_history.specs.Safe.{world_in, IsFilledRight}
+use Rattle.kept_history.proofs.Growing.{fit-grown}
+use Rattle.kept_history.proofs.Turned.{filled-before}
+use Rattle.course_kept.specs.Course.{StandsInCourse}
+use Rattle.course_kept.specs.Laws.{closed}
+use Rattle.course_kept.proofs.Courses.{begins-stand}
+use Rattle.moving_kept.specs.Moving.{AreReshaping, HasListInCourse, IsStillKept, IsMoving}
+use Rattle.moving_kept.proofs.Beginning.{IsBeginningCall, begun-gone, begun-recorded, begun-level, begun-unclean, begun-values, begun-safe, begun-now}
+use Rattle.moving_kept.proofs.Quiet.{IsLeftBy}
+
+-- What the members are behind it: the plan's, some of which may have been lost, in a reshape that has just begun.
+pub record AreBegun (scope : Scope) (given : Given) (old plan new : Members) : Type 0 where
+  pub members_are : AreReshaping scope given new
+  pub begun : IsBegun old plan
+  pub backed : ArePlaced scope given plan
+  pub moved : IsMoved given plan new
+  pub clean : is_clean new.newest ≡ is_clean old.newest
+
+module _ (given : Given) (tape : List Operation) (scope : Scope) (first : ℕ) (entries : List Entry) (old plan new : Members) (carried carried' : ℕ → Bool) (buffer : List ℕ) (who : Who) (left roles spares : ℕ)
+    (ops : List Operation) (tells : Type 0) (was : IsStillKept tells given tape scope first entries old carried) (t : tells) (goes : IsCallGoing entries who) (caller : IsFalse (who.caller == 254))
+    (told : IfSome (told_left entries) (λ n. n ≡ left + 1)) (some : left ≢ 0) (are : AreBegun scope given old plan new)
+    (rows : AreOtherRowsKept (λ row. ⊥) (reading_of new) (present given tape) (present given (tape ++ ops)))
+    (behind : IsOpenBehind (world_in given (tape ++ ops) scope first) goes.call) (call : IsBeginningCall given tape scope first old plan new carried carried' roles (tape ++ ops)) where
+  abbrev world : World
+  world = world_in given tape scope first
+
+  abbrev later : World
+  later = world_in given (tape ++ ops) scope first
+
+  abbrev all : List Entry
+  all = entries ++ entries_of who (length (tape ++ ops)) (Step Begun left ∷ losses_of roles spares)
+
+  recorded : IsHistoryKept (IsFilledRight world entries) world (list_length old.newest) entries
+  recorded = was.recorded t
+
+  -- what it can do without, it could before
+  without-old : DoWithout new → DoWithout old
+  without-old does = record { old = few; final = subst (λ (s : Shape). count_below s.disks (is_missing (reading_of old)) ≤ tolerance s) (sym (final-still old.newest are.begun.still)) few }
+    where
+      shape : shape_of new.newest ≡ shape_of old.newest
+      shape = are.moved.shape ∙ are.begun.shape
+
+      few : count_below (shape_of old.newest).disks (is_missing (reading_of old)) ≤ tolerance (shape_of old.newest)
+      few =
+          let pass = fewer-pass (shape_of old.newest).disks (is_missing (reading_of old)) (is_missing (reading_of new)) (λ j lt miss. missing-moved are.moved j (are.begun.missing j lt miss)) in
+          let most = subst (λ (s : Shape). count_below s.disks (is_missing (reading_of new)) ≤ tolerance s) shape does.old in
+          omega (arith, pass, most)
+
+  listed : DoWithout new → IsFilledRight later all → HasListInCourse (OpensFit later) new (closed 0) buffer (present given (tape ++ ops)) (now (opening_list later) all)
+  listed does fills =
+      let l = was.listed t (without-old does) (filled-before world ops entries (entries_of who (length (tape ++ ops)) (Step Begun left ∷ losses_of roles spares)) recorded.begun recorded.ends fills) in
+      record {
+        list = l.list;
+        is = λ x lt. l.is x (let n = call.sized in omega (arith, lt, n))
+            ∙ sym (begun-values given tape scope first entries old plan new carried carried' who left roles spares ops was.sizes_are recorded.begun recorded.ends recorded.sized (was.gone t) call x);
+        stands = subst (λ (sound : Type 0). StandsInCourse sound new (closed 0) buffer (present given (tape ++ ops)) l.list) (sym (fit-grown world ops recorded.begun))
+            (begins-stand (OpensFit world) scope given old plan new buffer (present given tape) (present given (tape ++ ops)) l.list are.begun are.backed are.moved rows
+            (λ forth x past. l.zeros x (let n = call.planned in omega (arith, past, n))) l.stands l.rows);
+      }
+
+  begun-leaves : IsLeftBy given tape scope first entries all new carried' (closed 0) buffer (tape ++ ops)
+  begun-leaves = record {
+    levelled = begun-level given tape scope first entries old plan new carried carried' who left roles spares ops was.sizes_are recorded.begun recorded.ends recorded.sized (was.gone t) call;
+    gone = begun-gone given tape scope first entries old plan new carried carried' who left roles spares ops was.sizes_are recorded.begun recorded.ends recorded.sized (was.gone t) call;
+    unclean = λ dirty. begun-unclean given tape scope first entries old plan new carried carried' who left roles spares ops was.sizes_are recorded.begun recorded.ends recorded.sized (was.gone t) call (was.unclean t (sym are.clean ∙ dirty));
+    recorded = begun-recorded given tape scope first entries old plan new carried carried' who left roles spares ops was.sizes_are recorded.begun recorded.ends recorded.sized (was.gone t) call recorded goes caller behind told some;
+    listed = listed;
+    safe = begun-safe given tape scope first entries old plan new carried carried' who left roles spares ops was.sizes_are recorded.begun recorded.ends recorded.sized (was.gone t) call (was.safe t);
+    now_safe = begun-now given tape scope first entries old plan new carried carried' who left roles spares ops was.sizes_are recorded.begun recorded.ends recorded.sized (was.gone t) call (was.safe t);
+  }
+
+-- So the array is in its reshape: no window is open, and nothing is zeroed yet.
+pub begun-moves : (tells : Type 0) (given : Given) (tape tape' : List Operation) (scope : Scope) (first : ℕ) (entries : List Entry) (old plan new : Members) (carried carried' : ℕ → Bool) (buffer : List ℕ)
+    (left : ℕ) (who : Who) (end roles spares : ℕ)
+    → IsStillKept tells given tape scope first entries old carried → (goes : IsCallGoing entries who) → IsFalse (who.caller == 254) → (tells → end ≡ length tape') → Grows tells tape tape'
+    → IfSome (told_left entries) (λ n. n ≡ left + 1) → left ≢ 0 → AreBegun scope given old plan new → (tells → IsCleared scope (disk given.start tape'))
+    → (tells → AreOtherRowsKept (λ row. ⊥) (reading_of new) (present given tape) (present given tape')) → (tells → IsOpenBehind (world_in given tape' scope first) goes.call)
+    → (tells → IsBeginningCall given tape scope first old plan new carried carried' roles tape')
+    → IsMoving tells given tape' scope first (entries ++ entries_of who end (Step Begun left ∷ losses_of roles spares)) new carried' (closed 0) buffer left
+begun-moves tells given tape tape' scope first entries old plan new carried carried' buffer left who end roles spares was goes caller at_end grows told some are cleared rows behind call = record {
+  slots = was.slots;
+  members_are = are.members_are;
+  course_is = record { window = tt; through = λ some. absurd (omega (arith, some)); few = omega arith };
+  sizes_are = was.sizes_are;
+  left_told = left-told;
+  levelled = λ t. (leaves t).levelled ∙ was.levelled t ∙ ap (λ (s : Shape). s.level) (sym (are.moved.shape ∙ are.begun.shape));
+  gone = λ t. (leaves t).gone;
+  unclean = λ t. (leaves t).unclean;
+  recorded = λ t. (leaves t).recorded;
+  stored = λ t. let plain = cleared-plain scope new (disk given.start tape') (cleared t) in record { section = plain.0; headers = plain.1 };
+  listed = λ t. (leaves t).listed;
+  safe = λ t. (leaves t).safe;
+  now_safe = λ t. (leaves t).now_safe;
+}
+  where
+    -- as many steps are left as it tells, if no losses follow
+    left-told : IfSome (told_left (entries ++ entries_of who end (Step Begun left ∷ losses_of roles spares))) (λ n. n ≡ left)
+    left-told = subst (λ (o : Option ℕ). IfSome o (λ n. n ≡ left)) (sym (fold-left None entries (entries_of who end (Step Begun left ∷ losses_of roles spares))))
+        (subst (λ (l : List Event). IfSome (fold (λ left e. left_after left e.event) (Some left) (entries_of who end l)) (λ n. n ≡ left)) (append-nil (losses_of roles spares))
+        (left-behind left who end (losses_of roles spares) [] (losses-are roles spares) (λ told is. is) (Some left) refl))
+
+    Then : List Operation → ℕ → Type 0
+    Then l e = AreOtherRowsKept (λ row. ⊥) (reading_of new) (present given tape) (present given l) → IsOpenBehind (world_in given l scope first) goes.call
+        → IsBeginningCall given tape scope first old plan new carried carried' roles l
+        → IsLeftBy given tape scope first entries (entries ++ entries_of who e (Step Begun left ∷ losses_of roles spares)) new carried' (closed 0) buffer l
+
+    leaves : tells → IsLeftBy given tape scope first entries (entries ++ entries_of who end (Step Begun left ∷ losses_of roles spares)) new carried' (closed 0) buffer tape'
+    leaves t =
+        let g = grows.more t in
+        subst (λ (l : List Operation). Then l end) (sym g.1)
+        (subst (Then (tape ++ g.0)) (sym (at_end t ∙ ap (λ (l : List Operation). length l) g.1))
+        (λ rows behind call. begun-leaves given tape scope first entries old plan new carried carried' buffer who left roles spares g.0 tells was t goes caller told some are rows behind call))
+        (rows t) (behind t) (call t)
