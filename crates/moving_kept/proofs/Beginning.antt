@@ -82,7 +82,7 @@ pub record IsBeginningCall (given : Given) (tape : List Operation) (scope : Scop
 
 module _ (given : Given) (tape : List Operation) (scope : Scope) (first : ℕ) (entries : List Entry) (old plan new : Members) (carried carried' : ℕ → Bool) (who : Who) (left roles spares : ℕ) (ops : List Operation)
     (sizes_are : scope.sizes ≡ sizes given) (begun : first ≤ length tape) (ends : EndBy (length tape) entries) (recorded : length_of (length (opening_list (world_in given tape scope first))) entries ≡ list_length old.newest)
-    (gone : AreToldGone (world_in given tape scope first) entries old)
+    (gone : IsFilledRight (world_in given tape scope first) entries → AreToldGone (world_in given tape scope first) entries old)
     (call : IsBeginningCall given tape scope first old plan new carried carried' roles (tape ++ ops)) where
   abbrev world : World
   world = world_in given tape scope first
@@ -135,9 +135,9 @@ module _ (given : Given) (tape : List Operation) (scope : Scope) (first : ℕ) (
   gone-behind : (role : ℕ) → (is_gone_after later (entries ++ entry ∷ []) role || list_any (loses later role) more) ≡ true → is_gone_after later all role ≡ true
   gone-behind role is = subst (λ (l : List Entry). is_gone_after later l role ≡ true) parts (any-gone later role (entries ++ entry ∷ []) more (regains-none later role more gives-more) is)
 
-  pub begun-gone : AreToldGone later all new
-  begun-gone role lt miss = gone-behind role (elim (call.since role lt miss) [
-    | inl was ↦ gone-was later (entries ++ entry ∷ []) more role (gone-begun role was.0 ∙ gone role (let count = call.count in omega (arith, was.0, count)) was.1)
+  pub begun-gone : IsFilledRight later all → AreToldGone later all new
+  begun-gone fills role lt miss = gone-behind role (elim (call.since role lt miss) [
+    | inl was ↦ gone-was later (entries ++ entry ∷ []) more role (gone-begun role was.0 ∙ gone (filled-before world ops entries added begun ends fills) role (let count = call.count in omega (arith, was.0, count)) was.1)
     | inr has ↦ gone-lost later (entries ++ entry ∷ []) more role
         (all-but (λ (l : List Event). is_lost (entries_of who end l) role ≡ true) ((early-losses roles spares).lost who end [] role (let few = call.few in omega (arith, lt, few)) has))
   ])
@@ -206,17 +206,17 @@ module _ (given : Given) (tape : List Operation) (scope : Scope) (first : ℕ) (
     carried = call.numbers;
   }
 
-  told-with : IsToldWith told with_it plan
-  told-with = record {
+  told-with : IsFilledRight later all → IsToldWith told with_it plan
+  told-with fills = record {
     sized = call.planned ∙ sym recorded ∙ sym length-all;
-    gone = λ role lt miss. let there = call.fewer role lt miss in begun-gone role there.0 there.1;
+    gone = λ role lt miss. let there = call.fewer role lt miss in begun-gone fills role there.0 there.1;
     unclean = unclean-all;
     reshaping = λ is. refl;
     values = λ x v lt lt' may. values-all x v may;
   }
 
-  gone-old : AreGoneTold told old
-  gone-old role lt miss = both-true (is_gone_after world entries role) (nat_lt role disks) (gone role lt miss) (is-below role (let count = call.count in omega (arith, lt, count)))
+  gone-old : IsFilledRight later all → AreGoneTold told old
+  gone-old fills role lt miss = both-true (is_gone_after world entries role) (nat_lt role disks) (gone (filled-before world ops entries added begun ends fills) role lt miss) (is-below role (let count = call.count in omega (arith, lt, count)))
 
   -- the array is safe by it before the call
   safe-old : IsSafeNow (OpensFit world) scope given (told_now world carried false entries) old (disk given.start tape) → IsSafeNow (OpensFit world) scope given told old (disk given.start tape)
@@ -304,7 +304,7 @@ module _ (given : Given) (tape : List Operation) (scope : Scope) (first : ℕ) (
     was = safe (filled-before world ops entries added begun ends fills) (room-before world ops begun room) (alike-before world ops begun alike)
 
     change : IsSafeChange (OpensFit world) scope given told with_it new tape (tape ++ ops)
-    change = call.safe told with_it (room-now world ops begun old was.counted room) told-with gone-old begun-gone call.numbers (safe-old (now-live world call.live was.now))
+    change = call.safe told with_it (room-now world ops begun old was.counted room) (told-with fills) (gone-old fills) (begun-gone fills) call.numbers (safe-old (now-live world call.live was.now))
 
     pub begun-safe : IsSafeHistory ⊤ later given new carried' true all
     begun-safe = either-call ⊤ given tape scope first entries old new carried carried' false true who (Step Begun left ∷ losses_of roles spares) ops told sizes_are begun ends fills was call.rise

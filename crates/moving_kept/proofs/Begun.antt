@@ -2,7 +2,7 @@
 use Rattle.std.proofs.Common.{◌≡◌, ◌≢◌, ℕ, ◌+◌, ◌≤◌, ◌==◌, Bool, Option, Some, None, List, [], ◌∷◌, ◌++◌, length, refl, sym, ◌∙◌, ap, subst, arith, append-nil}
 use Rattle.std.specs.Prelude.{IsFalse, IfSome, fold}
 use Rattle.md_base.specs.Search.{count_below}
-use Rattle.md_base.specs.Shapes.{tolerance}
+use Rattle.md_base.specs.Shapes.{tolerance, tolerance_of}
 use Rattle.md_base.specs.declared.answers.Who.{Who}
 use Rattle.md_base.specs.declared.places.Shape.{Shape}
 use Rattle.bank.specs.declared.bank.Operation.{Operation}
@@ -93,6 +93,7 @@ module _ (given : Given) (tape : List Operation) (scope : Scope) (first : ℕ) (
 
   begun-leaves : IsLeftBy given tape scope first entries all new carried' (closed 0) buffer (tape ++ ops)
   begun-leaves = record {
+    fills = filled-before world ops entries (entries_of who (length (tape ++ ops)) (Step Begun left ∷ losses_of roles spares)) recorded.begun recorded.ends;
     levelled = begun-level given tape scope first entries old plan new carried carried' who left roles spares ops was.sizes_are recorded.begun recorded.ends recorded.sized (was.gone t) call;
     gone = begun-gone given tape scope first entries old plan new carried carried' who left roles spares ops was.sizes_are recorded.begun recorded.ends recorded.sized (was.gone t) call;
     unclean = λ dirty. begun-unclean given tape scope first entries old plan new carried carried' who left roles spares ops was.sizes_are recorded.begun recorded.ends recorded.sized (was.gone t) call (was.unclean t (sym are.clean ∙ dirty));
@@ -116,7 +117,7 @@ begun-moves tells given tape tape' scope first entries old plan new carried carr
   course_is = record { window = tt; through = λ some. absurd (omega (arith, some)); few = omega arith };
   sizes_are = was.sizes_are;
   left_told = left-told;
-  levelled = λ t. (leaves t).levelled ∙ was.levelled t ∙ ap (λ (s : Shape). s.level) (sym (are.moved.shape ∙ are.begun.shape));
+  levelled = λ t fills. ap tolerance_of (leaves t).levelled ∙ was.levelled t ((leaves t).fills fills) ∙ ap tolerance (sym (are.moved.shape ∙ are.begun.shape));
   gone = λ t. (leaves t).gone;
   unclean = λ t. (leaves t).unclean;
   recorded = λ t. (leaves t).recorded;

@@ -123,11 +123,11 @@ pub record IsBehind (world later : World) (entries : List Entry) (new : Members)
   pub adds_more : AreAdding (entries_of who end early)
   pub gives_more : list_any (λ e. gives_some e.event) (entries_of who end early) ≡ false
   pub gives_all : list_any (λ e. gives_some e.event) (entries_of who end (early ++ event ∷ [])) ≡ false
-  pub counts_more : (role : ℕ) → role < role_count new.newest → is_missing (reading_of new) role ≡ true → (is_gone_after later entries role || list_any (loses later role) (entries_of who end early)) ≡ true
-  pub counts_all : (role : ℕ) → role < role_count new.newest → is_missing (reading_of new) role ≡ true
+  pub counts_more : IsFilledRight later (entries ++ entries_of who end (early ++ event ∷ [])) → (role : ℕ) → role < role_count new.newest → is_missing (reading_of new) role ≡ true → (is_gone_after later entries role || list_any (loses later role) (entries_of who end early)) ≡ true
+  pub counts_all : IsFilledRight later (entries ++ entries_of who end (early ++ event ∷ [])) → (role : ℕ) → role < role_count new.newest → is_missing (reading_of new) role ≡ true
       → (is_gone_after later entries role || list_any (loses later role) (entries_of who end (early ++ event ∷ []))) ≡ true
-  pub gone_more : AreToldGone later (entries ++ entries_of who end early) new
-  pub gone_all : AreToldGone later (entries ++ entries_of who end (early ++ event ∷ [])) new
+  pub gone_more : IsFilledRight later (entries ++ entries_of who end (early ++ event ∷ [])) → AreToldGone later (entries ++ entries_of who end early) new
+  pub gone_all : IsFilledRight later (entries ++ entries_of who end (early ++ event ∷ [])) → AreToldGone later (entries ++ entries_of who end (early ++ event ∷ [])) new
   pub level_more : level_at later (entries ++ entries_of who end early) ≡ level_at world entries
   pub level_all : level_at later (entries ++ entries_of who end (early ++ event ∷ [])) ≡ level_at world entries
   pub fills : IsFilledRight later (entries ++ entries_of who end (early ++ event ∷ [])) → IsFilledRight world entries
@@ -136,7 +136,7 @@ pub record IsBehind (world later : World) (entries : List Entry) (new : Members)
 
 module _ (given : Given) (tape : List Operation) (scope : Scope) (first : ℕ) (entries : List Entry) (old new : Members) (who : Who) (early : List Event) (IsTaken : ℕ → Type 0) (event : Event) (ops : List Operation)
     (are : AreEarly early IsTaken) (gives : gives_some event ≡ false) (ends : ends_reshape event ≡ false) (level : (n : ℕ) → level_after n event ≡ n) (few : role_count new.newest ≤ 16) (missing : AreLostOrMissing old new IsTaken)
-    (gone : AreToldGone (world_in given tape scope first) entries old)
+    (gone : IsFilledRight (world_in given tape scope first) entries → AreToldGone (world_in given tape scope first) entries old)
     (recorded : IsHistoryKept (IsFilledRight (world_in given tape scope first) entries) (world_in given tape scope first) (list_length old.newest) entries) where
   abbrev world : World
   world = world_in given tape scope first
@@ -162,18 +162,22 @@ module _ (given : Given) (tape : List Operation) (scope : Scope) (first : ℕ) (
   gives-all : list_any (λ e. gives_some e.event) added ≡ false
   gives-all = are.gives who end (event ∷ []) (or-false (gives_some event) false gives refl)
 
-  gone-counts : (ys : List Entry) → ((role : ℕ) → role < 16 → IsTaken role → is_lost ys role ≡ true) → (role : ℕ) → role < role_count new.newest → is_missing (reading_of new) role ≡ true
+  fills-before : IsFilledRight later (entries ++ added) → IsFilledRight world entries
+  fills-before (inl none) = inl (λ role. sym (takes-grown world ops entries role recorded.ends) ∙ none-before (loses later role) entries added (none role))
+  fills-before (inr fit) = inr (subst (λ (p : Type 0). p) (fit-grown world ops recorded.begun) fit)
+
+  gone-counts : IsFilledRight world entries → (ys : List Entry) → ((role : ℕ) → role < 16 → IsTaken role → is_lost ys role ≡ true) → (role : ℕ) → role < role_count new.newest → is_missing (reading_of new) role ≡ true
       → (is_gone_after later entries role || list_any (loses later role) ys) ≡ true
-  gone-counts ys lost role lt miss = elim (missing role lt miss) [
-    | inl was ↦ gone-was later entries ys role (gone-grown world ops entries role recorded.ends ∙ gone role was.0 was.1)
+  gone-counts fills ys lost role lt miss = elim (missing role lt miss) [
+    | inl was ↦ gone-was later entries ys role (gone-grown world ops entries role recorded.ends ∙ gone fills role was.0 was.1)
     | inr has ↦ gone-lost later entries ys role (lost role (omega (arith, lt, few)) has)
   ]
 
-  counts-more : (role : ℕ) → role < role_count new.newest → is_missing (reading_of new) role ≡ true → (is_gone_after later entries role || list_any (loses later role) more) ≡ true
-  counts-more = gone-counts more (λ role lt has. all-but (λ (l : List Event). is_lost (entries_of who end l) role ≡ true) (are.lost who end [] role lt has))
+  counts-more : IsFilledRight later (entries ++ added) → (role : ℕ) → role < role_count new.newest → is_missing (reading_of new) role ≡ true → (is_gone_after later entries role || list_any (loses later role) more) ≡ true
+  counts-more fills = gone-counts (fills-before fills) more (λ role lt has. all-but (λ (l : List Event). is_lost (entries_of who end l) role ≡ true) (are.lost who end [] role lt has))
 
-  counts-all : (role : ℕ) → role < role_count new.newest → is_missing (reading_of new) role ≡ true → (is_gone_after later entries role || list_any (loses later role) added) ≡ true
-  counts-all = gone-counts added (λ role lt has. are.lost who end (event ∷ []) role lt has)
+  counts-all : IsFilledRight later (entries ++ added) → (role : ℕ) → role < role_count new.newest → is_missing (reading_of new) role ≡ true → (is_gone_after later entries role || list_any (loses later role) added) ≡ true
+  counts-all fills = gone-counts (fills-before fills) added (λ role lt has. are.lost who end (event ∷ []) role lt has)
 
   level-from : (xs : List Event) → fold (λ level e. level_after level e.event) (level_at world entries) (entries_of who end xs) ≡ level_at world entries
       → level_at later (entries ++ entries_of who end xs) ≡ level_at world entries
@@ -182,10 +186,6 @@ module _ (given : Given) (tape : List Operation) (scope : Scope) (first : ℕ) (
       ∙ fold-append (λ level e. level_after level e.event) (option_map_or (λ r. r.newest.level) (reading_at world world.first) 5) entries (entries_of who end xs)
       ∙ same
 
-  fills-before : IsFilledRight later (entries ++ added) → IsFilledRight world entries
-  fills-before (inl none) = inl (λ role. sym (takes-grown world ops entries role recorded.ends) ∙ none-before (loses later role) entries added (none role))
-  fills-before (inr fit) = inr (subst (λ (p : Type 0). p) (fit-grown world ops recorded.begun) fit)
-
   pub is-behind : IsBehind (world_in given tape scope first) (world_in given (tape ++ ops) scope first) entries new who (length (tape ++ ops)) early event
   is-behind = record {
     adds_more = all-but (λ (l : List Event). AreAdding (entries_of who end l)) (are.adds who end [] refl);
@@ -193,8 +193,8 @@ module _ (given : Given) (tape : List Operation) (scope : Scope) (first : ℕ) (
     gives_all = gives-all;
     counts_more = counts-more;
     counts_all = counts-all;
-    gone_more = λ role lt miss. any-gone later role entries more (regains-none later role more gives-more) (counts-more role lt miss);
-    gone_all = λ role lt miss. any-gone later role entries added (regains-none later role added gives-all) (counts-all role lt miss);
+    gone_more = λ fills role lt miss. any-gone later role entries more (regains-none later role more gives-more) (counts-more fills role lt miss);
+    gone_all = λ fills role lt miss. any-gone later role entries added (regains-none later role added gives-all) (counts-all fills role lt miss);
     level_more = level-from early (all-but (λ (l : List Event). fold (λ level e. level_after level e.event) (level_at world entries) (entries_of who end l) ≡ level_at world entries) (are.level who end [] (level_at world entries)));
     level_all = level-from (early ++ event ∷ []) (are.level who end (event ∷ []) (level_at world entries) ∙ level (level_at world entries));
     fills = fills-before;

@@ -6,7 +6,7 @@ use Rattle.md_base.specs.Sectors.{Sector}
 use Rattle.md_base.specs.declared.answers.Refusal.{Refusal}
 use Rattle.md_base.specs.declared.answers.Who.{Who}
 use Rattle.md_base.specs.declared.places.Shape.{Shape}
-use Rattle.md_base.specs.Shapes.{tolerance}
+use Rattle.md_base.specs.Shapes.{tolerance, tolerance_of}
 use Rattle.bank.specs.declared.bank.Operation.{Operation}
 use Rattle.bank.specs.Given.{Given}
 use Rattle.bank.specs.Tape.{IsIn, disk}
@@ -183,7 +183,7 @@ module _ (tells : Type 0) (given : Given) (tape tape' : List Operation) (scope :
             keeps t told fills (λ x lt. subst (IsIn (told.values x)) (now-same x) (allowed x lt)) room gone unclean before;
         listed = λ does fills. absurd (never-both new refusal does many);
         legal = λ fills gone level. refused-right (world_in given tape' scope first) (entries ++ entries_of who end (losses_of roles spares)) given new did.moved.placed gone
-            (level ∙ was.levelled t ∙ sym level-same) refusal many;
+            (ap tolerance_of level ∙ was.levelled t fills ∙ sym (ap tolerance_of level-same)) refusal many;
       })
     where
       unsettled : (refusal : Refusal) → AreTooMany new refusal → unsettles (Refused refusal) ≡ true

@@ -57,7 +57,7 @@ abbrev tolerated-told : Refusal → ℕ
 tolerated-told (TooManyMissing count most) = most
 tolerated-told refusal = 0
 
-module _ (world : World) (before : List Entry) (given : Given) (m : Members) (placed : IsPlaced given m) (gone : AreToldGone world before m) (level : level_at world before ≡ (shape_of m.newest).level) where
+module _ (world : World) (before : List Entry) (given : Given) (m : Members) (placed : IsPlaced given m) (gone : AreToldGone world before m) (level : tolerance_of (level_at world before) ≡ tolerance (shape_of m.newest)) where
   lacks-right : (shape : Shape) (count most : ℕ) → IsInForce m.newest shape → shape.level ≡ (shape_of m.newest).level → LacksTooMany shape m (TooManyMissing count most) → IsTooManyMissing world before count most
   lacks-right shape count most force same lacks =
       let is : count ≡ lacking shape m = ap missing-told lacks.told in
@@ -71,7 +71,7 @@ module _ (world : World) (before : List Entry) (given : Given) (m : Members) (pl
       record {
         above = omega (arith, above, is, t);
         gone = omega (arith, is, pass, all);
-        tolerated = t ∙ ap tolerance_of (same ∙ sym level);
+        tolerated = t ∙ ap tolerance_of same ∙ sym level;
       }
 
   pub refused-right : (refusal : Refusal) → AreTooMany m refusal → IsRefusedRight world before refusal

@@ -3,6 +3,7 @@ use Rattle.std.proofs.Common.{◌≡◌, inl, inr, ℕ, ◌<◌, ◌≤◌, ◌=
 use Rattle.std.specs.Prelude.{IsFalse, IfSome, slice_index_or, take, ⊤}
 use Rattle.std.specs.List.{list_any}
 use Rattle.md_base.specs.Sectors.{Sector}
+use Rattle.md_base.specs.Shapes.{tolerance_of}
 use Rattle.md_base.specs.declared.answers.Who.{Who}
 use Rattle.bank.specs.declared.bank.Operation.{Operation}
 use Rattle.bank.specs.Given.{Given, sizes}
@@ -127,7 +128,7 @@ module _ (given : Given) (tape : List Operation) (scope : Scope) (first : ℕ) (
     (missing : AreLostOrMissing old new (IsAmong roles))
     (sized : list_length new.newest ≡ list_length old.newest) (clean : unsynced ≡ false → is_clean new.newest ≡ true) (sizes_are : scope.sizes ≡ sizes given)
     (unsynced_is : is_unsynced (world_in given tape scope first) entries ≡ unsynced)
-    (gone : AreToldGone (world_in given tape scope first) entries old)
+    (gone : IsFilledRight (world_in given tape scope first) entries → AreToldGone (world_in given tape scope first) entries old)
     (unclean : is_clean old.newest ≡ false → (is_unsynced (world_in given tape scope first) entries || is_unsettled entries) ≡ true)
     (recorded : IsHistoryKept (IsFilledRight (world_in given tape scope first) entries) (world_in given tape scope first) (list_length old.newest) entries)
     (safe : IsFilledRight (world_in given tape scope first) entries → HasRoomForEvents (world_in given tape scope first) → OpensAlike (world_in given tape scope first)
@@ -271,12 +272,12 @@ module _ (given : Given) (tape : List Operation) (scope : Scope) (first : ℕ) (
 
     stretch : KeepsSafe world given told new tape (tape ++ ops)
     stretch = call.keeps told (behind.fills fills) told-first allowed (room-now world ops begun old was.counted room)
-        (λ role lt miss. behind.counts_more role lt miss) (λ dirty. told-first.unclean (unclean dirty)) before
+        (λ role lt miss. behind.counts_more fills role lt miss) (λ dirty. told-first.unclean (unclean dirty)) before
 
     last : IsSafeOver world given (told_now later carried true all) new (tape ++ ops)
     last =
         let by = call.settled told (behind.fills fills) told-first allowed (room-now world ops begun old was.counted room)
-        (λ role lt miss. behind.counts_more role lt miss) (λ dirty. told-first.unclean (unclean dirty)) before in
+        (λ role lt miss. behind.counts_more fills role lt miss) (λ dirty. told-first.unclean (unclean dirty)) before in
         now-more (OpensFit world) scope given (settled_ledger unsynced by.list told) (told_now later carried true all) new (disk given.start (tape ++ ops)) (told-last by.list by.is) by.safe
 
     safe-all : IsSafeHistory ⊤ later given new carried true all
@@ -289,6 +290,7 @@ module _ (given : Given) (tape : List Operation) (scope : Scope) (first : ℕ) (
 
   settling-leaves : IsLeftBy given tape scope first entries all new carried course' buffer' (tape ++ ops)
   settling-leaves = record {
+    fills = behind.fills;
     levelled = behind.level_all;
     gone = behind.gone_all;
     unclean = unclean-all;
@@ -318,7 +320,7 @@ settling-moves tells given tape tape' scope first entries old new carried unsync
       course_is = course_is;
       sizes_are = was.sizes_are;
       left_told = told;
-      levelled = λ t. (leaves t).levelled ∙ was.levelled t ∙ sym level;
+      levelled = λ t fills. ap tolerance_of (leaves t).levelled ∙ was.levelled t ((leaves t).fills fills) ∙ sym (ap tolerance_of level);
       gone = λ t. (leaves t).gone;
       unclean = λ t. (leaves t).unclean;
       recorded = λ t. (leaves t).recorded;

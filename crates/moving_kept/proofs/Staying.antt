@@ -2,6 +2,7 @@
 use Rattle.std.proofs.Common.{◌≡◌, ◌⊎◌, inl, inr, ℕ, ◌<◌, ◌≤◌, ◌==◌, Bool, true, List, [], ◌∷◌, ◌++◌, length, sym, ◌∙◌, ap, subst}
 use Rattle.std.specs.Prelude.{IsFalse, ⊤}
 use Rattle.md_base.specs.Sectors.{Sector}
+use Rattle.md_base.specs.Shapes.{tolerance, tolerance_of}
 use Rattle.md_base.specs.declared.answers.Refusal.{Refusal}
 use Rattle.md_base.specs.declared.answers.Refusal.TheVariants.{BackupFault}
 use Rattle.md_base.specs.declared.answers.Who.{Who}
@@ -76,7 +77,7 @@ pub stays-moves : (tells : Type 0) (given : Given) (tape tape' : List Operation)
     → (tells → (sound : Type 0) (list : ℕ → Sector) → StandsInCourse sound old course buffer (present given tape) list → StandsInCourse sound new course buffer (present given tape') list)
     → (tells → (told : Ledger) → IsFilledRight (world_in given tape scope first) entries → IsMoreTold (told_now (world_in given tape scope first) carried true entries) told
     → HasRoomLeft old tape tape' → AreGoneTold told new → IsUncleanTold told old → IsSafeOver (world_in given tape scope first) given told old tape → KeepsSafe (world_in given tape scope first) given told new tape tape')
-    → (tells → IsFilledRight (world_in given tape' scope first) (entries ++ entries_of who end (losses_of roles spares ++ event ∷ []))
+    → (tells → IsFilledRight (world_in given tape scope first) entries
     → AreToldGone (world_in given tape' scope first) (entries ++ entries_of who end (losses_of roles spares)) new
     → level_at (world_in given tape' scope first) (entries ++ entries_of who end (losses_of roles spares)) ≡ level_at (world_in given tape scope first) entries
     → IsLegalEvent (world_in given tape' scope first) (entries ++ entries_of who end (losses_of roles spares)) (entry_of who end event) [] event)
@@ -113,12 +114,12 @@ pub refused-moves : (tells : Type 0) (given : Given) (tape tape' : List Operatio
     → IsMoving tells given tape' scope first (entries ++ entries_of who end (losses_of roles spares ++ Refused refusal ∷ [])) new carried course buffer left
 refused-moves tells given tape tape' scope first entries old new carried course buffer left who end roles spares refusal was goes caller at_end grows moved few since clean why rise headers stands keeps =
     stays-moves tells given tape tape' scope first entries old new carried course buffer left who end roles spares (Refused refusal) was goes caller at_end grows (quiet-refusal refusal) (λ told is. is) moved few since clean rise headers stands keeps
-    (λ t fills gone level. right t gone level why)
+    (λ t fills gone level. right t fills gone level why)
   where
-    right : tells → AreToldGone (world_in given tape' scope first) (entries ++ entries_of who end (losses_of roles spares)) new
+    right : tells → IsFilledRight (world_in given tape scope first) entries → AreToldGone (world_in given tape' scope first) (entries ++ entries_of who end (losses_of roles spares)) new
         → level_at (world_in given tape' scope first) (entries ++ entries_of who end (losses_of roles spares)) ≡ level_at (world_in given tape scope first) entries
         → (refusal ≡ BackupFault) ⊎ AreTooMany new refusal
         → IsLegalEvent (world_in given tape' scope first) (entries ++ entries_of who end (losses_of roles spares)) (entry_of who end (Refused refusal)) [] (Refused refusal)
-    right t gone level (inl is) = subst (λ (r : Refusal). IsRefusedRight (world_in given tape' scope first) (entries ++ entries_of who end (losses_of roles spares)) r) (sym is) tt
-    right t gone level (inr many) = refused-right (world_in given tape' scope first) (entries ++ entries_of who end (losses_of roles spares)) given new moved.placed gone
-        (level ∙ was.levelled t ∙ ap (λ (s : Shape). s.level) (sym moved.shape)) refusal many
+    right t fills gone level (inl is) = subst (λ (r : Refusal). IsRefusedRight (world_in given tape' scope first) (entries ++ entries_of who end (losses_of roles spares)) r) (sym is) tt
+    right t fills gone level (inr many) = refused-right (world_in given tape' scope first) (entries ++ entries_of who end (losses_of roles spares)) given new moved.placed gone
+        (ap tolerance_of level ∙ was.levelled t fills ∙ ap tolerance (sym moved.shape)) refusal many

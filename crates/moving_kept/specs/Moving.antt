@@ -1,6 +1,7 @@
 -- What an array keeps that is in a reshape, over plain data.
 use Rattle.std.specs.Prelude.{◌≡◌, ℕ, ◌<◌, ◌≤◌, ◌||◌, Bool, true, false, List, length, IfSome, None, ⊤}
 use Rattle.md_base.specs.Sectors.{Sector}
+use Rattle.md_base.specs.Shapes.{tolerance, tolerance_of}
 use Rattle.bank.specs.declared.bank.Operation.{Operation}
 use Rattle.bank.specs.Given.{Given, sizes}
 use Rattle.bank.specs.Tape.{Contents, disk}
@@ -63,8 +64,8 @@ pub record IsStillKept (tells : Type 0) (given : Given) (tape : List Operation) 
   pub placed : IsPlaced given members
   pub still : is_reshaping members.newest ≡ false
   pub sizes_are : scope.sizes ≡ sizes given
-  pub levelled : tells → level_at (world_in given tape scope first) entries ≡ (shape_of members.newest).level
-  pub gone : tells → AreToldGone (world_in given tape scope first) entries members
+  pub levelled : tells → IsFilledRight (world_in given tape scope first) entries → tolerance_of (level_at (world_in given tape scope first) entries) ≡ tolerance (shape_of members.newest)
+  pub gone : tells → IsFilledRight (world_in given tape scope first) entries → AreToldGone (world_in given tape scope first) entries members
   pub unclean : tells → is_clean members.newest ≡ false → (is_unsynced (world_in given tape scope first) entries || is_unsettled entries) ≡ true
   pub recorded : tells → IsHistoryKept (IsFilledRight (world_in given tape scope first) entries) (world_in given tape scope first) (list_length members.newest) entries
   pub listed : tells → DoWithout members → IsFilledRight (world_in given tape scope first) entries
@@ -82,8 +83,8 @@ pub record IsMoving (tells : Type 0) (given : Given) (tape : List Operation) (sc
   pub course_is : IsCourseOf members.newest course
   pub sizes_are : scope.sizes ≡ sizes given
   pub left_told : IfSome (told_left entries) (λ n. n ≡ left)
-  pub levelled : tells → level_at (world_in given tape scope first) entries ≡ (shape_of members.newest).level
-  pub gone : tells → AreToldGone (world_in given tape scope first) entries members
+  pub levelled : tells → IsFilledRight (world_in given tape scope first) entries → tolerance_of (level_at (world_in given tape scope first) entries) ≡ tolerance (shape_of members.newest)
+  pub gone : tells → IsFilledRight (world_in given tape scope first) entries → AreToldGone (world_in given tape scope first) entries members
   pub unclean : tells → is_clean members.newest ≡ false → (is_unsynced (world_in given tape scope first) entries || is_unsettled entries) ≡ true
   pub recorded : tells → IsHistoryKept (IsFilledRight (world_in given tape scope first) entries) (world_in given tape scope first) (list_length members.newest) entries
   pub stored : tells → IsStored scope members course.window (disk given.start tape)
