@@ -14,3 +14,4 @@ pub mod ReadShapes
 pub mod BegunRead
 pub mod Beginning
 pub mod Begun
+pub mod KeptStill
