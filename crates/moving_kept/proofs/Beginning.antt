@@ -49,7 +49,7 @@ use Rattle.kept_history.proofs.KeptCalls.{kept-call}
 use Rattle.kept_history.proofs.Reshapes.{call-ends_none}
 use Rattle.kept_history.proofs.Turned.{begun-old, filled-before}
 use Rattle.kept_history.proofs.Turns.{either-call}
-use Rattle.moving_kept.specs.Moving.{AreToldGone}
+use Rattle.moving_kept.specs.Moving.{IsReliable, AreToldGone}
 use Rattle.moving_kept.proofs.Behind.{IsAmong, early-losses, legal-losses, or-false}
 use Rattle.moving_kept.proofs.ReadShapes.{IsShapeRead}
 
@@ -66,7 +66,7 @@ told_before world carried entries disks = record {
 
 -- What the begin of a reshape leaves: its update is safe from one ledger to another, what is missing then was missing among the roles of the old shape or is
 -- told lost, and what is read at its end says the old shape.
-pub record IsBeginningCall (given : Given) (tape : List Operation) (scope : Scope) (first : ℕ) (old plan new : Members) (carried carried' : ℕ → Bool) (roles : ℕ) (tape' : List Operation) : Type 0 where
+pub record IsBeginningCall (given : Given) (tape : List Operation) (scope : Scope) (first : ℕ) (entries : List Entry) (old plan new : Members) (carried carried' : ℕ → Bool) (roles : ℕ) (tape' : List Operation) : Type 0 where
   pub live : HasLiveSlot old
   pub count : role_count old.newest ≡ (shape_of old.newest).disks
   pub planned : list_length plan.newest ≡ list_length old.newest
@@ -76,14 +76,14 @@ pub record IsBeginningCall (given : Given) (tape : List Operation) (scope : Scop
   pub since : (role : ℕ) → role < role_count new.newest → is_missing (reading_of new) role ≡ true → ((role < (shape_of old.newest).disks) × (is_missing (reading_of old) role ≡ true)) ⊎ IsAmong roles role
   pub fewer : (role : ℕ) → role < role_count plan.newest → is_missing (reading_of plan) role ≡ true → (role < role_count new.newest) × (is_missing (reading_of new) role ≡ true)
   pub rise : IsRisen ⊤ old new tape tape'
-  pub read : IsShapeRead scope (contents_at (world_in given tape' scope first) (length tape')) (shape_of old.newest)
+  pub read : IsReliable (world_in given tape scope first) entries → IsShapeRead scope (contents_at (world_in given tape' scope first) (length tape')) (shape_of old.newest)
   pub safe : (told more : Ledger) → HasRoomLeft old tape tape' → IsToldWith told more plan → AreGoneTold told old → AreGoneTold more new → ((number : ℕ) → told.carried number ≡ true → more.carried number ≡ true)
       → IsSafeOver (world_in given tape scope first) given told old tape → IsSafeChange (OpensFit (world_in given tape scope first)) scope given told more new tape tape'
 
 module _ (given : Given) (tape : List Operation) (scope : Scope) (first : ℕ) (entries : List Entry) (old plan new : Members) (carried carried' : ℕ → Bool) (who : Who) (left roles spares : ℕ) (ops : List Operation)
     (sizes_are : scope.sizes ≡ sizes given) (begun : first ≤ length tape) (ends : EndBy (length tape) entries) (recorded : length_of (length (opening_list (world_in given tape scope first))) entries ≡ list_length old.newest)
-    (gone : IsFilledRight (world_in given tape scope first) entries → AreToldGone (world_in given tape scope first) entries old)
-    (call : IsBeginningCall given tape scope first old plan new carried carried' roles (tape ++ ops)) where
+    (gone : IsReliable (world_in given tape scope first) entries → AreToldGone (world_in given tape scope first) entries old)
+    (call : IsBeginningCall given tape scope first entries old plan new carried carried' roles (tape ++ ops)) where
   abbrev world : World
   world = world_in given tape scope first
 
@@ -125,19 +125,23 @@ module _ (given : Given) (tape : List Operation) (scope : Scope) (first : ℕ) (
 
   -- ---- what is gone
 
+  right-before : IsReliable later all → IsReliable world entries
+  right-before right = record { fills = filled-before world ops entries added begun ends right.fills; room = room-before world ops begun right.room; alike = alike-before world ops begun right.alike }
+
   -- a role of the old shape is gone behind it as before
-  gone-begun : (role : ℕ) → role < disks → is_gone_after later (entries ++ entry ∷ []) role ≡ is_gone_after world entries role
+  gone-begun : IsReliable world entries → (role : ℕ) → role < disks → is_gone_after later (entries ++ entry ∷ []) role ≡ is_gone_after world entries role
   unfolding reading_at
-  gone-begun role lt =
-      begun-old later entries entry left call.read.found refl call.read.is role (let same = ap (λ (s : Shape). s.disks) call.read.says in omega (arith, lt, same))
+  gone-begun right role lt =
+      let read = call.read right in
+      begun-old later entries entry left read.found refl read.is role (let same = ap (λ (s : Shape). s.disks) read.says in omega (arith, lt, same))
       ∙ gone-grown world ops entries role ends
 
   gone-behind : (role : ℕ) → (is_gone_after later (entries ++ entry ∷ []) role || list_any (loses later role) more) ≡ true → is_gone_after later all role ≡ true
   gone-behind role is = subst (λ (l : List Entry). is_gone_after later l role ≡ true) parts (any-gone later role (entries ++ entry ∷ []) more (regains-none later role more gives-more) is)
 
-  pub begun-gone : IsFilledRight later all → AreToldGone later all new
+  pub begun-gone : IsReliable later all → AreToldGone later all new
   begun-gone fills role lt miss = gone-behind role (elim (call.since role lt miss) [
-    | inl was ↦ gone-was later (entries ++ entry ∷ []) more role (gone-begun role was.0 ∙ gone (filled-before world ops entries added begun ends fills) role (let count = call.count in omega (arith, was.0, count)) was.1)
+    | inl was ↦ gone-was later (entries ++ entry ∷ []) more role (gone-begun (right-before fills) role was.0 ∙ gone (right-before fills) role (let count = call.count in omega (arith, was.0, count)) was.1)
     | inr has ↦ gone-lost later (entries ++ entry ∷ []) more role
         (all-but (λ (l : List Event). is_lost (entries_of who end l) role ≡ true) ((early-losses roles spares).lost who end [] role (let few = call.few in omega (arith, lt, few)) has))
   ])
@@ -194,19 +198,19 @@ module _ (given : Given) (tape : List Operation) (scope : Scope) (first : ℕ) (
       three false true c is = refl
       three false false c is = absurd (cc)
 
-  most : IsMoreTold told with_it
-  most = record {
+  most : IsReliable world entries → IsMoreTold told with_it
+  most right = record {
     size = sym length-all;
     values = λ x lt v may. values-all x v may;
     gone = λ role is.
         let both = and-parts (is_gone_after world entries role) (nat_lt role disks) is in
-        gone-behind role (gone-was later (entries ++ entry ∷ []) more role (gone-begun role (below role both.1) ∙ both.0));
+        gone-behind role (gone-was later (entries ++ entry ∷ []) more role (gone-begun right role (below role both.1) ∙ both.0));
     unclean = unclean-all;
     reshaping = λ is. refl;
     carried = call.numbers;
   }
 
-  told-with : IsFilledRight later all → IsToldWith told with_it plan
+  told-with : IsReliable later all → IsToldWith told with_it plan
   told-with fills = record {
     sized = call.planned ∙ sym recorded ∙ sym length-all;
     gone = λ role lt miss. let there = call.fewer role lt miss in begun-gone fills role there.0 there.1;
@@ -215,8 +219,8 @@ module _ (given : Given) (tape : List Operation) (scope : Scope) (first : ℕ) (
     values = λ x v lt lt' may. values-all x v may;
   }
 
-  gone-old : IsFilledRight later all → AreGoneTold told old
-  gone-old fills role lt miss = both-true (is_gone_after world entries role) (nat_lt role disks) (gone (filled-before world ops entries added begun ends fills) role lt miss) (is-below role (let count = call.count in omega (arith, lt, count)))
+  gone-old : IsReliable later all → AreGoneTold told old
+  gone-old fills role lt miss = both-true (is_gone_after world entries role) (nat_lt role disks) (gone (right-before fills) role lt miss) (is-below role (let count = call.count in omega (arith, lt, count)))
 
   -- the array is safe by it before the call
   safe-old : IsSafeNow (OpensFit world) scope given (told_now world carried false entries) old (disk given.start tape) → IsSafeNow (OpensFit world) scope given told old (disk given.start tape)
@@ -267,11 +271,11 @@ module _ (given : Given) (tape : List Operation) (scope : Scope) (first : ℕ) (
   begun-ends_none some = or-false (left == 0) (list_any ends_reshape (losses_of roles spares)) (not-zero left some)
       (all-but (λ (l : List Event). list_any ends_reshape l ≡ false) ((early-losses roles spares).ends [] refl))
 
-  pub begun-recorded : IsHistoryKept (IsFilledRight (world_in given tape scope first) entries) (world_in given tape scope first) (list_length old.newest) entries → (goes : IsCallGoing entries who)
-      → IsFalse (who.caller == 254) → IsOpenBehind later goes.call → IfSome (told_left entries) (λ n. n ≡ left + 1) → left ≢ 0 → IsHistoryKept (IsFilledRight later all) later (list_length new.newest) all
+  pub begun-recorded : IsHistoryKept (IsReliable (world_in given tape scope first) entries) (world_in given tape scope first) (list_length old.newest) entries → (goes : IsCallGoing entries who)
+      → IsFalse (who.caller == 254) → IsOpenBehind later goes.call → IfSome (told_left entries) (λ n. n ≡ left + 1) → left ≢ 0 → IsHistoryKept (IsReliable later all) later (list_length new.newest) all
   begun-recorded was goes caller behind told some =
-      kept-call (IsFilledRight world entries) (IsFilledRight later all) world ops (list_length old.newest) (list_length new.newest) entries who (Step Begun left ∷ losses_of roles spares) goes was
-      (filled-before world ops entries added begun ends) caller (λ fills. inl behind)
+      kept-call (IsReliable world entries) (IsReliable later all) world ops (list_length old.newest) (list_length new.newest) entries who (Step Begun left ∷ losses_of roles spares) goes was
+      right-before caller (λ fills. inl behind)
       (length-adding (length (opening_list world)) entries added adds-all ∙ recorded ∙ sym call.sized) (last_end-call first entries who end (Step Begun left) (losses_of roles spares))
       (λ fills. begun-legal told) (λ fills. call-ends_none later entries who end (Step Begun left ∷ losses_of roles spares) (begun-ends_none some))
 
@@ -303,13 +307,16 @@ module _ (given : Given) (tape : List Operation) (scope : Scope) (first : ℕ) (
     abbrev was : IsSafeHistory ⊤ (world_in given tape scope first) given old carried false entries
     was = safe (filled-before world ops entries added begun ends fills) (room-before world ops begun room) (alike-before world ops begun alike)
 
+    right : IsReliable later all
+    right = record { fills = fills; room = room; alike = alike }
+
     change : IsSafeChange (OpensFit world) scope given told with_it new tape (tape ++ ops)
-    change = call.safe told with_it (room-now world ops begun old was.counted room) (told-with fills) (gone-old fills) (begun-gone fills) call.numbers (safe-old (now-live world call.live was.now))
+    change = call.safe told with_it (room-now world ops begun old was.counted room) (told-with right) (gone-old right) (begun-gone right) call.numbers (safe-old (now-live world call.live was.now))
 
     pub begun-safe : IsSafeHistory ⊤ later given new carried' true all
     begun-safe = either-call ⊤ given tape scope first entries old new carried carried' false true who (Step Begun left ∷ losses_of roles spares) ops told sizes_are begun ends fills was call.rise
-        (λ claimed opened mark low high. throughout-changed world given told with_it new ops refl begun change (was.sound tt) opened mark (omega (arith, begun, low)) high) less change (λ none. most)
+        (λ claimed opened mark low high. throughout-changed world given told with_it new ops refl begun change (was.sound tt) opened mark (omega (arith, begun, low)) high) less change (λ none. most (right-before right))
 
     pub begun-now : IsSafeOver later given (told_now later carried' true all) new (tape ++ ops)
     begun-now = subst (λ (fit : Type 0). IsSafeNow fit scope given with_it new (disk given.start (tape ++ ops))) (sym (fit-grown world ops begun))
-        (either-last world given told with_it with_it new tape (tape ++ ops) change (more-alike with_it) (λ none. most))
+        (either-last world given told with_it with_it new tape (tape ++ ops) change (more-alike with_it) (λ none. most (right-before right)))

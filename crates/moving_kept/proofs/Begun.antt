@@ -32,12 +32,12 @@ use Rattle.call_entries.proofs.CallLaws.{losses-are}
 use Rattle.call_entries.proofs.LeftLaws.{left-behind, fold-left}
 use Rattle.kept_history.specs.Recorded.{IsHistoryKept, IsCallGoing, IsOpenBehind}
 use Rattle.kept_history.specs.Safe.{world_in, IsFilledRight}
-use Rattle.kept_history.proofs.Growing.{fit-grown}
+use Rattle.kept_history.proofs.Growing.{fit-grown, alike-before, room-before}
 use Rattle.kept_history.proofs.Turned.{filled-before}
 use Rattle.course_kept.specs.Course.{StandsInCourse}
 use Rattle.course_kept.specs.Laws.{closed}
 use Rattle.course_kept.proofs.Courses.{begins-stand}
-use Rattle.moving_kept.specs.Moving.{AreReshaping, HasListInCourse, IsStillKept, IsMoving}
+use Rattle.moving_kept.specs.Moving.{AreReshaping, IsReliable, HasListInCourse, IsStillKept, IsMoving}
 use Rattle.moving_kept.proofs.Beginning.{IsBeginningCall, begun-gone, begun-recorded, begun-level, begun-unclean, begun-values, begun-safe, begun-now}
 use Rattle.moving_kept.proofs.Quiet.{IsLeftBy}
 
@@ -53,7 +53,7 @@ module _ (given : Given) (tape : List Operation) (scope : Scope) (first : ℕ) (
     (ops : List Operation) (tells : Type 0) (was : IsStillKept tells given tape scope first entries old carried) (t : tells) (goes : IsCallGoing entries who) (caller : IsFalse (who.caller == 254))
     (told : IfSome (told_left entries) (λ n. n ≡ left + 1)) (some : left ≢ 0) (are : AreBegun scope given old plan new)
     (rows : AreOtherRowsKept (λ row. ⊥) (reading_of new) (present given tape) (present given (tape ++ ops)))
-    (behind : IsOpenBehind (world_in given (tape ++ ops) scope first) goes.call) (call : IsBeginningCall given tape scope first old plan new carried carried' roles (tape ++ ops)) where
+    (behind : IsOpenBehind (world_in given (tape ++ ops) scope first) goes.call) (call : IsBeginningCall given tape scope first entries old plan new carried carried' roles (tape ++ ops)) where
   abbrev world : World
   world = world_in given tape scope first
 
@@ -63,7 +63,7 @@ module _ (given : Given) (tape : List Operation) (scope : Scope) (first : ℕ) (
   abbrev all : List Entry
   all = entries ++ entries_of who (length (tape ++ ops)) (Step Begun left ∷ losses_of roles spares)
 
-  recorded : IsHistoryKept (IsFilledRight world entries) world (list_length old.newest) entries
+  recorded : IsHistoryKept (IsReliable world entries) world (list_length old.newest) entries
   recorded = was.recorded t
 
   -- what it can do without, it could before
@@ -93,7 +93,11 @@ module _ (given : Given) (tape : List Operation) (scope : Scope) (first : ℕ) (
 
   begun-leaves : IsLeftBy given tape scope first entries all new carried' (closed 0) buffer (tape ++ ops)
   begun-leaves = record {
-    fills = filled-before world ops entries (entries_of who (length (tape ++ ops)) (Step Begun left ∷ losses_of roles spares)) recorded.begun recorded.ends;
+    right = λ right. record {
+      fills = filled-before world ops entries (entries_of who (length (tape ++ ops)) (Step Begun left ∷ losses_of roles spares)) recorded.begun recorded.ends right.fills;
+      room = room-before world ops recorded.begun right.room;
+      alike = alike-before world ops recorded.begun right.alike;
+    };
     levelled = begun-level given tape scope first entries old plan new carried carried' who left roles spares ops was.sizes_are recorded.begun recorded.ends recorded.sized (was.gone t) call;
     gone = begun-gone given tape scope first entries old plan new carried carried' who left roles spares ops was.sizes_are recorded.begun recorded.ends recorded.sized (was.gone t) call;
     unclean = λ dirty. begun-unclean given tape scope first entries old plan new carried carried' who left roles spares ops was.sizes_are recorded.begun recorded.ends recorded.sized (was.gone t) call (was.unclean t (sym are.clean ∙ dirty));
@@ -109,7 +113,7 @@ pub begun-moves : (tells : Type 0) (given : Given) (tape tape' : List Operation)
     → IsStillKept tells given tape scope first entries old carried → (goes : IsCallGoing entries who) → IsFalse (who.caller == 254) → (tells → end ≡ length tape') → Grows tells tape tape'
     → IfSome (told_left entries) (λ n. n ≡ left + 1) → left ≢ 0 → AreBegun scope given old plan new → (tells → IsCleared scope (disk given.start tape'))
     → (tells → AreOtherRowsKept (λ row. ⊥) (reading_of new) (present given tape) (present given tape')) → (tells → IsOpenBehind (world_in given tape' scope first) goes.call)
-    → (tells → IsBeginningCall given tape scope first old plan new carried carried' roles tape')
+    → (tells → IsBeginningCall given tape scope first entries old plan new carried carried' roles tape')
     → IsMoving tells given tape' scope first (entries ++ entries_of who end (Step Begun left ∷ losses_of roles spares)) new carried' (closed 0) buffer left
 begun-moves tells given tape tape' scope first entries old plan new carried carried' buffer left who end roles spares was goes caller at_end grows told some are cleared rows behind call = record {
   slots = was.slots;
@@ -117,7 +121,7 @@ begun-moves tells given tape tape' scope first entries old plan new carried carr
   course_is = record { window = tt; through = λ some. absurd (omega (arith, some)); few = omega arith };
   sizes_are = was.sizes_are;
   left_told = left-told;
-  levelled = λ t fills. ap tolerance_of (leaves t).levelled ∙ was.levelled t ((leaves t).fills fills) ∙ ap tolerance (sym (are.moved.shape ∙ are.begun.shape));
+  levelled = λ t fills. ap tolerance_of (leaves t).levelled ∙ was.levelled t ((leaves t).right fills) ∙ ap tolerance (sym (are.moved.shape ∙ are.begun.shape));
   gone = λ t. (leaves t).gone;
   unclean = λ t. (leaves t).unclean;
   recorded = λ t. (leaves t).recorded;
@@ -135,7 +139,7 @@ begun-moves tells given tape tape' scope first entries old plan new carried carr
 
     Then : List Operation → ℕ → Type 0
     Then l e = AreOtherRowsKept (λ row. ⊥) (reading_of new) (present given tape) (present given l) → IsOpenBehind (world_in given l scope first) goes.call
-        → IsBeginningCall given tape scope first old plan new carried carried' roles l
+        → IsBeginningCall given tape scope first entries old plan new carried carried' roles l
         → IsLeftBy given tape scope first entries (entries ++ entries_of who e (Step Begun left ∷ losses_of roles spares)) new carried' (closed 0) buffer l
 
     leaves : tells → IsLeftBy given tape scope first entries (entries ++ entries_of who end (Step Begun left ∷ losses_of roles spares)) new carried' (closed 0) buffer tape'

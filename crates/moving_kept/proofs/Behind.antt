@@ -27,12 +27,12 @@ use Rattle.call_entries.proofs.CallLaws.{AreLossEvents, losses-are, told-losses,
 use Rattle.call_entries.proofs.StepLaws.{faults-are}
 use Rattle.kept_history.specs.Recorded.{IsHistoryKept, IsLegalCall, entry_of, ends_reshape, gives_some}
 use Rattle.kept_history.specs.Safe.{world_in, IsFilledRight}
-use Rattle.kept_history.proofs.Growing.{reading-grown, opening-grown, fit-grown, gone-grown, takes-grown}
+use Rattle.kept_history.proofs.Growing.{reading-grown, opening-grown, fit-grown, gone-grown, takes-grown, alike-before, room-before}
 use Rattle.kept_history.proofs.Tests.{none-before}
 use Rattle.kept_history.proofs.Ledgers.{any-gone}
 use Rattle.kept_history.proofs.Longer.{regains-none}
 use Rattle.kept_history.proofs.Entered.{AreAdding, adding-losses, none-losses, gone-was, gone-lost}
-use Rattle.moving_kept.specs.Moving.{AreToldGone}
+use Rattle.moving_kept.specs.Moving.{IsReliable, AreToldGone}
 
 -- ---- losses
 
@@ -123,21 +123,22 @@ pub record IsBehind (world later : World) (entries : List Entry) (new : Members)
   pub adds_more : AreAdding (entries_of who end early)
   pub gives_more : list_any (λ e. gives_some e.event) (entries_of who end early) ≡ false
   pub gives_all : list_any (λ e. gives_some e.event) (entries_of who end (early ++ event ∷ [])) ≡ false
-  pub counts_more : IsFilledRight later (entries ++ entries_of who end (early ++ event ∷ [])) → (role : ℕ) → role < role_count new.newest → is_missing (reading_of new) role ≡ true → (is_gone_after later entries role || list_any (loses later role) (entries_of who end early)) ≡ true
-  pub counts_all : IsFilledRight later (entries ++ entries_of who end (early ++ event ∷ [])) → (role : ℕ) → role < role_count new.newest → is_missing (reading_of new) role ≡ true
+  pub counts_more : IsReliable later (entries ++ entries_of who end (early ++ event ∷ [])) → (role : ℕ) → role < role_count new.newest → is_missing (reading_of new) role ≡ true → (is_gone_after later entries role || list_any (loses later role) (entries_of who end early)) ≡ true
+  pub counts_all : IsReliable later (entries ++ entries_of who end (early ++ event ∷ [])) → (role : ℕ) → role < role_count new.newest → is_missing (reading_of new) role ≡ true
       → (is_gone_after later entries role || list_any (loses later role) (entries_of who end (early ++ event ∷ []))) ≡ true
-  pub gone_more : IsFilledRight later (entries ++ entries_of who end (early ++ event ∷ [])) → AreToldGone later (entries ++ entries_of who end early) new
-  pub gone_all : IsFilledRight later (entries ++ entries_of who end (early ++ event ∷ [])) → AreToldGone later (entries ++ entries_of who end (early ++ event ∷ [])) new
+  pub gone_more : IsReliable later (entries ++ entries_of who end (early ++ event ∷ [])) → AreToldGone later (entries ++ entries_of who end early) new
+  pub gone_all : IsReliable later (entries ++ entries_of who end (early ++ event ∷ [])) → AreToldGone later (entries ++ entries_of who end (early ++ event ∷ [])) new
   pub level_more : level_at later (entries ++ entries_of who end early) ≡ level_at world entries
   pub level_all : level_at later (entries ++ entries_of who end (early ++ event ∷ [])) ≡ level_at world entries
   pub fills : IsFilledRight later (entries ++ entries_of who end (early ++ event ∷ [])) → IsFilledRight world entries
+  pub right : IsReliable later (entries ++ entries_of who end (early ++ event ∷ [])) → IsReliable world entries
   pub ends : list_any ends_reshape (early ++ event ∷ []) ≡ false
   pub opened : opening_list later ≡ opening_list world
 
 module _ (given : Given) (tape : List Operation) (scope : Scope) (first : ℕ) (entries : List Entry) (old new : Members) (who : Who) (early : List Event) (IsTaken : ℕ → Type 0) (event : Event) (ops : List Operation)
     (are : AreEarly early IsTaken) (gives : gives_some event ≡ false) (ends : ends_reshape event ≡ false) (level : (n : ℕ) → level_after n event ≡ n) (few : role_count new.newest ≤ 16) (missing : AreLostOrMissing old new IsTaken)
-    (gone : IsFilledRight (world_in given tape scope first) entries → AreToldGone (world_in given tape scope first) entries old)
-    (recorded : IsHistoryKept (IsFilledRight (world_in given tape scope first) entries) (world_in given tape scope first) (list_length old.newest) entries) where
+    (gone : IsReliable (world_in given tape scope first) entries → AreToldGone (world_in given tape scope first) entries old)
+    (recorded : IsHistoryKept (IsReliable (world_in given tape scope first) entries) (world_in given tape scope first) (list_length old.newest) entries) where
   abbrev world : World
   world = world_in given tape scope first
 
@@ -166,18 +167,21 @@ module _ (given : Given) (tape : List Operation) (scope : Scope) (first : ℕ) (
   fills-before (inl none) = inl (λ role. sym (takes-grown world ops entries role recorded.ends) ∙ none-before (loses later role) entries added (none role))
   fills-before (inr fit) = inr (subst (λ (p : Type 0). p) (fit-grown world ops recorded.begun) fit)
 
-  gone-counts : IsFilledRight world entries → (ys : List Entry) → ((role : ℕ) → role < 16 → IsTaken role → is_lost ys role ≡ true) → (role : ℕ) → role < role_count new.newest → is_missing (reading_of new) role ≡ true
+  right-before : IsReliable later (entries ++ added) → IsReliable world entries
+  right-before right = record { fills = fills-before right.fills; room = room-before world ops recorded.begun right.room; alike = alike-before world ops recorded.begun right.alike }
+
+  gone-counts : IsReliable world entries → (ys : List Entry) → ((role : ℕ) → role < 16 → IsTaken role → is_lost ys role ≡ true) → (role : ℕ) → role < role_count new.newest → is_missing (reading_of new) role ≡ true
       → (is_gone_after later entries role || list_any (loses later role) ys) ≡ true
   gone-counts fills ys lost role lt miss = elim (missing role lt miss) [
     | inl was ↦ gone-was later entries ys role (gone-grown world ops entries role recorded.ends ∙ gone fills role was.0 was.1)
     | inr has ↦ gone-lost later entries ys role (lost role (omega (arith, lt, few)) has)
   ]
 
-  counts-more : IsFilledRight later (entries ++ added) → (role : ℕ) → role < role_count new.newest → is_missing (reading_of new) role ≡ true → (is_gone_after later entries role || list_any (loses later role) more) ≡ true
-  counts-more fills = gone-counts (fills-before fills) more (λ role lt has. all-but (λ (l : List Event). is_lost (entries_of who end l) role ≡ true) (are.lost who end [] role lt has))
+  counts-more : IsReliable later (entries ++ added) → (role : ℕ) → role < role_count new.newest → is_missing (reading_of new) role ≡ true → (is_gone_after later entries role || list_any (loses later role) more) ≡ true
+  counts-more fills = gone-counts (right-before fills) more (λ role lt has. all-but (λ (l : List Event). is_lost (entries_of who end l) role ≡ true) (are.lost who end [] role lt has))
 
-  counts-all : IsFilledRight later (entries ++ added) → (role : ℕ) → role < role_count new.newest → is_missing (reading_of new) role ≡ true → (is_gone_after later entries role || list_any (loses later role) added) ≡ true
-  counts-all fills = gone-counts (fills-before fills) added (λ role lt has. are.lost who end (event ∷ []) role lt has)
+  counts-all : IsReliable later (entries ++ added) → (role : ℕ) → role < role_count new.newest → is_missing (reading_of new) role ≡ true → (is_gone_after later entries role || list_any (loses later role) added) ≡ true
+  counts-all fills = gone-counts (right-before fills) added (λ role lt has. are.lost who end (event ∷ []) role lt has)
 
   level-from : (xs : List Event) → fold (λ level e. level_after level e.event) (level_at world entries) (entries_of who end xs) ≡ level_at world entries
       → level_at later (entries ++ entries_of who end xs) ≡ level_at world entries
@@ -198,6 +202,7 @@ module _ (given : Given) (tape : List Operation) (scope : Scope) (first : ℕ) (
     level_more = level-from early (all-but (λ (l : List Event). fold (λ level e. level_after level e.event) (level_at world entries) (entries_of who end l) ≡ level_at world entries) (are.level who end [] (level_at world entries)));
     level_all = level-from (early ++ event ∷ []) (are.level who end (event ∷ []) (level_at world entries) ∙ level (level_at world entries));
     fills = fills-before;
+    right = right-before;
     ends = are.ends (event ∷ []) (or-false (ends_reshape event) false ends refl);
     opened = opening-grown world ops recorded.begun;
   }

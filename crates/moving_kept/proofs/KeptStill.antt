@@ -39,7 +39,7 @@ use Rattle.array_kept.proofs.ReadyLaws.{kept-legal}
 use Rattle.kept_history.specs.Recorded.{IsHistoryKept}
 use Rattle.kept_history.specs.Safe.{world_in, IsFilledRight}
 use Rattle.one_shape_history.proofs.Kept.{safe-alike, recorded-alike}
-use Rattle.moving_kept.specs.Moving.{HasListStill, IsStillKept}
+use Rattle.moving_kept.specs.Moving.{IsReliable, HasListStill, IsStillKept}
 
 -- ---- entries
 
@@ -86,14 +86,14 @@ module _ {tells : Type 0} {given : Given} {tape : List Operation} {scope : Scope
   keep : tells → IsFilledRight world entries → KeepShape entries
   keep t right = entries-keep (opening_in world) (length tape) [] entries (kept-legal was t (fills right))
 
-  recorded : tells → IsHistoryKept (IsFilledRight world entries) world (list_length members.newest) entries
+  recorded : tells → IsHistoryKept (IsReliable world entries) world (list_length members.newest) entries
   recorded t =
       let r = recorded-alike world (was.recorded t) was.sized in
       record {
         begun = r.begun;
         sized = r.sized ∙ sym (length-still members was.still);
-        legal = λ right. (one_shape-legal world (opening_in world) entries (found-in world) (kept-legal was t (fills right))).0;
-        reshaped = λ right. (one_shape-legal world (opening_in world) entries (found-in world) (kept-legal was t (fills right))).1;
+        legal = λ right. (one_shape-legal world (opening_in world) entries (found-in world) (kept-legal was t (fills right.fills))).0;
+        reshaped = λ right. (one_shape-legal world (opening_in world) entries (found-in world) (kept-legal was t (fills right.fills))).1;
         ends = r.ends;
         ended = r.ended;
       }
@@ -150,8 +150,8 @@ module _ {tells : Type 0} {given : Given} {tape : List Operation} {scope : Scope
     placed = was.placed;
     still = was.still;
     sizes_are = was.sizes_are;
-    levelled = λ t right. ap tolerance_of (same-level (level_at world []) entries (keep t right)) ∙ (was.recorded t).tolerated;
-    gone = λ t right role lt miss. after-gone world role entries (keep t right) ∙ was.told role lt miss;
+    levelled = λ t right. ap tolerance_of (same-level (level_at world []) entries (keep t right.fills)) ∙ (was.recorded t).tolerated;
+    gone = λ t right role lt miss. after-gone world role entries (keep t right.fills) ∙ was.told role lt miss;
     unclean = λ t dirty. ap (λ (b : Bool). b || is_unsettled entries) (was.recorded t).dirty ∙ was.unclean dirty;
     recorded = recorded;
     listed = listed;

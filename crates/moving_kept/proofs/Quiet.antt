@@ -41,7 +41,7 @@ use Rattle.kept_history.proofs.Entered.{adds_only, AreAdding, told-adding, told-
 use Rattle.kept_history.proofs.Reshapes.{call-ends_none}
 use Rattle.course_kept.specs.declared.course.Course.{Course}
 use Rattle.course_kept.specs.Course.{IsCourseOf, IsStored, StandsInCourse}
-use Rattle.moving_kept.specs.Moving.{AreReshaping, AreToldGone, HasListInCourse, IsMoving}
+use Rattle.moving_kept.specs.Moving.{AreReshaping, IsReliable, AreToldGone, HasListInCourse, IsMoving}
 use Rattle.moving_kept.proofs.Behind.{AreEarly, AreLostOrMissing, IsAmong, IsBehind, early-losses, is-behind, legal-losses, or-false, and-true}
 
 -- An event that leaves the list and the level, settles nothing and neither ends a reshape nor gives a role.
@@ -63,7 +63,7 @@ pub record IsEarlyCall (given : Given) (tape : List Operation) (scope : Scope) (
       → IsSafeOver (world_in given tape scope first) given told old tape → KeepsSafe (world_in given tape scope first) given told new tape tape'
   pub listed : DoWithout new → IsFilledRight (world_in given tape scope first) entries
       → HasListInCourse (OpensFit (world_in given tape scope first)) new course' buffer' (present given tape') (now (opening_list (world_in given tape scope first)) entries)
-  pub legal : IsFilledRight (world_in given tape scope first) entries → AreToldGone (world_in given tape' scope first) (entries ++ entries_of who end early) new
+  pub legal : IsReliable (world_in given tape scope first) entries → AreToldGone (world_in given tape' scope first) (entries ++ entries_of who end early) new
       → level_at (world_in given tape' scope first) (entries ++ entries_of who end early) ≡ level_at (world_in given tape scope first) entries
       → IsLegalCall (world_in given tape' scope first) entries who end (early ++ event ∷ [])
 
@@ -76,18 +76,18 @@ pub record IsQuietCall (given : Given) (tape : List Operation) (scope : Scope) (
       → IsSafeOver (world_in given tape scope first) given told old tape → KeepsSafe (world_in given tape scope first) given told new tape tape'
   pub listed : DoWithout new → IsFilledRight (world_in given tape scope first) entries
       → HasListInCourse (OpensFit (world_in given tape scope first)) new course' buffer' (present given tape') (now (opening_list (world_in given tape scope first)) entries)
-  pub legal : IsFilledRight (world_in given tape scope first) entries
+  pub legal : IsReliable (world_in given tape scope first) entries
       → AreToldGone (world_in given tape' scope first) (entries ++ entries_of who end (losses_of roles spares)) new
       → level_at (world_in given tape' scope first) (entries ++ entries_of who end (losses_of roles spares)) ≡ level_at (world_in given tape scope first) entries
       → IsLegalEvent (world_in given tape' scope first) (entries ++ entries_of who end (losses_of roles spares)) (entry_of who end event) [] event
 
 -- What it leaves, of what is kept over a bank that tells its contents.
 pub record IsLeftBy (given : Given) (tape : List Operation) (scope : Scope) (first : ℕ) (entries all : List Entry) (new : Members) (carried : ℕ → Bool) (course' : Course) (buffer' : List ℕ) (tape' : List Operation) : Type 0 where
-  pub fills : IsFilledRight (world_in given tape' scope first) all → IsFilledRight (world_in given tape scope first) entries
+  pub right : IsReliable (world_in given tape' scope first) all → IsReliable (world_in given tape scope first) entries
   pub levelled : level_at (world_in given tape' scope first) all ≡ level_at (world_in given tape scope first) entries
-  pub gone : IsFilledRight (world_in given tape' scope first) all → AreToldGone (world_in given tape' scope first) all new
+  pub gone : IsReliable (world_in given tape' scope first) all → AreToldGone (world_in given tape' scope first) all new
   pub unclean : is_clean new.newest ≡ false → (is_unsynced (world_in given tape' scope first) all || is_unsettled all) ≡ true
-  pub recorded : IsHistoryKept (IsFilledRight (world_in given tape' scope first) all) (world_in given tape' scope first) (list_length new.newest) all
+  pub recorded : IsHistoryKept (IsReliable (world_in given tape' scope first) all) (world_in given tape' scope first) (list_length new.newest) all
   pub listed : DoWithout new → IsFilledRight (world_in given tape' scope first) all
       → HasListInCourse (OpensFit (world_in given tape' scope first)) new course' buffer' (present given tape') (now (opening_list (world_in given tape' scope first)) all)
   pub safe : IsFilledRight (world_in given tape' scope first) all → HasRoomForEvents (world_in given tape' scope first) → OpensAlike (world_in given tape' scope first)
@@ -100,9 +100,9 @@ module _ (given : Given) (tape : List Operation) (scope : Scope) (first : ℕ) (
     (goes : IsCallGoing entries who) (caller : IsFalse (who.caller == 254)) (quiet : IsQuiet event) (few : role_count new.newest ≤ 16)
     (missing : AreLostOrMissing old new IsTaken)
     (sized : list_length new.newest ≡ list_length old.newest) (clean : is_clean new.newest ≡ is_clean old.newest) (sizes_are : scope.sizes ≡ sizes given)
-    (gone : IsFilledRight (world_in given tape scope first) entries → AreToldGone (world_in given tape scope first) entries old)
+    (gone : IsReliable (world_in given tape scope first) entries → AreToldGone (world_in given tape scope first) entries old)
     (unclean : is_clean old.newest ≡ false → (is_unsynced (world_in given tape scope first) entries || is_unsettled entries) ≡ true)
-    (recorded : IsHistoryKept (IsFilledRight (world_in given tape scope first) entries) (world_in given tape scope first) (list_length old.newest) entries)
+    (recorded : IsHistoryKept (IsReliable (world_in given tape scope first) entries) (world_in given tape scope first) (list_length old.newest) entries)
     (safe : IsFilledRight (world_in given tape scope first) entries → HasRoomForEvents (world_in given tape scope first) → OpensAlike (world_in given tape scope first)
     → IsSafeHistory ⊤ (world_in given tape scope first) given old carried true entries)
     (now_safe : IsFilledRight (world_in given tape scope first) entries → HasRoomForEvents (world_in given tape scope first) → OpensAlike (world_in given tape scope first)
@@ -160,10 +160,10 @@ module _ (given : Given) (tape : List Operation) (scope : Scope) (first : ℕ) (
 
   -- ---- the history
 
-  recorded-all : IsHistoryKept (IsFilledRight later all) later (list_length new.newest) all
-  recorded-all = kept-call (IsFilledRight world entries) (IsFilledRight later all) world ops (list_length old.newest) (list_length new.newest) entries who (early ++ event ∷ []) goes recorded behind.fills caller
+  recorded-all : IsHistoryKept (IsReliable later all) later (list_length new.newest) all
+  recorded-all = kept-call (IsReliable world entries) (IsReliable later all) world ops (list_length old.newest) (list_length new.newest) entries who (early ++ event ∷ []) goes recorded behind.right caller
       (λ fills. inr behind.gives_all) (length-adding (length (opening_list world)) entries added adds-all ∙ recorded.sized ∙ sym sized)
-      (last_end-behind first entries who end early event) (λ fills. call.legal (behind.fills fills) (behind.gone_more fills) behind.level_more)
+      (last_end-behind first entries who end early event) (λ fills. call.legal (behind.right fills) (behind.gone_more fills) behind.level_more)
       (λ fills. call-ends_none later entries who end (early ++ event ∷ []) behind.ends)
 
   -- ---- the list
@@ -191,7 +191,7 @@ module _ (given : Given) (tape : List Operation) (scope : Scope) (first : ℕ) (
 
     stretch : KeepsSafe world given told new tape (tape ++ ops)
     stretch = call.keeps told (behind.fills fills) told-first (room-now world ops begun old was.counted room)
-        (λ role lt miss. behind.counts_more fills role lt miss)
+        (λ role lt miss. behind.counts_more (record { fills = fills; room = room; alike = alike }) role lt miss)
         (λ dirty. told-first.unclean (unclean dirty))
         (now-more (OpensFit world) scope given (told_now world carried true entries) told old (disk given.start tape) told-first (now_safe (behind.fills fills) (room-before world ops begun room) (alike-before world ops begun alike)))
 
@@ -207,7 +207,7 @@ module _ (given : Given) (tape : List Operation) (scope : Scope) (first : ℕ) (
 
   quiet-leaves : IsLeftBy given tape scope first entries all new carried course' buffer' (tape ++ ops)
   quiet-leaves = record {
-    fills = behind.fills;
+    right = behind.right;
     levelled = behind.level_all;
     gone = behind.gone_all;
     unclean = unclean-all;
@@ -236,7 +236,7 @@ early-moves tells given tape tape' scope first entries old new carried course co
       course_is = course_is;
       sizes_are = was.sizes_are;
       left_told = told;
-      levelled = λ t fills. ap tolerance_of (leaves t).levelled ∙ was.levelled t ((leaves t).fills fills) ∙ sym (ap tolerance_of level);
+      levelled = λ t fills. ap tolerance_of (leaves t).levelled ∙ was.levelled t ((leaves t).right fills) ∙ sym (ap tolerance_of level);
       gone = λ t. (leaves t).gone;
       unclean = λ t. (leaves t).unclean;
       recorded = λ t. (leaves t).recorded;

@@ -47,7 +47,7 @@ use Rattle.kept_history.proofs.Entered.{told-adding, values-more, length-more, l
 use Rattle.kept_history.proofs.Reshapes.{call-ends_none}
 use Rattle.course_kept.specs.declared.course.Course.{Course}
 use Rattle.course_kept.specs.Course.{IsCourseOf, IsStored, StandsInCourse}
-use Rattle.moving_kept.specs.Moving.{AreReshaping, AreToldGone, HasListInCourse, IsMoving}
+use Rattle.moving_kept.specs.Moving.{AreReshaping, IsReliable, AreToldGone, HasListInCourse, IsMoving}
 use Rattle.moving_kept.proofs.Behind.{AreLostOrMissing, IsAmong, IsBehind, early-losses, is-behind, legal-losses, or-false}
 use Rattle.moving_kept.proofs.Quiet.{IsLeftBy}
 
@@ -128,9 +128,9 @@ module _ (given : Given) (tape : List Operation) (scope : Scope) (first : ℕ) (
     (missing : AreLostOrMissing old new (IsAmong roles))
     (sized : list_length new.newest ≡ list_length old.newest) (clean : unsynced ≡ false → is_clean new.newest ≡ true) (sizes_are : scope.sizes ≡ sizes given)
     (unsynced_is : is_unsynced (world_in given tape scope first) entries ≡ unsynced)
-    (gone : IsFilledRight (world_in given tape scope first) entries → AreToldGone (world_in given tape scope first) entries old)
+    (gone : IsReliable (world_in given tape scope first) entries → AreToldGone (world_in given tape scope first) entries old)
     (unclean : is_clean old.newest ≡ false → (is_unsynced (world_in given tape scope first) entries || is_unsettled entries) ≡ true)
-    (recorded : IsHistoryKept (IsFilledRight (world_in given tape scope first) entries) (world_in given tape scope first) (list_length old.newest) entries)
+    (recorded : IsHistoryKept (IsReliable (world_in given tape scope first) entries) (world_in given tape scope first) (list_length old.newest) entries)
     (safe : IsFilledRight (world_in given tape scope first) entries → HasRoomForEvents (world_in given tape scope first) → OpensAlike (world_in given tape scope first)
     → IsSafeHistory ⊤ (world_in given tape scope first) given old carried true entries)
     (now_safe : IsFilledRight (world_in given tape scope first) entries → HasRoomForEvents (world_in given tape scope first) → OpensAlike (world_in given tape scope first)
@@ -224,11 +224,11 @@ module _ (given : Given) (tape : List Operation) (scope : Scope) (first : ℕ) (
 
   -- ---- the history
 
-  legal-call : IsFilledRight later all → IsLegalCall later entries who end (losses ++ event ∷ [])
+  legal-call : IsReliable later all → IsLegalCall later entries who end (losses ++ event ∷ [])
   legal-call fills = legal-losses later entries who end losses (event ∷ []) (losses-are roles spares) (settling.legal later (entries ++ more) (entry_of who end event), tt, tt)
 
-  recorded-all : IsHistoryKept (IsFilledRight later all) later (list_length new.newest) all
-  recorded-all = kept-call (IsFilledRight world entries) (IsFilledRight later all) world ops (list_length old.newest) (list_length new.newest) entries who (losses ++ event ∷ []) goes recorded behind.fills caller
+  recorded-all : IsHistoryKept (IsReliable later all) later (list_length new.newest) all
+  recorded-all = kept-call (IsReliable world entries) (IsReliable later all) world ops (list_length old.newest) (list_length new.newest) entries who (losses ++ event ∷ []) goes recorded behind.right caller
       (λ fills. inr behind.gives_all) (ap (λ (l : List Sector). length_of (length l) all) (sym behind.opened) ∙ length-all ∙ sym sized)
       (last_end-behind first entries who end losses event) legal-call
       (λ fills. call-ends_none later entries who end (losses ++ event ∷ []) behind.ends)
@@ -272,12 +272,12 @@ module _ (given : Given) (tape : List Operation) (scope : Scope) (first : ℕ) (
 
     stretch : KeepsSafe world given told new tape (tape ++ ops)
     stretch = call.keeps told (behind.fills fills) told-first allowed (room-now world ops begun old was.counted room)
-        (λ role lt miss. behind.counts_more fills role lt miss) (λ dirty. told-first.unclean (unclean dirty)) before
+        (λ role lt miss. behind.counts_more (record { fills = fills; room = room; alike = alike }) role lt miss) (λ dirty. told-first.unclean (unclean dirty)) before
 
     last : IsSafeOver world given (told_now later carried true all) new (tape ++ ops)
     last =
         let by = call.settled told (behind.fills fills) told-first allowed (room-now world ops begun old was.counted room)
-        (λ role lt miss. behind.counts_more fills role lt miss) (λ dirty. told-first.unclean (unclean dirty)) before in
+        (λ role lt miss. behind.counts_more (record { fills = fills; room = room; alike = alike }) role lt miss) (λ dirty. told-first.unclean (unclean dirty)) before in
         now-more (OpensFit world) scope given (settled_ledger unsynced by.list told) (told_now later carried true all) new (disk given.start (tape ++ ops)) (told-last by.list by.is) by.safe
 
     safe-all : IsSafeHistory ⊤ later given new carried true all
@@ -290,7 +290,7 @@ module _ (given : Given) (tape : List Operation) (scope : Scope) (first : ℕ) (
 
   settling-leaves : IsLeftBy given tape scope first entries all new carried course' buffer' (tape ++ ops)
   settling-leaves = record {
-    fills = behind.fills;
+    right = behind.right;
     levelled = behind.level_all;
     gone = behind.gone_all;
     unclean = unclean-all;
@@ -320,7 +320,7 @@ settling-moves tells given tape tape' scope first entries old new carried unsync
       course_is = course_is;
       sizes_are = was.sizes_are;
       left_told = told;
-      levelled = λ t fills. ap tolerance_of (leaves t).levelled ∙ was.levelled t ((leaves t).fills fills) ∙ sym (ap tolerance_of level);
+      levelled = λ t fills. ap tolerance_of (leaves t).levelled ∙ was.levelled t ((leaves t).right fills) ∙ sym (ap tolerance_of level);
       gone = λ t. (leaves t).gone;
       unclean = λ t. (leaves t).unclean;
       recorded = λ t. (leaves t).recorded;

@@ -43,7 +43,7 @@ use Rattle.grow_asked.specs.declared.window.Window.{Window}
 use Rattle.grow_asked.specs.declared.window.Window.TheVariants.{Closed, Entered, Unsure}
 use Rattle.course_kept.specs.Course.{IsWindowOf, IsCourseOf, StandsInCourse}
 use Rattle.course_kept.proofs.Courses.{stored-moves}
-use Rattle.moving_kept.specs.Moving.{AreToldGone, IsMoving}
+use Rattle.moving_kept.specs.Moving.{IsReliable, AreToldGone, IsMoving}
 use Rattle.moving_kept.proofs.MembersMove.{reshaping-moved}
 use Rattle.moving_kept.proofs.Quiet.{IsQuiet, quiet-moves}
 use Rattle.moving_kept.proofs.Refusals.{quiet-refusal, refused-right}
@@ -77,7 +77,7 @@ pub stays-moves : (tells : Type 0) (given : Given) (tape tape' : List Operation)
     → (tells → (sound : Type 0) (list : ℕ → Sector) → StandsInCourse sound old course buffer (present given tape) list → StandsInCourse sound new course buffer (present given tape') list)
     → (tells → (told : Ledger) → IsFilledRight (world_in given tape scope first) entries → IsMoreTold (told_now (world_in given tape scope first) carried true entries) told
     → HasRoomLeft old tape tape' → AreGoneTold told new → IsUncleanTold told old → IsSafeOver (world_in given tape scope first) given told old tape → KeepsSafe (world_in given tape scope first) given told new tape tape')
-    → (tells → IsFilledRight (world_in given tape scope first) entries
+    → (tells → IsReliable (world_in given tape scope first) entries
     → AreToldGone (world_in given tape' scope first) (entries ++ entries_of who end (losses_of roles spares)) new
     → level_at (world_in given tape' scope first) (entries ++ entries_of who end (losses_of roles spares)) ≡ level_at (world_in given tape scope first) entries
     → IsLegalEvent (world_in given tape' scope first) (entries ++ entries_of who end (losses_of roles spares)) (entry_of who end event) [] event)
@@ -116,7 +116,7 @@ refused-moves tells given tape tape' scope first entries old new carried course 
     stays-moves tells given tape tape' scope first entries old new carried course buffer left who end roles spares (Refused refusal) was goes caller at_end grows (quiet-refusal refusal) (λ told is. is) moved few since clean rise headers stands keeps
     (λ t fills gone level. right t fills gone level why)
   where
-    right : tells → IsFilledRight (world_in given tape scope first) entries → AreToldGone (world_in given tape' scope first) (entries ++ entries_of who end (losses_of roles spares)) new
+    right : tells → IsReliable (world_in given tape scope first) entries → AreToldGone (world_in given tape' scope first) (entries ++ entries_of who end (losses_of roles spares)) new
         → level_at (world_in given tape' scope first) (entries ++ entries_of who end (losses_of roles spares)) ≡ level_at (world_in given tape scope first) entries
         → (refusal ≡ BackupFault) ⊎ AreTooMany new refusal
         → IsLegalEvent (world_in given tape' scope first) (entries ++ entries_of who end (losses_of roles spares)) (entry_of who end (Refused refusal)) [] (Refused refusal)

@@ -39,6 +39,13 @@ pub record AreReshaping (scope : Scope) (given : Given) (members : Members) : Ty
   pub free : AreSparesFree given members
   pub spares : length members.spares ≤ 32
 
+-- What a history says can be relied on: what is filled in is right, and the superblocks can be read, for the event counts have room, and those of the opening that
+-- have the same count are alike.
+pub record IsReliable (world : World) (entries : List Entry) : Type 0 where
+  pub fills : IsFilledRight world entries
+  pub room : HasRoomForEvents world
+  pub alike : OpensAlike world
+
 -- each role that is missing is gone by the history
 abbrev pub AreToldGone : World → List Entry → Members → Type 0
 AreToldGone world entries members = (role : ℕ) → role < role_count members.newest → is_missing (reading_of members) role ≡ true → is_gone_after world entries role ≡ true
@@ -64,10 +71,10 @@ pub record IsStillKept (tells : Type 0) (given : Given) (tape : List Operation) 
   pub placed : IsPlaced given members
   pub still : is_reshaping members.newest ≡ false
   pub sizes_are : scope.sizes ≡ sizes given
-  pub levelled : tells → IsFilledRight (world_in given tape scope first) entries → tolerance_of (level_at (world_in given tape scope first) entries) ≡ tolerance (shape_of members.newest)
-  pub gone : tells → IsFilledRight (world_in given tape scope first) entries → AreToldGone (world_in given tape scope first) entries members
+  pub levelled : tells → IsReliable (world_in given tape scope first) entries → tolerance_of (level_at (world_in given tape scope first) entries) ≡ tolerance (shape_of members.newest)
+  pub gone : tells → IsReliable (world_in given tape scope first) entries → AreToldGone (world_in given tape scope first) entries members
   pub unclean : tells → is_clean members.newest ≡ false → (is_unsynced (world_in given tape scope first) entries || is_unsettled entries) ≡ true
-  pub recorded : tells → IsHistoryKept (IsFilledRight (world_in given tape scope first) entries) (world_in given tape scope first) (list_length members.newest) entries
+  pub recorded : tells → IsHistoryKept (IsReliable (world_in given tape scope first) entries) (world_in given tape scope first) (list_length members.newest) entries
   pub listed : tells → DoWithout members → IsFilledRight (world_in given tape scope first) entries
       → HasListStill (OpensFit (world_in given tape scope first)) members (present given tape) (now (opening_list (world_in given tape scope first)) entries)
   pub safe : tells → IsFilledRight (world_in given tape scope first) entries → HasRoomForEvents (world_in given tape scope first) → OpensAlike (world_in given tape scope first)
@@ -83,10 +90,10 @@ pub record IsMoving (tells : Type 0) (given : Given) (tape : List Operation) (sc
   pub course_is : IsCourseOf members.newest course
   pub sizes_are : scope.sizes ≡ sizes given
   pub left_told : IfSome (told_left entries) (λ n. n ≡ left)
-  pub levelled : tells → IsFilledRight (world_in given tape scope first) entries → tolerance_of (level_at (world_in given tape scope first) entries) ≡ tolerance (shape_of members.newest)
-  pub gone : tells → IsFilledRight (world_in given tape scope first) entries → AreToldGone (world_in given tape scope first) entries members
+  pub levelled : tells → IsReliable (world_in given tape scope first) entries → tolerance_of (level_at (world_in given tape scope first) entries) ≡ tolerance (shape_of members.newest)
+  pub gone : tells → IsReliable (world_in given tape scope first) entries → AreToldGone (world_in given tape scope first) entries members
   pub unclean : tells → is_clean members.newest ≡ false → (is_unsynced (world_in given tape scope first) entries || is_unsettled entries) ≡ true
-  pub recorded : tells → IsHistoryKept (IsFilledRight (world_in given tape scope first) entries) (world_in given tape scope first) (list_length members.newest) entries
+  pub recorded : tells → IsHistoryKept (IsReliable (world_in given tape scope first) entries) (world_in given tape scope first) (list_length members.newest) entries
   pub stored : tells → IsStored scope members course.window (disk given.start tape)
   pub listed : tells → DoWithout members → IsFilledRight (world_in given tape scope first) entries
       → HasListInCourse (OpensFit (world_in given tape scope first)) members course buffer (present given tape) (now (opening_list (world_in given tape scope first)) entries)
