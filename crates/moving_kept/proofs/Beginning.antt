@@ -76,7 +76,7 @@ pub record IsBeginningCall (given : Given) (tape : List Operation) (scope : Scop
   pub since : (role : ℕ) → role < role_count new.newest → is_missing (reading_of new) role ≡ true → ((role < (shape_of old.newest).disks) × (is_missing (reading_of old) role ≡ true)) ⊎ IsAmong roles role
   pub fewer : (role : ℕ) → role < role_count plan.newest → is_missing (reading_of plan) role ≡ true → (role < role_count new.newest) × (is_missing (reading_of new) role ≡ true)
   pub rise : IsRisen ⊤ old new tape tape'
-  pub read : IsReliable (world_in given tape scope first) entries → IsShapeRead scope (contents_at (world_in given tape' scope first) (length tape')) (shape_of old.newest)
+  pub read : IsReliable (world_in given tape scope first) entries → HasRoomForEvents (world_in given tape' scope first) → IsShapeRead scope (contents_at (world_in given tape' scope first) (length tape')) (shape_of old.newest)
   pub safe : (told more : Ledger) → HasRoomLeft old tape tape' → IsToldWith told more plan → AreGoneTold told old → AreGoneTold more new → ((number : ℕ) → told.carried number ≡ true → more.carried number ≡ true)
       → IsSafeOver (world_in given tape scope first) given told old tape → IsSafeChange (OpensFit (world_in given tape scope first)) scope given told more new tape tape'
 
@@ -129,10 +129,10 @@ module _ (given : Given) (tape : List Operation) (scope : Scope) (first : ℕ) (
   right-before right = record { fills = filled-before world ops entries added begun ends right.fills; room = room-before world ops begun right.room; alike = alike-before world ops begun right.alike }
 
   -- a role of the old shape is gone behind it as before
-  gone-begun : IsReliable world entries → (role : ℕ) → role < disks → is_gone_after later (entries ++ entry ∷ []) role ≡ is_gone_after world entries role
+  gone-begun : IsReliable later all → (role : ℕ) → role < disks → is_gone_after later (entries ++ entry ∷ []) role ≡ is_gone_after world entries role
   unfolding reading_at
   gone-begun right role lt =
-      let read = call.read right in
+      let read = call.read (right-before right) right.room in
       begun-old later entries entry left read.found refl read.is role (let same = ap (λ (s : Shape). s.disks) read.says in omega (arith, lt, same))
       ∙ gone-grown world ops entries role ends
 
@@ -141,7 +141,7 @@ module _ (given : Given) (tape : List Operation) (scope : Scope) (first : ℕ) (
 
   pub begun-gone : IsReliable later all → AreToldGone later all new
   begun-gone fills role lt miss = gone-behind role (elim (call.since role lt miss) [
-    | inl was ↦ gone-was later (entries ++ entry ∷ []) more role (gone-begun (right-before fills) role was.0 ∙ gone (right-before fills) role (let count = call.count in omega (arith, was.0, count)) was.1)
+    | inl was ↦ gone-was later (entries ++ entry ∷ []) more role (gone-begun fills role was.0 ∙ gone (right-before fills) role (let count = call.count in omega (arith, was.0, count)) was.1)
     | inr has ↦ gone-lost later (entries ++ entry ∷ []) more role
         (all-but (λ (l : List Event). is_lost (entries_of who end l) role ≡ true) ((early-losses roles spares).lost who end [] role (let few = call.few in omega (arith, lt, few)) has))
   ])
@@ -198,7 +198,7 @@ module _ (given : Given) (tape : List Operation) (scope : Scope) (first : ℕ) (
       three false true c is = refl
       three false false c is = absurd (cc)
 
-  most : IsReliable world entries → IsMoreTold told with_it
+  most : IsReliable later all → IsMoreTold told with_it
   most right = record {
     size = sym length-all;
     values = λ x lt v may. values-all x v may;
@@ -315,8 +315,8 @@ module _ (given : Given) (tape : List Operation) (scope : Scope) (first : ℕ) (
 
     pub begun-safe : IsSafeHistory ⊤ later given new carried' true all
     begun-safe = either-call ⊤ given tape scope first entries old new carried carried' false true who (Step Begun left ∷ losses_of roles spares) ops told sizes_are begun ends fills was call.rise
-        (λ claimed opened mark low high. throughout-changed world given told with_it new ops refl begun change (was.sound tt) opened mark (omega (arith, begun, low)) high) less change (λ none. most (right-before right))
+        (λ claimed opened mark low high. throughout-changed world given told with_it new ops refl begun change (was.sound tt) opened mark (omega (arith, begun, low)) high) less change (λ none. most right)
 
     pub begun-now : IsSafeOver later given (told_now later carried' true all) new (tape ++ ops)
     begun-now = subst (λ (fit : Type 0). IsSafeNow fit scope given with_it new (disk given.start (tape ++ ops))) (sym (fit-grown world ops begun))
-        (either-last world given told with_it with_it new tape (tape ++ ops) change (more-alike with_it) (λ none. most (right-before right)))
+        (either-last world given told with_it with_it new tape (tape ++ ops) change (more-alike with_it) (λ none. most right))

@@ -15,3 +15,4 @@ pub mod BegunRead
 pub mod Beginning
 pub mod Begun
 pub mod KeptStill
+pub mod BegunCall

@@ -1,0 +1,114 @@
+-- What `begin` leaves where it isn't refused is what is asked of a call by which a reshape begins, if that leaves the list's length.
+use Rattle.std.proofs.Common.{◌≡◌, ◌⊎◌, ℕ, ◌*◌, ◌<◌, nat_lt, min, Bool, true, false, List, ◌++◌, length, take_all, sym, ◌∙◌, ap, subst, arith}
+use Rattle.std.proofs.lemmas.Bool.Decides.{nat_tests}
+use Rattle.md_base.specs.declared.places.Shape.{Shape}
+use Rattle.md_base.specs.Shapes.{data_disks}
+use Rattle.bank.specs.declared.bank.Operation.{Operation}
+use Rattle.bank.specs.Given.{Given}
+use Rattle.bank.specs.Tape.{IsIn, contents, disk, value_after}
+use Rattle.bank.proofs.Images.{disk-some}
+use Rattle.sb1.specs.declared.sb.Sb.{Sb}
+use Rattle.geometry.specs.Geometry.{AreInForce}
+use Rattle.superblocks.specs.declared.members.Members.{Members}
+use Rattle.superblocks.specs.Held.{AreDrawn}
+use Rattle.superblocks.specs.Reading.{Scope, is_reshaping, shape_of, list_length, role_count}
+use Rattle.superblocks.proofs.ValidFields.{few-roles}
+use Rattle.row_io.specs.Rows.{reading_of, is_missing}
+use Rattle.flat_history.specs.declared.events.Entry.{Entry}
+use Rattle.flat_history.specs.Epochs.{HasRoomForEvents}
+use Rattle.flat_history.specs.Sound.{OpensFit}
+use Rattle.flat_history.specs.World.{World, contents_at}
+use Rattle.shape_views.specs.Regions.{ArePlaced}
+use Rattle.shape_views.specs.Views.{Ledger}
+use Rattle.shape_views.proofs.Stands.{final-still}
+use Rattle.shape_changes.specs.Changing.{IsSafeChange}
+use Rattle.shape_changes.specs.Safety.{HasLiveSlot, HasRoomLeft, IsRisen}
+use Rattle.shape_changes.specs.Steady.{IsSafeOver, AreGoneTold}
+use Rattle.shape_ends.specs.Ends.{IsToldWith}
+use Rattle.views.specs.Moving.{IsMoved}
+use Rattle.views.proofs.Fit.{count-alike, roles-still}
+use Rattle.views.proofs.HeldRows.{missing-moved}
+use Rattle.views.proofs.Still.{count-still}
+use Rattle.reshape_updates.specs.Beginning.{HasBegun, goes_back}
+use Rattle.reshape_updates.proofs.BegunPlan.{planned-begun-is}
+use Rattle.reshape_ends.specs.Begun.{IsBackupOf, IsBegunBehind, begun_plan}
+use Rattle.kept_history.specs.Safe.{world_in}
+use Rattle.kept_history.specs.Told.{told_now}
+use Rattle.kept_history.proofs.Calls.{now-live}
+use Rattle.kept_history.proofs.Growing.{room-now}
+use Rattle.moving_kept.specs.Moving.{IsReliable, IsStillKept}
+use Rattle.moving_kept.proofs.Beginning.{IsBeginningCall}
+use Rattle.moving_kept.proofs.Behind.{IsAmong}
+use Rattle.moving_kept.proofs.BegunRead.{begun-read}
+use Rattle.moving_kept.proofs.ReadShapes.{IsShapeRead}
+
+-- ---- the length
+
+-- of two shapes of which the new one has no fewer data disks the list is as long as the old one's
+least : (a b : ℕ) → nat_lt b a ≡ false → min a b ≡ min a a
+least a b is = grind (arith, nat_tests, is)
+
+begun-length : (former newest : Sb) (to : Shape) → HasBegun former to newest → is_reshaping former ≡ false → goes_back (shape_of former) to ≡ false → list_length newest ≡ list_length former
+begun-length former newest to has still forward =
+    (λ i. min (data_disks (has.old i)) (data_disks (has.new i)) * has.size i)
+    ∙ ap (λ (n : ℕ). n * former.size) (least (data_disks (shape_of former)) (data_disks to) forward)
+    ∙ ap (λ (s : Shape). min (data_disks (shape_of former)) (data_disks s) * former.size) (sym (final-still former still))
+
+-- ---- the contents now are drawn from what a stop may leave
+
+now-drawn : (given : Given) (tape : List Operation) (s k : ℕ) → IsIn (disk given.start tape s k) (contents given.start tape (length tape) s k)
+now-drawn given tape s k = subst (λ (l : List Operation). IsIn (disk given.start tape s k) (value_after s k (given.start s k) l)) (sym (take_all (length tape) tape (omega arith))) (disk-some given.start tape s k)
+
+-- ---- the call
+
+-- What is asked before it, and what it leaves where it isn't refused; the slots that its update lost were of these roles, or of such as were missing.
+pub record IsBegunBy (tells : Type 0) (given : Given) (tape tape' : List Operation) (scope : Scope) (backup : ℕ) (uuid : List ℕ) (to : Shape) (old new : Members) (roles : ℕ) : Type 0 where
+  pub forward : goes_back (shape_of old.newest) to ≡ false
+  pub in_force : AreInForce (shape_of old.newest) to old.newest.size
+  pub level : to.level ≡ old.newest.level
+  pub live : HasLiveSlot old
+  pub sixteen : length scope.uuid ≡ 16
+  pub backed : IsBackupOf scope old to backup uuid
+  pub placed : ArePlaced scope given old
+  pub begun : IsBegunBehind tells given backup uuid to old new tape tape'
+  pub newest : HasBegun old.newest to new.newest
+  pub moved : IsMoved given (begun_plan old to) new
+  pub rise : IsRisen tells old new tape tape'
+  pub since : (role : ℕ) → role < role_count new.newest → is_missing (reading_of new) role ≡ true → ((role < (shape_of old.newest).disks) × (is_missing (reading_of old) role ≡ true)) ⊎ IsAmong roles role
+  pub safe : tells → (world : World) → (told more : Ledger) → HasRoomLeft old tape tape' → HasLiveSlot old → IsBackupOf world.scope old to backup uuid → ArePlaced world.scope given old
+      → IsToldWith told more (begun_plan old to) → AreGoneTold told old → AreGoneTold more new → ((number : ℕ) → told.carried number ≡ true → more.carried number ≡ true)
+      → IsSafeOver world given told old tape → IsSafeChange (OpensFit world) world.scope given told more new tape tape'
+
+pub begun-call : (tells : Type 0) (given : Given) (tape ops : List Operation) (scope : Scope) (first : ℕ) (entries : List Entry) (backup : ℕ) (uuid : List ℕ) (to : Shape) (old new : Members) (carried carried' : ℕ → Bool) (roles : ℕ)
+    → IsStillKept tells given tape scope first entries old carried → tells → IsBegunBy tells given tape (tape ++ ops) scope backup uuid to old new roles
+    → ((number : ℕ) → carried number ≡ true → carried' number ≡ true) → IsBeginningCall given tape scope first entries old (begun_plan old to) new carried carried' roles (tape ++ ops)
+begun-call tells given tape ops scope first entries backup uuid to old new carried carried' roles was t did numbers = record {
+  live = did.live;
+  count = count-still old.newest was.still;
+  planned = begun-length old.newest (begun_plan old to).newest to (planned-begun-is old to was.still same_roles did.in_force did.level) was.still did.forward;
+  sized = begun-length old.newest new.newest to did.newest was.still did.forward;
+  few = few-roles new.newest did.moved.placed.fit.valid;
+  numbers = numbers;
+  since = did.since;
+  fewer = λ role lt miss. (
+    subst (λ (n : ℕ). role < n) (sym (count-alike (begun_plan old to).newest new.newest did.moved.reshape did.moved.shape did.moved.size)) lt,
+    missing-moved did.moved role miss,
+  );
+  rise = record { left = did.rise.left; events = λ one live. did.rise.events t live };
+  read = read;
+  safe = λ told more room with_plan gone_old gone_new carries before. did.safe t (world_in given tape scope first) told more room did.live did.backed did.placed with_plan gone_old gone_new carries before;
+}
+  where
+    same_roles : length old.roles ≡ (shape_of old.newest).disks
+    same_roles = roles-still given old was.placed was.still
+
+    drawn : AreDrawn (disk given.start (tape ++ ops)) (contents given.start (tape ++ ops) (length (tape ++ ops)))
+    drawn slot = (now-drawn given (tape ++ ops) slot 8, now-drawn given (tape ++ ops) slot 9)
+
+    read : IsReliable (world_in given tape scope first) entries → HasRoomForEvents (world_in given (tape ++ ops) scope first)
+        → IsShapeRead scope (contents_at (world_in given (tape ++ ops) scope first) (length (tape ++ ops))) (shape_of old.newest)
+    read right room =
+        let safe = was.safe t right.fills right.room right.alike in
+        begun-read tells (OpensFit (world_in given tape scope first)) scope given (told_now (world_in given tape scope first) carried false entries) backup uuid to old new tape (tape ++ ops)
+        did.backed.backup did.backed.array did.sixteen was.still same_roles did.in_force did.level did.live (room-now (world_in given tape scope first) ops (was.recorded t).begun old safe.counted room) did.begun t
+        (now-live (world_in given tape scope first) did.live safe.now) (contents given.start (tape ++ ops) (length (tape ++ ops))) drawn
