@@ -16,3 +16,4 @@ pub mod Beginning
 pub mod Begun
 pub mod KeptStill
 pub mod BegunCall
+pub mod BegunMembers

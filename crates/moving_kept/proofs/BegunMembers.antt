@@ -1,0 +1,127 @@
+-- The members behind the begin of a reshape, and that the array keeps its record then, from what `begin` leaves where it isn't refused.
+use Rattle.std.proofs.Common.{◌≡◌, ◌≢◌, ◌⊎◌, inl, inr, ℕ, ◌+◌, ◌≤◌, ◌==◌, ◌^◌, ◌-◌, Bool, true, Option, Some, None, List, ◌∷◌, ◌++◌, length, sym, ◌∙◌, ap, subst, arith}
+use Rattle.std.specs.Prelude.{IsFalse, IfSome}
+use Rattle.std.specs.Option.{option_map_or}
+use Rattle.std.proofs.lemmas.Bool.{cases_lt}
+use Rattle.std.proofs.lemmas.List.{get_or_past}
+use Rattle.md_base.specs.Search.{least_below, tabulate}
+use Rattle.md_base.specs.declared.answers.Who.{Who}
+use Rattle.md_base.specs.declared.places.Shape.{Shape}
+use Rattle.md_base.specs.declared.status.Role.{Role}
+use Rattle.md_base.specs.declared.status.Role.TheVariants.{Recovering, Missing}
+use Rattle.md_base.proofs.Tabulated.{length-tabulate, get_or-tabulate}
+use Rattle.bank.specs.declared.bank.Operation.{Operation}
+use Rattle.bank.specs.Given.{Given}
+use Rattle.bank.specs.Tape.{disk}
+use Rattle.superblocks.specs.declared.change.Give.{Give}
+use Rattle.superblocks.specs.declared.members.Members.{Members}
+use Rattle.superblocks.specs.Outcome.{is_planned_holder, held_state, planned_state}
+use Rattle.superblocks.specs.Reading.{Scope, shape_of, role_count, role_state, holder, data_offset_of}
+use Rattle.superblocks.specs.Update.{give_of}
+use Rattle.row_io.specs.Rows.{reading_of, present}
+use Rattle.flat_history.specs.declared.events.Entry.{Entry}
+use Rattle.flat_history.specs.declared.events.Event.TheVariants.{Step}
+use Rattle.flat_history.specs.declared.events.StepKind.TheVariants.{Begun}
+use Rattle.flat_history.specs.Legal.{told_left}
+use Rattle.flat_history.specs.Plain.{entries_of}
+use Rattle.shape_views.specs.Regions.{ArePlaced}
+use Rattle.shape_ends.specs.Ends.{IsCleared}
+use Rattle.shape_ends.specs.Plans.{HasNoneRecovering}
+use Rattle.views.specs.Lacking.{AreOtherRowsKept}
+use Rattle.views.specs.Moving.{Grows}
+use Rattle.views.specs.Rebuilding.{AreSparesFree}
+use Rattle.views.proofs.Fit.{roles-still}
+use Rattle.call_entries.specs.Losing.{losses_of}
+use Rattle.reshape_updates.specs.Beginning.{beginning}
+use Rattle.reshape_updates.proofs.BegunPlan.{is-begun}
+use Rattle.reshape_updates.proofs.NewRoles.{new-or}
+use Rattle.reshape_ends.specs.Begun.{begun_plan}
+use Rattle.reshape_ends.proofs.BeginLaws.{begun-placed}
+use Rattle.kept_history.specs.Recorded.{IsCallGoing, IsOpenBehind}
+use Rattle.kept_history.specs.Safe.{world_in}
+use Rattle.course_kept.specs.Laws.{closed}
+use Rattle.moving_kept.specs.Moving.{IsStillKept, IsMoving}
+use Rattle.moving_kept.proofs.Beginning.{IsBeginningCall}
+use Rattle.moving_kept.proofs.Begun.{AreBegun, begun-moves}
+use Rattle.moving_kept.proofs.BegunCall.{IsBegunBy, begun-call}
+use Rattle.moving_kept.proofs.MembersMove.{backed-moved}
+
+-- ---- no slot recovers a role
+
+module _ (old : Members) (to : Shape) (whole : HasNoneRecovering old) where
+  abbrev gives : List Give
+  gives = (beginning old to).gives
+
+  -- the plan gives roles whole
+  begun-whole : HasNoneRecovering (begun_plan old to)
+  begun-whole role slot is = elim (cases_lt role (role_count (beginning old to).shared)) [
+    | inl below ↦ of (least_below 32 (is_planned_holder old.roles gives old.lost role))
+        (sym (get_or-tabulate (role_count (beginning old to).shared) (planned_state old.roles gives old.lost) role Missing below) ∙ is)
+    | inr past ↦ absurd (
+        let none = get_or_past (role_list (role_count (beginning old to).shared)) role Missing
+        (let long = length-tabulate (role_count (beginning old to).shared) (planned_state old.roles gives old.lost) in omega (arith, past, long)) in
+        let both = sym none ∙ is in cc)
+  ]
+    where
+      role_list : ℕ → List Role
+      role_list n = tabulate n (planned_state old.roles gives old.lost)
+
+      of : (o : Option ℕ) → option_map_or (λ t. held_state (role_state (reading_of old) role) (give_of gives t) t) o Missing ≡ Recovering slot → ⊥
+      of None e = absurd (cc)
+      of (Some t) e = elim (new-or old.spares (shape_of old.newest).disks to.disks t) [
+        | inl same ↦ whole role slot (ap (λ (g : Give). held_state (role_state (reading_of old) role) g t) (sym same) ∙ e)
+        | inr new ↦ absurd (let both = ap (λ (g : Give). held_state (role_state (reading_of old) role) g t) (sym new.1.gets) ∙ e in cc)
+      ]
+
+-- ---- the members
+
+module _ (tells : Type 0) (given : Given) (tape tape' : List Operation) (scope : Scope) (first : ℕ) (entries : List Entry) (backup : ℕ) (uuid : List ℕ) (to : Shape) (old new : Members) (carried carried' : ℕ → Bool) (roles : ℕ)
+    (was : IsStillKept tells given tape scope first entries old carried) (did : IsBegunBy tells given tape tape' scope backup uuid to old new roles) (whole : HasNoneRecovering old) (free : AreSparesFree given old)
+    (long : length old.own ≡ 32) (still_free : AreSparesFree given new) (spares : length new.spares ≤ 32) where
+  begun-members : AreBegun scope given old (begun_plan old to) new
+  begun-members = record {
+    members_are = record {
+      placed = did.moved.placed;
+      backed = backed-moved scope given (begun_plan old to) new did.moved plan-placed;
+      active = did.newest.active;
+      whole = λ role slot is. begun-whole old to whole role slot (sym (did.moved.states role slot (ap holder is)) ∙ is);
+      unlost = did.moved.unlost;
+      free = still_free;
+      spares = spares;
+    };
+    begun = is-begun old to was.still same_roles did.in_force did.level old.lost;
+    backed = plan-placed;
+    moved = did.moved;
+    clean = ap (λ (n : ℕ). n == 2 ^ 64 - 1) did.newest.clean;
+  }
+    where
+      same_roles : length old.roles ≡ (shape_of old.newest).disks
+      same_roles = roles-still given old was.placed was.still
+
+      plan-placed : ArePlaced scope given (begun_plan old to)
+      plan-placed = begun-placed given old to was.still same_roles did.in_force did.level was.placed free scope backup uuid did.backed did.placed long
+
+  -- ---- the array keeps its record
+
+  -- no row is written: neither the superblocks nor the backup's header are rows
+  begun-rows : tells → ((s k : ℕ) → k ≢ 8 → (s ≢ backup) ⊎ (k ≢ 0) → present given tape' s k ≡ present given tape s k) → AreOtherRowsKept (λ row. ⊥) (reading_of new) (present given tape) (present given tape')
+  begun-rows t others row out role slot held =
+      let far = did.moved.placed.behind role slot held in
+      others slot (data_offset_of (reading_of new) slot + row) (λ is. absurd (omega (arith, far, is))) (inr (λ is. absurd (omega (arith, far, is))))
+
+  -- So a reshape that begins in an array that keeps its record leaves one that keeps it in the reshape: from what `begin` says of its call.
+  pub array-begins : (buffer : List ℕ) (left : ℕ) (who : Who) (end lost_spares : ℕ) → (goes : IsCallGoing entries who) → IsFalse (who.caller == 254) → (tells → end ≡ length tape') → Grows tells tape tape'
+      → IfSome (told_left entries) (λ n. n ≡ left + 1) → left ≢ 0 → ((number : ℕ) → carried number ≡ true → carried' number ≡ true) → (tells → IsCleared scope (disk given.start tape'))
+      → (tells → (s k : ℕ) → k ≢ 8 → (s ≢ backup) ⊎ (k ≢ 0) → present given tape' s k ≡ present given tape s k) → (tells → IsOpenBehind (world_in given tape' scope first) goes.call)
+      → IsMoving tells given tape' scope first (entries ++ entries_of who end (Step Begun left ∷ losses_of roles lost_spares)) new carried' (closed 0) buffer left
+  array-begins buffer left who end lost_spares goes caller at_end grows told some numbers cleared others behind =
+      begun-moves tells given tape tape' scope first entries old (begun_plan old to) new carried carried' buffer left who end roles lost_spares was goes caller at_end grows told some begun-members cleared
+      (λ t. begun-rows t (others t)) behind (λ t. call t)
+    where
+      Then : List Operation → Type 0
+      Then l = IsBegunBy tells given tape l scope backup uuid to old new roles → IsBeginningCall given tape scope first entries old (begun_plan old to) new carried carried' roles l
+
+      call : tells → IsBeginningCall given tape scope first entries old (begun_plan old to) new carried carried' roles tape'
+      call t =
+          let g = grows.more t in
+          subst Then (sym g.1) (λ by. begun-call tells given tape g.0 scope first entries backup uuid to old new carried carried' roles was t by numbers) did
