@@ -28,7 +28,7 @@ use Rattle.kept_history.proofs.Growing.{contents-grown}
 -- ---- the contents now
 
 -- they are among what a stop may leave
-now-drawn : (given : Given) (tape : List Operation) → IsDrawn (disk given.start tape) (contents given.start tape (length tape))
+pub now-drawn : (given : Given) (tape : List Operation) → IsDrawn (disk given.start tape) (contents given.start tape (length tape))
 now-drawn given tape s k =
     subst (λ (l : List Operation). IsIn (disk given.start tape s k) (value_after s k (given.start s k) l)) (sym (take_all (length tape) tape (omega arith))) (disk-some given.start tape s k)
 

@@ -21,7 +21,7 @@ use Rattle.flat_history.specs.declared.events.StepKind.TheVariants.{Begun}
 use Rattle.flat_history.specs.Epochs.{HasRoomForEvents, OpensAlike}
 use Rattle.flat_history.specs.Flat.{length_of, values_of, values_after, now}
 use Rattle.flat_history.specs.Growing.{EndBy}
-use Rattle.flat_history.specs.Legal.{told_left, level_at, level_after, call_before, disturbs, MayBeInner, IsInnerOrLast}
+use Rattle.flat_history.specs.Legal.{told_left, level_at, level_after, call_before, disturbs}
 use Rattle.flat_history.specs.Losses.{is_gone_after, is_unsynced, unsettles, loses}
 use Rattle.flat_history.specs.OneShape.{is_lost, is_unsettled}
 use Rattle.flat_history.specs.Plain.{entries_of}
@@ -50,7 +50,7 @@ use Rattle.kept_history.proofs.Reshapes.{call-ends_none}
 use Rattle.kept_history.proofs.Turned.{begun-old, filled-before}
 use Rattle.kept_history.proofs.Turns.{either-call}
 use Rattle.moving_kept.specs.Moving.{IsReliable, AreToldGone}
-use Rattle.moving_kept.proofs.Behind.{IsAmong, early-losses, legal-losses, or-false}
+use Rattle.moving_kept.proofs.Behind.{IsAmong, early-losses, inner-of, legal-losses, or-false}
 use Rattle.moving_kept.proofs.ReadShapes.{IsShapeRead}
 
 -- what is told before it, of the roles that the old shape has
@@ -246,15 +246,11 @@ module _ (given : Given) (tape : List Operation) (scope : Scope) (first : ℕ) (
 
   -- ---- the history
 
-  inner : (event : Event) → MayBeInner event → (events : List Event) → IsInnerOrLast event (entries_of who end events)
-  inner event may [] = tt
-  inner event may (x ∷ events) = may
-
   -- its step is one of those that are left, and legal
   begun-legal : IfSome (told_left entries) (λ n. n ≡ left + 1) → IsLegalCall later entries who end (Step Begun left ∷ losses_of roles spares)
   begun-legal told = (
     known (list_any (λ e. disturbs e.event) (call_before entries entry ++ more)) (told_left entries) told,
-    inner (Step Begun left) tt (losses_of roles spares),
+    inner-of who end (Step Begun left) tt (losses_of roles spares),
     all-but (λ (l : List Event). IsLegalCall later (entries ++ entry ∷ []) who end l) (legal-losses later (entries ++ entry ∷ []) who end (losses_of roles spares) [] (losses-are roles spares) tt),
   )
     where

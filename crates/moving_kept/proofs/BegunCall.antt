@@ -1,12 +1,11 @@
 -- What `begin` leaves where it isn't refused is what is asked of a call by which a reshape begins, if that leaves the list's length.
-use Rattle.std.proofs.Common.{◌≡◌, ◌⊎◌, ℕ, ◌*◌, ◌<◌, nat_lt, min, Bool, true, false, List, ◌++◌, length, take_all, sym, ◌∙◌, ap, subst, arith}
+use Rattle.std.proofs.Common.{◌≡◌, ◌⊎◌, ℕ, ◌*◌, ◌<◌, nat_lt, min, Bool, true, false, List, ◌++◌, length, sym, ◌∙◌, ap, subst, arith}
 use Rattle.std.proofs.lemmas.Bool.Decides.{nat_tests}
 use Rattle.md_base.specs.declared.places.Shape.{Shape}
 use Rattle.md_base.specs.Shapes.{data_disks}
 use Rattle.bank.specs.declared.bank.Operation.{Operation}
 use Rattle.bank.specs.Given.{Given}
-use Rattle.bank.specs.Tape.{IsIn, contents, disk, value_after}
-use Rattle.bank.proofs.Images.{disk-some}
+use Rattle.bank.specs.Tape.{contents, disk}
 use Rattle.sb1.specs.declared.sb.Sb.{Sb}
 use Rattle.geometry.specs.Geometry.{AreInForce}
 use Rattle.superblocks.specs.declared.members.Members.{Members}
@@ -36,6 +35,7 @@ use Rattle.kept_history.specs.Safe.{world_in}
 use Rattle.kept_history.specs.Told.{told_now}
 use Rattle.kept_history.proofs.Calls.{now-live}
 use Rattle.kept_history.proofs.Growing.{room-now}
+use Rattle.kept_history.proofs.Lengths.{now-drawn}
 use Rattle.moving_kept.specs.Moving.{IsReliable, IsStillKept}
 use Rattle.moving_kept.proofs.Beginning.{IsBeginningCall}
 use Rattle.moving_kept.proofs.Behind.{IsAmong}
@@ -53,11 +53,6 @@ begun-length former newest to has still forward =
     (λ i. min (data_disks (has.old i)) (data_disks (has.new i)) * has.size i)
     ∙ ap (λ (n : ℕ). n * former.size) (least (data_disks (shape_of former)) (data_disks to) forward)
     ∙ ap (λ (s : Shape). min (data_disks (shape_of former)) (data_disks s) * former.size) (sym (final-still former still))
-
--- ---- the contents now are drawn from what a stop may leave
-
-now-drawn : (given : Given) (tape : List Operation) (s k : ℕ) → IsIn (disk given.start tape s k) (contents given.start tape (length tape) s k)
-now-drawn given tape s k = subst (λ (l : List Operation). IsIn (disk given.start tape s k) (value_after s k (given.start s k) l)) (sym (take_all (length tape) tape (omega arith))) (disk-some given.start tape s k)
 
 -- ---- the call
 

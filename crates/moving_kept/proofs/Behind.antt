@@ -36,30 +36,27 @@ use Rattle.moving_kept.specs.Moving.{IsReliable, AreToldGone}
 
 -- ---- losses
 
+-- what may stand before the last entry of a call may stand before whatever it enters
+pub inner-of : (who : Who) (end : ℕ) (event : Event) → MayBeInner event → (events : List Event) → IsInnerOrLast event (entries_of who end events)
+inner-of who end event may [] = tt
+inner-of who end event may (x ∷ events) = may
+
 -- losses are legal before whatever else a call enters
 pub legal-losses : (world : World) (before : List Entry) (who : Who) (end : ℕ) (xs tail : List Event) → AreLossEvents xs → IsLegalCall world (before ++ entries_of who end xs) who end tail
     → IsLegalCall world before who end (xs ++ tail)
 legal-losses world before who end [] tail are call = subst (λ (l : List Entry). IsLegalCall world l who end tail) (append-nil before) call
 legal-losses world before who end (Lost role Fault ∷ xs) tail are call = (
   tt,
-  inner (Lost role Fault) tt (xs ++ tail),
+  inner-of who end (Lost role Fault) tt (xs ++ tail),
   legal-losses world (before ++ entry_of who end (Lost role Fault) ∷ []) who end xs tail are
       (subst (λ (l : List Entry). IsLegalCall world l who end tail) (sym (append_assoc before (entry_of who end (Lost role Fault) ∷ []) (entries_of who end xs))) call),
 )
-  where
-    inner : (event : Event) → MayBeInner event → (events : List Event) → IsInnerOrLast event (entries_of who end events)
-    inner event may [] = tt
-    inner event may (x ∷ events) = may
 legal-losses world before who end (SpareLost slot ∷ xs) tail are call = (
   tt,
-  inner (SpareLost slot) tt (xs ++ tail),
+  inner-of who end (SpareLost slot) tt (xs ++ tail),
   legal-losses world (before ++ entry_of who end (SpareLost slot) ∷ []) who end xs tail are
       (subst (λ (l : List Entry). IsLegalCall world l who end tail) (sym (append_assoc before (entry_of who end (SpareLost slot) ∷ []) (entries_of who end xs))) call),
 )
-  where
-    inner : (event : Event) → MayBeInner event → (events : List Event) → IsInnerOrLast event (entries_of who end events)
-    inner event may [] = tt
-    inner event may (x ∷ events) = may
 legal-losses world before who end (event ∷ xs) tail are call = absurd are
 
 -- and none of them ends a reshape

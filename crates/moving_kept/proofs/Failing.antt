@@ -12,11 +12,10 @@ use Rattle.superblocks.specs.declared.members.Members.{Members}
 use Rattle.superblocks.specs.Reading.{Scope, is_clean, list_length, role_count}
 use Rattle.row_io.specs.Rows.{reading_of, present, is_missing}
 use Rattle.flat_history.specs.declared.events.Entry.{Entry}
-use Rattle.flat_history.specs.declared.events.Event.{Event}
 use Rattle.flat_history.specs.declared.events.Event.TheVariants.{Lost, Failed}
 use Rattle.flat_history.specs.declared.events.LostCause.TheVariants.{Command}
 use Rattle.flat_history.specs.Flat.{last_of}
-use Rattle.flat_history.specs.Legal.{is_lost_by_command, IsFailed, IsFailedByCall, MayBeInner, IsInnerOrLast}
+use Rattle.flat_history.specs.Legal.{is_lost_by_command, IsFailed, IsFailedByCall}
 use Rattle.flat_history.specs.OneShape.{is_lost}
 use Rattle.flat_history.specs.Plain.{entries_of}
 use Rattle.flat_history.specs.Sound.{OpensFit}
@@ -40,7 +39,7 @@ use Rattle.kept_history.specs.Safe.{world_in}
 use Rattle.course_kept.specs.declared.course.Course.{Course}
 use Rattle.course_kept.proofs.Courses.{courses-move, stored-moves}
 use Rattle.moving_kept.specs.Moving.{IsMoving}
-use Rattle.moving_kept.proofs.Behind.{AreEarly, AreLostOrMissing, IsAmong, early-losses, legal-losses}
+use Rattle.moving_kept.proofs.Behind.{AreEarly, AreLostOrMissing, IsAmong, early-losses, inner-of, legal-losses}
 use Rattle.moving_kept.proofs.MembersMove.{reshaping-moved}
 use Rattle.moving_kept.proofs.Quiet.{early-moves}
 use Rattle.moving_kept.proofs.Staying.{course-moved}
@@ -74,14 +73,10 @@ early-failed role roles spares = record {
 legal-failed : (world : World) (before : List Entry) (who : Who) (end role roles spares : ℕ) → IsLegalCall world before who end ((Lost role Command ∷ losses_of roles spares) ++ Failed role ∷ [])
 legal-failed world before who end role roles spares = (
   last,
-  inner (Lost role Command) tt (losses_of roles spares ++ Failed role ∷ []),
+  inner-of who end (Lost role Command) tt (losses_of roles spares ++ Failed role ∷ []),
   legal-losses world (before ++ entry_of who end (Lost role Command) ∷ []) who end (losses_of roles spares) (Failed role ∷ []) (losses-are roles spares) (failed, tt, tt),
 )
   where
-    inner : (event : Event) → MayBeInner event → (events : List Event) → IsInnerOrLast event (entries_of who end events)
-    inner event may [] = tt
-    inner event may (x ∷ events) = may
-
     last : MatchOption (last_of (entries_of who end (losses_of roles spares ++ Failed role ∷ []))) ⊥ (λ last. IsFailed role last.event)
     last = subst (λ (o : Option Entry). MatchOption o ⊥ (λ last. IsFailed role last.event))
         (sym (ap (λ (l : List Entry). last_of l) (entries-both who end (losses_of roles spares) (Failed role ∷ [])) ∙ last-snoc (entries_of who end (losses_of roles spares)) (entry_of who end (Failed role)))) refl
