@@ -43,7 +43,7 @@ use Rattle.window_steps.proofs.CopyLaws.{open-alike}
 use Rattle.window_steps.proofs.PastLaws.{header-alike, past-placed}
 use Rattle.grow_asked.specs.declared.window.Window.{Window}
 use Rattle.grow_asked.specs.declared.window.Window.TheVariants.{Closed, Entered, Unsure}
-use Rattle.course_kept.specs.Course.{IsOfStripes, hidden_in, IsStoredAs, StandsInCourse, past_stripe}
+use Rattle.course_kept.specs.Course.{IsOfStripes, hidden_in, IsStoredAs, HasSection, IsSectionKept, StandsInCourse, past_stripe}
 use Rattle.course_kept.specs.Laws.{BeginsStand, EntersStand, CoursesMove, CopiesGoOn, CoursesAreCopied, WindowsAreCopied, RecordsClose, ZeroesGoOn, ZeroesAreAll, StoredMove, OpenHeadersFit, entered, closed, next_stripe}
 use Rattle.course_kept.proofs.Frames.{stands-on, past-alike}
 
@@ -335,22 +335,29 @@ zeroes-are-all sound given m buffer c list placed active forth was = record {
 -- ---- the headers
 
 pub stored-moves : StoredMove
-stored-moves scope given old new window d e moved fewer was = record {
+stored-moves scope given old new window buffer d e moved kept was = record {
   section = of window was.section;
-  headers = λ backup header here may. header-alike old.newest new.newest moved.reshape moved.shape moved.size scope header (was.headers backup header here (fewer backup header may));
+  sectors = has window kept.section was.sectors;
+  headers = λ backup header here may. header-alike old.newest new.newest moved.reshape moved.shape moved.size scope header (was.headers backup header here (kept.headers backup header may));
 }
   where
     alike : (header : Sector) → open_by scope new.newest header ≡ open_by scope old.newest header
     alike header = open-alike old.newest new.newest moved.reshape moved.shape moved.size scope header
 
     of : (window : Window) → IsStoredAs scope old window d → IsStoredAs scope new window e
-    of Closed is = λ header may. alike header ∙ is header (fewer (backup_of scope) header may)
-    of (Entered span copied true) is = λ header may. alike header ∙ is header (fewer (backup_of scope) header may)
-    of (Entered span copied false) is = λ header may. alike header ∙ is header (fewer (backup_of scope) header may)
-    of (Unsure span) is = λ header may. elim (is header (fewer (backup_of scope) header may)) [
+    of Closed is = λ header may. alike header ∙ is header (kept.headers (backup_of scope) header may)
+    of (Entered span copied true) is = λ header may. alike header ∙ is header (kept.headers (backup_of scope) header may)
+    of (Entered span copied false) is = λ header may. alike header ∙ is header (kept.headers (backup_of scope) header may)
+    of (Unsure span) is = λ header may. elim (is header (kept.headers (backup_of scope) header may)) [
       | inl none ↦ inl (alike header ∙ none)
       | inr some ↦ inr (alike header ∙ some)
     ]
+
+    has : (window : Window) → IsSectionKept scope window d e → HasSection scope window buffer d → HasSection scope window buffer e
+    has Closed fewer is = tt
+    has (Entered span copied true) fewer is = λ i lt v may. is i lt v (fewer (8 + i) v may)
+    has (Entered span copied false) fewer is = tt
+    has (Unsure span) fewer is = λ i lt v may. is i lt v (fewer (8 + i) v may)
 
 -- an active section is named by its header
 open-named : (scope : Scope) (newest : Sb) (header : Sector) (span : Span) → open_by scope newest header ≡ Some span → (next_window newest ≡ Some span) × (names_span header span ≡ true)

@@ -1,16 +1,18 @@
 -- The list that stands in a course stands whichever header a stop leaves in the backup.
-use Rattle.std.proofs.Common.{inl, inr, ℕ, true, false, Option, Some, None, refl, sym, subst}
+use Rattle.std.proofs.Common.{◌≡◌, inl, inr, ℕ, ◌+◌, ◌-◌, ◌<◌, ◌≤◌, true, false, Option, Some, None, List, [], ◌∷◌, refl, sym, ◌∙◌, subst, arith}
 use Rattle.md_base.specs.declared.places.Span.{Span}
 use Rattle.md_base.specs.Sectors.{Sector}
 use Rattle.bank.specs.Tape.{IsIn}
 use Rattle.superblocks.specs.declared.members.Members.{Members}
 use Rattle.superblocks.specs.Reading.{Scope}
 use Rattle.shape_views.specs.Regions.{backup_of, open_by}
-use Rattle.shape_views.specs.Views.{Disk}
+use Rattle.parity.specs.Rows.{sector_of}
+use Rattle.shape_views.specs.Views.{AreSectionsAllowed, Disk}
 use Rattle.shape_views.specs.Windows.{IsShown, ListStands, RowsStand}
 use Rattle.grow_asked.specs.declared.window.Window.{Window}
 use Rattle.grow_asked.specs.declared.window.Window.TheVariants.{Closed, Entered, Unsure}
-use Rattle.course_kept.specs.Course.{hidden_in, IsStoredAs}
+use Rattle.window_rows.specs.Copies.{HasWindow}
+use Rattle.course_kept.specs.Course.{hidden_in, HasWindowIn, IsStoredAs, HasSection}
 use Rattle.course_kept.specs.Laws.{CoursesStandUnder}
 
 -- what is so of the hidden span is so of the active section, if it is so of a section where it is so of none
@@ -28,11 +30,44 @@ under scope m d P narrow (Unsure span) stored holds header may = elim (stored he
 shown-wide : (m : Members) (span : Span) (x : ℕ) → IsShown (Some span) m.newest x → IsShown None m.newest x
 shown-wide m span x shown = record { within = shown.within; outside = refl }
 
+-- such a section has the list's sectors, as the buffer
+section-has : (scope : Scope) (d : Disk) (buffer : List ℕ) (list : ℕ → Sector) (own span : Span) → ◌≡◌ {A = Option Span} (Some own) (Some span)
+    → ((i : ℕ) → i < own.hi - own.lo → (v : Sector) → IsIn (d (backup_of scope) (8 + i)) v → v ≡ sector_of buffer i) → HasWindow own buffer list
+    → (x : ℕ) → span.lo ≤ x → x < span.hi → (v : Sector) → IsIn (d (backup_of scope) (8 + (x - span.lo))) v → IsIn (list x ∷ []) v
+section-has scope d buffer list own span same has holds x low high v is = inl (subst (λ (o : Span). v ≡ sector_of buffer (x - o.lo)) one (has (x - own.lo) within v here)
+    ∙ subst (λ (o : Span). sector_of buffer (x - o.lo) ≡ list x) one (holds x (low_own, high_own)))
+  where
+    one : own ≡ span
+    one = cc
+
+    low_own : own.lo ≤ x
+    low_own = subst (λ (o : Span). o.lo ≤ x) (sym one) low
+
+    high_own : x < own.hi
+    high_own = subst (λ (o : Span). x < o.hi) (sym one) high
+
+    within : x - own.lo < own.hi - own.lo
+    within = let a = low_own in let b = high_own in omega (arith, a, b)
+
+    here : IsIn (d (backup_of scope) (8 + (x - own.lo))) v
+    here = subst (λ (o : Span). IsIn (d (backup_of scope) (8 + (x - o.lo))) v) (sym one) is
+
+-- the section that a header makes active is the window's
+sections-of : (scope : Scope) (m : Members) (d : Disk) (window : Window) (buffer : List ℕ) (list : ℕ → Sector) → IsStoredAs scope m window d → HasSection scope window buffer d → HasWindowIn window buffer list
+    → AreSectionsAllowed scope m (λ x. list x ∷ []) d
+sections-of scope m d Closed buffer list stored sectors window header may span active = absurd (let none = sym (stored header may) ∙ active in cc)
+sections-of scope m d (Entered own copied true) buffer list stored sectors window header may span active = section-has scope d buffer list own span (sym (stored header may) ∙ active) sectors window.1
+sections-of scope m d (Entered own copied false) buffer list stored sectors window header may span active = absurd (let none = sym (stored header may) ∙ active in cc)
+sections-of scope m d (Unsure own) buffer list stored sectors window header may span active = elim (stored header may) [
+  | inl none ↦ absurd (let both = sym none ∙ active in cc)
+  | inr some ↦ section-has scope d buffer list own span (sym some ∙ active) sectors window.1
+]
+
 pub courses-stand-under : (sound : Type 0) → CoursesStandUnder sound
-courses-stand-under sound scope m course buffer c d list stored sections was = (
+courses-stand-under sound scope m course buffer c d list stored was = (
   record {
     outside = under scope m d (λ (hidden : Option Span). ListStands hidden m c list) (λ span stands x slot shown held. stands x slot (shown-wide m span x shown) held) course.window stored.section was.stands;
-    sections = sections;
+    sections = sections-of scope m d course.window buffer list stored.section stored.sectors was.window;
   },
   λ so. record {
     rows = under scope m d (λ (hidden : Option Span). RowsStand hidden m c list) (λ span stand x shown. stand x (shown-wide m span x shown)) course.window stored.section (was.rows so);

@@ -1,21 +1,24 @@
 -- How far a reshape has come: its window, what headers a stop leaves of it in the backup, and the rows that stand by the new shape already.
-use Rattle.std.specs.Prelude.{◌≡◌, ℕ, ◌+◌, ◌*◌, ◌/◌, ◌<◌, ◌≤◌, true, false, List, Option, Some, None, ⊤}
+use Rattle.std.specs.Prelude.{◌≡◌, ℕ, ◌+◌, ◌-◌, ◌*◌, ◌/◌, ◌<◌, ◌≤◌, true, false, List, Option, Some, None, ⊤}
 use Rattle.md_base.specs.declared.places.Shape.{Shape}
 use Rattle.md_base.specs.declared.places.Span.{Span}
 use Rattle.md_base.specs.Sectors.{Sector, zero_sector}
 use Rattle.md_base.specs.Shapes.{stripe_sectors}
-use Rattle.bank.specs.Tape.{Contents}
+use Rattle.bank.specs.Tape.{Contents, IsIn}
 use Rattle.sb1.specs.declared.sb.Sb.{Sb}
+use Rattle.parity.specs.Rows.{sector_of}
 use Rattle.geometry.specs.Geometry.{ceiling, stripes, is_critical, zeroed_stripes}
 use Rattle.superblocks.specs.declared.members.Members.{Members}
 use Rattle.superblocks.specs.Reading.{Scope, is_backward, shape_of, final_shape, list_length, next_window}
 use Rattle.row_io.specs.Rows.{reading_of}
 use Rattle.list_io.specs.Full.{RowStands}
+use Rattle.shape_views.specs.Regions.{backup_of}
 use Rattle.shape_views.specs.Views.{AreHeadersFit, Disk}
 use Rattle.shape_views.specs.Windows.{HasNoSection, ListStands, RowsStand, AreTailsStanding}
 use Rattle.shape_views.specs.Backups.{IsOpenUnderAll, IsOpenOrNot}
 use Rattle.shape_ends.specs.Grown.{IsZeroPast}
 use Rattle.window_rows.specs.Copies.{HasWindow, IsRoomFor}
+use Rattle.window_steps.specs.Copying.{AreHeadersKept}
 use Rattle.window_steps.specs.Zeroing.{IsThrough}
 use Rattle.course_kept.specs.declared.course.Course.{Course}
 use Rattle.grow_asked.specs.declared.window.Window.{Window}
@@ -52,10 +55,30 @@ IsStoredAs scope m (Entered span copied true) d = IsOpenUnderAll scope m span d
 IsStoredAs scope m (Entered span copied false) d = HasNoSection scope m d
 IsStoredAs scope m (Unsure span) d = IsOpenOrNot scope m span d
 
+-- the section's sectors are the buffer's alone, where one is stored
+abbrev pub HasSection : Scope → Window → List ℕ → Disk → Type 0
+HasSection scope Closed buffer d = ⊤
+HasSection scope (Entered span copied true) buffer d = (i : ℕ) → i < span.hi - span.lo → (v : Sector) → IsIn (d (backup_of scope) (8 + i)) v → v ≡ sector_of buffer i
+HasSection scope (Entered span copied false) buffer d = ⊤
+HasSection scope (Unsure span) buffer d = (i : ℕ) → i < span.hi - span.lo → (v : Sector) → IsIn (d (backup_of scope) (8 + i)) v → v ≡ sector_of buffer i
+
 -- so it is, and each section that a header names is that of the next window, or lies in the new region
-pub record IsStored (scope : Scope) (m : Members) (window : Window) (d : Disk) : Type 0 where
+pub record IsStored (scope : Scope) (m : Members) (window : Window) (buffer : List ℕ) (d : Disk) : Type 0 where
   pub section : IsStoredAs scope m window d
+  pub sectors : HasSection scope window buffer d
   pub headers : AreHeadersFit scope m d
+
+-- a stop leaves nothing new of the backup, where a section is stored
+abbrev pub IsSectionKept : Scope → Window → Disk → Disk → Type 0
+IsSectionKept scope Closed d e = ⊤
+IsSectionKept scope (Entered span copied true) d e = (k : ℕ) (v : Sector) → IsIn (e (backup_of scope) k) v → IsIn (d (backup_of scope) k) v
+IsSectionKept scope (Entered span copied false) d e = ⊤
+IsSectionKept scope (Unsure span) d e = (k : ℕ) (v : Sector) → IsIn (e (backup_of scope) k) v → IsIn (d (backup_of scope) k) v
+
+-- nor of headers
+pub record IsBackupKept (scope : Scope) (window : Window) (d e : Disk) : Type 0 where
+  pub headers : AreHeadersKept d e
+  pub section : IsSectionKept scope window d e
 
 -- ---- rows
 

@@ -1,5 +1,5 @@
 -- What a step makes of the course of a reshape, by what its call leaves: on members that lost slots, with a stripe copied, recorded or zeroed.
-use Rattle.std.specs.Prelude.{◌≡◌, ℕ, ◌+◌, ◌/◌, ◌<◌, Bool, true, false, List, [], ◌∷◌, Some, None}
+use Rattle.std.specs.Prelude.{◌≡◌, ℕ, ◌+◌, ◌/◌, ◌<◌, Bool, true, false, List, Some, None}
 use Rattle.md_base.specs.declared.places.Span.{Span}
 use Rattle.md_base.specs.Sectors.{Sector, zero_sector}
 use Rattle.md_base.specs.Shapes.{stripe_sectors}
@@ -12,7 +12,7 @@ use Rattle.superblocks.specs.Reading.{Scope, is_reshaping, is_backward, shape_of
 use Rattle.row_io.specs.Rows.{reading_of}
 use Rattle.list_io.specs.Full.{RowStands}
 use Rattle.shape_views.specs.Regions.{ArePlaced}
-use Rattle.shape_views.specs.Views.{AreHeadersFit, AreSectionsAllowed, Disk}
+use Rattle.shape_views.specs.Views.{AreHeadersFit, Disk}
 use Rattle.shape_views.specs.Windows.{ListStands, RowsStand, moved_past}
 use Rattle.shape_views.specs.Backups.{IsOpenUnderAll}
 use Rattle.shape_changes.specs.Marking.{AreOthersPresent}
@@ -24,12 +24,11 @@ use Rattle.views.specs.Moving.{IsMoved}
 use Rattle.views.specs.Lacking.{IsOfStripe, AreOtherRowsKept}
 use Rattle.views.specs.Under.{StandsUnder, RowsStandUnder}
 use Rattle.window_rows.specs.Copies.{tail_of, HasWindow, IsRoomFor, IsCopied}
-use Rattle.window_steps.specs.Copying.{AreHeadersKept}
 use Rattle.window_steps.specs.Zeroing.{IsThrough}
 use Rattle.course_kept.specs.declared.course.Course.{Course}
 use Rattle.grow_asked.specs.declared.window.Window.{Window}
 use Rattle.grow_asked.specs.declared.window.Window.TheVariants.{Closed, Entered, Unsure}
-use Rattle.course_kept.specs.Course.{IsStored, StandsInCourse, past_stripe}
+use Rattle.course_kept.specs.Course.{IsStored, IsBackupKept, StandsInCourse, past_stripe}
 
 -- ---- what stands
 
@@ -111,16 +110,17 @@ abbrev pub ZeroesAreAll : (sound : Type 0) → Type 0
 ZeroesAreAll sound = (given : Given) (m : Members) (buffer : List ℕ) (c : Contents) (list : ℕ → Sector) → IsPlaced given m → is_reshaping m.newest ≡ true → is_backward m.newest ≡ false
     → StandsInCourse sound m (closed (zeroed_stripes (shape_of m.newest) (final_shape m.newest) m.newest.size (is_backward m.newest))) buffer c list → IsZeroBehind m c list
 
--- Where an active section has the list's sectors alone, the list stands whichever header a stop leaves, and so do its rows.
+-- The list stands whichever header a stop leaves, and so do its rows.
 abbrev pub CoursesStandUnder : (sound : Type 0) → Type 0
-CoursesStandUnder sound = (scope : Scope) (m : Members) (course : Course) (buffer : List ℕ) (c : Contents) (d : Disk) (list : ℕ → Sector) → IsStored scope m course.window d
-    → AreSectionsAllowed scope m (λ x. list x ∷ []) d → StandsInCourse sound m course buffer c list → StandsUnder scope m c d list × (sound → RowsStandUnder scope m c d list)
+CoursesStandUnder sound = (scope : Scope) (m : Members) (course : Course) (buffer : List ℕ) (c : Contents) (d : Disk) (list : ℕ → Sector)
+    → IsStored scope m course.window buffer d → StandsInCourse sound m course buffer c list → StandsUnder scope m c d list × (sound → RowsStandUnder scope m c d list)
 
 -- ---- the headers
 
--- Where a stop leaves no other headers, members that lost slots have the same stored.
+-- Where a stop leaves nothing new of the backup, members that lost slots have the same stored.
 abbrev pub StoredMove : Type 0
-StoredMove = (scope : Scope) (given : Given) (old new : Members) (window : Window) (d e : Disk) → IsMoved given old new → AreHeadersKept d e → IsStored scope old window d → IsStored scope new window e
+StoredMove = (scope : Scope) (given : Given) (old new : Members) (window : Window) (buffer : List ℕ) (d e : Disk) → IsMoved given old new → IsBackupKept scope window d e
+    → IsStored scope old window buffer d → IsStored scope new window buffer e
 
 -- Headers under each of which the window's section is active fit.
 abbrev pub OpenHeadersFit : Type 0

@@ -125,7 +125,7 @@ begun-moves tells given tape tape' scope first entries old plan new carried carr
   gone = λ t. (leaves t).gone;
   unclean = λ t. (leaves t).unclean;
   recorded = λ t. (leaves t).recorded;
-  stored = λ t. let plain = cleared-plain scope new (disk given.start tape') (cleared t) in record { section = plain.0; headers = plain.1 };
+  stored = λ t. let plain = cleared-plain scope new (disk given.start tape') (cleared t) in record { section = plain.0; sectors = tt; headers = plain.1 };
   listed = λ t. (leaves t).listed;
   safe = λ t. (leaves t).safe;
   now_safe = λ t. (leaves t).now_safe;

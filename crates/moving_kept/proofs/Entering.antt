@@ -68,7 +68,7 @@ module _ (tells : Type 0) (given : Given) (tape tape' : List Operation) (scope :
   -- the window is entered, with its section or without one
   pub entered-moves : (sectioned : Bool) (left : ℕ) → IsMoving tells given tape scope first entries old carried (closed 0) former (left + 1) → left ≢ 0
       → (is_critical (shape_of old.newest) (final_shape old.newest) old.newest.size (is_backward old.newest) span ≡ true → sectioned ≡ true)
-      → (tells → IsStored scope new (Entered span 0 sectioned) (disk given.start tape'))
+      → (tells → IsStored scope new (Entered span 0 sectioned) buffer (disk given.start tape'))
       → IsMoving tells given tape' scope first (entries ++ entries_of who end (losses_of roles spares ++ Step EntersWindow left ∷ [])) new carried (entered span 0 sectioned) buffer left
   entered-moves sectioned left was some critical stored =
       quiet-moves tells given tape tape' scope first entries old new carried (closed 0) (entered span 0 sectioned) former buffer (left + 1) left who end roles spares (Step EntersWindow left)
@@ -103,7 +103,7 @@ module _ (tells : Type 0) (given : Given) (tape tape' : List Operation) (scope :
       moved = did.moved
 
   -- its section couldn't be named, for the backup failed: it is unsure
-  pub unsure-moves : (left : ℕ) → IsMoving tells given tape scope first entries old carried (closed 0) former left → (tells → IsStored scope new (Unsure span) (disk given.start tape'))
+  pub unsure-moves : (left : ℕ) → IsMoving tells given tape scope first entries old carried (closed 0) former left → (tells → IsStored scope new (Unsure span) buffer (disk given.start tape'))
       → IsMoving tells given tape' scope first (entries ++ entries_of who end (losses_of roles spares ++ Refused BackupFault ∷ [])) new carried (unsure span) buffer left
   unsure-moves left was stored =
       quiet-moves tells given tape tape' scope first entries old new carried (closed 0) (unsure span) former buffer left left who end roles spares (Refused BackupFault)

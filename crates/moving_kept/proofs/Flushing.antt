@@ -22,7 +22,7 @@ use Rattle.flat_history.specs.Plain.{entries_of}
 use Rattle.flat_history.specs.Sound.{OpensFit}
 use Rattle.flat_history.specs.World.{World, opening_list}
 use Rattle.shape_views.specs.Regions.{DoWithout}
-use Rattle.shape_views.specs.Views.{Ledger, AreSectionsAllowed}
+use Rattle.shape_views.specs.Views.{Ledger}
 use Rattle.shape_changes.specs.Marking.{AreOthersPresent}
 use Rattle.shape_changes.specs.Safety.{HasRoomLeft, IsRisen}
 use Rattle.shape_changes.specs.Steady.{IsSafeOver, KeepsSafe, AreGoneTold, IsUncleanTold, AreWritesAllowed, settled_ledger}
@@ -35,12 +35,11 @@ use Rattle.views.proofs.LackingLaws.{never-both}
 use Rattle.call_entries.specs.Losing.{losses_of}
 use Rattle.call_entries.proofs.CallLaws.{losses-are, values-losses}
 use Rattle.call_entries.proofs.LeftLaws.{left-behind, left-more}
-use Rattle.window_steps.specs.Copying.{AreHeadersKept}
 use Rattle.kept_history.specs.Recorded.{IsCallGoing}
 use Rattle.kept_history.specs.Safe.{world_in, IsFilledRight}
 use Rattle.kept_history.proofs.Entered.{values-more}
 use Rattle.course_kept.specs.declared.course.Course.{Course}
-use Rattle.course_kept.specs.Course.{StandsInCourse}
+use Rattle.course_kept.specs.Course.{IsBackupKept}
 use Rattle.course_kept.proofs.Courses.{courses-move, stored-moves}
 use Rattle.course_kept.proofs.Under.{courses-stand-under}
 use Rattle.moving_kept.specs.Moving.{HasListInCourse, IsMoving}
@@ -70,11 +69,9 @@ pub record AreFlushed (tells : Type 0) (given : Given) (tape tape' : List Operat
   pub since : AreMissingSince old new roles
   pub rise : tells → IsRisen ⊤ old new tape tape'
   pub others : tells → AreOthersPresent (present given tape) (present given tape')
-  pub headers : tells → AreHeadersKept (disk given.start tape) (disk given.start tape')
+  pub backup : tells → IsBackupKept scope course.window (disk given.start tape) (disk given.start tape')
   pub pending : tells → is_unsynced (world_in given tape scope first) entries ≡ unsynced
   pub dirty : tells → DoWithout old → unsynced ≡ true → is_clean old.newest ≡ false
-  pub sections : tells → DoWithout old → (list : ℕ → Sector) → StandsInCourse (OpensFit (world_in given tape scope first)) old course buffer (present given tape) list
-      → AreSectionsAllowed scope old (λ x. list x ∷ []) (disk given.start tape)
   pub safe : tells → (world : World) → (told : Ledger) → HasRoomLeft old tape tape' → AreGoneTold told new → IsUncleanTold told old → (list : ℕ → Sector)
       → (DoWithout old → StandsUnder world.scope old (present given tape) (disk given.start tape) list)
       → (unsynced ≡ false → DoWithout old → OpensFit world → RowsStandUnder world.scope old (present given tape) (disk given.start tape) list)
@@ -104,8 +101,7 @@ module _ (tells : Type 0) (given : Given) (tape tape' : List Operation) (scope :
   flushable t fills = elim (without-or old) [
     | inl does ↦
         let l = was.listed t does fills in
-        let both = courses-stand-under (OpensFit (world_in given tape scope first)) scope old course buffer (present given tape) (disk given.start tape) l.list (was.stored t)
-        (did.sections t does l.list l.stands) l.stands in
+        let both = courses-stand-under (OpensFit (world_in given tape scope first)) scope old course buffer (present given tape) (disk given.start tape) l.list (was.stored t) l.stands in
         record {
           list = l.list;
           is = l.is;
@@ -151,7 +147,7 @@ module _ (tells : Type 0) (given : Given) (tape tape' : List Operation) (scope :
       settling-moves tells given tape tape' scope first entries old new carried unsynced course course buffer buffer left left who end roles spares event was goes caller at_end grows settling
       (reshaping-moved scope given old new did.moved was.members_are) did.few (missing-moved roles did.moved did.since) list-same level-same done.clean did.pending
       (course-moved given old new course did.moved was.course_is)
-      (λ t. stored-moves scope given old new course.window (disk given.start tape) (disk given.start tape') did.moved (did.headers t) (was.stored t))
+      (λ t. stored-moves scope given old new course.window buffer (disk given.start tape) (disk given.start tape') did.moved (did.backup t) (was.stored t))
       (left-more left entries who end (losses_of roles spares ++ event ∷ []) was.left_told (left-behind left who end (losses_of roles spares) (event ∷ []) (losses-are roles spares) (settling.tells left who end)))
       (λ t. record {
         rise = did.rise t;
@@ -175,7 +171,7 @@ module _ (tells : Type 0) (given : Given) (tape tape' : List Operation) (scope :
       (record { adds = refl; gives = refl; ends = refl; level = λ n. refl })
       (reshaping-moved scope given old new did.moved was.members_are) did.few (missing-moved roles did.moved did.since) list-same level-same (λ dirty. inr (unsettled refusal many))
       (course-moved given old new course did.moved was.course_is)
-      (λ t. stored-moves scope given old new course.window (disk given.start tape) (disk given.start tape') did.moved (did.headers t) (was.stored t))
+      (λ t. stored-moves scope given old new course.window buffer (disk given.start tape) (disk given.start tape') did.moved (did.backup t) (was.stored t))
       (left-more left entries who end (losses_of roles spares ++ Refused refusal ∷ []) was.left_told (left-behind left who end (losses_of roles spares) (Refused refusal ∷ []) (losses-are roles spares) (λ told is. is)))
       (λ t. record {
         rise = did.rise t;

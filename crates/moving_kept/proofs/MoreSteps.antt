@@ -68,7 +68,7 @@ zeroed-moves tells given tape tape' scope first entries old new carried zeroed b
     quiet-moves tells given tape tape' scope first entries old new carried (closed zeroed) (closed (zeroed + 1)) buffer buffer (left + 1) left who end roles spares (Step ZeroesStripe left)
     was goes caller at_end grows (quiet-step ZeroesStripe left tt some) (reshaping-moved scope given old new moved was.members_are) few (missing-moved roles moved since)
     (list-alike old.newest new.newest moved.reshape moved.shape moved.size) (ap (λ (s : Shape). s.level) moved.shape) clean course_is
-    (λ t. stored-moves scope given old new Closed (disk given.start tape) (disk given.start tape') moved (headers t) (was.stored t))
+    (λ t. stored-moves scope given old new Closed buffer (disk given.start tape) (disk given.start tape') moved (record { headers = headers t; section = tt }) (was.stored t))
     (told-step entries who end (losses_of roles spares) ZeroesStripe left (losses-are roles spares))
     (λ t. record {
       rise = rise t;
@@ -112,7 +112,7 @@ recorded-moves tells given tape tape' scope first entries old new carried span s
     was goes caller at_end grows (quiet-step RecordsWindow left tt some) (reshaping-past scope given old new span was.course_is.window.0 moved was.members_are) few (missing-moved roles moved since)
     (list-alike (moved_past span old).newest new.newest moved.reshape moved.shape moved.size) (ap (λ (s : Shape). s.level) moved.shape) clean
     (record { window = tt; through = λ some. absurd (omega (arith, some)); few = omega arith })
-    (λ t. let now = plain t (was.stored t).headers in record { section = now.0; headers = now.1 })
+    (λ t. let now = plain t (was.stored t).headers in record { section = now.0; sectors = tt; headers = now.1 })
     (told-step entries who end (losses_of roles spares) RecordsWindow left (losses-are roles spares))
     (λ t. record {
       rise = rise t;

@@ -309,7 +309,7 @@ pub settling-moves : (tells : Type 0) (given : Given) (tape tape' : List Operati
     → AreReshaping scope given new → role_count new.newest ≤ 16
     → AreLostOrMissing old new (IsAmong roles)
     → list_length new.newest ≡ list_length old.newest → (shape_of new.newest).level ≡ (shape_of old.newest).level → (unsynced ≡ false → is_clean new.newest ≡ true)
-    → (tells → is_unsynced (world_in given tape scope first) entries ≡ unsynced) → IsCourseOf new.newest course' → (tells → IsStored scope new course'.window (disk given.start tape'))
+    → (tells → is_unsynced (world_in given tape scope first) entries ≡ unsynced) → IsCourseOf new.newest course' → (tells → IsStored scope new course'.window buffer' (disk given.start tape'))
     → IfSome (told_left (entries ++ entries_of who end (losses_of roles spares ++ event ∷ []))) (λ n. n ≡ left')
     → (tells → IsSettlingCall given tape scope first entries old new carried unsynced course' buffer' who roles spares event tape' end)
     → IsMoving tells given tape' scope first (entries ++ entries_of who end (losses_of roles spares ++ event ∷ [])) new carried course' buffer' left'

@@ -40,12 +40,11 @@ use Rattle.call_entries.specs.Losing.{losses_of}
 use Rattle.call_entries.proofs.CallLaws.{AreLossEvents, losses-are}
 use Rattle.call_entries.proofs.LeftLaws.{left-behind, left-more, fold-left}
 use Rattle.window_rows.specs.Copies.{tail_of, IsCopied}
-use Rattle.window_steps.specs.Copying.{AreHeadersKept}
 use Rattle.kept_history.specs.Recorded.{IsCallGoing, entry_of}
 use Rattle.kept_history.specs.Safe.{world_in}
 use Rattle.window_steps.proofs.CopyLaws.{window-alike, critical-alike}
 use Rattle.grow_asked.specs.declared.window.Window.TheVariants.{Entered}
-use Rattle.course_kept.specs.Course.{IsWindowOf, IsCourseOf, IsStoredAs, IsStored}
+use Rattle.course_kept.specs.Course.{IsBackupKept, IsWindowOf, IsCourseOf, IsStoredAs, IsStored}
 use Rattle.course_kept.specs.Laws.{entered, next_stripe}
 use Rattle.course_kept.proofs.Courses.{copies-go-on, courses-copied, stored-moves}
 use Rattle.moving_kept.specs.Moving.{HasListInCourse, IsMoving}
@@ -142,7 +141,7 @@ pub copied-moves : (tells : Type 0) (given : Given) (tape tape' : List Operation
     (span : Span) (copied : ℕ) (sectioned : Bool) (buffer : List ℕ) (left : ℕ) (who : Who) (end roles spares : ℕ)
     → IsMoving tells given tape scope first entries old carried (entered span copied sectioned) buffer (left + 1) → IsCallGoing entries who → IsFalse (who.caller == 254) → (tells → end ≡ length tape') → Grows tells tape tape'
     → copied < stripes (final_shape old.newest) span.lo span.hi → left ≢ 0 → IsMoved given old new → role_count new.newest ≤ 16 → AreMissingSince old new roles → is_clean new.newest ≡ is_clean old.newest
-    → (tells → IsRisen ⊤ old new tape tape') → (tells → AreHeadersKept (disk given.start tape) (disk given.start tape'))
+    → (tells → IsRisen ⊤ old new tape tape') → (tells → IsBackupKept scope (Entered span copied sectioned) (disk given.start tape) (disk given.start tape'))
     → (tells → AreOtherRowsKept (IsOfStripe (final_shape old.newest) (next_stripe old span copied)) (reading_of new) (present given tape) (present given tape'))
     → (tells → (list : ℕ → Sector) → IsCopied span buffer (tail_of old.newest) list → (row : ℕ) → IsOfStripe (final_shape old.newest) (next_stripe old span copied) row
     → RowStands (reading_of new) (present given tape') (final_shape old.newest) list row)
@@ -173,12 +172,12 @@ copied-moves tells given tape tape' scope first entries old new carried span cop
       few = omega arith;
     }
 
-    stored : IsStored scope old (Entered span copied sectioned) (disk given.start tape) → AreHeadersKept (disk given.start tape) (disk given.start tape') → IsStored scope new (Entered span (copied + 1) sectioned) (disk given.start tape')
-    stored before kept = more_copied sectioned (stored-moves scope given old new (Entered span copied sectioned) (disk given.start tape) (disk given.start tape') moved kept before)
+    stored : IsStored scope old (Entered span copied sectioned) buffer (disk given.start tape) → IsBackupKept scope (Entered span copied sectioned) (disk given.start tape) (disk given.start tape') → IsStored scope new (Entered span (copied + 1) sectioned) buffer (disk given.start tape')
+    stored before kept = more_copied sectioned (stored-moves scope given old new (Entered span copied sectioned) buffer (disk given.start tape) (disk given.start tape') moved kept before)
       where
-        more_copied : (which : Bool) → IsStored scope new (Entered span copied which) (disk given.start tape') → IsStored scope new (Entered span (copied + 1) which) (disk given.start tape')
-        more_copied true is = record { section = is.section; headers = is.headers }
-        more_copied false is = record { section = is.section; headers = is.headers }
+        more_copied : (which : Bool) → IsStored scope new (Entered span copied which) buffer (disk given.start tape') → IsStored scope new (Entered span (copied + 1) which) buffer (disk given.start tape')
+        more_copied true is = record { section = is.section; sectors = is.sectors; headers = is.headers }
+        more_copied false is = record { section = is.section; sectors = is.sectors; headers = is.headers }
 
     on : tells → HasListInCourse (OpensFit (world_in given tape scope first)) old (entered span copied sectioned) buffer (present given tape) (now (opening_list (world_in given tape scope first)) entries)
         → HasListInCourse (OpensFit (world_in given tape scope first)) new (entered span (copied + 1) sectioned) buffer (present given tape') (now (opening_list (world_in given tape scope first)) entries)

@@ -94,7 +94,7 @@ pub record IsMoving (tells : Type 0) (given : Given) (tape : List Operation) (sc
   pub gone : tells → IsReliable (world_in given tape scope first) entries → AreToldGone (world_in given tape scope first) entries members
   pub unclean : tells → is_clean members.newest ≡ false → (is_unsynced (world_in given tape scope first) entries || is_unsettled entries) ≡ true
   pub recorded : tells → IsHistoryKept (IsReliable (world_in given tape scope first) entries) (world_in given tape scope first) (list_length members.newest) entries
-  pub stored : tells → IsStored scope members course.window (disk given.start tape)
+  pub stored : tells → IsStored scope members course.window buffer (disk given.start tape)
   pub listed : tells → DoWithout members → IsFilledRight (world_in given tape scope first) entries
       → HasListInCourse (OpensFit (world_in given tape scope first)) members course buffer (present given tape) (now (opening_list (world_in given tape scope first)) entries)
   pub safe : tells → IsFilledRight (world_in given tape scope first) entries → HasRoomForEvents (world_in given tape scope first) → OpensAlike (world_in given tape scope first)
