@@ -1,12 +1,9 @@
 -- The view that an update plans which gives a role to a slot: the members with the role given, without the slots that are lost.
-use Rattle.std.proofs.Common.{◌≡◌, inl, inr, ℕ, ◌<◌, ◌≤◌, ◌||◌, Bool, true, false, not, cond, map, List, length, get_or, Option, Some, None, is_some, option_map, refl, sym, ◌∙◌, ap, ap₂, subst, arith}
+use Rattle.std.proofs.Common.{◌≡◌, inl, inr, ℕ, ◌<◌, ◌||◌, Bool, true, false, not, cond, map, List, length, get_or, Option, Some, None, is_some, option_map, refl, sym, ◌∙◌, ap, ap₂, subst, arith}
 use Rattle.std.specs.List.{list_any}
 use Rattle.std.specs.Option.{option_map_or}
 use Rattle.std.proofs.lemmas.Bool.{cases_eq}
-use Rattle.std.proofs.lemmas.Bool.Decides.{nat_tests}
 use Rattle.md_base.proofs.Tabulated.{get_or-tabulate}
-use Rattle.md_base.specs.Shapes.{is_valid_shape, is_multiple}
-use Rattle.md_base.specs.declared.places.Shape.{Shape}
 use Rattle.md_base.specs.declared.status.Role.{Role}
 use Rattle.md_base.specs.declared.status.Role.TheVariants.{Whole, Recovering, Missing}
 use Rattle.sb1.specs.declared.sb.Sb.{Sb}
@@ -28,7 +25,6 @@ use Rattle.shape_changes.specs.Updates.{planned_view, IsLessView}
 use Rattle.shape_changes.specs.Giving as law
 use Rattle.views.proofs.Gives.{give-here, give-other, roles-given}
 use Rattle.views.proofs.GivenMembers.{IsReceiver, W, givable, own-here, own-other, placed-given}
-use Rattle.views.proofs.MarkEnds.{count-is}
 use Rattle.shape_changes.proofs.Without.{state-without, without-holder}
 use Rattle.shape_changes.proofs.ChangeViews.{planned-live}
 use Rattle.shape_changes.proofs.Kept.{without-less, still-missing}

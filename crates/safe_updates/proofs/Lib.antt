@@ -13,3 +13,4 @@ pub mod MadeWhole
 pub mod WholeFlushed
 pub mod Widest
 pub mod Under
+pub mod Unused

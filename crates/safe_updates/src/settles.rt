@@ -11,6 +11,7 @@ ghost use Rattle.shape_changes.specs.Steady.{AreUnlost, IsSafeOver, IsNamedOver,
 ghost use Rattle.views.specs.Rebuilding.{AreSparesFree};
 ghost use Rattle.shape_changes.specs.Marking.{AreOthersPresent};
 ghost use Rattle.safe_updates.specs.Named.{AreNamedMissing};
+ghost use Rattle.safe_updates.specs.Unused.{IsUnusedKept};
 ghost use Rattle.views.specs.Moving.{Grows, IsMoved};
 ghost use Rattle.shape_changes.specs.Safety.{HasLiveSlot, HasRoomLeft, IsRisen};
 ghost use Rattle.views.specs.Lacking.{HaveFailedSince, AreHoldersFlushed, AreTooMany};
@@ -95,6 +96,7 @@ pub fn settle<B: Bank>(members: &mut Members, bank: &mut B, unsynced: bool) -> S
     ensures grows { Grows B.tells (B.tape bank.old) (B.tape bank.new) }
     ensures others { B.tells → AreOthersPresent (present (B.given bank.old) (B.tape bank.old)) (present (B.given bank.old) (B.tape bank.new)) }
     ensures flushed { B.tells → AreHoldersFlushed (reading_of members.new) (B.given bank.old) (B.tape bank.new) }
+    ensures unused { B.tells → IsUnusedKept members.old (disk (B.given bank.old).start (B.tape bank.old)) (disk (B.given bank.old).start (B.tape bank.new)) }
     ensures clean { result.refusal ≡ None → unsynced ≡ false → is_clean members.new.newest ≡ true }
     ensures stays { unsynced ≡ true → is_clean members.new.newest ≡ is_clean members.old.newest }
     ensures rise { IsRisen B.tells members.old members.new (B.tape bank.old) (B.tape bank.new) }

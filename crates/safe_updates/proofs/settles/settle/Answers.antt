@@ -12,7 +12,8 @@ use Rattle.shape_changes.specs.Steady.{IsNamedOver, IsSafeNow, settled_ledger}
 use Rattle.shape_views.specs.Views.{Ledger}
 use Rattle.views.proofs.HeldRows.{without-before}
 use Rattle.safe_updates.proofs.Under.{under-moved, rows-under-moved}
-use Rattle.views.specs.Under.{RowsStandUnder}
+use Rattle.views.specs.Under.{RowsStandUnder, IsRestKept}
+use Rattle.safe_updates.proofs.Unused.{rest-unused, unused-then}
 use Rattle.views.proofs.LiveLeft.{without-left, holder-left}
 use Rattle.views.proofs.MarkedSafe.{settled-markable}
 use Rattle.shape_changes.proofs.Risen.{risen-then, room-first, room-then}
@@ -54,6 +55,23 @@ returns-clause-flushed g c = λ told.
     let did2 = c.mark_members-marked.ensures in
     holders-fewer given m1 c.mark_members-marked.new.members tape2 did2.moved.held
     (holders-at (reading_of m1) given1 given tape2 (sym did1.given) (did2.flushed told (holders-at (reading_of m1) given given1 tape1 did1.given (did1.flushed told))))
+
+pub returns-then-is_some-unsynced-clause-unused : goal.returns-then-is_some-unsynced-clause-unused
+returns-then-is_some-unsynced-clause-unused g c = λ told.
+    rest-unused c.args.members.now (disk (g.B.Bank.given c.args.bank.now).start (g.B.Bank.tape c.args.bank.now)) (disk (g.B.Bank.given c.args.bank.now).start (g.B.Bank.tape c.flush_naming-named.new.bank)) (c.flush_naming-named.ensures.rest told)
+
+pub returns-clause-unused : goal.returns-clause-unused
+returns-clause-unused g c = λ told.
+    let given = g.B.Bank.given c.args.bank.now in
+    let m1 = c.flush_naming-named.new.members in
+    let tape0 = g.B.Bank.tape c.args.bank.now in
+    let tape1 = g.B.Bank.tape c.flush_naming-named.new.bank in
+    let tape2 = g.B.Bank.tape c.mark_members-marked.new.bank in
+    let did1 = c.flush_naming-named.ensures in
+    let rest : IsRestKept m1 (disk given.start tape1) (disk given.start tape2) =
+    subst (λ (b : Given). IsRestKept m1 (disk b.start tape1) (disk b.start tape2)) did1.given (c.mark_members-marked.ensures.rest told) in
+    unused-then given c.args.members.now m1 (disk given.start tape0) (disk given.start tape1) (disk given.start tape2) did1.moved
+    (rest-unused c.args.members.now (disk given.start tape0) (disk given.start tape1) (did1.rest told)) (rest-unused m1 (disk given.start tape1) (disk given.start tape2) rest)
 
 -- ---- where slots are lost
 

@@ -3,6 +3,8 @@ use Rattle.std.proofs.lemmas.Bool.{cases_lt}
 use Rattle.layout.proofs.Places.{chunk_some}
 use Rattle.bank.specs.Given.{Given}
 use Rattle.bank.specs.Tape.{disk}
+use Rattle.safe_updates.specs.Unused.{IsUnusedKept}
+use Rattle.safe_updates.proofs.Unused.{unused-then}
 use Rattle.row_io.specs.Rows.{present, reading_of}
 use Rattle.list_io.specs.Full.{RowStands}
 use Rattle.flat_history.specs.Sound.{OpensFit}
@@ -39,6 +41,7 @@ loop-done-init g c =
       safe = λ told world ledger room gone unclean able safe. safe-none (OpensFit world) world.scope given ledger m tape0 safe;
       copyable = λ told world able. able;
       headers = λ told s v may. may;
+      unused = λ told s k v idle may. may;
       given = refl;
       counts = λ s. omega arith;
     }
@@ -129,6 +132,15 @@ returns-then-is_some-clause-headers g c = λ told s v may.
     was.headers told s v
     (subst (λ (b : Given). AreHeadersKept (disk b.start tape1) (disk b.start tape2)) was.given (c.copy_part-part.ensures.headers told) s v may)
 
+pub returns-then-is_some-clause-unused : goal.returns-then-is_some-clause-unused
+returns-then-is_some-clause-unused g c = λ told.
+    let was = c.loop-done.invariant in
+    let given = g.B.Bank.given c.args.bank.now in
+    let tape1 = g.B.Bank.tape c.loop-done.bank in
+    let tape2 = g.B.Bank.tape c.copy_part-part.new.bank in
+    unused-then given c.args.members.now c.loop-done.members (disk given.start (g.B.Bank.tape c.args.bank.now)) (disk given.start tape1) (disk given.start tape2) was.moved (was.unused told)
+    (subst (λ (b : Given). IsUnusedKept c.loop-done.members (disk b.start tape1) (disk b.start tape2)) was.given (c.copy_part-part.ensures.unused told))
+
 pub loop-done-smaller : goal.loop-done-smaller
 loop-done-smaller g c =
     let did = c.copy_part-part.ensures in
@@ -178,6 +190,8 @@ loop-done-preserved g c =
           subst (λ (b : Given). IsCopyable world.scope n c.args.span.now (disk b.start tape1) → IsCopyable world.scope new c.args.span.now (disk b.start tape2)) was.given (did.copyable told world) (was.copyable told world able);
       headers = λ told s v may. was.headers told s v
           (subst (λ (b : Given). AreHeadersKept (disk b.start tape1) (disk b.start tape2)) was.given (did.headers told) s v may);
+      unused = λ told. unused-then given m n (disk given.start tape0) (disk given.start tape1) (disk given.start tape2) was.moved (was.unused told)
+          (subst (λ (b : Given). IsUnusedKept n (disk b.start tape1) (disk b.start tape2)) was.given (did.unused told));
       given = did.given ∙ was.given;
       counts = λ s. let one = was.counts s in let two = did.counts s in omega (arith, one, two);
     }

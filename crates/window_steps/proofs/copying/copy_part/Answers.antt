@@ -16,6 +16,8 @@ use Rattle.views.specs.Rebuilding.{AreSparesFree}
 use Rattle.views.specs.Lacking.{DoesWithout, AreTooMany}
 use Rattle.views.proofs.HeldRows.{shape-without-before}
 use Rattle.safe_updates.specs.Named.{AreDataKept}
+use Rattle.safe_updates.proofs.Unused.{rest-unused, unused-then}
+use Rattle.views.specs.Under.{IsRestKept}
 use Rattle.window_steps.specs.Copying.{IsOfStripeFrom}
 use Rattle.views.proofs.MovedLaws.{moved-then, moved-from, grows-then}
 use Rattle.views.proofs.LackingLaws.{since-then, in-second}
@@ -137,3 +139,15 @@ returns-clause-headers g c = λ told s v may.
     let kept = subst (λ (b : Given). EachMark g.B.Bank.tells b.start tape1 tape2 (AreDataKept (disk b.start tape1))) did.given c.name_missing-spares.ensures.«data» in
     let last = marks_last kept told in
     did.headers told s v (kept-less (disk given.start tape1 s 0) (disk given.start tape2 s 0) (last s 0 (λ e. absurd (cc))) v may)
+
+pub returns-clause-unused : goal.returns-clause-unused
+returns-clause-unused g c = λ told.
+    let given = g.B.Bank.given c.args.bank.now in
+    let did = c.copy_stretch-done.ensures in
+    let n = c.copy_stretch-done.new.members in
+    let tape1 = g.B.Bank.tape c.copy_stretch-done.new.bank in
+    let tape2 = g.B.Bank.tape c.name_missing-spares.new.bank in
+    let named : IsRestKept n (disk given.start tape1) (disk given.start tape2) =
+    subst (λ (b : Given). IsRestKept n (disk b.start tape1) (disk b.start tape2)) did.given (c.name_missing-spares.ensures.rest told) in
+    unused-then given c.args.members.now n (disk given.start (g.B.Bank.tape c.args.bank.now)) (disk given.start tape1) (disk given.start tape2) did.moved (did.unused told)
+    (rest-unused n (disk given.start tape1) (disk given.start tape2) named)

@@ -1,7 +1,8 @@
-use Rattle.std.proofs.Common.{◌≡◌, inr, ℕ, ◌+◌, ◌-◌, ◌*◌, List, sym, ap, subst, arith}
+use Rattle.std.proofs.Common.{◌≡◌, inl, inr, ℕ, ◌+◌, ◌-◌, ◌*◌, List, sym, ap, subst, arith}
 use Rattle.md_base.specs.Sectors.{Sector}
 use Rattle.sb1.specs.declared.sb.Sb.{Sb}
 use Rattle.bank.specs.Tape.{IsIn, disk}
+use Rattle.safe_updates.proofs.Unused.{unused-role}
 use Rattle.row_io.proofs.Turns.{marks_last}
 use Rattle.superblocks.specs.Reading.{shape_of, data_offset_of}
 use Rattle.list_io.specs.Full.{RowStands}
@@ -102,3 +103,13 @@ pub returns-clause-headers : goal.returns-clause-headers
 returns-clause-headers g c = λ told s v may.
     let kept = marks_last c.copy_stripe-copied.ensures.each_mark told in
     subst (λ (l : List Sector). IsIn l v) (kept.1 s 0 (omega arith)) may
+
+pub returns-clause-unused : goal.returns-clause-unused
+returns-clause-unused g c = λ told s k v unused may.
+    let given = g.B.Bank.given c.args.bank.now in
+    let m = c.args.members.now in
+    let kept = marks_last c.copy_stripe-copied.ensures.each_mark told in
+    elim (kept.0 s k) [
+      | inl same ↦ same v may
+      | inr at ↦ absurd (unused-role given m c.requires.placed s unused at.role at.held)
+    ]
