@@ -4,6 +4,7 @@ pub mod Quiet
 pub mod Refusals
 pub mod Steps
 pub mod MoreSteps
+pub mod Resting
 pub mod Staying
 pub mod Entering
 pub mod Adding
