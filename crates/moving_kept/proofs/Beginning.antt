@@ -49,8 +49,8 @@ use Rattle.kept_history.proofs.KeptCalls.{kept-call}
 use Rattle.kept_history.proofs.Reshapes.{call-ends_none}
 use Rattle.kept_history.proofs.Turned.{begun-old, filled-before}
 use Rattle.kept_history.proofs.Turns.{either-call}
-use Rattle.moving_kept.specs.Moving.{IsReliable, AreToldGone}
-use Rattle.moving_kept.proofs.Behind.{IsAmong, early-losses, inner-of, legal-losses, or-false}
+use Rattle.history_calls.specs.Reliable.{IsReliable, AreToldGone}
+use Rattle.history_calls.proofs.Behind.{IsAmong, early-losses, inner-of, legal-losses, or-false}
 use Rattle.moving_kept.proofs.ReadShapes.{IsShapeRead}
 
 -- what is told before it, of the roles that the old shape has

@@ -37,7 +37,8 @@ use Rattle.kept_history.proofs.Turned.{filled-before}
 use Rattle.course_kept.specs.Course.{StandsInCourse}
 use Rattle.course_kept.specs.Laws.{closed}
 use Rattle.course_kept.proofs.Courses.{begins-stand}
-use Rattle.moving_kept.specs.Moving.{AreReshaping, IsReliable, HasListInCourse, IsStillKept, IsMoving}
+use Rattle.history_calls.specs.Reliable.{IsReliable}
+use Rattle.moving_kept.specs.Moving.{AreReshaping, HasListInCourse, IsStillKept, IsMoving}
 use Rattle.moving_kept.proofs.Beginning.{IsBeginningCall, begun-gone, begun-recorded, begun-level, begun-unclean, begun-values, begun-safe, begun-now}
 use Rattle.moving_kept.proofs.Quiet.{IsLeftBy}
 

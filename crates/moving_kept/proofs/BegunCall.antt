@@ -36,9 +36,10 @@ use Rattle.kept_history.specs.Told.{told_now}
 use Rattle.kept_history.proofs.Calls.{now-live}
 use Rattle.kept_history.proofs.Growing.{room-now}
 use Rattle.kept_history.proofs.Lengths.{now-drawn}
-use Rattle.moving_kept.specs.Moving.{IsReliable, IsStillKept}
+use Rattle.history_calls.specs.Reliable.{IsReliable}
+use Rattle.moving_kept.specs.Moving.{IsStillKept}
 use Rattle.moving_kept.proofs.Beginning.{IsBeginningCall}
-use Rattle.moving_kept.proofs.Behind.{IsAmong}
+use Rattle.history_calls.proofs.Behind.{IsAmong}
 use Rattle.moving_kept.proofs.BegunRead.{begun-read}
 use Rattle.moving_kept.proofs.ReadShapes.{IsShapeRead}
 

@@ -39,7 +39,7 @@ use Rattle.course_kept.specs.declared.course.Course.{Course}
 use Rattle.course_kept.specs.Course.{IsBackupKept}
 use Rattle.course_kept.proofs.Courses.{courses-move, stored-moves}
 use Rattle.moving_kept.specs.Moving.{IsMoving}
-use Rattle.moving_kept.proofs.Behind.{AreEarly, AreLostOrMissing, IsAmong, early-losses, inner-of, legal-losses}
+use Rattle.history_calls.proofs.Behind.{AreEarly, AreLostOrMissing, IsAmong, early-losses, inner-of, legal-losses}
 use Rattle.moving_kept.proofs.MembersMove.{reshaping-moved}
 use Rattle.moving_kept.proofs.Quiet.{early-moves}
 use Rattle.moving_kept.proofs.Staying.{course-moved}

@@ -39,7 +39,8 @@ use Rattle.array_kept.proofs.ReadyLaws.{kept-legal}
 use Rattle.kept_history.specs.Recorded.{IsHistoryKept}
 use Rattle.kept_history.specs.Safe.{world_in, IsFilledRight}
 use Rattle.one_shape_history.proofs.Kept.{safe-alike, recorded-alike}
-use Rattle.moving_kept.specs.Moving.{IsReliable, HasListStill, IsStillKept}
+use Rattle.history_calls.specs.Reliable.{IsReliable}
+use Rattle.moving_kept.specs.Moving.{HasListStill, IsStillKept}
 
 -- ---- entries
 

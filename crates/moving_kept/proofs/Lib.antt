@@ -1,5 +1,4 @@
 pub mod MembersMove
-pub mod Behind
 pub mod Quiet
 pub mod Refusals
 pub mod Steps

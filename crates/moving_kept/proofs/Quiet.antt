@@ -41,16 +41,10 @@ use Rattle.kept_history.proofs.Entered.{adds_only, AreAdding, told-adding, told-
 use Rattle.kept_history.proofs.Reshapes.{call-ends_none}
 use Rattle.course_kept.specs.declared.course.Course.{Course}
 use Rattle.course_kept.specs.Course.{IsCourseOf, IsStored, StandsInCourse}
-use Rattle.moving_kept.specs.Moving.{AreReshaping, IsReliable, AreToldGone, HasListInCourse, IsMoving}
-use Rattle.moving_kept.proofs.Behind.{AreEarly, AreLostOrMissing, IsAmong, IsBehind, early-losses, is-behind, legal-losses, or-false, and-true}
-
--- An event that leaves the list and the level, settles nothing and neither ends a reshape nor gives a role.
-pub record IsQuiet (event : Event) : Type 0 where
-  pub adds : adds_only event ≡ true
-  pub gives : gives_some event ≡ false
-  pub ends : ends_reshape event ≡ false
-  pub still : (x : ℕ) (values : List Sector) → values_after x values event ≡ values
-  pub level : (n : ℕ) → level_after n event ≡ n
+use Rattle.history_calls.specs.Reliable.{IsReliable, AreToldGone}
+use Rattle.history_calls.proofs.Behind.{AreEarly, AreLostOrMissing, IsAmong, early-losses, legal-losses}
+use Rattle.history_calls.proofs.Quiet.{IsQuiet, IsLeftBehind, quiet-leaves, quiet-now}
+use Rattle.moving_kept.specs.Moving.{AreReshaping, HasListInCourse, IsMoving}
 
 -- ---- the call
 
@@ -81,141 +75,19 @@ pub record IsQuietCall (given : Given) (tape : List Operation) (scope : Scope) (
       → level_at (world_in given tape' scope first) (entries ++ entries_of who end (losses_of roles spares)) ≡ level_at (world_in given tape scope first) entries
       → IsLegalEvent (world_in given tape' scope first) (entries ++ entries_of who end (losses_of roles spares)) (entry_of who end event) [] event
 
--- What it leaves, of what is kept over a bank that tells its contents.
-pub record IsLeftBy (given : Given) (tape : List Operation) (scope : Scope) (first : ℕ) (entries all : List Entry) (new : Members) (carried : ℕ → Bool) (course' : Course) (buffer' : List ℕ) (tape' : List Operation) : Type 0 where
-  pub right : IsReliable (world_in given tape' scope first) all → IsReliable (world_in given tape scope first) entries
-  pub levelled : level_at (world_in given tape' scope first) all ≡ level_at (world_in given tape scope first) entries
-  pub gone : IsReliable (world_in given tape' scope first) all → AreToldGone (world_in given tape' scope first) all new
-  pub unclean : is_clean new.newest ≡ false → (is_unsynced (world_in given tape' scope first) all || is_unsettled all) ≡ true
-  pub recorded : IsHistoryKept (IsReliable (world_in given tape' scope first) all) (world_in given tape' scope first) (list_length new.newest) all
-  pub listed : DoWithout new → IsFilledRight (world_in given tape' scope first) all
-      → HasListInCourse (OpensFit (world_in given tape' scope first)) new course' buffer' (present given tape') (now (opening_list (world_in given tape' scope first)) all)
-  pub safe : IsFilledRight (world_in given tape' scope first) all → HasRoomForEvents (world_in given tape' scope first) → OpensAlike (world_in given tape' scope first)
-      → IsSafeHistory ⊤ (world_in given tape' scope first) given new carried true all
-  pub now_safe : IsFilledRight (world_in given tape' scope first) all → HasRoomForEvents (world_in given tape' scope first) → OpensAlike (world_in given tape' scope first)
-      → IsSafeOver (world_in given tape' scope first) given (told_now (world_in given tape' scope first) carried true all) new tape'
-
-module _ (given : Given) (tape : List Operation) (scope : Scope) (first : ℕ) (entries : List Entry) (old new : Members) (carried : ℕ → Bool) (course' : Course) (buffer' : List ℕ)
-    (who : Who) (early : List Event) (IsTaken : ℕ → Type 0) (event : Event) (ops : List Operation) (are : AreEarly early IsTaken)
-    (goes : IsCallGoing entries who) (caller : IsFalse (who.caller == 254)) (quiet : IsQuiet event) (few : role_count new.newest ≤ 16)
-    (missing : AreLostOrMissing old new IsTaken)
-    (sized : list_length new.newest ≡ list_length old.newest) (clean : is_clean new.newest ≡ is_clean old.newest) (sizes_are : scope.sizes ≡ sizes given)
-    (gone : IsReliable (world_in given tape scope first) entries → AreToldGone (world_in given tape scope first) entries old)
-    (unclean : is_clean old.newest ≡ false → (is_unsynced (world_in given tape scope first) entries || is_unsettled entries) ≡ true)
-    (recorded : IsHistoryKept (IsReliable (world_in given tape scope first) entries) (world_in given tape scope first) (list_length old.newest) entries)
-    (safe : IsFilledRight (world_in given tape scope first) entries → HasRoomForEvents (world_in given tape scope first) → OpensAlike (world_in given tape scope first)
-    → IsSafeHistory ⊤ (world_in given tape scope first) given old carried true entries)
-    (now_safe : IsFilledRight (world_in given tape scope first) entries → HasRoomForEvents (world_in given tape scope first) → OpensAlike (world_in given tape scope first)
-    → IsSafeOver (world_in given tape scope first) given (told_now (world_in given tape scope first) carried true entries) old tape)
-    (call : IsEarlyCall given tape scope first entries old new carried course' buffer' who early event (tape ++ ops) (length (tape ++ ops))) where
-  abbrev world : World
-  world = world_in given tape scope first
-
-  abbrev later : World
-  later = world_in given (tape ++ ops) scope first
-
-  abbrev end : ℕ
-  end = length (tape ++ ops)
-
-  abbrev more : List Entry
-  more = entries_of who (length (tape ++ ops)) (early)
-
-  abbrev added : List Entry
-  added = entries_of who (length (tape ++ ops)) (early ++ event ∷ [])
-
-  abbrev all : List Entry
-  all = entries ++ entries_of who (length (tape ++ ops)) (early ++ event ∷ [])
-
-  behind : IsBehind (world_in given tape scope first) (world_in given (tape ++ ops) scope first) entries new who (length (tape ++ ops)) early event
-  behind = is-behind given tape scope first entries old new who early IsTaken event ops are quiet.gives quiet.ends quiet.level few missing gone recorded
-
-  adds-last : AreAdding (entries_of who end (event ∷ []))
-  adds-last = and-true (adds_only event) true quiet.adds refl
-
-  adds-all : AreAdding added
-  adds-all = are.adds who end (event ∷ []) adds-last
-
-  -- ---- what is told
-
-  begun : first ≤ length tape
-  begun = recorded.begun
-
-  abbrev told : Ledger
-  told = told_by later carried true entries more
-
-  told-first : IsMoreTold (told_now world carried true entries) told
-  told-first = subst (λ (l : Ledger). IsMoreTold l told) (now-grown world ops begun carried true entries recorded.ends)
-      (told-adding later carried carried true true entries more behind.adds_more (λ number is. is) (λ is. is))
-
-  told-last : IsMoreTold told (told_now later carried true all)
-  told-last = subst (λ (l : List Entry). IsMoreTold told (told_now later carried true l)) (append_assoc entries more (entries_of who end (event ∷ [])) ∙ ap (λ (l : List Entry). entries ++ l) (sym (entries-both who end early (event ∷ []))))
-      (more-then told (told_now later carried true (entries ++ more)) (told_now later carried true ((entries ++ more) ++ entries_of who end (event ∷ [])))
-      (told-added later carried true entries more behind.adds_more behind.gives_more)
-      (more-then (told_now later carried true (entries ++ more)) (told_by later carried true (entries ++ more) (entries_of who end (event ∷ []))) (told_now later carried true ((entries ++ more) ++ entries_of who end (event ∷ [])))
-      (told-adding later carried carried true true (entries ++ more) (entries_of who end (event ∷ [])) adds-last (λ number is. is) (λ is. is))
-      (told-added later carried true (entries ++ more) (entries_of who end (event ∷ [])) adds-last (or-false (gives_some event) false quiet.gives refl))))
-
-  unclean-all : is_clean new.newest ≡ false → (is_unsynced later all || is_unsettled all) ≡ true
-  unclean-all dirty = told-last.unclean (told-first.unclean (unclean (sym clean ∙ dirty)))
-
-  -- ---- the history
-
-  recorded-all : IsHistoryKept (IsReliable later all) later (list_length new.newest) all
-  recorded-all = kept-call (IsReliable world entries) (IsReliable later all) world ops (list_length old.newest) (list_length new.newest) entries who (early ++ event ∷ []) goes recorded behind.right caller
-      (λ fills. inr behind.gives_all) (length-adding (length (opening_list world)) entries added adds-all ∙ recorded.sized ∙ sym sized)
-      (last_end-behind first entries who end early event) (λ fills. call.legal (behind.right fills) (behind.gone_more fills) behind.level_more)
-      (λ fills. call-ends_none later entries who end (early ++ event ∷ []) behind.ends)
-
-  -- ---- the list
-
-  now-same : (x : ℕ) → now (opening_list later) all x ≡ now (opening_list world) entries x
-  now-same x =
-      ap (λ (l : List Sector). now l all x) behind.opened
-      ∙ ap (λ (l : List Sector). slice_index_or l 0 []) (values-more (opening_list world) entries added x
-      ∙ are.values who end (event ∷ []) x (values_of (opening_list world) entries x) ∙ quiet.still x (values_of (opening_list world) entries x))
-
-  listed-all : DoWithout new → IsFilledRight later all → HasListInCourse (OpensFit later) new course' buffer' (present given (tape ++ ops)) (now (opening_list later) all)
-  listed-all does fills =
-      let l = call.listed does (behind.fills fills) in
-      record {
-        list = l.list;
-        is = λ x lt. l.is x lt ∙ sym (now-same x);
-        stands = subst (λ (sound : Type 0). StandsInCourse sound new course' buffer' (present given (tape ++ ops)) l.list) (sym (fit-grown world ops begun)) l.stands;
-      }
-
-  -- ---- each mark
-
-  module _ (fills : IsFilledRight later all) (room : HasRoomForEvents later) (alike : OpensAlike later) where
-    abbrev was : IsSafeHistory ⊤ (world_in given tape scope first) given old carried true entries
-    was = safe (behind.fills fills) (room-before world ops begun room) (alike-before world ops begun alike)
-
-    stretch : KeepsSafe world given told new tape (tape ++ ops)
-    stretch = call.keeps told (behind.fills fills) told-first (room-now world ops begun old was.counted room)
-        (λ role lt miss. behind.counts_more (record { fills = fills; room = room; alike = alike }) role lt miss)
-        (λ dirty. told-first.unclean (unclean dirty))
-        (now-more (OpensFit world) scope given (told_now world carried true entries) told old (disk given.start tape) told-first (now_safe (behind.fills fills) (room-before world ops begun room) (alike-before world ops begun alike)))
-
-    last : IsSafeOver world given (told_now later carried true all) new (tape ++ ops)
-    last = now-more (OpensFit world) scope given told (told_now later carried true all) new (disk given.start (tape ++ ops)) told-last stretch.next
-
-    safe-all : IsSafeHistory ⊤ later given new carried true all
-    safe-all = safe-called ⊤ given tape scope first entries old new carried carried true true who early (event ∷ []) told ops (tape ++ ops) end refl refl sizes_are begun recorded.ends was
-        fills call.rise (λ claimed opened mark low high. throughout-kept world given told new ops refl begun stretch (was.sound tt) opened mark (omega (arith, begun, low)) high) (record { size = refl; values = λ x lt v may. may; gone = λ role is. is; unclean = λ is. is; reshaping = λ is. is; carried = λ number is. refl }) stretch last
-
-    now-all : IsSafeOver later given (told_now later carried true all) new (tape ++ ops)
-    now-all = subst (λ (fit : Type 0). IsSafeNow fit scope given (told_now later carried true all) new (disk given.start (tape ++ ops))) (sym (fit-grown world ops begun)) last
-
-  quiet-leaves : IsLeftBy given tape scope first entries all new carried course' buffer' (tape ++ ops)
-  quiet-leaves = record {
-    right = behind.right;
-    levelled = behind.level_all;
-    gone = behind.gone_all;
-    unclean = unclean-all;
-    recorded = recorded-all;
-    listed = listed-all;
-    safe = safe-all;
-    now_safe = now-all;
-  }
+-- The list of the history that stood in the course stands so by more entries that say the same of it.
+pub listed-later : (given : Given) (tape : List Operation) (scope : Scope) (first : ℕ) (entries all : List Entry) (new : Members) (carried : ℕ → Bool) (course' : Course) (buffer' : List ℕ) (tape' : List Operation) (current : ℕ → Sector)
+    → IsLeftBehind given tape scope first entries all new carried true tape' → ((x : ℕ) → now (opening_list (world_in given tape scope first)) all x ≡ current x)
+    → (DoWithout new → IsFilledRight (world_in given tape scope first) entries → HasListInCourse (OpensFit (world_in given tape scope first)) new course' buffer' (present given tape') current)
+    → DoWithout new → IsFilledRight (world_in given tape' scope first) all
+    → HasListInCourse (OpensFit (world_in given tape' scope first)) new course' buffer' (present given tape') (now (opening_list (world_in given tape' scope first)) all)
+listed-later given tape scope first entries all new carried course' buffer' tape' current left same listed does fills =
+    let l = listed does (left.fills fills) in
+    record {
+      list = l.list;
+      is = λ x lt. l.is x lt ∙ sym (same x) ∙ sym (ap (λ (o : List Sector). now o all x) left.opened);
+      stands = subst (λ (sound : Type 0). StandsInCourse sound new course' buffer' (present given tape') l.list) (sym left.fit) l.stands;
+    }
 
 -- ---- what is kept
 
@@ -241,22 +113,23 @@ early-moves tells given tape tape' scope first entries old new carried course co
       unclean = λ t. (leaves t).unclean;
       recorded = λ t. (leaves t).recorded;
       stored = stored;
-      listed = λ t. (leaves t).listed;
+      listed = λ t. listed-later given tape scope first entries (entries ++ entries_of who end (early ++ event ∷ [])) new carried course' buffer' tape' (now (opening_list (world_in given tape scope first)) entries) (leaves t)
+          (quiet-now (opening_list (world_in given tape scope first)) entries who end early IsTaken event are quiet) (call t).listed;
       safe = λ t. (leaves t).safe;
       now_safe = λ t. (leaves t).now_safe;
     }
   where
     Then : List Operation → ℕ → Type 0
     Then l e = IsEarlyCall given tape scope first entries old new carried course' buffer' who early event l e
-        → IsLeftBy given tape scope first entries (entries ++ entries_of who e (early ++ event ∷ [])) new carried course' buffer' l
+        → IsLeftBehind given tape scope first entries (entries ++ entries_of who e (early ++ event ∷ [])) new carried true l
 
-    leaves : tells → IsLeftBy given tape scope first entries (entries ++ entries_of who end (early ++ event ∷ [])) new carried course' buffer' tape'
+    leaves : tells → IsLeftBehind given tape scope first entries (entries ++ entries_of who end (early ++ event ∷ [])) new carried true tape'
     leaves t =
         let g = grows.more t in
         subst (λ (l : List Operation). Then l end) (sym g.1)
         (subst (Then (tape ++ g.0)) (sym (at_end t ∙ ap (λ (l : List Operation). length l) g.1))
-        (λ call_to. quiet-leaves given tape scope first entries old new carried course' buffer' who early IsTaken event g.0 are goes caller quiet few missing sized clean was.sizes_are
-        (was.gone t) (was.unclean t) (was.recorded t) (was.safe t) (was.now_safe t) call_to))
+        (λ call_to. quiet-leaves given tape scope first entries old new carried true who early IsTaken event g.0 are goes caller quiet few missing sized clean was.sizes_are
+        (was.gone t) (was.unclean t) (was.recorded t) (was.safe t) (was.now_safe t) (record { rise = call_to.rise; keeps = call_to.keeps; legal = call_to.legal })))
         (call t)
 
 -- And so does a call that enters losses before its event.

@@ -19,8 +19,8 @@ use Rattle.shape_ends.proofs.EndLaws.{fewer-pass}
 use Rattle.views.specs.Placed.{IsPlaced, IsInForce}
 use Rattle.views.specs.Lacking.{lacking, LacksTooMany, AreTooMany}
 use Rattle.views.proofs.Fit.{force-disks}
-use Rattle.moving_kept.specs.Moving.{AreToldGone}
-use Rattle.moving_kept.proofs.Quiet.{IsQuiet}
+use Rattle.history_calls.specs.Reliable.{AreToldGone}
+use Rattle.history_calls.proofs.Quiet.{IsQuiet}
 
 -- a refusal is quiet
 pub quiet-refusal : (refusal : Refusal) → IsQuiet (Refused refusal)

@@ -18,9 +18,11 @@ use Rattle.call_entries.proofs.LeftLaws.{TellLeft, left-more}
 use Rattle.kept_history.specs.Recorded.{IsCallGoing, entry_of}
 use Rattle.kept_history.specs.Safe.{world_in}
 use Rattle.course_kept.specs.declared.course.Course.{Course}
-use Rattle.moving_kept.specs.Moving.{IsReliable, IsMoving}
-use Rattle.moving_kept.proofs.Behind.{AreEarly}
-use Rattle.moving_kept.proofs.Quiet.{IsQuiet, early-moves}
+use Rattle.history_calls.specs.Reliable.{IsReliable}
+use Rattle.moving_kept.specs.Moving.{IsMoving}
+use Rattle.history_calls.proofs.Behind.{AreEarly}
+use Rattle.history_calls.proofs.Quiet.{IsQuiet}
+use Rattle.moving_kept.proofs.Quiet.{early-moves}
 
 -- nothing stands before its event
 early-none : AreEarly [] (λ role. ⊥)

@@ -47,9 +47,11 @@ use Rattle.kept_history.proofs.Entered.{told-adding, values-more, length-more, l
 use Rattle.kept_history.proofs.Reshapes.{call-ends_none}
 use Rattle.course_kept.specs.declared.course.Course.{Course}
 use Rattle.course_kept.specs.Course.{IsCourseOf, IsStored, StandsInCourse}
-use Rattle.moving_kept.specs.Moving.{AreReshaping, IsReliable, AreToldGone, HasListInCourse, IsMoving}
-use Rattle.moving_kept.proofs.Behind.{AreLostOrMissing, IsAmong, IsBehind, early-losses, is-behind, legal-losses, or-false}
-use Rattle.moving_kept.proofs.Quiet.{IsLeftBy}
+use Rattle.history_calls.proofs.Behind.{AreLostOrMissing, IsAmong}
+use Rattle.history_calls.proofs.Quiet.{IsLeftBehind}
+use Rattle.history_calls.proofs.Settling.{IsSettlement, IsSettledBy, settling-leaves, settled-same}
+use Rattle.moving_kept.specs.Moving.{AreReshaping, HasListInCourse, IsMoving}
+use Rattle.moving_kept.proofs.Quiet.{listed-later}
 
 -- ---- the event
 
@@ -70,43 +72,16 @@ flush-is = record { gives = refl; ends = refl; resync = refl; level = λ n. refl
 pub stop-is : IsSettling Stopped
 stop-is = record { gives = refl; ends = refl; resync = refl; level = λ n. refl; length = λ n. refl; newest = λ x values. refl; legal = λ world before e. tt; tells = λ left who end told is. is }
 
--- the newest value is among those that stay, and is the newest of them
-first-in : (values : List Sector) (v : Sector) → IsIn values v → IsIn (take 1 values) (slice_index_or values 0 [])
-first-in [] v has = absurd has
-first-in (w ∷ values) v has = inl refl
+-- so the events settle
+settlement : (event : Event) → IsSettling event → IsSettlement event
+settlement event is = record { gives = is.gives; ends = is.ends; level = is.level; length = is.length; newest = is.newest }
 
-first-stays : (values : List Sector) → slice_index_or (take 1 values) 0 [] ≡ slice_index_or values 0 []
-first-stays [] = refl
-first-stays (w ∷ values) = refl
-
--- losses end no resync
-ended-losses : (who : Who) (end : ℕ) (xs tail : List Event) → AreLossEvents xs → list_any (λ e. is_resync_end e.event) (entries_of who end tail) ≡ false → list_any (λ e. is_resync_end e.event) (entries_of who end (xs ++ tail)) ≡ false
-ended-losses who end [] tail are none = none
-ended-losses who end (Lost role Fault ∷ xs) tail are none = ended-losses who end xs tail are none
-ended-losses who end (SpareLost slot ∷ xs) tail are none = ended-losses who end xs tail are none
-ended-losses who end (event ∷ xs) tail are none = absurd are
-
--- a list that is the same as far as it goes is told by no more
-settled-alike : (unsynced : Bool) (list other : ℕ → Sector) (told : Ledger) → ((x : ℕ) → x < told.size → list x ≡ other x) → IsMoreTold (settled_ledger unsynced list told) (settled_ledger unsynced other told)
-settled-alike unsynced list other told same = record {
-  size = refl;
-  values = λ x lt v only. elim only [
-    | inl is ↦ inl (is ∙ same x lt)
-    | inr nothing ↦ absurd nothing
-  ];
-  gone = λ role is. is;
-  unclean = λ is. is;
-  reshaping = λ is. is;
-  carried = λ number is. is;
-}
+not-ended : (unsynced ends : Bool) → ends ≡ false → (unsynced && not ends) ≡ unsynced
+not-ended true false is = refl
+not-ended false false is = refl
+not-ended unsynced true is = absurd (cc)
 
 -- ---- the call
-
--- Once it is over, the array is safe by a list that is this one as far as it goes, and by no other.
-pub record IsSettledBy (world : World) (given : Given) (told : Ledger) (old new : Members) (tape' : List Operation) (unsynced : Bool) (newest : ℕ → Sector) : Type 0 where
-  pub list : ℕ → Sector
-  pub is : (x : ℕ) → x < list_length old.newest → list x ≡ newest x
-  pub safe : IsSafeOver world given (settled_ledger unsynced list told) new tape'
 
 -- What is asked of a call, from this tape to that one with its end there: by what is told while it runs each mark is safe, and its end by the list alone.
 pub record IsSettlingCall (given : Given) (tape : List Operation) (scope : Scope) (first : ℕ) (entries : List Entry) (old new : Members) (carried : ℕ → Bool) (unsynced : Bool) (course' : Course) (buffer' : List ℕ)
@@ -121,184 +96,6 @@ pub record IsSettlingCall (given : Given) (tape : List Operation) (scope : Scope
       → IsSettledBy (world_in given tape scope first) given told old new tape' unsynced (now (opening_list (world_in given tape scope first)) entries)
   pub listed : DoWithout new → IsFilledRight (world_in given tape scope first) entries
       → HasListInCourse (OpensFit (world_in given tape scope first)) new course' buffer' (present given tape') (now (opening_list (world_in given tape scope first)) entries)
-
-module _ (given : Given) (tape : List Operation) (scope : Scope) (first : ℕ) (entries : List Entry) (old new : Members) (carried : ℕ → Bool) (unsynced : Bool) (course' : Course) (buffer' : List ℕ)
-    (who : Who) (roles spares : ℕ) (event : Event) (ops : List Operation)
-    (goes : IsCallGoing entries who) (caller : IsFalse (who.caller == 254)) (settling : IsSettling event) (few : role_count new.newest ≤ 16)
-    (missing : AreLostOrMissing old new (IsAmong roles))
-    (sized : list_length new.newest ≡ list_length old.newest) (clean : unsynced ≡ false → is_clean new.newest ≡ true) (sizes_are : scope.sizes ≡ sizes given)
-    (unsynced_is : is_unsynced (world_in given tape scope first) entries ≡ unsynced)
-    (gone : IsReliable (world_in given tape scope first) entries → AreToldGone (world_in given tape scope first) entries old)
-    (unclean : is_clean old.newest ≡ false → (is_unsynced (world_in given tape scope first) entries || is_unsettled entries) ≡ true)
-    (recorded : IsHistoryKept (IsReliable (world_in given tape scope first) entries) (world_in given tape scope first) (list_length old.newest) entries)
-    (safe : IsFilledRight (world_in given tape scope first) entries → HasRoomForEvents (world_in given tape scope first) → OpensAlike (world_in given tape scope first)
-    → IsSafeHistory ⊤ (world_in given tape scope first) given old carried true entries)
-    (now_safe : IsFilledRight (world_in given tape scope first) entries → HasRoomForEvents (world_in given tape scope first) → OpensAlike (world_in given tape scope first)
-    → IsSafeOver (world_in given tape scope first) given (told_now (world_in given tape scope first) carried true entries) old tape)
-    (call : IsSettlingCall given tape scope first entries old new carried unsynced course' buffer' who roles spares event (tape ++ ops) (length (tape ++ ops))) where
-  abbrev world : World
-  world = world_in given tape scope first
-
-  abbrev later : World
-  later = world_in given (tape ++ ops) scope first
-
-  abbrev end : ℕ
-  end = length (tape ++ ops)
-
-  abbrev losses : List Event
-  losses = losses_of roles spares
-
-  abbrev more : List Entry
-  more = entries_of who (length (tape ++ ops)) (losses_of roles spares)
-
-  abbrev rest : List Entry
-  rest = entries_of who (length (tape ++ ops)) (event ∷ [])
-
-  abbrev added : List Entry
-  added = entries_of who (length (tape ++ ops)) (losses_of roles spares ++ event ∷ [])
-
-  abbrev all : List Entry
-  all = entries ++ entries_of who (length (tape ++ ops)) (losses_of roles spares ++ event ∷ [])
-
-  both : added ≡ more ++ rest
-  both = entries-both who end losses (event ∷ [])
-
-  behind : IsBehind (world_in given tape scope first) (world_in given (tape ++ ops) scope first) entries new who (length (tape ++ ops)) (losses_of roles spares) event
-  behind = is-behind given tape scope first entries old new who (losses_of roles spares) (IsAmong roles) event ops (early-losses roles spares) settling.gives settling.ends settling.level few missing gone recorded
-
-  -- ---- what is told
-
-  begun : first ≤ length tape
-  begun = recorded.begun
-
-  abbrev told : Ledger
-  told = told_by later carried true entries more
-
-  told-first : IsMoreTold (told_now world carried true entries) told
-  told-first = subst (λ (l : Ledger). IsMoreTold l told) (now-grown world ops begun carried true entries recorded.ends)
-      (told-adding later carried carried true true entries more behind.adds_more (λ number is. is) (λ is. is))
-
-  -- the list keeps its length
-  length-opened : length_of (length (opening_list later)) entries ≡ list_length old.newest
-  length-opened = ap (λ (l : List Sector). length_of (length l) entries) behind.opened ∙ recorded.sized
-
-  length-now : length_of (length (opening_list later)) (entries ++ more) ≡ list_length old.newest
-  length-now = length-adding (length (opening_list later)) entries more behind.adds_more ∙ length-opened
-
-  length-all : length_of (length (opening_list later)) all ≡ list_length old.newest
-  length-all =
-      length-more (length (opening_list later)) entries added
-      ∙ length-losses who end losses (event ∷ []) (losses-are roles spares) (length_of (length (opening_list later)) entries)
-      ∙ settling.length (length_of (length (opening_list later)) entries) ∙ length-opened
-
-  -- each sector has its newest value alone then
-  values-all : (x : ℕ) → values_of (opening_list later) all x ≡ take 1 (values_of (opening_list later) entries x)
-  values-all x =
-      values-more (opening_list later) entries added x
-      ∙ values-losses who end losses (event ∷ []) (losses-are roles spares) x (values_of (opening_list later) entries x)
-      ∙ settling.newest x (values_of (opening_list later) entries x)
-
-  newest-all : (x : ℕ) → x < list_length old.newest → IsIn (values_of (opening_list later) all x) (now (opening_list later) entries x)
-  newest-all x lt = subst (λ (l : List Sector). IsIn l (now (opening_list later) entries x)) (sym (values-all x))
-      (first-in (values_of (opening_list later) entries x) (now (opening_list later) entries x) (newest-in (opening_list later) entries x (let n = length-opened in omega (arith, lt, n))))
-
-  allowed : AreWritesAllowed old told.values (now (opening_list world) entries)
-  allowed x lt = subst (λ (l : List Sector). IsIn (told.values x) (now l entries x)) behind.opened
-      (subst (λ (l : List Sector). IsIn l (now (opening_list later) entries x)) (sym (values-more (opening_list later) entries more x))
-      (all-stay x more (values_of (opening_list later) entries x) (now (opening_list later) entries x) behind.adds_more
-      (newest-in (opening_list later) entries x (let n = length-opened in omega (arith, lt, n)))))
-
-  -- ---- whether it is unclean
-
-  unsynced-all : is_unsynced later all ≡ unsynced
-  unsynced-all =
-      unsynced-still later entries added (ended-losses who end losses (event ∷ []) (losses-are roles spares) (or-false (is_resync_end event) false settling.resync refl))
-      ∙ unsynced-grown world ops begun entries ∙ unsynced_is
-
-  unclean-all : is_clean new.newest ≡ false → (is_unsynced later all || is_unsettled all) ≡ true
-  unclean-all dirty = ap (λ (b : Bool). b || is_unsettled all) unsynced-all ∙ by unsynced clean
-    where
-      by : (b : Bool) → (b ≡ false → is_clean new.newest ≡ true) → (b || is_unsettled all) ≡ true
-      by true marked = refl
-      by false marked = absurd (let no = sym (marked refl) ∙ dirty in cc)
-
-  -- ---- the history
-
-  legal-call : IsReliable later all → IsLegalCall later entries who end (losses ++ event ∷ [])
-  legal-call fills = legal-losses later entries who end losses (event ∷ []) (losses-are roles spares) (settling.legal later (entries ++ more) (entry_of who end event), tt, tt)
-
-  recorded-all : IsHistoryKept (IsReliable later all) later (list_length new.newest) all
-  recorded-all = kept-call (IsReliable world entries) (IsReliable later all) world ops (list_length old.newest) (list_length new.newest) entries who (losses ++ event ∷ []) goes recorded behind.right caller
-      (λ fills. inr behind.gives_all) (ap (λ (l : List Sector). length_of (length l) all) (sym behind.opened) ∙ length-all ∙ sym sized)
-      (last_end-behind first entries who end losses event) legal-call
-      (λ fills. call-ends_none later entries who end (losses ++ event ∷ []) behind.ends)
-
-  -- ---- the list
-
-  now-same : (x : ℕ) → now (opening_list later) all x ≡ now (opening_list world) entries x
-  now-same x =
-      ap (λ (l : List Sector). slice_index_or l 0 []) (values-all x) ∙ first-stays (values_of (opening_list later) entries x)
-      ∙ ap (λ (l : List Sector). now l entries x) behind.opened
-
-  listed-all : DoWithout new → IsFilledRight later all → HasListInCourse (OpensFit later) new course' buffer' (present given (tape ++ ops)) (now (opening_list later) all)
-  listed-all does fills =
-      let l = call.listed does (behind.fills fills) in
-      record {
-        list = l.list;
-        is = λ x lt. l.is x lt ∙ sym (now-same x);
-        stands = subst (λ (sound : Type 0). StandsInCourse sound new course' buffer' (present given (tape ++ ops)) l.list) (sym (fit-grown world ops begun)) l.stands;
-      }
-
-  -- ---- each mark
-
-  told-last : (list : ℕ → Sector) → ((x : ℕ) → x < list_length old.newest → list x ≡ now (opening_list world) entries x) → IsMoreTold (settled_ledger unsynced list told) (told_now later carried true all)
-  told-last list is = more-then (settled_ledger unsynced list told) (settled_ledger unsynced (now (opening_list later) entries) told) (told_now later carried true all)
-      (settled-alike unsynced list (now (opening_list later) entries) told
-      (λ x lt. is x (let n = length-now in omega (arith, lt, n)) ∙ sym (ap (λ (l : List Sector). now l entries x) behind.opened)))
-      (subst (λ (l : List Entry). IsMoreTold (settled_ledger unsynced (now (opening_list later) entries) told) (told_now later carried true (entries ++ l))) (sym both)
-      (settled-now later carried true unsynced entries more rest
-      (subst (λ (l : List Entry). is_unsynced later (entries ++ l) ≡ unsynced) both unsynced-all)
-      (subst (λ (l : List Entry). length_of (length (opening_list later)) (entries ++ l) ≡ length_of (length (opening_list later)) (entries ++ more)) both (length-all ∙ sym length-now))
-      (λ x lt. subst (λ (l : List Entry). IsIn (values_of (opening_list later) (entries ++ l) x) (now (opening_list later) entries x)) both
-      (newest-all x (let n = length-now in omega (arith, lt, n))))
-      (subst (λ (l : List Entry). list_any (λ e. gives_some e.event) l ≡ false) both behind.gives_all)))
-
-  module _ (fills : IsFilledRight later all) (room : HasRoomForEvents later) (alike : OpensAlike later) where
-    abbrev was : IsSafeHistory ⊤ (world_in given tape scope first) given old carried true entries
-    was = safe (behind.fills fills) (room-before world ops begun room) (alike-before world ops begun alike)
-
-    before : IsSafeOver world given told old tape
-    before = now-more (OpensFit world) scope given (told_now world carried true entries) told old (disk given.start tape) told-first (now_safe (behind.fills fills) (room-before world ops begun room) (alike-before world ops begun alike))
-
-    stretch : KeepsSafe world given told new tape (tape ++ ops)
-    stretch = call.keeps told (behind.fills fills) told-first allowed (room-now world ops begun old was.counted room)
-        (λ role lt miss. behind.counts_more (record { fills = fills; room = room; alike = alike }) role lt miss) (λ dirty. told-first.unclean (unclean dirty)) before
-
-    last : IsSafeOver world given (told_now later carried true all) new (tape ++ ops)
-    last =
-        let by = call.settled told (behind.fills fills) told-first allowed (room-now world ops begun old was.counted room)
-        (λ role lt miss. behind.counts_more (record { fills = fills; room = room; alike = alike }) role lt miss) (λ dirty. told-first.unclean (unclean dirty)) before in
-        now-more (OpensFit world) scope given (settled_ledger unsynced by.list told) (told_now later carried true all) new (disk given.start (tape ++ ops)) (told-last by.list by.is) by.safe
-
-    safe-all : IsSafeHistory ⊤ later given new carried true all
-    safe-all = safe-called ⊤ given tape scope first entries old new carried carried true true who losses (event ∷ []) told ops (tape ++ ops) end refl refl sizes_are begun recorded.ends was
-        fills call.rise (λ claimed opened mark low high. throughout-kept world given told new ops refl begun stretch (was.sound tt) opened mark (omega (arith, begun, low)) high)
-        (record { size = refl; values = λ x lt v may. may; gone = λ role is. is; unclean = λ is. is; reshaping = λ is. is; carried = λ number is. refl }) stretch last
-
-    now-all : IsSafeOver later given (told_now later carried true all) new (tape ++ ops)
-    now-all = subst (λ (fit : Type 0). IsSafeNow fit scope given (told_now later carried true all) new (disk given.start (tape ++ ops))) (sym (fit-grown world ops begun)) last
-
-  settling-leaves : IsLeftBy given tape scope first entries all new carried course' buffer' (tape ++ ops)
-  settling-leaves = record {
-    right = behind.right;
-    levelled = behind.level_all;
-    gone = behind.gone_all;
-    unclean = unclean-all;
-    recorded = recorded-all;
-    listed = listed-all;
-    safe = safe-all;
-    now_safe = now-all;
-  }
 
 -- ---- what is kept
 
@@ -325,20 +122,27 @@ settling-moves tells given tape tape' scope first entries old new carried unsync
       unclean = λ t. (leaves t).unclean;
       recorded = λ t. (leaves t).recorded;
       stored = stored;
-      listed = λ t. (leaves t).listed;
+      listed = λ t. listed-later given tape scope first entries (entries ++ entries_of who end (losses_of roles spares ++ event ∷ [])) new carried course' buffer' tape' (now (opening_list (world_in given tape scope first)) entries) (leaves t)
+          (settled-same (opening_list (world_in given tape scope first)) entries who end roles spares event (settlement event settling)) (call t).listed;
       safe = λ t. (leaves t).safe;
       now_safe = λ t. (leaves t).now_safe;
     }
   where
     Then : List Operation → ℕ → Type 0
     Then l e = IsSettlingCall given tape scope first entries old new carried unsynced course' buffer' who roles spares event l e
-        → IsLeftBy given tape scope first entries (entries ++ entries_of who e (losses_of roles spares ++ event ∷ [])) new carried course' buffer' l
+        → IsLeftBehind given tape scope first entries (entries ++ entries_of who e (losses_of roles spares ++ event ∷ [])) new carried true l
 
-    leaves : tells → IsLeftBy given tape scope first entries (entries ++ entries_of who end (losses_of roles spares ++ event ∷ [])) new carried course' buffer' tape'
+    leaves : tells → IsLeftBehind given tape scope first entries (entries ++ entries_of who end (losses_of roles spares ++ event ∷ [])) new carried true tape'
     leaves t =
         let g = grows.more t in
         subst (λ (l : List Operation). Then l end) (sym g.1)
         (subst (Then (tape ++ g.0)) (sym (at_end t ∙ ap (λ (l : List Operation). length l) g.1))
-        (λ settling_call. settling-leaves given tape scope first entries old new carried unsynced course' buffer' who roles spares event g.0 goes caller settling few missing sized clean was.sizes_are
-        (unsynced_is t) (was.gone t) (was.unclean t) (was.recorded t) (was.safe t) (was.now_safe t) settling_call))
+        (λ call_to. settling-leaves given tape scope first entries old new carried true unsynced who roles spares event g.0 goes caller (settlement event settling) few missing sized clean was.sizes_are
+        (not-ended (is_unsynced (world_in given tape scope first) entries) (is_resync_end event) settling.resync ∙ unsynced_is t) (was.gone t) (was.unclean t) (was.recorded t) (was.safe t) (was.now_safe t)
+        (record {
+          rise = call_to.rise;
+          keeps = call_to.keeps;
+          settled = call_to.settled;
+          legal = λ fills gone level. settling.legal (world_in given (tape ++ g.0) scope first) (entries ++ entries_of who (length (tape ++ g.0)) (losses_of roles spares)) (entry_of who (length (tape ++ g.0)) event);
+        })))
         (call t)

@@ -42,9 +42,11 @@ use Rattle.grow_asked.specs.declared.window.Window.{Window}
 use Rattle.grow_asked.specs.declared.window.Window.TheVariants.{Closed, Entered, Unsure}
 use Rattle.course_kept.specs.Course.{IsBackupKept, IsWindowOf, IsCourseOf, StandsInCourse}
 use Rattle.course_kept.proofs.Courses.{stored-moves}
-use Rattle.moving_kept.specs.Moving.{IsReliable, AreToldGone, IsMoving}
+use Rattle.history_calls.specs.Reliable.{IsReliable, AreToldGone}
+use Rattle.moving_kept.specs.Moving.{IsMoving}
 use Rattle.moving_kept.proofs.MembersMove.{reshaping-moved}
-use Rattle.moving_kept.proofs.Quiet.{IsQuiet, quiet-moves}
+use Rattle.history_calls.proofs.Quiet.{IsQuiet}
+use Rattle.moving_kept.proofs.Quiet.{quiet-moves}
 use Rattle.moving_kept.proofs.Refusals.{quiet-refusal, refused-right}
 use Rattle.moving_kept.proofs.Steps.{AreMissingSince, missing-moved}
 

@@ -49,7 +49,8 @@ use Rattle.course_kept.specs.Laws.{entered, next_stripe}
 use Rattle.course_kept.proofs.Courses.{copies-go-on, courses-copied, stored-moves}
 use Rattle.moving_kept.specs.Moving.{HasListInCourse, IsMoving}
 use Rattle.moving_kept.proofs.MembersMove.{reshaping-moved}
-use Rattle.moving_kept.proofs.Quiet.{IsQuiet, quiet-moves}
+use Rattle.history_calls.proofs.Quiet.{IsQuiet}
+use Rattle.moving_kept.proofs.Quiet.{quiet-moves}
 
 -- ---- a step
 

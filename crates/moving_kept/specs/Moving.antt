@@ -26,6 +26,7 @@ use Rattle.views.specs.Rebuilding.{AreSparesFree}
 use Rattle.kept_history.specs.Recorded.{IsHistoryKept}
 use Rattle.kept_history.specs.Safe.{world_in, IsFilledRight, IsSafeHistory}
 use Rattle.kept_history.specs.Told.{told_now}
+use Rattle.history_calls.specs.Reliable.{IsReliable, AreToldGone}
 use Rattle.course_kept.specs.declared.course.Course.{Course}
 use Rattle.course_kept.specs.Course.{IsCourseOf, IsStored, StandsInCourse}
 
@@ -38,17 +39,6 @@ pub record AreReshaping (scope : Scope) (given : Given) (members : Members) : Ty
   pub unlost : AreUnlost members
   pub free : AreSparesFree given members
   pub spares : length members.spares ≤ 32
-
--- What a history says can be relied on: what is filled in is right, and the superblocks can be read, for the event counts have room, and those of the opening that
--- have the same count are alike.
-pub record IsReliable (world : World) (entries : List Entry) : Type 0 where
-  pub fills : IsFilledRight world entries
-  pub room : HasRoomForEvents world
-  pub alike : OpensAlike world
-
--- each role that is missing is gone by the history
-abbrev pub AreToldGone : World → List Entry → Members → Type 0
-AreToldGone world entries members = (role : ℕ) → role < role_count members.newest → is_missing (reading_of members) role ≡ true → is_gone_after world entries role ≡ true
 
 -- The list of the history stands in the course of the reshape.
 pub record HasListInCourse (sound : Type 0) (members : Members) (course : Course) (buffer : List ℕ) (c : Contents) (current : ℕ → Sector) : Type 0 where

@@ -5,7 +5,7 @@ ghost use Rattle.flat_history.specs.Flat.{next_number};
 ghost use Rattle.flat_history.specs.Epochs.{world_of};
 ghost use Rattle.flat_history.specs.declared.events.Event.TheVariants.{Halted};
 ghost use Rattle.array_kept.specs.Calls.{IsEntered, AreLossesOf};
-ghost use Rattle.moving_kept.specs.Moving.{IsReliable};
+ghost use Rattle.history_calls.specs.Reliable.{IsReliable};
 ghost use Rattle.moving.specs.Calls.{IsEpochKept};
 
 use crate::state::Moving;

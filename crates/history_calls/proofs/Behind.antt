@@ -32,7 +32,7 @@ use Rattle.kept_history.proofs.Tests.{none-before}
 use Rattle.kept_history.proofs.Ledgers.{any-gone}
 use Rattle.kept_history.proofs.Longer.{regains-none}
 use Rattle.kept_history.proofs.Entered.{AreAdding, adding-losses, none-losses, gone-was, gone-lost}
-use Rattle.moving_kept.specs.Moving.{IsReliable, AreToldGone}
+use Rattle.history_calls.specs.Reliable.{IsReliable, AreToldGone}
 
 -- ---- losses
 

@@ -1,0 +1,4 @@
+pub mod Behind
+pub mod Quiet
+pub mod Adding
+pub mod Settling

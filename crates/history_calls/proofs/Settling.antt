@@ -1,0 +1,294 @@
+-- A call that enters losses, and behind them an event that settles what was written: a flush or a stop.
+use Rattle.std.proofs.Common.{◌≡◌, inl, inr, ℕ, ◌<◌, ◌≤◌, ◌==◌, ◌&&◌, ◌||◌, Bool, true, false, not, List, [], ◌∷◌, ◌++◌, length, refl, sym, ◌∙◌, ap, subst, arith}
+use Rattle.std.specs.Prelude.{IsFalse, IfSome, slice_index_or, take, ⊤}
+use Rattle.std.specs.List.{list_any}
+use Rattle.std.proofs.lemmas.List.Folds.{list_any-append}
+use Rattle.md_base.specs.Sectors.{Sector}
+use Rattle.md_base.specs.Shapes.{tolerance_of}
+use Rattle.md_base.specs.declared.answers.Who.{Who}
+use Rattle.bank.specs.declared.bank.Operation.{Operation}
+use Rattle.bank.specs.Given.{Given, sizes}
+use Rattle.bank.specs.Tape.{IsIn, disk}
+use Rattle.superblocks.specs.declared.members.Members.{Members}
+use Rattle.superblocks.specs.Reading.{Scope, is_clean, shape_of, list_length, role_count}
+use Rattle.flat_history.specs.declared.events.Entry.{Entry}
+use Rattle.flat_history.specs.declared.events.Event.{Event}
+use Rattle.flat_history.specs.declared.events.Event.TheVariants.{Lost, SpareLost}
+use Rattle.flat_history.specs.declared.events.LostCause.TheVariants.{Fault}
+use Rattle.flat_history.specs.Epochs.{HasRoomForEvents, OpensAlike}
+use Rattle.flat_history.specs.Flat.{now, length_of, length_after, values_of, values_after}
+use Rattle.flat_history.specs.Legal.{level_at, level_after, IsLegalEvent}
+use Rattle.flat_history.specs.Losses.{was_dirty, is_unsynced, is_resync_end}
+use Rattle.flat_history.specs.OneShape.{is_unsettled}
+use Rattle.flat_history.specs.Plain.{entries_of}
+use Rattle.flat_history.specs.Sound.{OpensFit}
+use Rattle.flat_history.specs.World.{World, opening_list}
+use Rattle.shape_views.specs.Views.{Ledger}
+use Rattle.shape_changes.specs.Safety.{HasRoomLeft, IsRisen}
+use Rattle.shape_changes.specs.Steady.{IsMoreTold, IsSafeNow, IsSafeOver, KeepsSafe, AreGoneTold, IsUncleanTold, AreWritesAllowed, settled_ledger}
+use Rattle.views.specs.Moving.{Grows}
+use Rattle.views.proofs.SoundViews.{throughout-kept}
+use Rattle.call_entries.specs.Losing.{losses_of}
+use Rattle.call_entries.proofs.CallLaws.{AreLossEvents, losses-are, last_end-behind, length-losses, values-losses}
+use Rattle.call_entries.proofs.LosingLaws.{entries-both}
+use Rattle.call_entries.proofs.LeftLaws.{TellLeft}
+use Rattle.kept_history.specs.Recorded.{IsHistoryKept, IsLegalCall, IsCallGoing, entry_of, ends_reshape, gives_some}
+use Rattle.kept_history.specs.Safe.{world_in, IsFilledRight, IsSafeHistory}
+use Rattle.kept_history.specs.Told.{told_now, told_by}
+use Rattle.kept_history.proofs.Growing.{fit-grown, unsynced-grown, now-grown, alike-before, room-before, room-now}
+use Rattle.kept_history.proofs.Ledgers.{more-then, unsynced-still}
+use Rattle.kept_history.proofs.Lists.{newest-in}
+use Rattle.kept_history.proofs.Seen.{now-more}
+use Rattle.kept_history.proofs.Calls.{safe-called}
+use Rattle.kept_history.proofs.KeptCalls.{kept-call}
+use Rattle.kept_history.proofs.Entered.{told-adding, values-more, length-more, length-adding, all-stay, settled-now}
+use Rattle.kept_history.proofs.Reshapes.{call-ends_none}
+use Rattle.history_calls.specs.Reliable.{IsReliable, AreToldGone}
+use Rattle.history_calls.proofs.Behind.{AreLostOrMissing, IsAmong, IsBehind, early-losses, is-behind, legal-losses, or-false}
+use Rattle.history_calls.proofs.Quiet.{IsLeftBehind}
+
+-- ---- the event
+
+-- An event that leaves each sector its newest value alone, and changes nothing else but that it may end a resync.
+pub record IsSettlement (event : Event) : Type 0 where
+  pub gives : gives_some event ≡ false
+  pub ends : ends_reshape event ≡ false
+  pub level : (n : ℕ) → level_after n event ≡ n
+  pub length : (n : ℕ) → length_after n event ≡ n
+  pub newest : (x : ℕ) (values : List Sector) → values_after x values event ≡ take 1 values
+
+-- the newest value is among those that stay, and is the newest of them
+first-in : (values : List Sector) (v : Sector) → IsIn values v → IsIn (take 1 values) (slice_index_or values 0 [])
+first-in [] v has = absurd has
+first-in (w ∷ values) v has = inl refl
+
+first-stays : (values : List Sector) → slice_index_or (take 1 values) 0 [] ≡ slice_index_or values 0 []
+first-stays [] = refl
+first-stays (w ∷ values) = refl
+
+-- losses end no resync
+ended-losses : (who : Who) (end : ℕ) (xs tail : List Event) → AreLossEvents xs → list_any (λ e. is_resync_end e.event) (entries_of who end (xs ++ tail)) ≡ list_any (λ e. is_resync_end e.event) (entries_of who end tail)
+ended-losses who end [] tail are = refl
+ended-losses who end (Lost role Fault ∷ xs) tail are = ended-losses who end xs tail are
+ended-losses who end (SpareLost slot ∷ xs) tail are = ended-losses who end xs tail are
+ended-losses who end (event ∷ xs) tail are = absurd are
+
+-- opened dirty, and ended neither before nor now
+neither-ended : (dirty a b : Bool) → (dirty && not (a || (b || false))) ≡ ((dirty && not a) && not b)
+neither-ended false a b = refl
+neither-ended true true b = refl
+neither-ended true false true = refl
+neither-ended true false false = refl
+
+-- a list that is the same as far as it goes is told by no more
+settled-alike : (unsynced : Bool) (list other : ℕ → Sector) (told : Ledger) → ((x : ℕ) → x < told.size → list x ≡ other x) → IsMoreTold (settled_ledger unsynced list told) (settled_ledger unsynced other told)
+settled-alike unsynced list other told same = record {
+  size = refl;
+  values = λ x lt v only. elim only [
+    | inl is ↦ inl (is ∙ same x lt)
+    | inr nothing ↦ absurd nothing
+  ];
+  gone = λ role is. is;
+  unclean = λ is. is;
+  reshaping = λ is. is;
+  carried = λ number is. is;
+}
+
+-- ---- the call
+
+-- Once it is over, the array is safe by a list that is this one as far as it goes, and by no other.
+pub record IsSettledBy (world : World) (given : Given) (told : Ledger) (old new : Members) (tape' : List Operation) (unsynced : Bool) (newest : ℕ → Sector) : Type 0 where
+  pub list : ℕ → Sector
+  pub is : (x : ℕ) → x < list_length old.newest → list x ≡ newest x
+  pub safe : IsSafeOver world given (settled_ledger unsynced list told) new tape'
+
+-- What is asked of a call, from this tape to that one with its end there: by what is told while it runs each mark is safe, and its end by the list alone.
+pub record SettlesList (given : Given) (tape : List Operation) (scope : Scope) (first : ℕ) (entries : List Entry) (old new : Members) (carried : ℕ → Bool) (reshaping : Bool) (unsynced : Bool)
+    (who : Who) (roles spares : ℕ) (event : Event) (tape' : List Operation) (end : ℕ) : Type 0 where
+  pub rise : IsRisen ⊤ old new tape tape'
+  pub keeps : (told : Ledger) → IsFilledRight (world_in given tape scope first) entries → IsMoreTold (told_now (world_in given tape scope first) carried reshaping entries) told
+      → AreWritesAllowed old told.values (now (opening_list (world_in given tape scope first)) entries) → HasRoomLeft old tape tape' → AreGoneTold told new → IsUncleanTold told old
+      → IsSafeOver (world_in given tape scope first) given told old tape → KeepsSafe (world_in given tape scope first) given told new tape tape'
+  pub settled : (told : Ledger) → IsFilledRight (world_in given tape scope first) entries → IsMoreTold (told_now (world_in given tape scope first) carried reshaping entries) told
+      → AreWritesAllowed old told.values (now (opening_list (world_in given tape scope first)) entries) → HasRoomLeft old tape tape' → AreGoneTold told new → IsUncleanTold told old
+      → IsSafeOver (world_in given tape scope first) given told old tape
+      → IsSettledBy (world_in given tape scope first) given told old new tape' unsynced (now (opening_list (world_in given tape scope first)) entries)
+  pub legal : IsReliable (world_in given tape scope first) entries
+      → AreToldGone (world_in given tape' scope first) (entries ++ entries_of who end (losses_of roles spares)) new
+      → level_at (world_in given tape' scope first) (entries ++ entries_of who end (losses_of roles spares)) ≡ level_at (world_in given tape scope first) entries
+      → IsLegalEvent (world_in given tape' scope first) (entries ++ entries_of who end (losses_of roles spares)) (entry_of who end event) [] event
+
+module _ (given : Given) (tape : List Operation) (scope : Scope) (first : ℕ) (entries : List Entry) (old new : Members) (carried : ℕ → Bool) (reshaping : Bool) (unsynced : Bool)
+    (who : Who) (roles spares : ℕ) (event : Event) (ops : List Operation)
+    (goes : IsCallGoing entries who) (caller : IsFalse (who.caller == 254)) (settling : IsSettlement event) (few : role_count new.newest ≤ 16)
+    (missing : AreLostOrMissing old new (IsAmong roles))
+    (sized : list_length new.newest ≡ list_length old.newest) (clean : unsynced ≡ false → is_clean new.newest ≡ true) (sizes_are : scope.sizes ≡ sizes given)
+    (unsynced_is : (is_unsynced (world_in given tape scope first) entries && not (is_resync_end event)) ≡ unsynced)
+    (gone : IsReliable (world_in given tape scope first) entries → AreToldGone (world_in given tape scope first) entries old)
+    (unclean : is_clean old.newest ≡ false → (is_unsynced (world_in given tape scope first) entries || is_unsettled entries) ≡ true)
+    (recorded : IsHistoryKept (IsReliable (world_in given tape scope first) entries) (world_in given tape scope first) (list_length old.newest) entries)
+    (safe : IsFilledRight (world_in given tape scope first) entries → HasRoomForEvents (world_in given tape scope first) → OpensAlike (world_in given tape scope first)
+    → IsSafeHistory ⊤ (world_in given tape scope first) given old carried reshaping entries)
+    (now_safe : IsFilledRight (world_in given tape scope first) entries → HasRoomForEvents (world_in given tape scope first) → OpensAlike (world_in given tape scope first)
+    → IsSafeOver (world_in given tape scope first) given (told_now (world_in given tape scope first) carried reshaping entries) old tape)
+    (call : SettlesList given tape scope first entries old new carried reshaping unsynced who roles spares event (tape ++ ops) (length (tape ++ ops))) where
+  abbrev world : World
+  world = world_in given tape scope first
+
+  abbrev later : World
+  later = world_in given (tape ++ ops) scope first
+
+  abbrev end : ℕ
+  end = length (tape ++ ops)
+
+  abbrev losses : List Event
+  losses = losses_of roles spares
+
+  abbrev more : List Entry
+  more = entries_of who (length (tape ++ ops)) (losses_of roles spares)
+
+  abbrev rest : List Entry
+  rest = entries_of who (length (tape ++ ops)) (event ∷ [])
+
+  abbrev added : List Entry
+  added = entries_of who (length (tape ++ ops)) (losses_of roles spares ++ event ∷ [])
+
+  abbrev all : List Entry
+  all = entries ++ entries_of who (length (tape ++ ops)) (losses_of roles spares ++ event ∷ [])
+
+  both : added ≡ more ++ rest
+  both = entries-both who end losses (event ∷ [])
+
+  behind : IsBehind (world_in given tape scope first) (world_in given (tape ++ ops) scope first) entries new who (length (tape ++ ops)) (losses_of roles spares) event
+  behind = is-behind given tape scope first entries old new who (losses_of roles spares) (IsAmong roles) event ops (early-losses roles spares) settling.gives settling.ends settling.level few missing gone recorded
+
+  -- ---- what is told
+
+  begun : first ≤ length tape
+  begun = recorded.begun
+
+  abbrev told : Ledger
+  told = told_by later carried reshaping entries more
+
+  told-first : IsMoreTold (told_now world carried reshaping entries) told
+  told-first = subst (λ (l : Ledger). IsMoreTold l told) (now-grown world ops begun carried reshaping entries recorded.ends)
+      (told-adding later carried carried reshaping reshaping entries more behind.adds_more (λ number is. is) (λ is. is))
+
+  -- the list keeps its length
+  length-opened : length_of (length (opening_list later)) entries ≡ list_length old.newest
+  length-opened = ap (λ (l : List Sector). length_of (length l) entries) behind.opened ∙ recorded.sized
+
+  length-now : length_of (length (opening_list later)) (entries ++ more) ≡ list_length old.newest
+  length-now = length-adding (length (opening_list later)) entries more behind.adds_more ∙ length-opened
+
+  length-all : length_of (length (opening_list later)) all ≡ list_length old.newest
+  length-all =
+      length-more (length (opening_list later)) entries added
+      ∙ length-losses who end losses (event ∷ []) (losses-are roles spares) (length_of (length (opening_list later)) entries)
+      ∙ settling.length (length_of (length (opening_list later)) entries) ∙ length-opened
+
+  -- each sector has its newest value alone then
+  values-all : (x : ℕ) → values_of (opening_list later) all x ≡ take 1 (values_of (opening_list later) entries x)
+  values-all x =
+      values-more (opening_list later) entries added x
+      ∙ values-losses who end losses (event ∷ []) (losses-are roles spares) x (values_of (opening_list later) entries x)
+      ∙ settling.newest x (values_of (opening_list later) entries x)
+
+  newest-all : (x : ℕ) → x < list_length old.newest → IsIn (values_of (opening_list later) all x) (now (opening_list later) entries x)
+  newest-all x lt = subst (λ (l : List Sector). IsIn l (now (opening_list later) entries x)) (sym (values-all x))
+      (first-in (values_of (opening_list later) entries x) (now (opening_list later) entries x) (newest-in (opening_list later) entries x (let n = length-opened in omega (arith, lt, n))))
+
+  allowed : AreWritesAllowed old told.values (now (opening_list world) entries)
+  allowed x lt = subst (λ (l : List Sector). IsIn (told.values x) (now l entries x)) behind.opened
+      (subst (λ (l : List Sector). IsIn l (now (opening_list later) entries x)) (sym (values-more (opening_list later) entries more x))
+      (all-stay x more (values_of (opening_list later) entries x) (now (opening_list later) entries x) behind.adds_more
+      (newest-in (opening_list later) entries x (let n = length-opened in omega (arith, lt, n)))))
+
+  -- ---- whether it is unclean
+
+  unsynced-all : is_unsynced later all ≡ unsynced
+  unsynced-all =
+      ap (λ (b : Bool). was_dirty later && not b) (list_any-append (λ e. is_resync_end e.event) entries added ∙ ap (λ (b : Bool). list_any (λ e. is_resync_end e.event) entries || b) (ended-losses who end losses (event ∷ []) (losses-are roles spares)))
+      ∙ neither-ended (was_dirty later) (list_any (λ e. is_resync_end e.event) entries) (is_resync_end event)
+      ∙ ap (λ (b : Bool). b && not (is_resync_end event)) (unsynced-grown world ops begun entries) ∙ unsynced_is
+
+  unclean-all : is_clean new.newest ≡ false → (is_unsynced later all || is_unsettled all) ≡ true
+  unclean-all dirty = ap (λ (b : Bool). b || is_unsettled all) unsynced-all ∙ by unsynced clean
+    where
+      by : (b : Bool) → (b ≡ false → is_clean new.newest ≡ true) → (b || is_unsettled all) ≡ true
+      by true marked = refl
+      by false marked = absurd (let no = sym (marked refl) ∙ dirty in cc)
+
+  -- ---- the history
+
+  legal-call : IsReliable later all → IsLegalCall later entries who end (losses ++ event ∷ [])
+  legal-call fills = legal-losses later entries who end losses (event ∷ []) (losses-are roles spares) (call.legal (behind.right fills) (behind.gone_more fills) behind.level_more, tt, tt)
+
+  recorded-all : IsHistoryKept (IsReliable later all) later (list_length new.newest) all
+  recorded-all = kept-call (IsReliable world entries) (IsReliable later all) world ops (list_length old.newest) (list_length new.newest) entries who (losses ++ event ∷ []) goes recorded behind.right caller
+      (λ fills. inr behind.gives_all) (ap (λ (l : List Sector). length_of (length l) all) (sym behind.opened) ∙ length-all ∙ sym sized)
+      (last_end-behind first entries who end losses event) legal-call
+      (λ fills. call-ends_none later entries who end (losses ++ event ∷ []) behind.ends)
+
+  -- ---- each mark
+
+  told-last : (list : ℕ → Sector) → ((x : ℕ) → x < list_length old.newest → list x ≡ now (opening_list world) entries x) → IsMoreTold (settled_ledger unsynced list told) (told_now later carried reshaping all)
+  told-last list is = more-then (settled_ledger unsynced list told) (settled_ledger unsynced (now (opening_list later) entries) told) (told_now later carried reshaping all)
+      (settled-alike unsynced list (now (opening_list later) entries) told
+      (λ x lt. is x (let n = length-now in omega (arith, lt, n)) ∙ sym (ap (λ (l : List Sector). now l entries x) behind.opened)))
+      (subst (λ (l : List Entry). IsMoreTold (settled_ledger unsynced (now (opening_list later) entries) told) (told_now later carried reshaping (entries ++ l))) (sym both)
+      (settled-now later carried reshaping unsynced entries more rest
+      (subst (λ (l : List Entry). is_unsynced later (entries ++ l) ≡ unsynced) both unsynced-all)
+      (subst (λ (l : List Entry). length_of (length (opening_list later)) (entries ++ l) ≡ length_of (length (opening_list later)) (entries ++ more)) both (length-all ∙ sym length-now))
+      (λ x lt. subst (λ (l : List Entry). IsIn (values_of (opening_list later) (entries ++ l) x) (now (opening_list later) entries x)) both
+      (newest-all x (let n = length-now in omega (arith, lt, n))))
+      (subst (λ (l : List Entry). list_any (λ e. gives_some e.event) l ≡ false) both behind.gives_all)))
+
+  module _ (fills : IsFilledRight later all) (room : HasRoomForEvents later) (alike : OpensAlike later) where
+    abbrev was : IsSafeHistory ⊤ (world_in given tape scope first) given old carried reshaping entries
+    was = safe (behind.fills fills) (room-before world ops begun room) (alike-before world ops begun alike)
+
+    before : IsSafeOver world given told old tape
+    before = now-more (OpensFit world) scope given (told_now world carried reshaping entries) told old (disk given.start tape) told-first (now_safe (behind.fills fills) (room-before world ops begun room) (alike-before world ops begun alike))
+
+    stretch : KeepsSafe world given told new tape (tape ++ ops)
+    stretch = call.keeps told (behind.fills fills) told-first allowed (room-now world ops begun old was.counted room)
+        (λ role lt miss. behind.counts_more (record { fills = fills; room = room; alike = alike }) role lt miss) (λ dirty. told-first.unclean (unclean dirty)) before
+
+    last : IsSafeOver world given (told_now later carried reshaping all) new (tape ++ ops)
+    last =
+        let by = call.settled told (behind.fills fills) told-first allowed (room-now world ops begun old was.counted room)
+        (λ role lt miss. behind.counts_more (record { fills = fills; room = room; alike = alike }) role lt miss) (λ dirty. told-first.unclean (unclean dirty)) before in
+        now-more (OpensFit world) scope given (settled_ledger unsynced by.list told) (told_now later carried reshaping all) new (disk given.start (tape ++ ops)) (told-last by.list by.is) by.safe
+
+    safe-all : IsSafeHistory ⊤ later given new carried reshaping all
+    safe-all = safe-called ⊤ given tape scope first entries old new carried carried reshaping reshaping who losses (event ∷ []) told ops (tape ++ ops) end refl refl sizes_are begun recorded.ends was
+        fills call.rise (λ claimed opened mark low high. throughout-kept world given told new ops refl begun stretch (was.sound tt) opened mark (omega (arith, begun, low)) high)
+        (record { size = refl; values = λ x lt v may. may; gone = λ role is. is; unclean = λ is. is; reshaping = λ is. is; carried = λ number is. refl }) stretch last
+
+    now-all : IsSafeOver later given (told_now later carried reshaping all) new (tape ++ ops)
+    now-all = subst (λ (fit : Type 0). IsSafeNow fit scope given (told_now later carried reshaping all) new (disk given.start (tape ++ ops))) (sym (fit-grown world ops begun)) last
+
+  pub settling-leaves : IsLeftBehind given tape scope first entries all new carried reshaping (tape ++ ops)
+  settling-leaves = record {
+    right = behind.right;
+    fills = behind.fills;
+    levelled = behind.level_all;
+    gone = behind.gone_all;
+    unclean = unclean-all;
+    recorded = recorded-all;
+    opened = behind.opened;
+    fit = fit-grown world ops begun;
+    safe = safe-all;
+    now_safe = now-all;
+  }
+
+-- the newest value of each sector is what it was
+pub settled-same : (list : List Sector) (entries : List Entry) (who : Who) (end roles spares : ℕ) (event : Event) → IsSettlement event
+    → (x : ℕ) → now list (entries ++ entries_of who end (losses_of roles spares ++ event ∷ [])) x ≡ now list entries x
+settled-same list entries who end roles spares event settling x =
+    ap (λ (l : List Sector). slice_index_or l 0 [])
+    (values-more list entries (entries_of who end (losses_of roles spares ++ event ∷ [])) x
+    ∙ values-losses who end (losses_of roles spares) (event ∷ []) (losses-are roles spares) x (values_of list entries x)
+    ∙ settling.newest x (values_of list entries x))
+    ∙ first-stays (values_of list entries x)
