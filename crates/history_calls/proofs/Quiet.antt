@@ -1,19 +1,18 @@
 -- A call that leaves the list as it is, and enters losses and one event behind them.
 use Rattle.std.proofs.Common.{◌≡◌, inr, ℕ, ◌≤◌, ◌==◌, ◌||◌, Bool, true, false, List, [], ◌∷◌, ◌++◌, length, refl, sym, ◌∙◌, ap, subst, arith, append_assoc}
-use Rattle.std.specs.Prelude.{IsFalse, IfSome, slice_index_or, ⊤}
+use Rattle.std.specs.Prelude.{IsFalse, slice_index_or, ⊤}
 use Rattle.md_base.specs.Sectors.{Sector}
-use Rattle.md_base.specs.Shapes.{tolerance_of}
 use Rattle.md_base.specs.declared.answers.Who.{Who}
 use Rattle.bank.specs.declared.bank.Operation.{Operation}
 use Rattle.bank.specs.Given.{Given, sizes}
 use Rattle.bank.specs.Tape.{disk}
 use Rattle.superblocks.specs.declared.members.Members.{Members}
-use Rattle.superblocks.specs.Reading.{Scope, is_clean, shape_of, list_length, role_count}
+use Rattle.superblocks.specs.Reading.{Scope, is_clean, list_length, role_count}
 use Rattle.flat_history.specs.declared.events.Entry.{Entry}
 use Rattle.flat_history.specs.declared.events.Event.{Event}
 use Rattle.flat_history.specs.Epochs.{HasRoomForEvents, OpensAlike}
 use Rattle.flat_history.specs.Flat.{now, values_of, values_after}
-use Rattle.flat_history.specs.Legal.{told_left, level_at, level_after, IsLegalEvent}
+use Rattle.flat_history.specs.Legal.{level_at, level_after}
 use Rattle.flat_history.specs.Losses.{is_unsynced}
 use Rattle.flat_history.specs.OneShape.{is_unsettled}
 use Rattle.flat_history.specs.Plain.{entries_of}
@@ -22,12 +21,10 @@ use Rattle.flat_history.specs.World.{World, opening_list}
 use Rattle.shape_views.specs.Views.{Ledger}
 use Rattle.shape_changes.specs.Safety.{HasRoomLeft, IsRisen}
 use Rattle.shape_changes.specs.Steady.{IsMoreTold, IsSafeNow, IsSafeOver, KeepsSafe, AreGoneTold, IsUncleanTold}
-use Rattle.views.specs.Moving.{Grows}
 use Rattle.views.proofs.SoundViews.{throughout-kept}
-use Rattle.call_entries.specs.Losing.{losses_of}
-use Rattle.call_entries.proofs.CallLaws.{losses-are, last_end-behind}
+use Rattle.call_entries.proofs.CallLaws.{last_end-behind}
 use Rattle.call_entries.proofs.LosingLaws.{entries-both}
-use Rattle.kept_history.specs.Recorded.{IsHistoryKept, IsLegalCall, IsCallGoing, entry_of, ends_reshape, gives_some}
+use Rattle.kept_history.specs.Recorded.{IsHistoryKept, IsLegalCall, IsCallGoing, ends_reshape, gives_some}
 use Rattle.kept_history.specs.Safe.{world_in, IsFilledRight, IsSafeHistory}
 use Rattle.kept_history.specs.Told.{told_now, told_by}
 use Rattle.kept_history.proofs.Growing.{fit-grown, now-grown, alike-before, room-before, room-now}
@@ -38,7 +35,7 @@ use Rattle.kept_history.proofs.KeptCalls.{kept-call}
 use Rattle.kept_history.proofs.Entered.{adds_only, AreAdding, told-adding, told-added, values-more, length-adding}
 use Rattle.kept_history.proofs.Reshapes.{call-ends_none}
 use Rattle.history_calls.specs.Reliable.{IsReliable, AreToldGone}
-use Rattle.history_calls.proofs.Behind.{AreEarly, AreLostOrMissing, IsAmong, IsBehind, early-losses, is-behind, legal-losses, or-false, and-true}
+use Rattle.history_calls.proofs.Behind.{AreEarly, AreLostOrMissing, IsBehind, is-behind, or-false, and-true}
 
 -- An event that leaves the list and the level, settles nothing and neither ends a reshape nor gives a role.
 pub record IsQuiet (event : Event) : Type 0 where
@@ -69,12 +66,19 @@ pub record IsLeftBehind (given : Given) (tape : List Operation) (scope : Scope) 
   pub unclean : is_clean new.newest ≡ false → (is_unsynced (world_in given tape' scope first) all || is_unsettled all) ≡ true
   pub recorded : IsHistoryKept (IsReliable (world_in given tape' scope first) all) (world_in given tape' scope first) (list_length new.newest) all
   pub opened : opening_list (world_in given tape' scope first) ≡ opening_list (world_in given tape scope first)
-  pub fit : OpensFit (world_in given tape' scope first) ≡ OpensFit (world_in given tape scope first)
+  pub begun : first ≤ length tape
+  pub grown : (ops : List Operation) × (tape' ≡ tape ++ ops)
   pub fills : IsFilledRight (world_in given tape' scope first) all → IsFilledRight (world_in given tape scope first) entries
   pub safe : IsFilledRight (world_in given tape' scope first) all → HasRoomForEvents (world_in given tape' scope first) → OpensAlike (world_in given tape' scope first)
       → IsSafeHistory ⊤ (world_in given tape' scope first) given new carried reshaping all
   pub now_safe : IsFilledRight (world_in given tape' scope first) all → HasRoomForEvents (world_in given tape' scope first) → OpensAlike (world_in given tape' scope first)
       → IsSafeOver (world_in given tape' scope first) given (told_now (world_in given tape' scope first) carried reshaping all) new tape'
+
+-- what the opening found is what it was
+pub fit-later : {given : Given} {tape tape' : List Operation} {scope : Scope} {first : ℕ} {entries all : List Entry} {new : Members} {carried : ℕ → Bool} {reshaping : Bool}
+    → IsLeftBehind given tape scope first entries all new carried reshaping tape' → OpensFit (world_in given tape' scope first) ≡ OpensFit (world_in given tape scope first)
+fit-later {given = given} {tape = tape} {scope = scope} {first = first} left =
+    ap (λ (l : List Operation). OpensFit (world_in given l scope first)) left.grown.1 ∙ fit-grown (world_in given tape scope first) left.grown.0 left.begun
 
 module _ (given : Given) (tape : List Operation) (scope : Scope) (first : ℕ) (entries : List Entry) (old new : Members) (carried : ℕ → Bool) (reshaping : Bool)
     (who : Who) (early : List Event) (IsTaken : ℕ → Type 0) (event : Event) (ops : List Operation) (are : AreEarly early IsTaken)
@@ -164,7 +168,7 @@ module _ (given : Given) (tape : List Operation) (scope : Scope) (first : ℕ) (
 
     safe-all : IsSafeHistory ⊤ later given new carried reshaping all
     safe-all = safe-called ⊤ given tape scope first entries old new carried carried reshaping reshaping who early (event ∷ []) told ops (tape ++ ops) end refl refl sizes_are begun recorded.ends was
-        fills call.rise (λ claimed opened mark low high. throughout-kept world given told new ops refl begun stretch (was.sound tt) opened mark (omega (arith, begun, low)) high) (record { size = refl; values = λ x lt v may. may; gone = λ role is. is; unclean = λ is. is; reshaping = λ is. is; carried = λ number is. refl }) stretch last
+        fills call.rise (λ claimed opened mark low high. throughout-kept world given told new ops refl begun stretch (was.sound tt) opened mark (omega (arith, begun, low)) high) (record { size = refl; values = λ x lt v may. may; gone = λ role is. is; unclean = λ is. is; reshaping = λ is. refl; carried = λ number is. refl }) stretch last
 
     now-all : IsSafeOver later given (told_now later carried reshaping all) new (tape ++ ops)
     now-all = subst (λ (fit : Type 0). IsSafeNow fit scope given (told_now later carried reshaping all) new (disk given.start (tape ++ ops))) (sym (fit-grown world ops begun)) last
@@ -178,7 +182,8 @@ module _ (given : Given) (tape : List Operation) (scope : Scope) (first : ℕ) (
     unclean = unclean-all;
     recorded = recorded-all;
     opened = behind.opened;
-    fit = fit-grown world ops begun;
+    begun = begun;
+    grown = (ops, refl);
     safe = safe-all;
     now_safe = now-all;
   }
