@@ -83,8 +83,15 @@ and-true false b e f = absurd (cc)
 
 -- ---- what stands before the event
 
--- What stands before the event of a call only adds to what is told, and tells these roles lost; it leaves the list and the level, gives no role and ends no
--- reshape.
+-- What stands before the event of a call only adds to what is told, and tells these roles lost; it leaves the level, gives no role and ends no reshape.
+pub record AreFirst (early : List Event) (IsTaken : ℕ → Type 0) : Type 0 where
+  pub adds : (who : Who) (end : ℕ) (tail : List Event) → AreAdding (entries_of who end tail) → AreAdding (entries_of who end (early ++ tail))
+  pub gives : (who : Who) (end : ℕ) (tail : List Event) → list_any (λ e. gives_some e.event) (entries_of who end tail) ≡ false → list_any (λ e. gives_some e.event) (entries_of who end (early ++ tail)) ≡ false
+  pub lost : (who : Who) (end : ℕ) (tail : List Event) (role : ℕ) → role < 16 → IsTaken role → is_lost (entries_of who end (early ++ tail)) role ≡ true
+  pub ends : (tail : List Event) → list_any ends_reshape tail ≡ false → list_any ends_reshape (early ++ tail) ≡ false
+  pub level : (who : Who) (end : ℕ) (tail : List Event) (n : ℕ) → fold (λ level e. level_after level e.event) n (entries_of who end (early ++ tail)) ≡ fold (λ level e. level_after level e.event) n (entries_of who end tail)
+
+-- The same, and it leaves the list.
 pub record AreEarly (early : List Event) (IsTaken : ℕ → Type 0) : Type 0 where
   pub adds : (who : Who) (end : ℕ) (tail : List Event) → AreAdding (entries_of who end tail) → AreAdding (entries_of who end (early ++ tail))
   pub gives : (who : Who) (end : ℕ) (tail : List Event) → list_any (λ e. gives_some e.event) (entries_of who end tail) ≡ false → list_any (λ e. gives_some e.event) (entries_of who end (early ++ tail)) ≡ false
@@ -93,6 +100,9 @@ pub record AreEarly (early : List Event) (IsTaken : ℕ → Type 0) : Type 0 whe
   pub level : (who : Who) (end : ℕ) (tail : List Event) (n : ℕ) → fold (λ level e. level_after level e.event) n (entries_of who end (early ++ tail)) ≡ fold (λ level e. level_after level e.event) n (entries_of who end tail)
   pub values : (who : Who) (end : ℕ) (tail : List Event) (x : ℕ) (values : List Sector)
       → fold (λ values e. values_after x values e.event) values (entries_of who end (early ++ tail)) ≡ fold (λ values e. values_after x values e.event) values (entries_of who end tail)
+
+pub first-of : {early : List Event} {IsTaken : ℕ → Type 0} → AreEarly early IsTaken → AreFirst early IsTaken
+first-of are = record { adds = are.adds; gives = are.gives; lost = are.lost; ends = are.ends; level = are.level }
 
 -- one of these roles
 abbrev pub IsAmong : ℕ → ℕ → Type 0
@@ -129,11 +139,10 @@ pub record IsBehind (world later : World) (entries : List Entry) (new : Members)
   pub level_all : level_at later (entries ++ entries_of who end (early ++ event ∷ [])) ≡ level_at world entries
   pub fills : IsFilledRight later (entries ++ entries_of who end (early ++ event ∷ [])) → IsFilledRight world entries
   pub right : IsReliable later (entries ++ entries_of who end (early ++ event ∷ [])) → IsReliable world entries
-  pub ends : list_any ends_reshape (early ++ event ∷ []) ≡ false
   pub opened : opening_list later ≡ opening_list world
 
 module _ (given : Given) (tape : List Operation) (scope : Scope) (first : ℕ) (entries : List Entry) (old new : Members) (who : Who) (early : List Event) (IsTaken : ℕ → Type 0) (event : Event) (ops : List Operation)
-    (are : AreEarly early IsTaken) (gives : gives_some event ≡ false) (ends : ends_reshape event ≡ false) (level : (n : ℕ) → level_after n event ≡ n) (few : role_count new.newest ≤ 16) (missing : AreLostOrMissing old new IsTaken)
+    (are : AreFirst early IsTaken) (gives : gives_some event ≡ false) (level : (n : ℕ) → level_after n event ≡ n) (few : role_count new.newest ≤ 16) (missing : AreLostOrMissing old new IsTaken)
     (gone : IsReliable (world_in given tape scope first) entries → AreToldGone (world_in given tape scope first) entries old)
     (recorded : IsHistoryKept (IsReliable (world_in given tape scope first) entries) (world_in given tape scope first) (list_length old.newest) entries) where
   abbrev world : World
@@ -200,6 +209,5 @@ module _ (given : Given) (tape : List Operation) (scope : Scope) (first : ℕ) (
     level_all = level-from (early ++ event ∷ []) (are.level who end (event ∷ []) (level_at world entries) ∙ level (level_at world entries));
     fills = fills-before;
     right = right-before;
-    ends = are.ends (event ∷ []) (or-false (ends_reshape event) false ends refl);
     opened = opening-grown world ops recorded.begun;
   }

@@ -38,7 +38,7 @@ use Rattle.kept_history.proofs.KeptCalls.{kept-call}
 use Rattle.kept_history.proofs.Entered.{adds_only, AreAdding, told-adding, told-added, values-more, length-adding}
 use Rattle.kept_history.proofs.Reshapes.{call-ends_none}
 use Rattle.history_calls.specs.Reliable.{IsReliable, AreToldGone}
-use Rattle.history_calls.proofs.Behind.{AreEarly, AreLostOrMissing, IsAmong, IsBehind, early-losses, is-behind, legal-losses, or-false, and-true}
+use Rattle.history_calls.proofs.Behind.{AreEarly, first-of, AreLostOrMissing, IsAmong, IsBehind, early-losses, is-behind, legal-losses, or-false, and-true}
 
 -- An event that leaves the list and the level, settles nothing and neither ends a reshape nor gives a role.
 pub record IsQuiet (event : Event) : Type 0 where
@@ -57,7 +57,8 @@ pub record LeavesList (given : Given) (tape : List Operation) (scope : Scope) (f
   pub keeps : (told : Ledger) → IsFilledRight (world_in given tape scope first) entries → IsMoreTold (told_now (world_in given tape scope first) carried reshaping entries) told
       → HasRoomLeft old tape tape' → AreGoneTold told new → IsUncleanTold told old
       → IsSafeOver (world_in given tape scope first) given told old tape → KeepsSafe (world_in given tape scope first) given told new tape tape'
-  pub legal : IsReliable (world_in given tape scope first) entries → AreToldGone (world_in given tape' scope first) (entries ++ entries_of who end early) new
+  pub legal : IsReliable (world_in given tape' scope first) (entries ++ entries_of who end (early ++ event ∷ [])) → IsReliable (world_in given tape scope first) entries
+      → AreToldGone (world_in given tape' scope first) (entries ++ entries_of who end early) new
       → level_at (world_in given tape' scope first) (entries ++ entries_of who end early) ≡ level_at (world_in given tape scope first) entries
       → IsLegalCall (world_in given tape' scope first) entries who end (early ++ event ∷ [])
 
@@ -108,7 +109,7 @@ module _ (given : Given) (tape : List Operation) (scope : Scope) (first : ℕ) (
   all = entries ++ entries_of who (length (tape ++ ops)) (early ++ event ∷ [])
 
   behind : IsBehind (world_in given tape scope first) (world_in given (tape ++ ops) scope first) entries new who (length (tape ++ ops)) early event
-  behind = is-behind given tape scope first entries old new who early IsTaken event ops are quiet.gives quiet.ends quiet.level few missing gone recorded
+  behind = is-behind given tape scope first entries old new who early IsTaken event ops (first-of are) quiet.gives quiet.level few missing gone recorded
 
   adds-last : AreAdding (entries_of who end (event ∷ []))
   adds-last = and-true (adds_only event) true quiet.adds refl
@@ -144,8 +145,8 @@ module _ (given : Given) (tape : List Operation) (scope : Scope) (first : ℕ) (
   recorded-all : IsHistoryKept (IsReliable later all) later (list_length new.newest) all
   recorded-all = kept-call (IsReliable world entries) (IsReliable later all) world ops (list_length old.newest) (list_length new.newest) entries who (early ++ event ∷ []) goes recorded behind.right caller
       (λ fills. inr behind.gives_all) (length-adding (length (opening_list world)) entries added adds-all ∙ recorded.sized ∙ sym sized)
-      (last_end-behind first entries who end early event) (λ fills. call.legal (behind.right fills) (behind.gone_more fills) behind.level_more)
-      (λ fills. call-ends_none later entries who end (early ++ event ∷ []) behind.ends)
+      (last_end-behind first entries who end early event) (λ fills. call.legal fills (behind.right fills) (behind.gone_more fills) behind.level_more)
+      (λ fills. call-ends_none later entries who end (early ++ event ∷ []) (are.ends (event ∷ []) (or-false (ends_reshape event) false quiet.ends refl)))
 
   -- ---- each mark
 

@@ -1,0 +1,15 @@
+pub mod KeptStands
+pub mod Leaving
+pub mod Ends
+pub mod Whole
+pub mod Stood
+pub mod Resting
+pub mod Quiet
+pub mod Refusals
+pub mod Staying
+pub mod Reading
+pub mod Adding
+pub mod Flushing
+pub mod Failing
+pub mod Writing
+pub mod Resync
