@@ -1,10 +1,18 @@
 -- What the calls of an array in a reshape tell of it, and what none of them changes.
-use Rattle.std.specs.Prelude.{◌≡◌, ℕ, ◌≤◌, List, length, Option, Some}
+use Rattle.std.specs.Prelude.{◌≡◌, ℕ, ◌<◌, ◌≤◌, Bool, List, length, Option, Some, None, Result, Ok, Err}
+use Rattle.md_base.specs.declared.answers.Fault.{Fault}
+use Rattle.md_base.specs.declared.answers.Fault.TheVariants.{Refused as IsRefusedWith, NoMemory}
+use Rattle.md_base.specs.declared.answers.Who.{Who}
+use Rattle.md_base.specs.declared.places.Span.{Span}
 use Rattle.md_base.specs.declared.status.Status.{Status}
+use Rattle.geometry.specs.Geometry.{stripes, zeroed_stripes}
 use Rattle.bank.specs.Given.{Given, NeverFalls}
 use Rattle.bank.specs.declared.bank.Operation.{Operation}
-use Rattle.superblocks.specs.Reading.{is_backward, is_clean, shape_of, final_shape, list_length}
+use Rattle.superblocks.specs.Reading.{is_backward, is_clean, shape_of, final_shape, list_length, next_window}
+use Rattle.flat_history.specs.declared.events.Entry.{Entry}
 use Rattle.flat_history.specs.declared.events.Epoch.{Epoch}
+use Rattle.flat_history.specs.declared.events.Event.TheVariants.{Step, Refused}
+use Rattle.flat_history.specs.declared.events.StepKind.{StepKind}
 use Rattle.flat_history.specs.CrashSafe.{IsCrashSafe}
 use Rattle.flat_history.specs.Epochs.{world_of}
 use Rattle.flat_history.specs.Legal.{IsLegal}
@@ -13,7 +21,8 @@ use Rattle.flat_history.specs.Sound.{OpensFit, StaysSound}
 use Rattle.flat_history.specs.World.{World}
 use Rattle.views.specs.Placed.{AreStillHeld}
 use Rattle.views.specs.Moving.{Grows}
-use Rattle.array_kept.specs.Calls.{world_for, AreSparesFewer, AreLossesOf, IsEndOf, IsSameArray}
+use Rattle.array_kept.specs.Calls.{world_for, IsBehind, AreSparesFewer, AreLossesOf, IsEndOf, IsSameArray}
+use Rattle.course_kept.specs.Laws.{entered, closed}
 use Rattle.moving.specs.Ready.{MovingParts, left_in}
 
 -- this status tells the array as it is
@@ -61,3 +70,32 @@ pub record IsEpochKept (given : Given) (tape : List Operation) (backup : Option 
   pub safe : IsCrashSafe (world_of given tape backup epoch) epoch.last epoch.entries.items
   pub sound : StaysSound (world_of given tape backup epoch) epoch.last epoch.entries.items
   pub reshaped : OpensFit (world_of given tape backup epoch) → IsReshaped (world_of given tape backup epoch) epoch.entries.items
+
+-- ---- steps
+
+-- a step entered what it lost, and behind it that it was done, or why it wasn't; it takes no memory
+abbrev pub IsStepTaken : {T : Type 0} → Who → List Entry → List Entry → StepKind → ℕ → Result T Fault → Type 0
+IsStepTaken who old new kind left (Ok x) = IsBehind who old new (Step kind left)
+IsStepTaken who old new kind left (Err (IsRefusedWith refusal)) = IsBehind who old new (Refused refusal)
+IsStepTaken who old new kind left (Err NoMemory) = ⊥
+
+-- a stripe of the open window is to be copied next
+pub record IsCopyDue {B : Type 0} (array : MovingParts B) : Type 0 where
+  pub span : Span
+  pub copied : ℕ
+  pub sectioned : Bool
+  pub is : array.course ≡ entered span copied sectioned
+  pub more : copied < stripes (final_shape array.parts.members.newest) span.lo span.hi
+
+-- all of them are copied, and the window is to be recorded
+pub record IsRecordDue {B : Type 0} (array : MovingParts B) : Type 0 where
+  pub span : Span
+  pub sectioned : Bool
+  pub is : array.course ≡ entered span (stripes (final_shape array.parts.members.newest) span.lo span.hi) sectioned
+
+-- the reshape has gone through the list, and a stripe behind it is to be zeroed
+pub record IsZeroDue {B : Type 0} (array : MovingParts B) : Type 0 where
+  pub zeroed : ℕ
+  pub is : array.course ≡ closed zeroed
+  pub through : next_window array.parts.members.newest ≡ None
+  pub more : zeroed < zeroed_stripes (shape_of array.parts.members.newest) (final_shape array.parts.members.newest) array.parts.members.newest.size (is_backward array.parts.members.newest)

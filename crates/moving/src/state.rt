@@ -1,7 +1,10 @@
 //! An array in a reshape.
 
 ghost use Rattle.std.specs.Prelude.{◌≡◌, length};
+ghost use Rattle.grow_plan.specs.Plans.{AreSound};
+ghost use Rattle.superblocks.specs.Reading.{final_shape};
 ghost use Rattle.flat_history.specs.Flat.{next_number};
+ghost use Rattle.grow_asked.specs.Left.{phases_of, zeroed_by, IsReshapeUnderWay, IsWindowRight};
 ghost use Rattle.moving.specs.Ready.{left_in};
 
 mod asking;
@@ -68,6 +71,18 @@ impl<B: Bank> Model for Moving<B> {
         (vec_capacity a.rows) (length a.buffer.items) (vec_capacity a.far_rows) (length a.far_buffer.items) };
 }
 
+// The steps that are left, of the reshape and of the phases ahead of it.
+fn steps_left(members: &Members, course: &Course, ahead: &PhasesLeft) -> u64
+    requires reshape { IsReshapeUnderWay members.now.newest }
+    requires open { IsWindowRight members.now.newest course.now.window }
+    requires zeroed { course.now.zeroed ≤ zeroed_by members.now.newest }
+    requires sound { AreSound (final_shape members.now.newest) members.now.newest.size (phases_of ahead.now) }
+    ensures { result ≡ left_in members.now course.now ahead.now }
+{
+    let moved = reshape_left(members, &course.window, course.zeroed);
+    moved + planned_left(&final_in(members), members.newest.size, ahead)
+}
+
 impl<B: Bank> Moving<B> {
     /// The number that the caller's next call bears.
     pub fn next_number(&self, caller: u32) -> u64
@@ -112,7 +127,6 @@ impl<B: Bank> Moving<B> {
     pub fn left(&self) -> u64
         ensures { result ≡ left_in self.now.parts.members self.now.course self.now.ahead }
     {
-        let moved = reshape_left(&self.members, &self.course.window, self.course.zeroed);
-        moved + planned_left(&final_in(&self.members), self.members.newest.size, &self.ahead)
+        steps_left(&self.members, &self.course, &self.ahead)
     }
 }
