@@ -52,7 +52,7 @@ changing-stands tells given tape tape' scope first entries old new work left lef
     (λ t. unsynced-still (world_in given tape scope first) entries added ends ∙ was.pending t)
     dirty listed leaves
   where
-    abbrev added : List Entry
+    added : List Entry
     added = entries_of who end (early ++ event ∷ [])
 
     ends : list_any (λ e. is_resync_end e.event) (entries_of who end (early ++ event ∷ [])) ≡ false

@@ -151,7 +151,7 @@ module _ (tells : Type 0) (given : Given) (tape tape' : List Operation) (scope :
       (again (OpensFit (world_in given tape scope first)) (present given tape') current (still-listed t does fills)))
       (λ t. subst (λ (c : ℕ → Bool). IsLeftBehind given tape scope first entries (entries ++ added) new c false tape') (sym carries) (leaves t))
     where
-      abbrev added : List Entry
+      added : List Entry
       added = entries_of who end (losses_of roles spares ++ event ∷ [])
 
       same : now (opening_list (world_in given tape scope first)) (entries ++ entries_of who end (losses_of roles spares ++ event ∷ [])) ≡ now (opening_list (world_in given tape scope first)) entries

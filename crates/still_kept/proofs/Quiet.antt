@@ -54,7 +54,7 @@ early-stands tells given tape tape' scope first entries old new work work' left 
     (λ t does fills. subst (λ (l : ℕ → Sector). HasListStood (OpensFit (world_in given tape scope first)) work' new (present given tape') l) (sym same) (listed t does fills))
     (λ t. subst (λ (c : ℕ → Bool). IsLeftBehind given tape scope first entries (entries ++ added) new c false tape') (sym carries) (leaves t))
   where
-    abbrev added : List Entry
+    added : List Entry
     added = entries_of who end (early ++ event ∷ [])
 
     ends : list_any (λ e. is_resync_end e.event) (entries_of who end (early ++ event ∷ [])) ≡ false

@@ -13,10 +13,11 @@ use Rattle.row_io.specs.Rows.{reading_of, present, is_missing}
 use Rattle.flat_history.specs.declared.events.Entry.{Entry}
 use Rattle.flat_history.specs.declared.events.Event.{Event}
 use Rattle.flat_history.specs.declared.events.Event.TheVariants.{Refused}
-use Rattle.flat_history.specs.Legal.{told_left, level_at, IsLegalEvent}
+use Rattle.flat_history.specs.Flat.{now}
+use Rattle.flat_history.specs.Legal.{level_at, IsLegalEvent}
 use Rattle.flat_history.specs.Plain.{entries_of}
 use Rattle.flat_history.specs.Sound.{OpensFit}
-use Rattle.flat_history.specs.World.{World}
+use Rattle.flat_history.specs.World.{World, opening_list}
 use Rattle.shape_views.specs.Views.{Ledger}
 use Rattle.shape_changes.specs.Marking.{AreOthersPresent}
 use Rattle.shape_changes.specs.Safety.{HasLiveSlot, HasRoomLeft, IsRisen}

@@ -132,7 +132,7 @@ torn-first roles spares at body = record {
   level = λ who end tail n. ap (λ (l : List Event). fold (λ level e. level_after level e.event) n (entries_of who end l)) (sym (again tail)) ∙ losses.level who end (Torn at body ∷ tail) n;
 }
   where
-    abbrev losses : AreFirst (losses_of roles spares) (IsAmong roles)
+    losses : AreFirst (losses_of roles spares) (IsAmong roles)
     losses = first-of (early-losses roles spares)
 
     again : (tail : List Event) → losses_of roles spares ++ Torn at body ∷ tail ≡ (losses_of roles spares ++ Torn at body ∷ []) ++ tail
