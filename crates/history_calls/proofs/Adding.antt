@@ -1,21 +1,20 @@
 -- A call that enters losses, or more, and one event behind them, by which the list may change: a write.
 use Rattle.std.proofs.Common.{◌≡◌, ◌⊎◌, inl, inr, ℕ, ◌<◌, ◌≤◌, ◌==◌, ◌||◌, Bool, true, false, List, [], ◌∷◌, ◌++◌, length, refl, sym, ◌∙◌, ap, subst, arith, append-nil}
-use Rattle.std.specs.Prelude.{IsFalse, IfSome, ⊤}
+use Rattle.std.specs.Prelude.{IsFalse, ⊤}
 use Rattle.std.specs.List.{list_any}
 use Rattle.std.proofs.lemmas.List.Folds.{list_any-append}
 use Rattle.md_base.specs.Sectors.{Sector}
-use Rattle.md_base.specs.Shapes.{tolerance_of}
 use Rattle.md_base.specs.declared.answers.Who.{Who}
 use Rattle.bank.specs.declared.bank.Operation.{Operation}
 use Rattle.bank.specs.Given.{Given, sizes}
 use Rattle.bank.specs.Tape.{IsIn, disk}
 use Rattle.superblocks.specs.declared.members.Members.{Members}
-use Rattle.superblocks.specs.Reading.{Scope, is_clean, shape_of, list_length, role_count}
+use Rattle.superblocks.specs.Reading.{Scope, is_clean, list_length, role_count}
 use Rattle.flat_history.specs.declared.events.Entry.{Entry}
 use Rattle.flat_history.specs.declared.events.Event.{Event}
 use Rattle.flat_history.specs.Epochs.{HasRoomForEvents, OpensAlike}
 use Rattle.flat_history.specs.Flat.{now, values_of}
-use Rattle.flat_history.specs.Legal.{told_left, level_at, level_after, IsLegalEvent}
+use Rattle.flat_history.specs.Legal.{level_at, level_after, IsLegalEvent}
 use Rattle.flat_history.specs.Losses.{is_unsynced, unsettles}
 use Rattle.flat_history.specs.OneShape.{is_unsettled}
 use Rattle.flat_history.specs.Plain.{entries_of}
@@ -24,11 +23,9 @@ use Rattle.flat_history.specs.World.{World, opening_list}
 use Rattle.shape_views.specs.Views.{Ledger}
 use Rattle.shape_changes.specs.Safety.{HasRoomLeft, IsRisen}
 use Rattle.shape_changes.specs.Steady.{IsMoreTold, IsSafeNow, IsSafeOver, KeepsSafe, AreGoneTold, IsUncleanTold}
-use Rattle.views.specs.Moving.{Grows}
 use Rattle.views.proofs.SoundViews.{throughout-kept}
 use Rattle.call_entries.specs.Losing.{losses_of}
 use Rattle.call_entries.proofs.CallLaws.{losses-are, last_end-behind}
-use Rattle.call_entries.proofs.StepLaws.{faults-are}
 use Rattle.call_entries.proofs.LosingLaws.{entries-both}
 use Rattle.kept_history.specs.Recorded.{IsHistoryKept, IsLegalCall, IsCallGoing, entry_of, ends_reshape, gives_some}
 use Rattle.kept_history.specs.Safe.{world_in, IsFilledRight, IsSafeHistory}
@@ -38,7 +35,7 @@ use Rattle.kept_history.proofs.Lists.{newest-in}
 use Rattle.kept_history.proofs.Seen.{now-more}
 use Rattle.kept_history.proofs.Calls.{safe-called}
 use Rattle.kept_history.proofs.KeptCalls.{kept-call}
-use Rattle.kept_history.proofs.Entered.{adds_only, AreAdding, told-adding, told-added, adding-losses, length-adding}
+use Rattle.kept_history.proofs.Entered.{adds_only, AreAdding, told-adding, told-added, length-adding}
 use Rattle.kept_history.proofs.Reshapes.{call-ends_none}
 use Rattle.history_calls.specs.Reliable.{IsReliable, AreToldGone}
 use Rattle.history_calls.proofs.Behind.{AreFirst, first-of, AreLostOrMissing, IsAmong, IsBehind, early-losses, is-behind, legal-losses, or-false, and-true}
@@ -172,7 +169,7 @@ module _ (given : Given) (tape : List Operation) (scope : Scope) (first : ℕ) (
         (safe-called ⊤ given tape scope first entries old new carried carried reshaping reshaping who (early ++ event ∷ []) [] told ops (tape ++ ops) end refl refl sizes_are begun recorded.ends was
         (subst (λ (l : List Event). IsFilledRight later (all_of l)) (sym no-more) fills) call.rise
         (λ claimed opened mark low high. throughout-kept world given told new ops refl begun stretch (was.sound tt) opened mark (omega (arith, begun, low)) high)
-        (record { size = refl; values = λ x lt v may. may; gone = λ role is. is; unclean = λ is. is; reshaping = λ is. is; carried = λ number is. refl }) stretch
+        (record { size = refl; values = λ x lt v may. may; gone = λ role is. is; unclean = λ is. is; reshaping = λ is. refl; carried = λ number is. refl }) stretch
         (subst (λ (l : List Event). IsSafeOver world given (told_now later carried reshaping (all_of l)) new (tape ++ ops)) (sym no-more) last))
 
     now-all : IsSafeOver later given (told_now later carried reshaping all) new (tape ++ ops)

@@ -1,19 +1,18 @@
 -- A call that leaves the list as it is, and enters losses and one event behind them.
 use Rattle.std.proofs.Common.{◌≡◌, inr, ℕ, ◌≤◌, ◌==◌, ◌||◌, Bool, true, false, List, [], ◌∷◌, ◌++◌, length, refl, sym, ◌∙◌, ap, subst, arith, append_assoc}
-use Rattle.std.specs.Prelude.{IsFalse, IfSome, slice_index_or, ⊤}
+use Rattle.std.specs.Prelude.{IsFalse, slice_index_or, ⊤}
 use Rattle.md_base.specs.Sectors.{Sector}
-use Rattle.md_base.specs.Shapes.{tolerance_of}
 use Rattle.md_base.specs.declared.answers.Who.{Who}
 use Rattle.bank.specs.declared.bank.Operation.{Operation}
 use Rattle.bank.specs.Given.{Given, sizes}
 use Rattle.bank.specs.Tape.{disk}
 use Rattle.superblocks.specs.declared.members.Members.{Members}
-use Rattle.superblocks.specs.Reading.{Scope, is_clean, shape_of, list_length, role_count}
+use Rattle.superblocks.specs.Reading.{Scope, is_clean, list_length, role_count}
 use Rattle.flat_history.specs.declared.events.Entry.{Entry}
 use Rattle.flat_history.specs.declared.events.Event.{Event}
 use Rattle.flat_history.specs.Epochs.{HasRoomForEvents, OpensAlike}
 use Rattle.flat_history.specs.Flat.{now, values_of, values_after}
-use Rattle.flat_history.specs.Legal.{told_left, level_at, level_after, IsLegalEvent}
+use Rattle.flat_history.specs.Legal.{level_at, level_after}
 use Rattle.flat_history.specs.Losses.{is_unsynced}
 use Rattle.flat_history.specs.OneShape.{is_unsettled}
 use Rattle.flat_history.specs.Plain.{entries_of}
@@ -22,12 +21,10 @@ use Rattle.flat_history.specs.World.{World, opening_list}
 use Rattle.shape_views.specs.Views.{Ledger}
 use Rattle.shape_changes.specs.Safety.{HasRoomLeft, IsRisen}
 use Rattle.shape_changes.specs.Steady.{IsMoreTold, IsSafeNow, IsSafeOver, KeepsSafe, AreGoneTold, IsUncleanTold}
-use Rattle.views.specs.Moving.{Grows}
 use Rattle.views.proofs.SoundViews.{throughout-kept}
-use Rattle.call_entries.specs.Losing.{losses_of}
-use Rattle.call_entries.proofs.CallLaws.{losses-are, last_end-behind}
+use Rattle.call_entries.proofs.CallLaws.{last_end-behind}
 use Rattle.call_entries.proofs.LosingLaws.{entries-both}
-use Rattle.kept_history.specs.Recorded.{IsHistoryKept, IsLegalCall, IsCallGoing, entry_of, ends_reshape, gives_some}
+use Rattle.kept_history.specs.Recorded.{IsHistoryKept, IsLegalCall, IsCallGoing, ends_reshape, gives_some}
 use Rattle.kept_history.specs.Safe.{world_in, IsFilledRight, IsSafeHistory}
 use Rattle.kept_history.specs.Told.{told_now, told_by}
 use Rattle.kept_history.proofs.Growing.{fit-grown, now-grown, alike-before, room-before, room-now}
@@ -38,7 +35,7 @@ use Rattle.kept_history.proofs.KeptCalls.{kept-call}
 use Rattle.kept_history.proofs.Entered.{adds_only, AreAdding, told-adding, told-added, values-more, length-adding}
 use Rattle.kept_history.proofs.Reshapes.{call-ends_none}
 use Rattle.history_calls.specs.Reliable.{IsReliable, AreToldGone}
-use Rattle.history_calls.proofs.Behind.{AreEarly, first-of, AreLostOrMissing, IsAmong, IsBehind, early-losses, is-behind, legal-losses, or-false, and-true}
+use Rattle.history_calls.proofs.Behind.{AreEarly, first-of, AreLostOrMissing, IsBehind, is-behind, or-false, and-true}
 
 -- An event that leaves the list and the level, settles nothing and neither ends a reshape nor gives a role.
 pub record IsQuiet (event : Event) : Type 0 where
@@ -50,20 +47,22 @@ pub record IsQuiet (event : Event) : Type 0 where
 
 -- ---- the call
 
--- What is asked of a call, from this tape to that one with its end there, that enters these events before its last one.
-pub record LeavesList (given : Given) (tape : List Operation) (scope : Scope) (first : ℕ) (entries : List Entry) (old new : Members) (carried : ℕ → Bool) (reshaping : Bool)
+-- What is asked of a call, from this tape to that one with its end there, that enters these events before its last one. It may make more device numbers known: its
+-- marks are judged with them, from what was told without.
+pub record LeavesNumbers (given : Given) (tape : List Operation) (scope : Scope) (first : ℕ) (entries : List Entry) (old new : Members) (carried carried' : ℕ → Bool) (reshaping : Bool)
     (who : Who) (early : List Event) (event : Event) (tape' : List Operation) (end : ℕ) : Type 0 where
   pub rise : IsRisen ⊤ old new tape tape'
-  pub keeps : (told : Ledger) → IsFilledRight (world_in given tape scope first) entries → IsMoreTold (told_now (world_in given tape scope first) carried reshaping entries) told
-      → HasRoomLeft old tape tape' → AreGoneTold told new → IsUncleanTold told old
-      → IsSafeOver (world_in given tape scope first) given told old tape → KeepsSafe (world_in given tape scope first) given told new tape tape'
+  pub keeps : (was told : Ledger) → IsFilledRight (world_in given tape scope first) entries → IsMoreTold (told_now (world_in given tape scope first) carried reshaping entries) was → IsMoreTold was told
+      → ((number : ℕ) → was.carried number ≡ carried number) → ((number : ℕ) → told.carried number ≡ carried' number)
+      → HasRoomLeft old tape tape' → AreGoneTold was new → IsUncleanTold was old
+      → IsSafeOver (world_in given tape scope first) given was old tape → KeepsSafe (world_in given tape scope first) given told new tape tape'
   pub legal : IsReliable (world_in given tape' scope first) (entries ++ entries_of who end (early ++ event ∷ [])) → IsReliable (world_in given tape scope first) entries
       → AreToldGone (world_in given tape' scope first) (entries ++ entries_of who end early) new
       → level_at (world_in given tape' scope first) (entries ++ entries_of who end early) ≡ level_at (world_in given tape scope first) entries
       → IsLegalCall (world_in given tape' scope first) entries who end (early ++ event ∷ [])
 
 -- What it leaves, of what is kept over a bank that tells its contents.
-pub record IsLeftBehind (given : Given) (tape : List Operation) (scope : Scope) (first : ℕ) (entries all : List Entry) (new : Members) (carried : ℕ → Bool) (reshaping : Bool) (tape' : List Operation) : Type 0 where
+pub record IsLeftBehind (given : Given) (tape : List Operation) (scope : Scope) (first : ℕ) (entries all : List Entry) (new : Members) (carried : ℕ → Bool) (reshaping : Bool) (tape' : List Operation) : Type 1 where
   pub right : IsReliable (world_in given tape' scope first) all → IsReliable (world_in given tape scope first) entries
   pub levelled : level_at (world_in given tape' scope first) all ≡ level_at (world_in given tape scope first) entries
   pub gone : IsReliable (world_in given tape' scope first) all → AreToldGone (world_in given tape' scope first) all new
@@ -77,8 +76,8 @@ pub record IsLeftBehind (given : Given) (tape : List Operation) (scope : Scope) 
   pub now_safe : IsFilledRight (world_in given tape' scope first) all → HasRoomForEvents (world_in given tape' scope first) → OpensAlike (world_in given tape' scope first)
       → IsSafeOver (world_in given tape' scope first) given (told_now (world_in given tape' scope first) carried reshaping all) new tape'
 
-module _ (given : Given) (tape : List Operation) (scope : Scope) (first : ℕ) (entries : List Entry) (old new : Members) (carried : ℕ → Bool) (reshaping : Bool)
-    (who : Who) (early : List Event) (IsTaken : ℕ → Type 0) (event : Event) (ops : List Operation) (are : AreEarly early IsTaken)
+module _ (given : Given) (tape : List Operation) (scope : Scope) (first : ℕ) (entries : List Entry) (old new : Members) (carried carried' : ℕ → Bool) (reshaping : Bool)
+    (who : Who) (early : List Event) (IsTaken : ℕ → Type 0) (event : Event) (ops : List Operation) (are : AreEarly early IsTaken) (carries : (number : ℕ) → carried number ≡ true → carried' number ≡ true)
     (goes : IsCallGoing entries who) (caller : IsFalse (who.caller == 254)) (quiet : IsQuiet event) (few : role_count new.newest ≤ 16)
     (missing : AreLostOrMissing old new IsTaken)
     (sized : list_length new.newest ≡ list_length old.newest) (clean : is_clean new.newest ≡ is_clean old.newest) (sizes_are : scope.sizes ≡ sizes given)
@@ -89,7 +88,7 @@ module _ (given : Given) (tape : List Operation) (scope : Scope) (first : ℕ) (
     → IsSafeHistory ⊤ (world_in given tape scope first) given old carried reshaping entries)
     (now_safe : IsFilledRight (world_in given tape scope first) entries → HasRoomForEvents (world_in given tape scope first) → OpensAlike (world_in given tape scope first)
     → IsSafeOver (world_in given tape scope first) given (told_now (world_in given tape scope first) carried reshaping entries) old tape)
-    (call : LeavesList given tape scope first entries old new carried reshaping who early event (tape ++ ops) (length (tape ++ ops))) where
+    (call : LeavesNumbers given tape scope first entries old new carried carried' reshaping who early event (tape ++ ops) (length (tape ++ ops))) where
   abbrev world : World
   world = world_in given tape scope first
 
@@ -122,23 +121,30 @@ module _ (given : Given) (tape : List Operation) (scope : Scope) (first : ℕ) (
   begun : first ≤ length tape
   begun = recorded.begun
 
-  abbrev told : Ledger
-  told = told_by later carried reshaping entries more
+  -- without the new numbers, and with them
+  abbrev before : Ledger
+  before = told_by later carried reshaping entries more
 
-  told-first : IsMoreTold (told_now world carried reshaping entries) told
-  told-first = subst (λ (l : Ledger). IsMoreTold l told) (now-grown world ops begun carried reshaping entries recorded.ends)
+  abbrev told : Ledger
+  told = told_by later carried' reshaping entries more
+
+  told-more : IsMoreTold before told
+  told-more = record { size = refl; values = λ x lt v may. may; gone = λ role is. is; unclean = λ is. is; reshaping = λ is. is; carried = carries }
+
+  told-first : IsMoreTold (told_now world carried reshaping entries) before
+  told-first = subst (λ (l : Ledger). IsMoreTold l before) (now-grown world ops begun carried reshaping entries recorded.ends)
       (told-adding later carried carried reshaping reshaping entries more behind.adds_more (λ number is. is) (λ is. is))
 
-  told-last : IsMoreTold told (told_now later carried reshaping all)
-  told-last = subst (λ (l : List Entry). IsMoreTold told (told_now later carried reshaping l)) (append_assoc entries more (entries_of who end (event ∷ [])) ∙ ap (λ (l : List Entry). entries ++ l) (sym (entries-both who end early (event ∷ []))))
-      (more-then told (told_now later carried reshaping (entries ++ more)) (told_now later carried reshaping ((entries ++ more) ++ entries_of who end (event ∷ [])))
-      (told-added later carried reshaping entries more behind.adds_more behind.gives_more)
-      (more-then (told_now later carried reshaping (entries ++ more)) (told_by later carried reshaping (entries ++ more) (entries_of who end (event ∷ []))) (told_now later carried reshaping ((entries ++ more) ++ entries_of who end (event ∷ [])))
-      (told-adding later carried carried reshaping reshaping (entries ++ more) (entries_of who end (event ∷ [])) adds-last (λ number is. is) (λ is. is))
-      (told-added later carried reshaping (entries ++ more) (entries_of who end (event ∷ [])) adds-last (or-false (gives_some event) false quiet.gives refl))))
+  told-last : IsMoreTold told (told_now later carried' reshaping all)
+  told-last = subst (λ (l : List Entry). IsMoreTold told (told_now later carried' reshaping l)) (append_assoc entries more (entries_of who end (event ∷ [])) ∙ ap (λ (l : List Entry). entries ++ l) (sym (entries-both who end early (event ∷ []))))
+      (more-then told (told_now later carried' reshaping (entries ++ more)) (told_now later carried' reshaping ((entries ++ more) ++ entries_of who end (event ∷ [])))
+      (told-added later carried' reshaping entries more behind.adds_more behind.gives_more)
+      (more-then (told_now later carried' reshaping (entries ++ more)) (told_by later carried' reshaping (entries ++ more) (entries_of who end (event ∷ []))) (told_now later carried' reshaping ((entries ++ more) ++ entries_of who end (event ∷ [])))
+      (told-adding later carried' carried' reshaping reshaping (entries ++ more) (entries_of who end (event ∷ [])) adds-last (λ number is. is) (λ is. is))
+      (told-added later carried' reshaping (entries ++ more) (entries_of who end (event ∷ [])) adds-last (or-false (gives_some event) false quiet.gives refl))))
 
   unclean-all : is_clean new.newest ≡ false → (is_unsynced later all || is_unsettled all) ≡ true
-  unclean-all dirty = told-last.unclean (told-first.unclean (unclean (sym clean ∙ dirty)))
+  unclean-all dirty = told-last.unclean (told-more.unclean (told-first.unclean (unclean (sym clean ∙ dirty))))
 
   -- ---- the history
 
@@ -155,23 +161,23 @@ module _ (given : Given) (tape : List Operation) (scope : Scope) (first : ℕ) (
     was = safe (behind.fills fills) (room-before world ops begun room) (alike-before world ops begun alike)
 
     stretch : KeepsSafe world given told new tape (tape ++ ops)
-    stretch = call.keeps told (behind.fills fills) told-first (room-now world ops begun old was.counted room)
+    stretch = call.keeps before told (behind.fills fills) told-first told-more (λ number. refl) (λ number. refl) (room-now world ops begun old was.counted room)
         (λ role lt miss. behind.counts_more (record { fills = fills; room = room; alike = alike }) role lt miss)
         (λ dirty. told-first.unclean (unclean dirty))
-        (now-more (OpensFit world) scope given (told_now world carried reshaping entries) told old (disk given.start tape) told-first (now_safe (behind.fills fills) (room-before world ops begun room) (alike-before world ops begun alike)))
+        (now-more (OpensFit world) scope given (told_now world carried reshaping entries) before old (disk given.start tape) told-first (now_safe (behind.fills fills) (room-before world ops begun room) (alike-before world ops begun alike)))
 
-    last : IsSafeOver world given (told_now later carried reshaping all) new (tape ++ ops)
-    last = now-more (OpensFit world) scope given told (told_now later carried reshaping all) new (disk given.start (tape ++ ops)) told-last stretch.next
+    last : IsSafeOver world given (told_now later carried' reshaping all) new (tape ++ ops)
+    last = now-more (OpensFit world) scope given told (told_now later carried' reshaping all) new (disk given.start (tape ++ ops)) told-last stretch.next
 
-    safe-all : IsSafeHistory ⊤ later given new carried reshaping all
-    safe-all = safe-called ⊤ given tape scope first entries old new carried carried reshaping reshaping who early (event ∷ []) told ops (tape ++ ops) end refl refl sizes_are begun recorded.ends was
-        fills call.rise (λ claimed opened mark low high. throughout-kept world given told new ops refl begun stretch (was.sound tt) opened mark (omega (arith, begun, low)) high) (record { size = refl; values = λ x lt v may. may; gone = λ role is. is; unclean = λ is. is; reshaping = λ is. is; carried = λ number is. refl }) stretch last
+    safe-all : IsSafeHistory ⊤ later given new carried' reshaping all
+    safe-all = safe-called ⊤ given tape scope first entries old new carried carried' reshaping reshaping who early (event ∷ []) told ops (tape ++ ops) end refl refl sizes_are begun recorded.ends was
+        fills call.rise (λ claimed opened mark low high. throughout-kept world given told new ops refl begun stretch (was.sound tt) opened mark (omega (arith, begun, low)) high) (record { size = refl; values = λ x lt v may. may; gone = λ role is. is; unclean = λ is. is; reshaping = λ is. refl; carried = λ number is. refl }) stretch last
 
-    now-all : IsSafeOver later given (told_now later carried reshaping all) new (tape ++ ops)
-    now-all = subst (λ (fit : Type 0). IsSafeNow fit scope given (told_now later carried reshaping all) new (disk given.start (tape ++ ops))) (sym (fit-grown world ops begun)) last
+    now-all : IsSafeOver later given (told_now later carried' reshaping all) new (tape ++ ops)
+    now-all = subst (λ (fit : Type 0). IsSafeNow fit scope given (told_now later carried' reshaping all) new (disk given.start (tape ++ ops))) (sym (fit-grown world ops begun)) last
 
-  pub quiet-leaves : IsLeftBehind given tape scope first entries all new carried reshaping (tape ++ ops)
-  quiet-leaves = record {
+  pub numbers-leaves : IsLeftBehind given tape scope first entries all new carried' reshaping (tape ++ ops)
+  numbers-leaves = record {
     right = behind.right;
     fills = behind.fills;
     levelled = behind.level_all;
@@ -183,6 +189,43 @@ module _ (given : Given) (tape : List Operation) (scope : Scope) (first : ℕ) (
     safe = safe-all;
     now_safe = now-all;
   }
+
+-- ---- one that makes no number known
+
+-- What is asked of a call, from this tape to that one with its end there, that enters these events before its last one.
+pub record LeavesList (given : Given) (tape : List Operation) (scope : Scope) (first : ℕ) (entries : List Entry) (old new : Members) (carried : ℕ → Bool) (reshaping : Bool)
+    (who : Who) (early : List Event) (event : Event) (tape' : List Operation) (end : ℕ) : Type 0 where
+  pub rise : IsRisen ⊤ old new tape tape'
+  pub keeps : (told : Ledger) → IsFilledRight (world_in given tape scope first) entries → IsMoreTold (told_now (world_in given tape scope first) carried reshaping entries) told
+      → HasRoomLeft old tape tape' → AreGoneTold told new → IsUncleanTold told old
+      → IsSafeOver (world_in given tape scope first) given told old tape → KeepsSafe (world_in given tape scope first) given told new tape tape'
+  pub legal : IsReliable (world_in given tape' scope first) (entries ++ entries_of who end (early ++ event ∷ [])) → IsReliable (world_in given tape scope first) entries
+      → AreToldGone (world_in given tape' scope first) (entries ++ entries_of who end early) new
+      → level_at (world_in given tape' scope first) (entries ++ entries_of who end early) ≡ level_at (world_in given tape scope first) entries
+      → IsLegalCall (world_in given tape' scope first) entries who end (early ++ event ∷ [])
+
+module _ (given : Given) (tape : List Operation) (scope : Scope) (first : ℕ) (entries : List Entry) (old new : Members) (carried : ℕ → Bool) (reshaping : Bool)
+    (who : Who) (early : List Event) (IsTaken : ℕ → Type 0) (event : Event) (ops : List Operation) (are : AreEarly early IsTaken)
+    (goes : IsCallGoing entries who) (caller : IsFalse (who.caller == 254)) (quiet : IsQuiet event) (few : role_count new.newest ≤ 16)
+    (missing : AreLostOrMissing old new IsTaken)
+    (sized : list_length new.newest ≡ list_length old.newest) (clean : is_clean new.newest ≡ is_clean old.newest) (sizes_are : scope.sizes ≡ sizes given)
+    (gone : IsReliable (world_in given tape scope first) entries → AreToldGone (world_in given tape scope first) entries old)
+    (unclean : is_clean old.newest ≡ false → (is_unsynced (world_in given tape scope first) entries || is_unsettled entries) ≡ true)
+    (recorded : IsHistoryKept (IsReliable (world_in given tape scope first) entries) (world_in given tape scope first) (list_length old.newest) entries)
+    (safe : IsFilledRight (world_in given tape scope first) entries → HasRoomForEvents (world_in given tape scope first) → OpensAlike (world_in given tape scope first)
+    → IsSafeHistory ⊤ (world_in given tape scope first) given old carried reshaping entries)
+    (now_safe : IsFilledRight (world_in given tape scope first) entries → HasRoomForEvents (world_in given tape scope first) → OpensAlike (world_in given tape scope first)
+    → IsSafeOver (world_in given tape scope first) given (told_now (world_in given tape scope first) carried reshaping entries) old tape)
+    (call : LeavesList given tape scope first entries old new carried reshaping who early event (tape ++ ops) (length (tape ++ ops))) where
+  pub quiet-leaves : IsLeftBehind given tape scope first entries (entries ++ entries_of who (length (tape ++ ops)) (early ++ event ∷ [])) new carried reshaping (tape ++ ops)
+  quiet-leaves = numbers-leaves given tape scope first entries old new carried carried reshaping who early IsTaken event ops are (λ number is. is) goes caller quiet few missing sized clean sizes_are gone unclean recorded safe now_safe
+      (record {
+        rise = call.rise;
+        keeps = λ was told fills more less same know room told_gone told_unclean before. call.keeps told fills
+            (more-then (told_now (world_in given tape scope first) carried reshaping entries) was told more less) room (λ role lt miss. less.gone role (told_gone role lt miss)) (λ dirty. less.unclean (told_unclean dirty))
+            (now-more (OpensFit (world_in given tape scope first)) scope given was told old (disk given.start tape) less before);
+        legal = call.legal;
+      })
 
 -- the newest value of each sector is what it was
 pub quiet-now : (list : List Sector) (entries : List Entry) (who : Who) (end : ℕ) (early : List Event) (IsTaken : ℕ → Type 0) (event : Event) → AreEarly early IsTaken → IsQuiet event

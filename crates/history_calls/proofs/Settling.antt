@@ -1,16 +1,15 @@
 -- A call that enters losses, and behind them an event that settles what was written: a flush, a stop, or the end of a resync.
 use Rattle.std.proofs.Common.{◌≡◌, inl, inr, ℕ, ◌<◌, ◌≤◌, ◌==◌, ◌&&◌, ◌||◌, Bool, true, false, not, List, [], ◌∷◌, ◌++◌, length, refl, sym, ◌∙◌, ap, subst, arith}
-use Rattle.std.specs.Prelude.{IsFalse, IfSome, slice_index_or, take, ⊤}
+use Rattle.std.specs.Prelude.{IsFalse, slice_index_or, take, ⊤}
 use Rattle.std.specs.List.{list_any}
 use Rattle.std.proofs.lemmas.List.Folds.{list_any-append}
 use Rattle.md_base.specs.Sectors.{Sector}
-use Rattle.md_base.specs.Shapes.{tolerance_of}
 use Rattle.md_base.specs.declared.answers.Who.{Who}
 use Rattle.bank.specs.declared.bank.Operation.{Operation}
 use Rattle.bank.specs.Given.{Given, sizes}
 use Rattle.bank.specs.Tape.{IsIn, disk}
 use Rattle.superblocks.specs.declared.members.Members.{Members}
-use Rattle.superblocks.specs.Reading.{Scope, is_clean, shape_of, list_length, role_count}
+use Rattle.superblocks.specs.Reading.{Scope, is_clean, list_length, role_count}
 use Rattle.flat_history.specs.declared.events.Entry.{Entry}
 use Rattle.flat_history.specs.declared.events.Event.{Event}
 use Rattle.flat_history.specs.declared.events.Event.TheVariants.{Lost, SpareLost}
@@ -26,17 +25,15 @@ use Rattle.flat_history.specs.World.{World, opening_list}
 use Rattle.shape_views.specs.Views.{Ledger}
 use Rattle.shape_changes.specs.Safety.{HasRoomLeft, IsRisen}
 use Rattle.shape_changes.specs.Steady.{IsMoreTold, IsSafeNow, IsSafeOver, KeepsSafe, AreGoneTold, IsUncleanTold, AreWritesAllowed, settled_ledger}
-use Rattle.views.specs.Moving.{Grows}
 use Rattle.views.proofs.SoundViews.{throughout-kept}
 use Rattle.call_entries.specs.Losing.{losses_of}
 use Rattle.call_entries.proofs.CallLaws.{AreLossEvents, losses-are, last_end-behind, length-losses, values-losses}
 use Rattle.call_entries.proofs.LosingLaws.{entries-both}
-use Rattle.call_entries.proofs.LeftLaws.{TellLeft}
 use Rattle.kept_history.specs.Recorded.{IsHistoryKept, IsLegalCall, IsReshapedCall, IsCallGoing, entry_of, ends_reshape, gives_some}
 use Rattle.kept_history.specs.Safe.{world_in, IsFilledRight, IsSafeHistory}
 use Rattle.kept_history.specs.Told.{told_now, told_by}
 use Rattle.kept_history.proofs.Growing.{fit-grown, unsynced-grown, now-grown, alike-before, room-before, room-now}
-use Rattle.kept_history.proofs.Ledgers.{more-then, unsynced-still}
+use Rattle.kept_history.proofs.Ledgers.{more-then}
 use Rattle.kept_history.proofs.Lists.{newest-in}
 use Rattle.kept_history.proofs.Seen.{now-more}
 use Rattle.kept_history.proofs.Calls.{safe-called}
@@ -280,7 +277,7 @@ module _ (given : Given) (tape : List Operation) (scope : Scope) (first : ℕ) (
     safe-all : IsSafeHistory ⊤ later given new carried reshaping all
     safe-all = safe-called ⊤ given tape scope first entries old new carried carried reshaping reshaping who losses (event ∷ []) told ops (tape ++ ops) end refl refl sizes_are begun recorded.ends was
         fills call.rise (λ claimed opened mark low high. throughout-kept world given told new ops refl begun stretch (was.sound tt) opened mark (omega (arith, begun, low)) high)
-        (record { size = refl; values = λ x lt v may. may; gone = λ role is. is; unclean = λ is. is; reshaping = λ is. is; carried = λ number is. refl }) stretch last
+        (record { size = refl; values = λ x lt v may. may; gone = λ role is. is; unclean = λ is. is; reshaping = λ is. refl; carried = λ number is. refl }) stretch last
 
     now-all : IsSafeOver later given (told_now later carried reshaping all) new (tape ++ ops)
     now-all = subst (λ (fit : Type 0). IsSafeNow fit scope given (told_now later carried reshaping all) new (disk given.start (tape ++ ops))) (sym (fit-grown world ops begun)) last

@@ -13,3 +13,4 @@ pub mod Flushing
 pub mod Failing
 pub mod Writing
 pub mod Resync
+pub mod Sparing
