@@ -1,6 +1,6 @@
 -- A call behind which the list may have changed: a write, or one that is refused once it was begun.
-use Rattle.std.proofs.Common.{◌≡◌, ◌⊎◌, inl, inr, ℕ, ◌≤◌, ◌==◌, ◌||◌, Bool, true, false, Option, Some, None, List, [], ◌∷◌, ◌++◌, length, refl, sym, ◌∙◌, ap, subst}
-use Rattle.std.specs.Prelude.{IsFalse, IfSome, IsSome, is_some}
+use Rattle.std.proofs.Common.{◌≡◌, ◌⊎◌, ℕ, ◌==◌, true, false, List, [], ◌∷◌, ◌++◌, length, refl, sym, ◌∙◌, ap, subst}
+use Rattle.std.specs.Prelude.{IsFalse, IfSome, IsSome}
 use Rattle.std.specs.List.{list_any}
 use Rattle.md_base.specs.declared.answers.Who.{Who}
 use Rattle.md_base.specs.declared.places.Shape.{Shape}
@@ -58,7 +58,7 @@ changing-stands tells given tape tape' scope first entries old new work left lef
     ends : list_any (λ e. is_resync_end e.event) (entries_of who end (early ++ event ∷ [])) ≡ false
     ends = none-ends (entries_of who end (early ++ event ∷ [])) (settle-none (entries_of who end (early ++ event ∷ [])) (are.adds who end (event ∷ []) (and-true (adds_only event) true adding.adds refl)))
 
-    Then : List Operation → ℕ → Type 0
+    Then : List Operation → ℕ → Type 1
     Then l e = ChangesEarly given tape scope first entries old new (is_carried work) false who early event l e
         → (is_clean new.newest ≡ false → (is_clean old.newest ≡ false) ⊎ (list_any (λ e. unsettles e.event) (entries_of who e (early ++ event ∷ [])) ≡ true))
         → IsLeftBehind given tape scope first entries (entries ++ entries_of who e (early ++ event ∷ [])) new (is_carried work) false l

@@ -1,6 +1,6 @@
 -- A flush, a stop, or the end of a resync, from what `settle` leaves; and a flush or a stop that is refused since too many are missing.
-use Rattle.std.proofs.Common.{◌≡◌, ◌⊎◌, inl, inr, ℕ, ◌<◌, ◌≤◌, ◌==◌, ◌&&◌, ◌||◌, Bool, true, false, not, Option, Some, None, List, [], ◌∷◌, ◌++◌, length, refl, sym, ◌∙◌, ap, subst, arith}
-use Rattle.std.specs.Prelude.{IsFalse, IfSome, IsSome, is_some, slice_index_or, ⊤}
+use Rattle.std.proofs.Common.{◌≡◌, inl, inr, ℕ, ◌<◌, ◌≤◌, ◌==◌, ◌&&◌, ◌||◌, Bool, true, false, not, Option, Some, None, List, [], ◌∷◌, ◌++◌, length, refl, sym, ◌∙◌, ap, subst, arith}
+use Rattle.std.specs.Prelude.{IsFalse, IfSome, IsSome, is_some, ⊤}
 use Rattle.std.specs.List.{list_any}
 use Rattle.std.proofs.lemmas.List.Folds.{list_any-append}
 use Rattle.md_base.specs.Sectors.{Sector}
@@ -12,7 +12,7 @@ use Rattle.bank.specs.declared.bank.Operation.{Operation}
 use Rattle.bank.specs.Given.{Given}
 use Rattle.bank.specs.Tape.{Contents, IsIn, disk}
 use Rattle.superblocks.specs.declared.members.Members.{Members}
-use Rattle.superblocks.specs.Reading.{Scope, is_clean, shape_of, list_length}
+use Rattle.superblocks.specs.Reading.{Scope, is_clean, list_length}
 use Rattle.superblocks.proofs.ValidFields.{few-roles}
 use Rattle.row_io.specs.Rows.{present}
 use Rattle.flat_history.specs.declared.events.Entry.{Entry}
@@ -157,7 +157,7 @@ module _ (tells : Type 0) (given : Given) (tape tape' : List Operation) (scope :
       same : now (opening_list (world_in given tape scope first)) (entries ++ entries_of who end (losses_of roles spares ++ event ∷ [])) ≡ now (opening_list (world_in given tape scope first)) entries
       same = λ i x. settled-same (opening_list (world_in given tape scope first)) entries who end roles spares event settling x i
 
-      Then : List Operation → ℕ → Type 0
+      Then : List Operation → ℕ → Type 1
       Then l e = SettlesList given tape scope first entries old new (is_carried work) false unsynced who roles spares event l e
           → IsLeftBehind given tape scope first entries (entries ++ entries_of who e (losses_of roles spares ++ event ∷ [])) new (is_carried work) false l
 
@@ -225,10 +225,13 @@ module _ (tells : Type 0) (given : Given) (tape tape' : List Operation) (scope :
         keeps = λ told_so reliable all_gone fills more allowed room gone unclean unsettles_so safe.
             did.safe t (world_in given tape scope first) told_so room gone unclean current (under t fills) (rows-under t fills)
             (λ x lt. allowed x (current x) lt (held t x lt)) safe;
-        legal = λ fills gone level. legal-losses (world_in given tape' scope first) entries who end (losses_of roles spares) (Refused refusal ∷ []) (losses-are roles spares)
-            (refused-right (world_in given tape' scope first) (entries ++ entries_of who end (losses_of roles spares)) given new did.moved.placed work.resync gone
-            (ap tolerance_of level ∙ was.levelled t fills ∙ ap tolerance (sym did.moved.shape))
-            (unsynced-behind tells given tape tape' scope first entries who end roles spares did.grows (λ u. (was.recorded u).begun) t ∙ was.pending t) refusal (too-many-refused work.resync new refusal many), tt, tt);
+        legal = λ fills gone level. legal-losses (world_in given tape' scope first) entries who end (losses_of roles spares) (Refused refusal ∷ []) (losses-are roles spares) (
+          refused-right (world_in given tape' scope first) (entries ++ entries_of who end (losses_of roles spares)) given new did.moved.placed work.resync gone
+              (ap tolerance_of level ∙ was.levelled t fills ∙ ap tolerance (sym did.moved.shape))
+              (unsynced-behind tells given tape tape' scope first entries who end roles spares did.grows (λ u. (was.recorded u).begun) t ∙ was.pending t) refusal (too-many-refused work.resync new refusal many),
+          tt,
+          tt,
+        );
       })
     where
       unsettled : (refusal : Refusal) → AreTooMany new refusal → unsettles (Refused refusal) ≡ true

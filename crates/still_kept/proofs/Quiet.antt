@@ -1,6 +1,6 @@
 -- A call that leaves the list as it is, and enters losses, or more, and one event behind them.
-use Rattle.std.proofs.Common.{◌≡◌, ℕ, ◌≤◌, ◌==◌, ◌||◌, Bool, true, false, List, [], ◌∷◌, ◌++◌, length, refl, sym, ◌∙◌, ap, subst}
-use Rattle.std.specs.Prelude.{IsFalse, IfSome, IsSome, is_some}
+use Rattle.std.proofs.Common.{◌≡◌, ℕ, ◌≤◌, ◌==◌, Bool, true, false, List, [], ◌∷◌, ◌++◌, length, refl, sym, ◌∙◌, ap, subst}
+use Rattle.std.specs.Prelude.{IsFalse, IfSome, is_some}
 use Rattle.std.specs.List.{list_any}
 use Rattle.md_base.specs.Sectors.{Sector}
 use Rattle.md_base.specs.declared.answers.Who.{Who}
@@ -63,7 +63,7 @@ early-stands tells given tape tape' scope first entries old new work work' left 
     same : now (opening_list (world_in given tape scope first)) (entries ++ entries_of who end (early ++ event ∷ [])) ≡ now (opening_list (world_in given tape scope first)) entries
     same = λ i x. quiet-now (opening_list (world_in given tape scope first)) entries who end early IsTaken event are quiet x i
 
-    Then : List Operation → ℕ → Type 0
+    Then : List Operation → ℕ → Type 1
     Then l e = LeavesList given tape scope first entries old new (is_carried work) false who early event l e
         → IsLeftBehind given tape scope first entries (entries ++ entries_of who e (early ++ event ∷ [])) new (is_carried work) false l
 

@@ -1,5 +1,5 @@
 -- A read of the list, from what `fetch_list` leaves: it was done, or refused behind what it lost.
-use Rattle.std.proofs.Common.{◌≡◌, ◌⊎◌, inl, inr, ℕ, ◌+◌, ◌*◌, ◌/◌, ◌<◌, ◌≤◌, ◌==◌, nat_le, Bool, true, false, cond, Option, Some, None, List, [], ◌∷◌, ◌++◌, length, fold, refl, sym, ◌∙◌, ap, subst, arith, append-nil}
+use Rattle.std.proofs.Common.{◌≡◌, ◌⊎◌, inl, inr, ℕ, ◌+◌, ◌*◌, ◌/◌, ◌<◌, ◌≤◌, ◌==◌, nat_le, Bool, true, cond, Option, Some, None, List, [], ◌∷◌, ◌++◌, length, fold, refl, sym, ◌∙◌, ap, subst, arith, append-nil}
 use Rattle.std.specs.Prelude.{IsFalse, IsSome, slice_index_or, min}
 use Rattle.std.specs.Option.{option_map_or}
 use Rattle.std.proofs.lemmas.Bool.Decides.{nat_tests}
@@ -19,7 +19,7 @@ use Rattle.layout.proofs.Places.{place-role_below}
 use Rattle.parity.specs.Rows.{sector_of}
 use Rattle.sb1.specs.declared.sb.Sb.{Sb}
 use Rattle.superblocks.specs.declared.members.Members.{Members}
-use Rattle.superblocks.specs.Reading.{Scope, shape_of, list_length, role_count}
+use Rattle.superblocks.specs.Reading.{Scope, shape_of, list_length}
 use Rattle.row_io.specs.Rows.{reading_of, present, is_missing}
 use Rattle.flat_history.specs.declared.events.Entry.{Entry}
 use Rattle.flat_history.specs.declared.events.Event.{Event}
@@ -29,32 +29,30 @@ use Rattle.flat_history.specs.Legal.{visible_at}
 use Rattle.flat_history.specs.Plain.{entries_of}
 use Rattle.flat_history.specs.Sound.{OpensFit}
 use Rattle.flat_history.specs.Transfers.{IsReadOver}
-use Rattle.flat_history.specs.World.{World, opening_list}
+use Rattle.flat_history.specs.World.{opening_list}
 use Rattle.shape_views.specs.Regions.{DoWithout}
 use Rattle.shape_views.specs.Windows.{IsShown, ListStands as ListIsShown}
 use Rattle.shape_views.proofs.Stands.{for-still, list-still}
 use Rattle.views.specs.declared.work.Work.{Work}
-use Rattle.views.specs.Lacking.{LacksTooMany, mended_rows}
-use Rattle.views.specs.Moving.{Grows, IsMoved}
+use Rattle.views.specs.Lacking.{LacksTooMany}
+use Rattle.views.specs.Moving.{IsMoved}
 use Rattle.views.specs.Placed.{AreWhole}
 use Rattle.views.proofs.Fit.{valid}
 use Rattle.views.proofs.LackingLists.{row-sector}
 use Rattle.views.proofs.LiveLeft.{without-left}
 use Rattle.call_entries.specs.Losing.{losses_of}
 use Rattle.call_entries.proofs.CallLaws.{losses-are, length-losses, limit-losses, values-losses}
-use Rattle.array_kept.proofs.DegradedLaws.{within-count}
 use Rattle.array_kept.proofs.NowLaws.{sectors_of-at}
 use Rattle.region_rows.specs.Stretches.{relied_rows, RowsStandTo, IsListUnread}
 use Rattle.kept_history.specs.Recorded.{IsCallGoing}
-use Rattle.kept_history.specs.Safe.{world_in, IsFilledRight}
+use Rattle.kept_history.specs.Safe.{world_in}
 use Rattle.kept_history.proofs.Entered.{values-more, length-more}
 use Rattle.history_calls.specs.Reliable.{IsReliable, AreToldGone}
-use Rattle.history_calls.proofs.Quiet.{IsQuiet}
 use Rattle.still_kept.specs.Still.{AreAtRest, relied_list, HasListStood, IsStill}
 use Rattle.still_kept.proofs.Leaving.{list-later, fit-earlier, rest-moved}
 use Rattle.still_kept.proofs.Refusals.{IsRefusedStill, too-many-refused}
 use Rattle.still_kept.proofs.Staying.{IsNamedStill, stays-stands, refused-stands}
-use Rattle.still_kept.proofs.Stood.{mended-moved, list-shown, rows-relied, row-inside}
+use Rattle.still_kept.proofs.Stood.{mended-moved, list-shown, rows-relied, row-inside, within-count}
 use Rattle.still_kept.proofs.Whole.{whole-told, takes-first}
 
 -- ---- behind losses

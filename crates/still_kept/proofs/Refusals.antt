@@ -1,5 +1,5 @@
 -- A refusal is right by the history, in an array without an active reshape.
-use Rattle.std.proofs.Common.{◌≡◌, inl, inr, ℕ, ◌<◌, ◌≤◌, Bool, true, false, Option, List, [], ◌++◌, length, refl, sym, ◌∙◌, ap, subst, arith, append-nil}
+use Rattle.std.proofs.Common.{◌≡◌, inl, inr, ℕ, ◌<◌, ◌≤◌, true, false, Option, List, [], ◌++◌, length, refl, sym, ◌∙◌, ap, subst, arith, append-nil}
 use Rattle.std.specs.Prelude.{IsSome, is_some, ⊤}
 use Rattle.std.specs.List.{list_any}
 use Rattle.md_base.specs.declared.answers.Refusal.{Refusal}

@@ -1,5 +1,5 @@
 -- A call that makes no device call, and enters one event: also where no live slot is left that had kept a change of length.
-use Rattle.std.proofs.Common.{◌≡◌, inl, inr, ℕ, ◌≤◌, ◌<◌, ◌==◌, ◌||◌, Bool, true, false, List, [], ◌∷◌, ◌++◌, length, refl, sym, ◌∙◌, ap, subst, arith, append-nil}
+use Rattle.std.proofs.Common.{◌≡◌, inl, inr, ℕ, ◌==◌, true, false, List, [], ◌∷◌, ◌++◌, length, refl, sym, ◌∙◌, ap, subst, append-nil}
 use Rattle.std.specs.Prelude.{IsFalse, IfSome, slice_index_or, ⊤}
 use Rattle.std.specs.List.{list_any}
 use Rattle.md_base.specs.Sectors.{Sector}
@@ -83,6 +83,7 @@ module _ (tells : Type 0) (given : Given) (tape : List Operation) (scope : Scope
       → IsRested given tape scope first entries (entries ++ entries_of who e (event ∷ [])) m l
 
   rested-here : tells → Then (tape ++ []) (length (tape ++ []))
+  unfolding Then
   rested-here t right =
       let behind : IsBehind (world_in given tape scope first) (world_in given (tape ++ []) scope first) entries m who (length (tape ++ [])) [] event =
       is-behind given tape scope first entries m m who [] (λ role. ⊥) event [] (first-of early-none) rests.gives rests.level (few-roles m.newest was.members_are.placed.fit.valid) (λ role lt miss. inl (lt, miss))
@@ -102,6 +103,7 @@ module _ (tells : Type 0) (given : Given) (tape : List Operation) (scope : Scope
       }
 
   rested : tells → IsRested given tape scope first entries (entries ++ entries_of who end (event ∷ [])) m tape
+  unfolding Then
   rested t =
       subst (λ (l : List Operation). Then l end) (append-nil tape)
       (subst (Then (tape ++ [])) (ap (λ (l : List Operation). length l) (append-nil tape) ∙ sym (at_end t)) (rested-here t)) (legal t)

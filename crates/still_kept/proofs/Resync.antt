@@ -1,20 +1,20 @@
 -- Steps of a resync: a stripe is mended, from what `mend` leaves, or isn't; and the resync ends, from what `settle` leaves.
-use Rattle.std.proofs.Common.{◌≡◌, ◌≢◌, ◌⊎◌, inl, inr, ℕ, ◌+◌, ◌*◌, ◌/◌, ◌<◌, ◌≤◌, ◌==◌, ◌&&◌, Bool, true, false, not, cond, Option, Some, None, List, [], ◌∷◌, ◌++◌, length, refl, sym, ◌∙◌, ap, subst, arith, append-nil}
+use Rattle.std.proofs.Common.{◌≡◌, ◌≢◌, ◌⊎◌, inl, inr, ℕ, ◌+◌, ◌*◌, ◌<◌, ◌≤◌, ◌==◌, ◌&&◌, Bool, true, false, cond, Option, Some, None, List, [], ◌∷◌, ◌++◌, length, refl, sym, ◌∙◌, ap, subst, arith, append-nil}
 use Rattle.std.specs.Prelude.{IsFalse, IfSome, IsSome, is_some, MatchBool, ⊤}
 use Rattle.std.specs.List.{list_any}
 use Rattle.std.proofs.lemmas.Bool.{cases_lt}
 use Rattle.std.proofs.lemmas.Bool.Decides.{nat_tests}
 use Rattle.md_base.specs.Sectors.{Sector}
-use Rattle.md_base.specs.Shapes.{is_multiple, tolerance, tolerance_of}
+use Rattle.md_base.specs.Shapes.{tolerance, tolerance_of}
 use Rattle.md_base.specs.declared.answers.Refusal.{Refusal}
 use Rattle.md_base.specs.declared.answers.Who.{Who}
 use Rattle.md_base.specs.declared.places.Shape.{Shape}
 use Rattle.md_base.specs.declared.status.Role.TheVariants.{Recovering}
 use Rattle.bank.specs.declared.bank.Operation.{Operation}
 use Rattle.bank.specs.Given.{Given}
-use Rattle.bank.specs.Tape.{Contents, IsIn}
+use Rattle.bank.specs.Tape.{Contents}
 use Rattle.superblocks.specs.declared.members.Members.{Members}
-use Rattle.superblocks.specs.Reading.{Scope, is_clean, shape_of, list_length, role_state}
+use Rattle.superblocks.specs.Reading.{Scope, is_clean, shape_of, role_state}
 use Rattle.row_io.specs.Rows.{reading_of, present}
 use Rattle.list_io.specs.Full.{AreWholeIn, RowStands}
 use Rattle.list_io.specs.Writing.{HasFull}
@@ -24,7 +24,7 @@ use Rattle.flat_history.specs.declared.events.Event.TheVariants.{Step, Refused}
 use Rattle.flat_history.specs.declared.events.StepKind.{StepKind}
 use Rattle.flat_history.specs.declared.events.StepKind.TheVariants.{ResyncStripe, ResyncEnded}
 use Rattle.flat_history.specs.Flat.{now}
-use Rattle.flat_history.specs.Legal.{told_left, known_left, call_before, disturbs, level_at, is_free_step, IsStep, IsLegalEvent}
+use Rattle.flat_history.specs.Legal.{told_left, known_left, call_before, disturbs, is_free_step, IsStep}
 use Rattle.flat_history.specs.Losses.{is_unsynced}
 use Rattle.flat_history.specs.Plain.{entries_of}
 use Rattle.flat_history.specs.Reshaped.{open_plans}
@@ -42,30 +42,27 @@ use Rattle.views.specs.Numbers.{is_carried}
 use Rattle.views.specs.Rebuilding.{AreRebuilt}
 use Rattle.views.specs.Status.{stripes_of, rebuilt_of}
 use Rattle.views.proofs.Fit.{multiple, list-alike}
-use Rattle.views.proofs.HeldRows.{without-before}
 use Rattle.views.proofs.LackingWrites.{recovering-before}
 use Rattle.views.proofs.LiveLeft.{without-left}
 use Rattle.views.proofs.Stripes.{stripes-whole}
 use Rattle.call_entries.specs.Losing.{losses_of}
 use Rattle.call_entries.proofs.CallLaws.{losses-are}
 use Rattle.call_entries.proofs.StepLaws.{left-stepped}
-use Rattle.array_kept.proofs.DegradedLaws.{rows-same, within-count}
+use Rattle.array_kept.proofs.DegradedLaws.{rows-same}
 use Rattle.array_kept.proofs.KeptLaws.{left-lost}
 use Rattle.calls_kept.proofs.TouchedLaws.{safe-mend, rows-mended, list-mended, rows-stay, rebuilt-stays}
 use Rattle.kept_history.specs.Recorded.{IsCallGoing, entry_of}
 use Rattle.kept_history.specs.Safe.{world_in, IsFilledRight}
 use Rattle.kept_history.specs.Told.{told_now}
 use Rattle.kept_history.proofs.Lists.{newest-in}
-use Rattle.history_calls.specs.Reliable.{IsReliable, AreToldGone}
 use Rattle.history_calls.proofs.Behind.{IsAmong, early-losses, legal-losses}
-use Rattle.history_calls.proofs.Quiet.{IsQuiet}
 use Rattle.still_kept.specs.Still.{AreAtRest, HasListStood, IsStill}
 use Rattle.still_kept.proofs.Ends.{EndsNothing}
 use Rattle.still_kept.proofs.Flushing.{IsFlushedStill, IsSettledStill, settled-stands}
 use Rattle.still_kept.proofs.Quiet.{early-stands}
 use Rattle.still_kept.proofs.Refusals.{quiet-refusal, IsRefusedStill, too-many-refused, refused-right, unsynced-behind}
 use Rattle.still_kept.proofs.Staying.{missing-since, progress-same}
-use Rattle.still_kept.proofs.Stood.{mended-moved, sector-inside}
+use Rattle.still_kept.proofs.Stood.{mended-moved, sector-inside, within-count}
 
 -- ---- a step
 
@@ -229,11 +226,14 @@ module _ (tells : Type 0) (given : Given) (tape tape' : List Operation) (scope :
       (λ t. record {
         rise = did.rise t;
         keeps = keeps t;
-        legal = λ all fills gone level. legal-losses (world_in given tape' scope first) entries who end (losses_of roles spares) (Refused refusal ∷ []) (losses-are roles spares)
-            (refused-right (world_in given tape' scope first) (entries ++ entries_of who end (losses_of roles spares)) given new did.moved.placed work.resync gone
-            (ap tolerance_of level ∙ was.levelled t fills ∙ ap tolerance (sym did.moved.shape))
-            (unsynced-behind tells given tape tape' scope first entries who end roles spares did.grows (λ u. (was.recorded u).begun) t ∙ was.pending t) refusal
-            (refused (subst (λ (s : Shape). IsUnwritten s false new refusal) (same_shape ∙ sym did.moved.shape) why)), tt, tt);
+        legal = λ all fills gone level. legal-losses (world_in given tape' scope first) entries who end (losses_of roles spares) (Refused refusal ∷ []) (losses-are roles spares) (
+          refused-right (world_in given tape' scope first) (entries ++ entries_of who end (losses_of roles spares)) given new did.moved.placed work.resync gone
+              (ap tolerance_of level ∙ was.levelled t fills ∙ ap tolerance (sym did.moved.shape))
+              (unsynced-behind tells given tape tape' scope first entries who end roles spares did.grows (λ u. (was.recorded u).begun) t ∙ was.pending t) refusal
+              (refused (subst (λ (s : Shape). IsUnwritten s false new refusal) (same_shape ∙ sym did.moved.shape) why)),
+          tt,
+          tt,
+        );
       })
     where
       refused : IsUnwritten (shape_of new.newest) false new refusal → IsRefusedStill work.resync new refusal

@@ -1,6 +1,6 @@
 -- A slot that is made a spare: it may be one now, or was lost in this.
-use Rattle.std.proofs.Common.{◌≡◌, ◌⊎◌, inl, inr, ℕ, ◌+◌, ◌*◌, ◌/◌, ◌<◌, ◌≤◌, ◌==◌, ◌||◌, Bool, true, false, Option, Some, None, get_or, List, [], ◌∷◌, ◌++◌, length, slice_set, refl, sym, ◌∙◌, ap, subst, arith}
-use Rattle.std.specs.Prelude.{IsFalse, IfSome, IsSome, is_some, ⊤}
+use Rattle.std.proofs.Common.{◌≡◌, inl, inr, ℕ, ◌*◌, ◌/◌, ◌<◌, ◌≤◌, ◌==◌, ◌||◌, Bool, true, false, Option, Some, None, get_or, List, [], ◌∷◌, ◌++◌, length, slice_set, refl, sym, ◌∙◌, ap, subst, arith}
+use Rattle.std.specs.Prelude.{IsFalse, IfSome, ⊤}
 use Rattle.std.specs.List.{list_any}
 use Rattle.std.proofs.lemmas.Bool.{cases_lt}
 use Rattle.std.proofs.lemmas.Bool.Decides.{nat_tests}
@@ -17,8 +17,7 @@ use Rattle.bank.proofs.Marks.{each_mark-map}
 use Rattle.sb1.specs.declared.sb.Sb.{Sb}
 use Rattle.superblocks.specs.declared.members.Members.{Members}
 use Rattle.superblocks.specs.Held.{IsSecondHalf}
-use Rattle.superblocks.specs.Reading.{Scope, is_clean, shape_of, list_length, role_state, holder}
-use Rattle.superblocks.specs.Reads.{has_spare}
+use Rattle.superblocks.specs.Reading.{Scope, shape_of, list_length, role_state, holder}
 use Rattle.superblocks.proofs.ValidFields.{few-roles}
 use Rattle.row_io.specs.Rows.{reading_of, present}
 use Rattle.flat_history.specs.declared.events.Entry.{Entry}
@@ -40,7 +39,7 @@ use Rattle.shape_changes.proofs.Steady.{views-told}
 use Rattle.views.specs.declared.work.Work.{Work}
 use Rattle.views.specs.Flushing.{OnlyFlushesAdded}
 use Rattle.views.specs.Lacking.{AreLostSince, RowsStandBelow, mended_rows}
-use Rattle.views.specs.Moving.{Grows, IsMoved}
+use Rattle.views.specs.Moving.{Grows}
 use Rattle.views.specs.Numbers.{is_carried, IsOfScope}
 use Rattle.views.specs.Rebuilding.{with_spare}
 use Rattle.views.specs.Status.{stripes_of}
@@ -58,9 +57,8 @@ use Rattle.calls_kept.proofs.AddedKept.{with_carried, carries-number, AddsSafe}
 use Rattle.calls_kept.proofs.AddedLosses.{IsAddDone, with-placed, stays-added, does-added, left-added}
 use Rattle.kept_history.specs.Recorded.{IsCallGoing, entry_of}
 use Rattle.kept_history.specs.Safe.{world_in, IsFilledRight}
-use Rattle.kept_history.specs.Told.{told_now}
 use Rattle.kept_history.proofs.Entered.{adds_only, settle-none}
-use Rattle.kept_history.proofs.Ledgers.{more-then, unsynced-still, none-ends}
+use Rattle.kept_history.proofs.Ledgers.{unsynced-still, none-ends}
 use Rattle.kept_history.proofs.Seen.{now-more}
 use Rattle.history_calls.proofs.Behind.{AreEarly, AreLostOrMissing, IsAmong, early-losses, legal-losses, and-true}
 use Rattle.history_calls.proofs.Quiet.{IsQuiet, LeavesNumbers, IsLeftBehind, numbers-leaves, quiet-now}
@@ -210,7 +208,7 @@ module _ (tells : Type 0) (given : Given) (tape mid_tape tape' : List Operation)
       same : (x : ℕ) → now (opening_list (world_in given tape scope first)) (entries ++ entries_of who end (losses_of roles spares ++ event ∷ [])) x ≡ now (opening_list (world_in given tape scope first)) entries x
       same x = quiet-now (opening_list (world_in given tape scope first)) entries who end (losses_of roles spares) (IsAmong roles) event early quiet x
 
-      Then : List Operation → ℕ → Type 0
+      Then : List Operation → ℕ → Type 1
       Then l e = LeavesNumbers given tape scope first entries old new (is_carried work) (is_carried (with_carried sb.dev_number work)) false who (losses_of roles spares) event l e
           → IsLeftBehind given tape scope first entries (entries ++ entries_of who e (losses_of roles spares ++ event ∷ [])) new (is_carried (with_carried sb.dev_number work)) false l
 

@@ -1,9 +1,9 @@
 -- How the list stands on members without an active reshape: in the words of one shape and in those of regions, and on fewer members.
-use Rattle.std.proofs.Common.{◌≡◌, ℕ, ◌*◌, ◌/◌, ◌%◌, ◌<◌, ◌≤◌, true, Option, Some, None, [], refl, sym, ◌∙◌, ap, subst, arith}
+use Rattle.std.proofs.Common.{◌≡◌, inl, ℕ, ◌*◌, ◌/◌, ◌%◌, ◌<◌, true, Option, Some, None, [], refl, sym, ◌∙◌, ap, subst, arith}
 use Rattle.std.proofs.lemmas.Nat.{mod_below}
 use Rattle.std.proofs.Math.Nat.{div-add-mod'}
 use Rattle.md_base.specs.Sectors.{Sector}
-use Rattle.md_base.specs.Shapes.{data_disks, is_multiple}
+use Rattle.md_base.specs.Shapes.{is_multiple}
 use Rattle.md_base.specs.declared.places.Place.{Place}
 use Rattle.md_base.specs.declared.places.Shape.{Shape}
 use Rattle.bank.specs.Given.{Given, sizes}
@@ -11,7 +11,7 @@ use Rattle.bank.specs.Tape.{Contents}
 use Rattle.layout.specs.Layout.{place}
 use Rattle.layout.proofs.Places.{chunk_some, data_some, place-sector, place-sector_below, place-row_below, sector_at}
 use Rattle.superblocks.specs.declared.members.Members.{Members}
-use Rattle.superblocks.specs.Reading.{Scope, shape_of, list_length}
+use Rattle.superblocks.specs.Reading.{Scope, shape_of, list_length, role_count}
 use Rattle.row_io.specs.Rows.{reading_of}
 use Rattle.list_io.specs.Full.{RowStands}
 use Rattle.shape_views.specs.Regions.{ArePlaced}
@@ -22,7 +22,7 @@ use Rattle.views.specs.declared.work.Work.{Work}
 use Rattle.views.specs.Lacking.{ListStands, RowsStand, RowsStandAmong, RowsStandBelow, mended_rows}
 use Rattle.views.specs.Moving.{IsMoved}
 use Rattle.views.specs.Placed.{IsPlaced}
-use Rattle.views.proofs.Fit.{valid, multiple, list-alike}
+use Rattle.views.proofs.Fit.{valid, multiple, list-alike, force-disks}
 use Rattle.views.proofs.LackingLists.{list-moved, among-moved}
 use Rattle.views.proofs.Still.{placed-two, backup-still}
 use Rattle.views.proofs.Stripes.{stripes-multiple}
@@ -50,6 +50,10 @@ stood-moved sound work given old new before after list moved was others l = reco
 }
 
 -- ---- in the words of regions
+
+-- a role of the shape is one of the array's
+pub within-count : (given : Given) (m : Members) → IsPlaced given m → (role : ℕ) → role < (shape_of m.newest).disks → role < role_count m.newest
+within-count given m placed role below = let within = force-disks m.newest placed.fit (shape_of m.newest) (inl refl) in omega (arith, below, within)
 
 -- the mended rows are those of whole stripes
 mended-multiple : (given : Given) (m : Members) → IsPlaced given m → (resync : Option ℕ) → is_multiple (mended_rows resync m) (shape_of m.newest).chunk ≡ true

@@ -1,12 +1,11 @@
 -- A write of the list, from what `put_list` leaves: it was done, or refused before its first row was written, or behind it.
-use Rattle.std.proofs.Common.{◌≡◌, ◌⊎◌, inl, inr, ℕ, ◌+◌, ◌-◌, ◌*◌, ◌/◌, ◌<◌, ◌≤◌, ◌==◌, ◌||◌, Bool, true, false, Option, Some, None, List, [], ◌∷◌, ◌++◌, length, fold, refl, sym, ◌∙◌, ap, subst, arith, append_assoc}
+use Rattle.std.proofs.Common.{◌≡◌, ◌⊎◌, inl, inr, ℕ, ◌+◌, ◌-◌, ◌*◌, ◌/◌, ◌<◌, ◌≤◌, ◌==◌, ◌||◌, Bool, true, false, Option, None, List, [], ◌∷◌, ◌++◌, length, fold, refl, sym, ◌∙◌, ap, subst, arith, append_assoc}
 use Rattle.std.specs.Prelude.{IsFalse, IfSome, IsSome, is_some, slice_index_or, ⊤}
 use Rattle.std.specs.List.{list_any}
 use Rattle.std.proofs.lemmas.List.Folds.{list_any-append}
 use Rattle.md_base.specs.Sectors.{Sector, IsWhole, sectors_of}
 use Rattle.md_base.specs.Shapes.{tolerance, tolerance_of}
 use Rattle.md_base.specs.declared.answers.Refusal.{Refusal}
-use Rattle.md_base.specs.declared.answers.Refusal.TheVariants.{TooManyMissing, NotResynced}
 use Rattle.md_base.specs.declared.answers.Who.{Who}
 use Rattle.md_base.specs.declared.places.Shape.{Shape}
 use Rattle.md_base.specs.declared.places.Span.{Span}
@@ -23,7 +22,7 @@ use Rattle.list_io.specs.Writing.{IsWritten, HasFull}
 use Rattle.flat_history.specs.declared.events.Entry.{Entry}
 use Rattle.flat_history.specs.declared.events.Event.{Event}
 use Rattle.flat_history.specs.declared.events.Event.TheVariants.{Wrote, Torn, Refused}
-use Rattle.flat_history.specs.Flat.{now, visible_of, covers, sector_at, values_of, values_after}
+use Rattle.flat_history.specs.Flat.{now, visible_of, sector_at, values_of, values_after}
 use Rattle.flat_history.specs.Legal.{told_left, visible_at, level_at, level_after, IsRefusedRight, IsLegalEvent}
 use Rattle.flat_history.specs.Losses.{is_unsynced, unsettles}
 use Rattle.flat_history.specs.OneShape.{is_lost}
@@ -53,7 +52,7 @@ use Rattle.views.proofs.Still.{untailed, without-still}
 use Rattle.call_entries.specs.Losing.{losses_of}
 use Rattle.call_entries.proofs.CallLaws.{losses-are, values-losses, ends-losses}
 use Rattle.call_entries.proofs.LosingLaws.{entries-both}
-use Rattle.array_kept.proofs.DegradedLaws.{within-count, written-whole, rows-same}
+use Rattle.array_kept.proofs.DegradedLaws.{written-whole, rows-same}
 use Rattle.array_kept.proofs.KeptLaws.{left-lost}
 use Rattle.array_kept.proofs.LedgerLaws.{torn-adds, written-allowed, torn-in}
 use Rattle.array_kept.proofs.NowLaws.{wrote-is}
@@ -61,7 +60,7 @@ use Rattle.region_rows.specs.Stretches.{relied_rows, RowsStandTo}
 use Rattle.region_writes.specs.Runs.{MayBeHidden, IsListUnwritten}
 use Rattle.kept_history.specs.Recorded.{IsCallGoing, IsLegalCall, entry_of, ends_reshape, gives_some}
 use Rattle.kept_history.specs.Safe.{world_in, IsFilledRight}
-use Rattle.kept_history.proofs.Entered.{AreAdding, values-more, length-adding, values-adding}
+use Rattle.kept_history.proofs.Entered.{AreAdding, values-more, length-adding}
 use Rattle.kept_history.proofs.Ledgers.{unsynced-still}
 use Rattle.kept_history.proofs.Lists.{newest-in}
 use Rattle.history_calls.specs.Reliable.{IsReliable, AreToldGone}
@@ -73,7 +72,7 @@ use Rattle.still_kept.proofs.Leaving.{list-later, unsynced-later, fit-earlier, r
 use Rattle.still_kept.proofs.Reading.{visible-behind, pending-of, relied-moved}
 use Rattle.still_kept.proofs.Refusals.{IsRefusedStill, too-many-refused, refused-right, unsynced-behind}
 use Rattle.still_kept.proofs.Staying.{missing-since}
-use Rattle.still_kept.proofs.Stood.{stood-moved, list-shown, shown-list, rows-relied, relied-rows}
+use Rattle.still_kept.proofs.Stood.{stood-moved, list-shown, shown-list, rows-relied, relied-rows, within-count}
 use Rattle.still_kept.proofs.Whole.{whole-told}
 
 -- ---- what the call leaves
@@ -111,7 +110,7 @@ pub unwritten-refused : (given : Given) (m : Members) (rest : AreAtRest given m)
 unwritten-refused given m rest resync from to refusal within (inl (x, low, high, many)) =
     let here = subst (λ (s : Shape). LacksTooMany s m refusal) (for-still m.newest rest.still x) many in
     (too-many-refused resync m refusal (inl here), inr (subst (λ (r : Refusal). unsettles (Refused r) ≡ true) (sym here.told) refl))
-unwritten-refused given m rest resync from to refusal within (inr (few, x, low, high, beyond, cause)) =
+unwritten-refused given m rest resync from to refusal within (inr (few, (x, low, high, beyond, cause))) =
     let inside : x < list_length m.newest = omega (arith, high, within) in
     let shape = shape_of m.newest in
     let row : relied_rows m.newest (relied_list resync m) shape ≤ (place shape x).row =
@@ -278,10 +277,13 @@ module _ (tells : Type 0) (given : Given) (tape tape' : List Operation) (scope :
               | inl former ↦ unclean former
               | inr is ↦ unsettled (unsettled-behind who end roles spares (Refused refusal) is)
             ]) safe;
-        legal = λ fills gone level. legal-losses (world_in given tape' scope first) entries who end (losses_of roles spares) (Refused refusal ∷ []) (losses-are roles spares)
-            (refused-right (world_in given tape' scope first) (entries ++ entries_of who end (losses_of roles spares)) given new did.moved.placed work.resync gone
-            (ap tolerance_of level ∙ was.levelled t fills ∙ ap tolerance (sym did.moved.shape))
-            (unsynced-behind tells given tape tape' scope first entries who end roles spares did.grows begins t ∙ was.pending t) refusal why, tt, tt);
+        legal = λ fills gone level. legal-losses (world_in given tape' scope first) entries who end (losses_of roles spares) (Refused refusal ∷ []) (losses-are roles spares) (
+          refused-right (world_in given tape' scope first) (entries ++ entries_of who end (losses_of roles spares)) given new did.moved.placed work.resync gone
+              (ap tolerance_of level ∙ was.levelled t fills ∙ ap tolerance (sym did.moved.shape))
+              (unsynced-behind tells given tape tape' scope first entries who end roles spares did.grows begins t ∙ was.pending t) refusal why,
+          tt,
+          tt,
+        );
       })
     where
       same : (x : ℕ) → now (opening_list (world_in given tape scope first)) (entries ++ entries_of who end (losses_of roles spares ++ Refused refusal ∷ [])) x ≡ now (opening_list (world_in given tape scope first)) entries x
@@ -313,9 +315,7 @@ module _ (tells : Type 0) (given : Given) (tape tape' : List Operation) (scope :
             (legal-losses (world_in given tape' scope first) entries who end (losses_of roles spares) (Torn at (sectors_of from) ∷ Refused refusal ∷ []) (losses-are roles spares) (
               record { within = within t (length (sectors_of from)) (length-sectors_of from); refused = too-many refusal many },
               inner-of who end (Torn at (sectors_of from)) tt (Refused refusal ∷ []),
-              refused-behind t fills gone level,
-              tt,
-              tt,
+              (refused-behind t fills gone level, tt, tt),
             ));
       })
     where

@@ -1,5 +1,5 @@
 -- What an array keeps without an active reshape, also behind one that ended, over plain data.
-use Rattle.std.specs.Prelude.{◌≡◌, ℕ, ◌*◌, ◌<◌, ◌≤◌, ◌||◌, true, false, List, length, Option, IfSome, IsSome, is_some, ⊤}
+use Rattle.std.specs.Prelude.{◌≡◌, ℕ, ◌*◌, ◌≤◌, ◌||◌, true, false, List, length, Option, IfSome, IsSome, is_some, ⊤}
 use Rattle.md_base.specs.Sectors.{Sector}
 use Rattle.md_base.specs.Shapes.{data_disks, tolerance, tolerance_of}
 use Rattle.bank.specs.declared.bank.Operation.{Operation}
