@@ -184,7 +184,8 @@ module _ (given : Given) (tape : List Operation) (scope : Scope) (first : ℕ) (
     unclean = unclean-all;
     recorded = recorded-all;
     opened = behind.opened;
-    fit = fit-grown world ops begun;
+    begun = begun;
+    grown = (ops, refl);
     safe = safe-all;
     now_safe = now-all;
   }

@@ -62,19 +62,26 @@ pub record LeavesNumbers (given : Given) (tape : List Operation) (scope : Scope)
       → IsLegalCall (world_in given tape' scope first) entries who end (early ++ event ∷ [])
 
 -- What it leaves, of what is kept over a bank that tells its contents.
-pub record IsLeftBehind (given : Given) (tape : List Operation) (scope : Scope) (first : ℕ) (entries all : List Entry) (new : Members) (carried : ℕ → Bool) (reshaping : Bool) (tape' : List Operation) : Type 1 where
+pub record IsLeftBehind (given : Given) (tape : List Operation) (scope : Scope) (first : ℕ) (entries all : List Entry) (new : Members) (carried : ℕ → Bool) (reshaping : Bool) (tape' : List Operation) : Type 0 where
   pub right : IsReliable (world_in given tape' scope first) all → IsReliable (world_in given tape scope first) entries
   pub levelled : level_at (world_in given tape' scope first) all ≡ level_at (world_in given tape scope first) entries
   pub gone : IsReliable (world_in given tape' scope first) all → AreToldGone (world_in given tape' scope first) all new
   pub unclean : is_clean new.newest ≡ false → (is_unsynced (world_in given tape' scope first) all || is_unsettled all) ≡ true
   pub recorded : IsHistoryKept (IsReliable (world_in given tape' scope first) all) (world_in given tape' scope first) (list_length new.newest) all
   pub opened : opening_list (world_in given tape' scope first) ≡ opening_list (world_in given tape scope first)
-  pub fit : OpensFit (world_in given tape' scope first) ≡ OpensFit (world_in given tape scope first)
+  pub begun : first ≤ length tape
+  pub grown : (ops : List Operation) × (tape' ≡ tape ++ ops)
   pub fills : IsFilledRight (world_in given tape' scope first) all → IsFilledRight (world_in given tape scope first) entries
   pub safe : IsFilledRight (world_in given tape' scope first) all → HasRoomForEvents (world_in given tape' scope first) → OpensAlike (world_in given tape' scope first)
       → IsSafeHistory ⊤ (world_in given tape' scope first) given new carried reshaping all
   pub now_safe : IsFilledRight (world_in given tape' scope first) all → HasRoomForEvents (world_in given tape' scope first) → OpensAlike (world_in given tape' scope first)
       → IsSafeOver (world_in given tape' scope first) given (told_now (world_in given tape' scope first) carried reshaping all) new tape'
+
+-- what the opening found is what it was
+pub fit-later : {given : Given} {tape tape' : List Operation} {scope : Scope} {first : ℕ} {entries all : List Entry} {new : Members} {carried : ℕ → Bool} {reshaping : Bool}
+    → IsLeftBehind given tape scope first entries all new carried reshaping tape' → OpensFit (world_in given tape' scope first) ≡ OpensFit (world_in given tape scope first)
+fit-later {given = given} {tape = tape} {scope = scope} {first = first} left =
+    ap (λ (l : List Operation). OpensFit (world_in given l scope first)) left.grown.1 ∙ fit-grown (world_in given tape scope first) left.grown.0 left.begun
 
 module _ (given : Given) (tape : List Operation) (scope : Scope) (first : ℕ) (entries : List Entry) (old new : Members) (carried carried' : ℕ → Bool) (reshaping : Bool)
     (who : Who) (early : List Event) (IsTaken : ℕ → Type 0) (event : Event) (ops : List Operation) (are : AreEarly early IsTaken) (carries : (number : ℕ) → carried number ≡ true → carried' number ≡ true)
@@ -185,7 +192,8 @@ module _ (given : Given) (tape : List Operation) (scope : Scope) (first : ℕ) (
     unclean = unclean-all;
     recorded = recorded-all;
     opened = behind.opened;
-    fit = fit-grown world ops begun;
+    begun = begun;
+    grown = (ops, refl);
     safe = safe-all;
     now_safe = now-all;
   }

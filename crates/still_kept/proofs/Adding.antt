@@ -58,7 +58,7 @@ changing-stands tells given tape tape' scope first entries old new work left lef
     ends : list_any (λ e. is_resync_end e.event) (entries_of who end (early ++ event ∷ [])) ≡ false
     ends = none-ends (entries_of who end (early ++ event ∷ [])) (settle-none (entries_of who end (early ++ event ∷ [])) (are.adds who end (event ∷ []) (and-true (adds_only event) true adding.adds refl)))
 
-    Then : List Operation → ℕ → Type 1
+    Then : List Operation → ℕ → Type 0
     Then l e = ChangesEarly given tape scope first entries old new (is_carried work) false who early event l e
         → (is_clean new.newest ≡ false → (is_clean old.newest ≡ false) ⊎ (list_any (λ e. unsettles e.event) (entries_of who e (early ++ event ∷ [])) ≡ true))
         → IsLeftBehind given tape scope first entries (entries ++ entries_of who e (early ++ event ∷ [])) new (is_carried work) false l

@@ -157,7 +157,7 @@ module _ (tells : Type 0) (given : Given) (tape tape' : List Operation) (scope :
       same : now (opening_list (world_in given tape scope first)) (entries ++ entries_of who end (losses_of roles spares ++ event ∷ [])) ≡ now (opening_list (world_in given tape scope first)) entries
       same = λ i x. settled-same (opening_list (world_in given tape scope first)) entries who end roles spares event settling x i
 
-      Then : List Operation → ℕ → Type 1
+      Then : List Operation → ℕ → Type 0
       Then l e = SettlesList given tape scope first entries old new (is_carried work) false unsynced who roles spares event l e
           → IsLeftBehind given tape scope first entries (entries ++ entries_of who e (losses_of roles spares ++ event ∷ [])) new (is_carried work) false l
 

@@ -27,7 +27,7 @@ use Rattle.kept_history.specs.Safe.{world_in, IsFilledRight}
 use Rattle.kept_history.specs.Told.{told_now}
 use Rattle.kept_history.proofs.Calls.{now-live}
 use Rattle.kept_history.proofs.Growing.{opening-grown, unsynced-grown}
-use Rattle.history_calls.proofs.Quiet.{IsLeftBehind}
+use Rattle.history_calls.proofs.Quiet.{IsLeftBehind, fit-later}
 use Rattle.still_kept.specs.Still.{AreAtRest, HasListStood, IsStill}
 
 -- ---- what a stop may leave now
@@ -93,7 +93,7 @@ leaves-stands tells given tape tape' scope first entries all old new work work' 
   unclean = λ t. (leaves t).unclean;
   recorded = λ t. (leaves t).recorded;
   listed = λ t does fills.
-      subst (λ (sound : Type 0). HasListStood sound work' new (present given tape') (now (opening_list (world_in given tape' scope first)) all)) (sym (leaves t).fit)
+      subst (λ (sound : Type 0). HasListStood sound work' new (present given tape') (now (opening_list (world_in given tape' scope first)) all)) (sym (fit-later (leaves t)))
       (subst (λ (l : List Sector). HasListStood (OpensFit (world_in given tape scope first)) work' new (present given tape') (now l all)) (sym (leaves t).opened)
       (listed t does ((leaves t).fills fills)));
   safe = λ t. (leaves t).safe;

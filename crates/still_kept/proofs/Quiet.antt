@@ -63,7 +63,7 @@ early-stands tells given tape tape' scope first entries old new work work' left 
     same : now (opening_list (world_in given tape scope first)) (entries ++ entries_of who end (early ++ event ∷ [])) ≡ now (opening_list (world_in given tape scope first)) entries
     same = λ i x. quiet-now (opening_list (world_in given tape scope first)) entries who end early IsTaken event are quiet x i
 
-    Then : List Operation → ℕ → Type 1
+    Then : List Operation → ℕ → Type 0
     Then l e = LeavesList given tape scope first entries old new (is_carried work) false who early event l e
         → IsLeftBehind given tape scope first entries (entries ++ entries_of who e (early ++ event ∷ [])) new (is_carried work) false l
 

@@ -208,7 +208,7 @@ module _ (tells : Type 0) (given : Given) (tape mid_tape tape' : List Operation)
       same : (x : ℕ) → now (opening_list (world_in given tape scope first)) (entries ++ entries_of who end (losses_of roles spares ++ event ∷ [])) x ≡ now (opening_list (world_in given tape scope first)) entries x
       same x = quiet-now (opening_list (world_in given tape scope first)) entries who end (losses_of roles spares) (IsAmong roles) event early quiet x
 
-      Then : List Operation → ℕ → Type 1
+      Then : List Operation → ℕ → Type 0
       Then l e = LeavesNumbers given tape scope first entries old new (is_carried work) (is_carried (with_carried sb.dev_number work)) false who (losses_of roles spares) event l e
           → IsLeftBehind given tape scope first entries (entries ++ entries_of who e (losses_of roles spares ++ event ∷ [])) new (is_carried (with_carried sb.dev_number work)) false l
 
