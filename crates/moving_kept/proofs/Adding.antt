@@ -1,49 +1,33 @@
 -- A call that enters losses and one event behind them, by which the list may change: a write.
-use Rattle.std.proofs.Common.{◌≡◌, ◌⊎◌, inl, inr, ℕ, ◌<◌, ◌≤◌, ◌==◌, ◌||◌, Bool, true, false, List, [], ◌∷◌, ◌++◌, length, refl, sym, ◌∙◌, ap, subst, arith, append-nil}
+use Rattle.std.proofs.Common.{◌≡◌, ◌⊎◌, ℕ, ◌<◌, ◌≤◌, ◌==◌, Bool, true, false, List, [], ◌∷◌, ◌++◌, length, refl, sym, ◌∙◌, ap, subst}
 use Rattle.std.specs.Prelude.{IsFalse, IfSome, ⊤}
-use Rattle.std.specs.List.{list_any}
-use Rattle.std.proofs.lemmas.List.Folds.{list_any-append}
-use Rattle.md_base.specs.Sectors.{Sector}
 use Rattle.md_base.specs.Shapes.{tolerance_of}
 use Rattle.md_base.specs.declared.answers.Who.{Who}
 use Rattle.bank.specs.declared.bank.Operation.{Operation}
-use Rattle.bank.specs.Given.{Given, sizes}
+use Rattle.bank.specs.Given.{Given}
 use Rattle.bank.specs.Tape.{IsIn, disk}
 use Rattle.superblocks.specs.declared.members.Members.{Members}
 use Rattle.superblocks.specs.Reading.{Scope, is_clean, shape_of, list_length, role_count}
 use Rattle.row_io.specs.Rows.{present}
 use Rattle.flat_history.specs.declared.events.Entry.{Entry}
 use Rattle.flat_history.specs.declared.events.Event.{Event}
-use Rattle.flat_history.specs.Epochs.{HasRoomForEvents, OpensAlike}
 use Rattle.flat_history.specs.Flat.{now}
-use Rattle.flat_history.specs.Legal.{told_left, level_at, level_after, IsLegalEvent}
-use Rattle.flat_history.specs.Losses.{is_unsynced, unsettles}
-use Rattle.flat_history.specs.OneShape.{is_unsettled}
+use Rattle.flat_history.specs.Legal.{told_left, level_at, IsLegalEvent}
+use Rattle.flat_history.specs.Losses.{unsettles}
 use Rattle.flat_history.specs.Plain.{entries_of}
 use Rattle.flat_history.specs.Sound.{OpensFit}
-use Rattle.flat_history.specs.World.{World, opening_list}
+use Rattle.flat_history.specs.World.{opening_list}
 use Rattle.shape_views.specs.Regions.{DoWithout}
 use Rattle.shape_views.specs.Views.{Ledger}
 use Rattle.shape_changes.specs.Safety.{HasRoomLeft, IsRisen}
-use Rattle.shape_changes.specs.Steady.{IsMoreTold, IsSafeNow, IsSafeOver, KeepsSafe, AreGoneTold, IsUncleanTold}
+use Rattle.shape_changes.specs.Steady.{IsMoreTold, IsSafeOver, KeepsSafe, AreGoneTold, IsUncleanTold}
 use Rattle.views.specs.Moving.{Grows}
-use Rattle.views.proofs.SoundViews.{throughout-kept}
 use Rattle.call_entries.specs.Losing.{losses_of}
-use Rattle.call_entries.proofs.CallLaws.{losses-are, last_end-behind}
-use Rattle.call_entries.proofs.StepLaws.{faults-are}
-use Rattle.call_entries.proofs.LosingLaws.{entries-both}
-use Rattle.kept_history.specs.Recorded.{IsHistoryKept, IsLegalCall, IsCallGoing, entry_of, ends_reshape, gives_some}
-use Rattle.kept_history.specs.Safe.{world_in, IsFilledRight, IsSafeHistory}
-use Rattle.kept_history.specs.Told.{told_now, told_by}
-use Rattle.kept_history.proofs.Growing.{fit-grown, now-grown, alike-before, room-before, room-now}
-use Rattle.kept_history.proofs.Lists.{newest-in}
-use Rattle.kept_history.proofs.Seen.{now-more}
-use Rattle.kept_history.proofs.Calls.{safe-called}
-use Rattle.kept_history.proofs.KeptCalls.{kept-call}
-use Rattle.kept_history.proofs.Entered.{adds_only, AreAdding, told-adding, told-added, adding-losses, length-adding}
-use Rattle.kept_history.proofs.Reshapes.{call-ends_none}
+use Rattle.kept_history.specs.Recorded.{IsCallGoing, entry_of}
+use Rattle.kept_history.specs.Safe.{world_in, IsFilledRight}
+use Rattle.kept_history.specs.Told.{told_now}
 use Rattle.course_kept.specs.declared.course.Course.{Course}
-use Rattle.course_kept.specs.Course.{IsCourseOf, IsStored, StandsInCourse}
+use Rattle.course_kept.specs.Course.{IsCourseOf, IsStored}
 use Rattle.history_calls.specs.Reliable.{IsReliable, AreToldGone}
 use Rattle.history_calls.proofs.Behind.{AreLostOrMissing, IsAmong}
 use Rattle.history_calls.proofs.Quiet.{IsLeftBehind}

@@ -1,11 +1,11 @@
 -- A call that leaves the list as it is, and enters losses and one event behind them.
-use Rattle.std.proofs.Common.{◌≡◌, inr, ℕ, ◌≤◌, ◌==◌, ◌||◌, Bool, true, false, List, [], ◌∷◌, ◌++◌, length, refl, sym, ◌∙◌, ap, subst, arith, append_assoc}
-use Rattle.std.specs.Prelude.{IsFalse, IfSome, slice_index_or, ⊤}
+use Rattle.std.proofs.Common.{◌≡◌, ℕ, ◌≤◌, ◌==◌, ◌||◌, Bool, true, false, List, [], ◌∷◌, ◌++◌, length, sym, ◌∙◌, ap, subst}
+use Rattle.std.specs.Prelude.{IsFalse, IfSome, ⊤}
 use Rattle.md_base.specs.Sectors.{Sector}
 use Rattle.md_base.specs.Shapes.{tolerance_of}
 use Rattle.md_base.specs.declared.answers.Who.{Who}
 use Rattle.bank.specs.declared.bank.Operation.{Operation}
-use Rattle.bank.specs.Given.{Given, sizes}
+use Rattle.bank.specs.Given.{Given}
 use Rattle.bank.specs.Tape.{disk}
 use Rattle.superblocks.specs.declared.members.Members.{Members}
 use Rattle.superblocks.specs.Reading.{Scope, is_clean, shape_of, list_length, role_count}
@@ -13,37 +13,28 @@ use Rattle.row_io.specs.Rows.{present}
 use Rattle.flat_history.specs.declared.events.Entry.{Entry}
 use Rattle.flat_history.specs.declared.events.Event.{Event}
 use Rattle.flat_history.specs.Epochs.{HasRoomForEvents, OpensAlike}
-use Rattle.flat_history.specs.Flat.{now, values_of, values_after}
-use Rattle.flat_history.specs.Legal.{told_left, level_at, level_after, IsLegalEvent}
+use Rattle.flat_history.specs.Flat.{now}
+use Rattle.flat_history.specs.Legal.{told_left, level_at, IsLegalEvent}
 use Rattle.flat_history.specs.Losses.{is_unsynced}
 use Rattle.flat_history.specs.OneShape.{is_unsettled}
 use Rattle.flat_history.specs.Plain.{entries_of}
 use Rattle.flat_history.specs.Sound.{OpensFit}
-use Rattle.flat_history.specs.World.{World, opening_list}
+use Rattle.flat_history.specs.World.{opening_list}
 use Rattle.shape_views.specs.Regions.{DoWithout}
 use Rattle.shape_views.specs.Views.{Ledger}
 use Rattle.shape_changes.specs.Safety.{HasRoomLeft, IsRisen}
-use Rattle.shape_changes.specs.Steady.{IsMoreTold, IsSafeNow, IsSafeOver, KeepsSafe, AreGoneTold, IsUncleanTold}
+use Rattle.shape_changes.specs.Steady.{IsMoreTold, IsSafeOver, KeepsSafe, AreGoneTold, IsUncleanTold}
 use Rattle.views.specs.Moving.{Grows}
-use Rattle.views.proofs.SoundViews.{throughout-kept}
 use Rattle.call_entries.specs.Losing.{losses_of}
-use Rattle.call_entries.proofs.CallLaws.{losses-are, last_end-behind}
-use Rattle.call_entries.proofs.LosingLaws.{entries-both}
-use Rattle.kept_history.specs.Recorded.{IsHistoryKept, IsLegalCall, IsCallGoing, entry_of, ends_reshape, gives_some}
+use Rattle.call_entries.proofs.CallLaws.{losses-are}
+use Rattle.kept_history.specs.Recorded.{IsHistoryKept, IsLegalCall, IsCallGoing, entry_of}
 use Rattle.kept_history.specs.Safe.{world_in, IsFilledRight, IsSafeHistory}
-use Rattle.kept_history.specs.Told.{told_now, told_by}
-use Rattle.kept_history.proofs.Growing.{fit-grown, now-grown, alike-before, room-before, room-now}
-use Rattle.kept_history.proofs.Ledgers.{more-then}
-use Rattle.kept_history.proofs.Seen.{now-more}
-use Rattle.kept_history.proofs.Calls.{safe-called}
-use Rattle.kept_history.proofs.KeptCalls.{kept-call}
-use Rattle.kept_history.proofs.Entered.{adds_only, AreAdding, told-adding, told-added, values-more, length-adding}
-use Rattle.kept_history.proofs.Reshapes.{call-ends_none}
+use Rattle.kept_history.specs.Told.{told_now}
 use Rattle.course_kept.specs.declared.course.Course.{Course}
 use Rattle.course_kept.specs.Course.{IsCourseOf, IsStored, StandsInCourse}
 use Rattle.history_calls.specs.Reliable.{IsReliable, AreToldGone}
 use Rattle.history_calls.proofs.Behind.{AreEarly, AreLostOrMissing, IsAmong, early-losses, legal-losses}
-use Rattle.history_calls.proofs.Quiet.{IsQuiet, IsLeftBehind, quiet-leaves, quiet-now}
+use Rattle.history_calls.proofs.Quiet.{IsQuiet, IsLeftBehind, fit-later, quiet-leaves, quiet-now}
 use Rattle.moving_kept.specs.Moving.{AreReshaping, HasListInCourse, IsMoving}
 
 -- ---- the call
@@ -75,6 +66,20 @@ pub record IsQuietCall (given : Given) (tape : List Operation) (scope : Scope) (
       → level_at (world_in given tape' scope first) (entries ++ entries_of who end (losses_of roles spares)) ≡ level_at (world_in given tape scope first) entries
       → IsLegalEvent (world_in given tape' scope first) (entries ++ entries_of who end (losses_of roles spares)) (entry_of who end event) [] event
 
+-- What a call leaves of the record, over a bank that tells its contents.
+pub record IsLeftBy (given : Given) (tape : List Operation) (scope : Scope) (first : ℕ) (entries all : List Entry) (new : Members) (carried : ℕ → Bool) (course' : Course) (buffer' : List ℕ) (tape' : List Operation) : Type 0 where
+  pub right : IsReliable (world_in given tape' scope first) all → IsReliable (world_in given tape scope first) entries
+  pub levelled : level_at (world_in given tape' scope first) all ≡ level_at (world_in given tape scope first) entries
+  pub gone : IsReliable (world_in given tape' scope first) all → AreToldGone (world_in given tape' scope first) all new
+  pub unclean : is_clean new.newest ≡ false → (is_unsynced (world_in given tape' scope first) all || is_unsettled all) ≡ true
+  pub recorded : IsHistoryKept (IsReliable (world_in given tape' scope first) all) (world_in given tape' scope first) (list_length new.newest) all
+  pub listed : DoWithout new → IsFilledRight (world_in given tape' scope first) all
+      → HasListInCourse (OpensFit (world_in given tape' scope first)) new course' buffer' (present given tape') (now (opening_list (world_in given tape' scope first)) all)
+  pub safe : IsFilledRight (world_in given tape' scope first) all → HasRoomForEvents (world_in given tape' scope first) → OpensAlike (world_in given tape' scope first)
+      → IsSafeHistory ⊤ (world_in given tape' scope first) given new carried true all
+  pub now_safe : IsFilledRight (world_in given tape' scope first) all → HasRoomForEvents (world_in given tape' scope first) → OpensAlike (world_in given tape' scope first)
+      → IsSafeOver (world_in given tape' scope first) given (told_now (world_in given tape' scope first) carried true all) new tape'
+
 -- The list of the history that stood in the course stands so by more entries that say the same of it.
 pub listed-later : (given : Given) (tape : List Operation) (scope : Scope) (first : ℕ) (entries all : List Entry) (new : Members) (carried : ℕ → Bool) (course' : Course) (buffer' : List ℕ) (tape' : List Operation) (current : ℕ → Sector)
     → IsLeftBehind given tape scope first entries all new carried true tape' → ((x : ℕ) → now (opening_list (world_in given tape scope first)) all x ≡ current x)
@@ -86,7 +91,7 @@ listed-later given tape scope first entries all new carried course' buffer' tape
     record {
       list = l.list;
       is = λ x lt. l.is x lt ∙ sym (same x) ∙ sym (ap (λ (o : List Sector). now o all x) left.opened);
-      stands = subst (λ (sound : Type 0). StandsInCourse sound new course' buffer' (present given tape') l.list) (sym left.fit) l.stands;
+      stands = subst (λ (sound : Type 0). StandsInCourse sound new course' buffer' (present given tape') l.list) (sym (fit-later left)) l.stands;
     }
 
 -- ---- what is kept

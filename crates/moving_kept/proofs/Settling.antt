@@ -1,52 +1,36 @@
 -- A call that enters losses, and behind them an event that settles what was written: a flush or a stop.
-use Rattle.std.proofs.Common.{◌≡◌, inl, inr, ℕ, ◌<◌, ◌≤◌, ◌==◌, ◌||◌, Bool, true, false, List, [], ◌∷◌, ◌++◌, length, refl, sym, ◌∙◌, ap, subst, arith}
-use Rattle.std.specs.Prelude.{IsFalse, IfSome, slice_index_or, take, ⊤}
-use Rattle.std.specs.List.{list_any}
+use Rattle.std.proofs.Common.{◌≡◌, ℕ, ◌≤◌, ◌==◌, ◌&&◌, Bool, true, false, not, List, [], ◌∷◌, ◌++◌, length, refl, sym, ◌∙◌, ap, subst}
+use Rattle.std.specs.Prelude.{IsFalse, IfSome, take, ⊤}
 use Rattle.md_base.specs.Sectors.{Sector}
 use Rattle.md_base.specs.Shapes.{tolerance_of}
 use Rattle.md_base.specs.declared.answers.Who.{Who}
 use Rattle.bank.specs.declared.bank.Operation.{Operation}
-use Rattle.bank.specs.Given.{Given, sizes}
-use Rattle.bank.specs.Tape.{IsIn, disk}
+use Rattle.bank.specs.Given.{Given}
+use Rattle.bank.specs.Tape.{disk}
 use Rattle.superblocks.specs.declared.members.Members.{Members}
 use Rattle.superblocks.specs.Reading.{Scope, is_clean, shape_of, list_length, role_count}
 use Rattle.row_io.specs.Rows.{present}
 use Rattle.flat_history.specs.declared.events.Entry.{Entry}
 use Rattle.flat_history.specs.declared.events.Event.{Event}
 use Rattle.flat_history.specs.declared.events.Event.TheVariants.{Flushed, Stopped}
-use Rattle.flat_history.specs.declared.events.Event.TheVariants.{Lost, SpareLost}
-use Rattle.flat_history.specs.declared.events.LostCause.TheVariants.{Fault}
-use Rattle.flat_history.specs.Epochs.{HasRoomForEvents, OpensAlike}
-use Rattle.flat_history.specs.Flat.{now, length_of, length_after, values_of, values_after}
+use Rattle.flat_history.specs.Flat.{now, length_after, values_after}
 use Rattle.flat_history.specs.Legal.{told_left, level_after, IsLegalEvent}
 use Rattle.flat_history.specs.Losses.{is_unsynced, is_resync_end}
-use Rattle.flat_history.specs.OneShape.{is_unsettled}
 use Rattle.flat_history.specs.Plain.{entries_of}
 use Rattle.flat_history.specs.Sound.{OpensFit}
 use Rattle.flat_history.specs.World.{World, opening_list}
 use Rattle.shape_views.specs.Regions.{DoWithout}
 use Rattle.shape_views.specs.Views.{Ledger}
 use Rattle.shape_changes.specs.Safety.{HasRoomLeft, IsRisen}
-use Rattle.shape_changes.specs.Steady.{IsMoreTold, IsSafeNow, IsSafeOver, KeepsSafe, AreGoneTold, IsUncleanTold, AreWritesAllowed, settled_ledger}
+use Rattle.shape_changes.specs.Steady.{IsMoreTold, IsSafeOver, KeepsSafe, AreGoneTold, IsUncleanTold, AreWritesAllowed}
 use Rattle.views.specs.Moving.{Grows}
-use Rattle.views.proofs.SoundViews.{throughout-kept}
 use Rattle.call_entries.specs.Losing.{losses_of}
-use Rattle.call_entries.proofs.CallLaws.{AreLossEvents, losses-are, last_end-behind, length-losses, values-losses}
-use Rattle.call_entries.proofs.LosingLaws.{entries-both}
 use Rattle.call_entries.proofs.LeftLaws.{TellLeft}
-use Rattle.kept_history.specs.Recorded.{IsHistoryKept, IsLegalCall, IsCallGoing, entry_of, ends_reshape, gives_some}
-use Rattle.kept_history.specs.Safe.{world_in, IsFilledRight, IsSafeHistory}
-use Rattle.kept_history.specs.Told.{told_now, told_by}
-use Rattle.kept_history.proofs.Growing.{fit-grown, unsynced-grown, now-grown, alike-before, room-before, room-now}
-use Rattle.kept_history.proofs.Ledgers.{more-then, unsynced-still}
-use Rattle.kept_history.proofs.Lists.{newest-in}
-use Rattle.kept_history.proofs.Seen.{now-more}
-use Rattle.kept_history.proofs.Calls.{safe-called}
-use Rattle.kept_history.proofs.KeptCalls.{kept-call}
-use Rattle.kept_history.proofs.Entered.{told-adding, values-more, length-more, length-adding, all-stay, settled-now}
-use Rattle.kept_history.proofs.Reshapes.{call-ends_none}
+use Rattle.kept_history.specs.Recorded.{IsCallGoing, entry_of, ends_reshape, gives_some}
+use Rattle.kept_history.specs.Safe.{world_in, IsFilledRight}
+use Rattle.kept_history.specs.Told.{told_now}
 use Rattle.course_kept.specs.declared.course.Course.{Course}
-use Rattle.course_kept.specs.Course.{IsCourseOf, IsStored, StandsInCourse}
+use Rattle.course_kept.specs.Course.{IsCourseOf, IsStored}
 use Rattle.history_calls.proofs.Behind.{AreLostOrMissing, IsAmong}
 use Rattle.history_calls.proofs.Quiet.{IsLeftBehind}
 use Rattle.history_calls.proofs.Settling.{IsSettlement, IsSettledBy, takes-newest, settling-ends, settling-leaves, settled-same}

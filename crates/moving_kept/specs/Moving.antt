@@ -6,16 +6,16 @@ use Rattle.bank.specs.declared.bank.Operation.{Operation}
 use Rattle.bank.specs.Given.{Given, sizes}
 use Rattle.bank.specs.Tape.{Contents, disk}
 use Rattle.superblocks.specs.declared.members.Members.{Members}
-use Rattle.superblocks.specs.Reading.{Scope, is_reshaping, is_clean, shape_of, list_length, role_count}
-use Rattle.row_io.specs.Rows.{reading_of, present, is_missing}
+use Rattle.superblocks.specs.Reading.{Scope, is_reshaping, is_clean, shape_of, list_length}
+use Rattle.row_io.specs.Rows.{present}
 use Rattle.flat_history.specs.declared.events.Entry.{Entry}
 use Rattle.flat_history.specs.Epochs.{HasRoomForEvents, OpensAlike}
 use Rattle.flat_history.specs.Flat.{now}
 use Rattle.flat_history.specs.Legal.{told_left, level_at}
-use Rattle.flat_history.specs.Losses.{is_gone_after, is_unsynced}
+use Rattle.flat_history.specs.Losses.{is_unsynced}
 use Rattle.flat_history.specs.OneShape.{is_unsettled}
 use Rattle.flat_history.specs.Sound.{OpensFit}
-use Rattle.flat_history.specs.World.{World, opening_list}
+use Rattle.flat_history.specs.World.{opening_list}
 use Rattle.shape_views.specs.Regions.{ArePlaced, DoWithout}
 use Rattle.shape_views.specs.Windows.{ListStands, RowsStand}
 use Rattle.shape_changes.specs.Steady.{AreUnlost, IsSafeOver}
