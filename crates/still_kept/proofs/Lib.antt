@@ -14,3 +14,4 @@ pub mod Failing
 pub mod Writing
 pub mod Resync
 pub mod Sparing
+pub mod Bridges
