@@ -212,6 +212,18 @@ pub record LeavesList (given : Given) (tape : List Operation) (scope : Scope) (f
       → level_at (world_in given tape' scope first) (entries ++ entries_of who end early) ≡ level_at (world_in given tape scope first) entries
       → IsLegalCall (world_in given tape' scope first) entries who end (early ++ event ∷ [])
 
+-- it is such a call
+pub numbers-of : (given : Given) (tape : List Operation) (scope : Scope) (first : ℕ) (entries : List Entry) (old new : Members) (carried : ℕ → Bool) (reshaping : Bool)
+    (who : Who) (early : List Event) (event : Event) (tape' : List Operation) (end : ℕ)
+    → LeavesList given tape scope first entries old new carried reshaping who early event tape' end → LeavesNumbers given tape scope first entries old new carried carried reshaping who early event tape' end
+numbers-of given tape scope first entries old new carried reshaping who early event tape' end call = record {
+  rise = call.rise;
+  keeps = λ was told fills more less same know room told_gone told_unclean before. call.keeps told fills
+      (more-then (told_now (world_in given tape scope first) carried reshaping entries) was told more less) room (λ role lt miss. less.gone role (told_gone role lt miss)) (λ dirty. less.unclean (told_unclean dirty))
+      (now-more (OpensFit (world_in given tape scope first)) scope given was told old (disk given.start tape) less before);
+  legal = call.legal;
+}
+
 module _ (given : Given) (tape : List Operation) (scope : Scope) (first : ℕ) (entries : List Entry) (old new : Members) (carried : ℕ → Bool) (reshaping : Bool)
     (who : Who) (early : List Event) (IsTaken : ℕ → Type 0) (event : Event) (ops : List Operation) (are : AreEarly early IsTaken)
     (goes : IsCallGoing entries who) (caller : IsFalse (who.caller == 254)) (quiet : IsQuiet event) (few : role_count new.newest ≤ 16)
@@ -227,13 +239,7 @@ module _ (given : Given) (tape : List Operation) (scope : Scope) (first : ℕ) (
     (call : LeavesList given tape scope first entries old new carried reshaping who early event (tape ++ ops) (length (tape ++ ops))) where
   pub quiet-leaves : IsLeftBehind given tape scope first entries (entries ++ entries_of who (length (tape ++ ops)) (early ++ event ∷ [])) new carried reshaping (tape ++ ops)
   quiet-leaves = numbers-leaves given tape scope first entries old new carried carried reshaping who early IsTaken event ops are (λ number is. is) goes caller quiet few missing sized clean sizes_are gone unclean recorded safe now_safe
-      (record {
-        rise = call.rise;
-        keeps = λ was told fills more less same know room told_gone told_unclean before. call.keeps told fills
-            (more-then (told_now (world_in given tape scope first) carried reshaping entries) was told more less) room (λ role lt miss. less.gone role (told_gone role lt miss)) (λ dirty. less.unclean (told_unclean dirty))
-            (now-more (OpensFit (world_in given tape scope first)) scope given was told old (disk given.start tape) less before);
-        legal = call.legal;
-      })
+      (numbers-of given tape scope first entries old new carried reshaping who early event (tape ++ ops) (length (tape ++ ops)) call)
 
 -- the newest value of each sector is what it was
 pub quiet-now : (list : List Sector) (entries : List Entry) (who : Who) (end : ℕ) (early : List Event) (IsTaken : ℕ → Type 0) (event : Event) → AreEarly early IsTaken → IsQuiet event

@@ -1,15 +1,12 @@
 -- A slot that is made a spare: it may be one now, or was lost in this.
-use Rattle.std.proofs.Common.{◌≡◌, inl, inr, ℕ, ◌*◌, ◌/◌, ◌<◌, ◌≤◌, ◌==◌, ◌||◌, Bool, true, false, Option, Some, None, get_or, List, [], ◌∷◌, ◌++◌, length, slice_set, refl, sym, ◌∙◌, ap, subst, arith}
+use Rattle.std.proofs.Common.{◌≡◌, inl, inr, ℕ, ◌/◌, ◌<◌, ◌≤◌, ◌==◌, ◌||◌, Bool, true, false, Option, Some, None, get_or, List, [], ◌∷◌, ◌++◌, length, slice_set, refl, sym, ◌∙◌, subst, arith}
 use Rattle.std.specs.Prelude.{IsFalse, IfSome, ⊤}
-use Rattle.std.specs.List.{list_any}
 use Rattle.std.proofs.lemmas.Bool.{cases_lt}
 use Rattle.std.proofs.lemmas.Bool.Decides.{nat_tests}
 use Rattle.std.proofs.lemmas.List.{get_or-set_same, get_or_past, length-set}
 use Rattle.md_base.specs.Sectors.{Sector}
-use Rattle.md_base.specs.Shapes.{data_disks}
 use Rattle.md_base.specs.declared.answers.Refusal.TheVariants.{SlotFault}
 use Rattle.md_base.specs.declared.answers.Who.{Who}
-use Rattle.md_base.specs.declared.places.Shape.{Shape}
 use Rattle.bank.specs.declared.bank.Operation.{Operation}
 use Rattle.bank.specs.Given.{Given}
 use Rattle.bank.specs.Tape.{Contents, IsIn, disk}
@@ -17,21 +14,18 @@ use Rattle.bank.proofs.Marks.{each_mark-map}
 use Rattle.sb1.specs.declared.sb.Sb.{Sb}
 use Rattle.superblocks.specs.declared.members.Members.{Members}
 use Rattle.superblocks.specs.Held.{IsSecondHalf}
-use Rattle.superblocks.specs.Reading.{Scope, shape_of, list_length, role_state, holder}
-use Rattle.superblocks.proofs.ValidFields.{few-roles}
+use Rattle.superblocks.specs.Reading.{Scope, shape_of, role_state, holder}
 use Rattle.row_io.specs.Rows.{reading_of, present}
 use Rattle.flat_history.specs.declared.events.Entry.{Entry}
 use Rattle.flat_history.specs.declared.events.Event.{Event}
 use Rattle.flat_history.specs.declared.events.Event.TheVariants.{Added, Refused}
 use Rattle.flat_history.specs.Flat.{now}
 use Rattle.flat_history.specs.Legal.{told_left, IsLegalEvent}
-use Rattle.flat_history.specs.Losses.{is_resync_end}
 use Rattle.flat_history.specs.Plain.{entries_of}
 use Rattle.flat_history.specs.Sound.{OpensFit}
 use Rattle.flat_history.specs.World.{opening_list}
 use Rattle.shape_views.specs.Regions.{DoWithout}
 use Rattle.shape_views.specs.Views.{Ledger}
-use Rattle.shape_views.proofs.Stands.{list-still}
 use Rattle.shape_changes.specs.Marking.{AreOthersPresent}
 use Rattle.shape_changes.specs.Safety.{HasLiveSlot, HasRoomLeft, IsRisen}
 use Rattle.shape_changes.specs.Steady.{AreViewsRight, IsMoreTold, IsSafeStretch, IsSafeOver, KeepsSafe, AreGoneTold, IsUncleanTold, with_number}
@@ -57,13 +51,11 @@ use Rattle.calls_kept.proofs.AddedKept.{with_carried, carries-number, AddsSafe}
 use Rattle.calls_kept.proofs.AddedLosses.{IsAddDone, with-placed, stays-added, does-added, left-added}
 use Rattle.kept_history.specs.Recorded.{IsCallGoing, entry_of}
 use Rattle.kept_history.specs.Safe.{world_in, IsFilledRight}
-use Rattle.kept_history.proofs.Entered.{adds_only, settle-none}
-use Rattle.kept_history.proofs.Ledgers.{unsynced-still, none-ends}
 use Rattle.kept_history.proofs.Seen.{now-more}
-use Rattle.history_calls.proofs.Behind.{AreEarly, AreLostOrMissing, IsAmong, early-losses, legal-losses, and-true}
-use Rattle.history_calls.proofs.Quiet.{IsQuiet, LeavesNumbers, IsLeftBehind, numbers-leaves, quiet-now}
+use Rattle.history_calls.proofs.Behind.{AreLostOrMissing, IsAmong, early-losses, legal-losses}
+use Rattle.history_calls.proofs.Quiet.{IsQuiet, LeavesNumbers}
 use Rattle.still_kept.specs.Still.{AreAtRest, HasListStood, IsStill}
-use Rattle.still_kept.proofs.Leaving.{safe-now, leaves-stands}
+use Rattle.still_kept.proofs.Quiet.{placed-stands}
 use Rattle.still_kept.proofs.Stood.{stood-moved}
 
 -- ---- the number
@@ -149,11 +141,6 @@ module _ (tells : Type 0) (given : Given) (tape mid_tape tape' : List Operation)
     ]
   ]
 
-  sized : list_length new.newest ≡ list_length old.newest
-  sized =
-      let stays = stays-added did in
-      list-still new.newest rest.still ∙ (λ i. data_disks (stays.shape i) * stays.size i) ∙ sym (list-still old.newest was.members_are.still)
-
   -- each mark is safe, with the number
   keeps : (t : tells) (before_told told : Ledger) → IsMoreTold before_told told → ((n : ℕ) → before_told.carried n ≡ is_carried work n) → ((n : ℕ) → told.carried n ≡ is_carried (with_carried sb.dev_number work) n)
       → HasRoomLeft old tape tape' → AreGoneTold before_told new → IsUncleanTold before_told old
@@ -185,32 +172,12 @@ module _ (tells : Type 0) (given : Given) (tape mid_tape tape' : List Operation)
       → (tells → IsLegalEvent (world_in given tape' scope first) (entries ++ entries_of who end (losses_of roles spares)) (entry_of who end event) [] event)
       → IsStill tells given tape' scope first (entries ++ entries_of who end (losses_of roles spares ++ event ∷ [])) new (with_carried sb.dev_number work) left'
   spared event quiet told legal =
-      leaves-stands tells given tape tape' scope first entries (entries ++ entries_of who end events) old new work (with_carried sb.dev_number work) left left' was grows rest (ap (λ (s : Shape). s.level) (stays-added did).shape) told
-      (progress work.resync was.progress)
-      (λ t. unsynced-still (world_in given tape scope first) entries (entries_of who end events) ends ∙ was.pending t)
-      (λ can pending. did.clean ∙ was.dirty (does-added did can) pending)
-      (λ t can fills. subst (λ (l : ℕ → Sector). HasListStood (OpensFit (world_in given tape scope first)) (with_carried sb.dev_number work) new (present given tape') l) (λ i x. sym (same x) i) (listed t can fills))
-      leaves
+      placed-stands tells given tape tape' scope first entries old new work (with_carried sb.dev_number work) left left' who end (losses_of roles spares) (IsAmong roles) event was live goes caller at_end grows quiet rest
+      (stays-added did).shape (stays-added did).size (does-added did) (early-losses roles spares) missing did.clean (carries-number sb.dev_number work) refl (progress work.resync was.progress) told listed call
     where
-      events : List Event
-      events = losses_of roles spares ++ event ∷ []
-
-      early : AreEarly (losses_of roles spares) (IsAmong roles)
-      early = early-losses roles spares
-
       progress : (o : Option ℕ) → IfSome o (λ mended. mended ≤ stripes_of old) → IfSome o (λ mended. mended ≤ stripes_of new)
       progress None is = tt
       progress (Some mended) is = subst (λ (n : ℕ). mended ≤ n) (λ i. sym ((stays-added did).size) i / (sym ((stays-added did).shape) i).chunk) is
-
-      ends : list_any (λ e. is_resync_end e.event) (entries_of who end (losses_of roles spares ++ event ∷ [])) ≡ false
-      ends = none-ends (entries_of who end (losses_of roles spares ++ event ∷ [])) (settle-none (entries_of who end (losses_of roles spares ++ event ∷ [])) (early.adds who end (event ∷ []) (and-true (adds_only event) true quiet.adds refl)))
-
-      same : (x : ℕ) → now (opening_list (world_in given tape scope first)) (entries ++ entries_of who end (losses_of roles spares ++ event ∷ [])) x ≡ now (opening_list (world_in given tape scope first)) entries x
-      same x = quiet-now (opening_list (world_in given tape scope first)) entries who end (losses_of roles spares) (IsAmong roles) event early quiet x
-
-      Then : List Operation → ℕ → Type 0
-      Then l e = LeavesNumbers given tape scope first entries old new (is_carried work) (is_carried (with_carried sb.dev_number work)) false who (losses_of roles spares) event l e
-          → IsLeftBehind given tape scope first entries (entries ++ entries_of who e (losses_of roles spares ++ event ∷ [])) new (is_carried (with_carried sb.dev_number work)) false l
 
       call : tells → LeavesNumbers given tape scope first entries old new (is_carried work) (is_carried (with_carried sb.dev_number work)) false who (losses_of roles spares) event tape' end
       call t = record {
@@ -218,16 +185,6 @@ module _ (tells : Type 0) (given : Given) (tape mid_tape tape' : List Operation)
         keeps = λ before_told told_so fills more less knew knows room gone unclean began. keeps t before_told told_so less knew knows room gone unclean began;
         legal = λ all fills gone level. legal-losses (world_in given tape' scope first) entries who end (losses_of roles spares) (event ∷ []) (losses-are roles spares) (legal t, tt, tt);
       }
-
-      leaves : tells → IsLeftBehind given tape scope first entries (entries ++ entries_of who end (losses_of roles spares ++ event ∷ [])) new (is_carried (with_carried sb.dev_number work)) false tape'
-      leaves t =
-          let g = grows.more t in
-          subst (λ (l : List Operation). Then l end) (sym g.1)
-          (subst (Then (tape ++ g.0)) (sym (at_end t ∙ ap (λ (l : List Operation). length l) g.1))
-          (numbers-leaves given tape scope first entries old new (is_carried work) (is_carried (with_carried sb.dev_number work)) false who (losses_of roles spares) (IsAmong roles) event g.0 early
-          (carries-number sb.dev_number work) goes caller quiet (few-roles new.newest rest.placed.fit.valid) missing sized did.clean was.sizes_are
-          (was.gone t) (was.unclean t) (was.recorded t) (was.safe t) (safe-now was live t)))
-          (call t)
 
   -- a new spare: any number of steps may be left then
   pub added-stands : IsStill tells given tape' scope first (entries ++ entries_of who end (losses_of roles spares ++ Added slot ∷ [])) new (with_carried sb.dev_number work) left'
