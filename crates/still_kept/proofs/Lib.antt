@@ -15,3 +15,4 @@ pub mod Writing
 pub mod Resync
 pub mod Sparing
 pub mod Bridges
+pub mod Rebuilding

@@ -66,7 +66,7 @@ use Rattle.still_kept.proofs.Stood.{mended-moved, sector-inside, within-count}
 
 -- ---- a step
 
-not-zero : (n : ℕ) → n ≢ 0 → (n == 0) ≡ false
+pub not-zero : (n : ℕ) → n ≢ 0 → (n == 0) ≡ false
 not-zero n ne = grind (arith, nat_tests, ne)
 
 -- a step that is one less is legal
@@ -83,7 +83,7 @@ step-is world before e kind left told = free (is_free_step world before kind) (k
     free false is = is
 
 -- behind losses too, where without them one step more was left
-step-behind : (world : World) (entries : List Entry) (who : Who) (end roles spares : ℕ) (kind : StepKind) (left left' : ℕ) → IfSome (told_left entries) (λ n. n ≡ left) → (losses_of roles spares ≡ [] → left' + 1 ≡ left)
+pub step-behind : (world : World) (entries : List Entry) (who : Who) (end roles spares : ℕ) (kind : StepKind) (left left' : ℕ) → IfSome (told_left entries) (λ n. n ≡ left) → (losses_of roles spares ≡ [] → left' + 1 ≡ left)
     → IsStep world (entries ++ entries_of who end (losses_of roles spares)) (entry_of who end (Step kind left')) [] kind left'
 step-behind world entries who end roles spares kind left left' told less =
     step-is world (entries ++ entries_of who end (losses_of roles spares)) (entry_of who end (Step kind left')) kind left'
@@ -91,7 +91,7 @@ step-behind world entries who end roles spares kind left left' told less =
     (left-lost left (left' + 1) entries who end (losses_of roles spares) [] (losses-are roles spares) less told (λ told is. is)))
 
 -- what is left behind it is what it tells
-told-step : (entries : List Entry) (who : Who) (end roles spares : ℕ) (kind : StepKind) (left' : ℕ) → IfSome (told_left (entries ++ entries_of who end (losses_of roles spares ++ Step kind left' ∷ []))) (λ n. n ≡ left')
+pub told-step : (entries : List Entry) (who : Who) (end roles spares : ℕ) (kind : StepKind) (left' : ℕ) → IfSome (told_left (entries ++ entries_of who end (losses_of roles spares ++ Step kind left' ∷ []))) (λ n. n ≡ left')
 told-step entries who end roles spares kind left' = subst (λ (o : Option ℕ). IfSome o (λ n. n ≡ left')) (sym (left-stepped entries who end (losses_of roles spares) kind left')) refl
 
 -- ---- a stripe
