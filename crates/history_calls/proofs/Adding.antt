@@ -96,8 +96,8 @@ module _ (given : Given) (tape : List Operation) (scope : Scope) (first : ℕ) (
   abbrev all : List Entry
   all = entries ++ entries_of who (length (tape ++ ops)) (early ++ event ∷ [])
 
-  behind : IsBehind (world_in given tape scope first) (world_in given (tape ++ ops) scope first) entries new who (length (tape ++ ops)) early event
-  behind = is-behind given tape scope first entries old new who early IsTaken event ops are adding.gives adding.level few missing gone recorded
+  behind : IsBehind (world_in given tape scope first) (world_in given (tape ++ ops) scope first) entries new who (length (tape ++ ops)) early (event ∷ [])
+  behind = is-behind given tape scope first entries old new who early IsTaken (event ∷ []) ops are (or-false (gives_some event) false adding.gives refl) adding.level few missing gone recorded
 
   adds-all : AreAdding added
   adds-all = are.adds who end (event ∷ []) (and-true (adds_only event) true adding.adds refl)

@@ -173,8 +173,8 @@ module _ (given : Given) (tape : List Operation) (scope : Scope) (first : ℕ) (
   both : added ≡ more ++ rest
   both = entries-both who end losses (event ∷ [])
 
-  behind : IsBehind (world_in given tape scope first) (world_in given (tape ++ ops) scope first) entries new who (length (tape ++ ops)) (losses_of roles spares) event
-  behind = is-behind given tape scope first entries old new who (losses_of roles spares) (IsAmong roles) event ops (first-of (early-losses roles spares)) settling.gives settling.level few missing gone recorded
+  behind : IsBehind (world_in given tape scope first) (world_in given (tape ++ ops) scope first) entries new who (length (tape ++ ops)) (losses_of roles spares) (event ∷ [])
+  behind = is-behind given tape scope first entries old new who (losses_of roles spares) (IsAmong roles) (event ∷ []) ops (first-of (early-losses roles spares)) (or-false (gives_some event) false settling.gives refl) settling.level few missing gone recorded
 
   -- ---- what is told
 

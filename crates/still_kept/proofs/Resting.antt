@@ -85,8 +85,8 @@ module _ (tells : Type 0) (given : Given) (tape : List Operation) (scope : Scope
   rested-here : tells → Then (tape ++ []) (length (tape ++ []))
   unfolding Then
   rested-here t right =
-      let behind : IsBehind (world_in given tape scope first) (world_in given (tape ++ []) scope first) entries m who (length (tape ++ [])) [] event =
-      is-behind given tape scope first entries m m who [] (λ role. ⊥) event [] (first-of early-none) rests.gives rests.level (few-roles m.newest was.members_are.placed.fit.valid) (λ role lt miss. inl (lt, miss))
+      let behind : IsBehind (world_in given tape scope first) (world_in given (tape ++ []) scope first) entries m who (length (tape ++ [])) [] (event ∷ []) =
+      is-behind given tape scope first entries m m who [] (λ role. ⊥) (event ∷ []) [] (first-of early-none) (none (length (tape ++ []))) rests.level (few-roles m.newest was.members_are.placed.fit.valid) (λ role lt miss. inl (lt, miss))
       (was.gone t) (was.recorded t) in
       record {
         right = behind.right;

@@ -179,7 +179,7 @@ module _ (tells : Type 0) (given : Given) (tape mid_tape tape' : List Operation)
       progress None is = tt
       progress (Some mended) is = subst (λ (n : ℕ). mended ≤ n) (λ i. sym ((stays-added did).size) i / (sym ((stays-added did).shape) i).chunk) is
 
-      call : tells → LeavesNumbers given tape scope first entries old new (is_carried work) (is_carried (with_carried sb.dev_number work)) false who (losses_of roles spares) event tape' end
+      call : tells → LeavesNumbers given tape scope first entries old new (is_carried work) (is_carried (with_carried sb.dev_number work)) false who (losses_of roles spares) (event ∷ []) tape' end
       call t = record {
         rise = rise t;
         keeps = λ before_told told_so fills more less knew knows room gone unclean began. keeps t before_told told_so less knew knows room gone unclean began;
